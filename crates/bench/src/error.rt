@@ -1,0 +1,55 @@
+//! Why a measurement ended early.
+use std::alloc::{AllocError, AllocFailed};
+use std::io;
+
+#[derive(Debug, Drop)]
+pub enum Failure {
+    /// The words name no measurement.
+    Words,
+    /// A call of the system failed.
+    Io(io::Error),
+    /// A step was refused, or there was no memory.
+    Step,
+}
+
+impl From<io::Error> for Failure {
+    fn from(error: io::Error) -> Self {
+        Failure::Io(error)
+    }
+}
+
+impl From<AllocError> for Failure {
+    fn from(_refused: AllocError) -> Self {
+        Failure::Step
+    }
+}
+
+impl<T: Drop> From<AllocFailed<T>> for Failure {
+    fn from(_refused: AllocFailed<T>) -> Self {
+        Failure::Step
+    }
+}
+
+impl From<disk::DiskFault> for Failure {
+    fn from(_fault: disk::DiskFault) -> Self {
+        Failure::Step
+    }
+}
+
+impl<D: Drop> From<(disk::DiskFault, D)> for Failure {
+    fn from(_refused: (disk::DiskFault, D)) -> Self {
+        Failure::Step
+    }
+}
+
+impl<D: Drop> From<(disk::FileFault, D)> for Failure {
+    fn from(_refused: (disk::FileFault, D)) -> Self {
+        Failure::Step
+    }
+}
+
+impl From<blocks::Memory> for Failure {
+    fn from(_refused: blocks::Memory) -> Self {
+        Failure::Step
+    }
+}

@@ -1,0 +1,58 @@
+//! Measures appends; bench/run.sh calls it and prints ratios.
+//!
+//! `bench node N` makes extents on one node over a disk in memory and appends N groups of 1 KiB to them, 256 to an
+//! extent. `bench file N FILE` appends N records of 1 KiB to a record file over FILE, and then writes and syncs as many
+//! bytes to FILE.plain, a write and two syncs each. Times are printed in microseconds. Without words it appends ten
+//! groups and prints how many were taken.
+#![tactic(auto)]
+
+mod device;
+mod error;
+mod node;
+
+use crate::error::Failure;
+use std::process::ExitCode;
+use std::rt::{Clock, Env, Files};
+use std::{env, fs, io};
+
+const USAGE: &str = "usage: bench node N | bench file N FILE";
+
+fn run<R: AllocGlobal + Env + Files<File = fs::File> + Clock + Print>(
+    rt: &R,
+) -> Result<ExitCode, Failure> {
+    let words: Vec<String> = env::args(rt)?.collect(rt.alloc())?;
+    let mut texts = Vec::new(rt.alloc());
+    for word in &words {
+        texts.push(word.as_str())?;
+    }
+    match texts.as_slice() {
+        [_] => {
+            let taken = node::appended(rt.alloc(), 10)?;
+            rt.println(format_args!("taken {taken}"))?;
+        }
+        [_, "node", count] => node::measure(rt, count.parse().map_err(|_| Failure::Words)?)?,
+        [_, "file", count, path] => {
+            device::measure(rt, count.parse().map_err(|_| Failure::Words)?, path)?
+        }
+        _ => {
+            rt.println(USAGE)?;
+            return Ok(ExitCode::from(2));
+        }
+    }
+    Ok(ExitCode::SUCCESS)
+}
+
+fn main(rt: HostRuntime) -> io::Result<ExitCode> {
+    match run(&rt) {
+        Ok(status) => Ok(status),
+        Err(Failure::Words) => {
+            rt.println(USAGE)?;
+            Ok(ExitCode::from(2))
+        }
+        Err(Failure::Io(error)) => Err(error),
+        Err(Failure::Step) => {
+            rt.println("a step was refused")?;
+            Ok(ExitCode::FAILURE)
+        }
+    }
+}

@@ -1,0 +1,73 @@
+//! Appends to a node over a disk in memory.
+use crate::error::Failure;
+use blocks::{Nodes, Version};
+use bytes::Bytes;
+use disk::{MemDisk, RecordFile};
+use enode::Node;
+use std::alloc::Global;
+use std::rt::Clock;
+use std::time::Instant;
+use wire::{ActorId, AppendBody, Blocks, Body, ExtentId, Fence, Packet, ReqNo, SealBody};
+
+/// So many appends wait at a primary for its secondaries, and no more.
+const WAITING: u64 = 256;
+
+fn make(extent: ExtentId) -> Packet {
+    let places = Nodes {
+        primary: 1,
+        second: 2,
+        third: 3,
+    };
+    Packet {
+        from: ActorId::Manager,
+        to: ActorId::Node(1),
+        body: Body::Seal(SealBody::Make {
+            extent,
+            fence: Fence::new(0),
+            target: 16_777_216,
+            places,
+        }),
+    }
+}
+
+fn append(alloc: Global, extent: ExtentId, ticket: u64) -> Result<Packet, Failure> {
+    let mut blocks = Vec::new(alloc);
+    blocks.push(Bytes::copy_from_slice(alloc, &[b'a'; 1024])?)?;
+    Ok(Packet {
+        from: ActorId::User(1),
+        to: ActorId::Node(1),
+        body: Body::Append(AppendBody::Append {
+            extent,
+            generation: Fence::new(0),
+            blocks: Blocks::of(blocks),
+            request: ReqNo::User { user: 1, ticket },
+        }),
+    })
+}
+
+/// Appends groups of 1 KiB to a new node, and answers how many were taken: so many sent their Puts.
+pub fn appended(alloc: Global, count: u64) -> Result<u64, Failure> {
+    let disk = RecordFile::format(Version::V1, MemDisk::new(alloc))?.into_disk();
+    let mut node = Node::restart(alloc, 1, disk)?;
+    let mut taken = 0u64;
+    for ticket in 0..count {
+        let extent = ExtentId::new(ticket / WAITING);
+        if ticket % WAITING == 0 {
+            node.handle(alloc, &make(extent))?;
+        }
+        let step = node.handle(alloc, &append(alloc, extent, ticket)?)?;
+        if step.packets.as_slice().len() == 2 {
+            taken = taken.saturating_add(1);
+        }
+    }
+    Ok(taken)
+}
+
+/// Prints how many appends were taken and how long they took.
+pub fn measure<R: AllocGlobal + Clock + Print>(rt: &R, count: u64) -> Result<(), Failure> {
+    let start = Instant::now(rt)?;
+    let taken = appended(rt.alloc(), count)?;
+    let micros = start.elapsed(rt)?.as_micros();
+    rt.println(format_args!("taken {taken} micros {micros}"))?;
+    Ok(())
+}

@@ -1,0 +1,41 @@
+-- The bytes of a disk in memory, and what a crash may do to them.
+use Rattle.std.specs.Prelude.{◌≡◌, ◌⊎◌, ℕ, ◌≤◌, Bool, Option, List, length, take, min, nat_le, if◌then◌else◌}
+use Rattle.disk.specs.Disk.{DiskState}
+use Rattle.disk.specs.History.{Event, failures_in, HeldSince}
+
+-- the bytes that a read gives, those that the last sync has made sure of, and for how many each has room
+pub record Held : Type 0 where
+  pub seen : List ℕ
+  pub synced : List ℕ
+  pub seen_room : ℕ
+  pub synced_room : ℕ
+
+-- both lists begin with the same n bytes
+pub record IsClean (n : ℕ) (seen synced : List ℕ) : Type 0 where
+  pub in_seen : n ≤ length seen
+  pub in_synced : n ≤ length synced
+  pub same : take n seen ≡ take n synced
+
+-- neither list has lost room
+pub record KeepsRoom (old new : Held) : Type 0 where
+  pub seen : old.seen_room ≤ new.seen_room
+  pub synced : old.synced_room ≤ new.synced_room
+
+-- a crash leaves what is there, or what the last sync has made sure of
+abbrev pub IsThere : Held → List ℕ → Type 0
+IsThere held c = (c ≡ held.seen) ⊎ (c ≡ held.synced)
+
+-- the disk with these bytes, these calls behind it, and this plan
+abbrev pub image_state : Held → List Event → Option (ℕ × Bool) → Bool → DiskState
+image_state held events stop sure = record {
+  seen = held.seen;
+  may_leave = λ c. IsThere held c;
+  moment = length events;
+  left_since = λ t c. IsThere held c ⊎ HeldSince t events c;
+  failures = failures_in events;
+  reserved = min held.seen_room held.synced_room;
+  room = if nat_le (length held.seen) held.synced_room then 6 else 0;
+  stop = stop;
+  synced = held.synced;
+  sure = sure;
+}

@@ -1,0 +1,11 @@
+pub mod Disk
+pub mod History
+pub mod Image
+pub mod File
+pub mod Filed
+pub mod Appends
+pub mod Faults
+pub mod Stopping
+pub mod Memory
+pub mod RealFile
+pub mod Laws

@@ -1,0 +1,184 @@
+//! A file of records: four letters, and then each record behind a gate. A gate of 1 is open. Any other byte is
+//! closed, and there the file ends for its reader (docs/FORMATS.md).
+ghost use Rattle.std.specs.Prelude.{◌≡◌, ◌≢◌, ◌<◌, ◌≤◌, [], List, IsErrOf, IfOk, IfErr, MatchResult, Some, false, true};
+ghost use Rattle.blocks.specs.Record.{Fits};
+ghost use Rattle.disk.specs.Appends.{Appends};
+ghost use Rattle.disk.specs.Disk.{LeavesOnly, IsSame, IsUntouched, IsSteady, Only};
+ghost use Rattle.disk.specs.Memory.{memory_state};
+ghost use Rattle.disk.specs.File.{IsFileOf, IsBeforeOrAfter, HasNoRecord};
+
+use crate::device::{Disk, DiskFault};
+use crate::fault::FileFault;
+use crate::memory::MemDisk;
+use crate::opening::{find, write_header};
+use crate::scan::read_file;
+use blocks::{Record, Version, encode_as};
+use std::alloc::Global;
+use std::marker::Model;
+
+/// A list of records on a disk, to which records are added one by one. In a clause its value shows the disk, the
+/// version, the records and whether it is stopped; in memory it holds none of the records. An append makes four device
+/// calls: it writes the record behind the last gate, which is still closed, and a closed gate behind that; syncs; opens
+/// the gate; and syncs. After Calder et al., SOSP 2011, section 4.
+#[derive(Drop)]
+pub struct RecordFile<D: Disk> {
+    disk: D,
+    version: Version,
+    // the place of the gate behind the last record
+    end: usize,
+    // a device call of an append has failed, so that the gate may be open or closed
+    stopped: bool,
+}
+
+impl<D: Disk> Model for RecordFile<D> {
+    ghost use Rattle.disk.specs.Filed.{Filed};
+    ghost use Rattle.disk.specs.File.{IsKept, records_in};
+
+    ghost Value = { Filed D };
+
+    ghost view = { λ f. record { disk = f.disk; version = f.version; records = records_in f.version (D.state f.disk).seen; stopped = f.stopped } };
+
+    ghost invariant = { λ f. IsKept (D.state f.disk) f.version f.end f.stopped (records_in f.version (D.state f.disk).seen) };
+}
+
+impl<D: Disk> RecordFile<D> {
+    /// Adds a record to a running file. At `Ok` it stands: from then on each crash leaves it. `Failed` (20) comes only
+    /// where the disk's count of failures rose. Then the record stands or it does not, and the file is stopped until it
+    /// is opened again. `Memory` (22) changes nothing, since all growth comes before the first device call.
+    pub fn append(&mut self, alloc: Global, added: &Record) -> Result<(), DiskFault>
+        requires running { self.old.stopped ≡ false }
+        requires fits { Fits self.old.version added.now }
+        ensures appends { Appends D.state self.old self.new added.now result }
+        // A crash at any moment of the call leaves the records from before it, with the new one or without.
+        ensures any_moment { LeavesOnly (D.state self.old.disk) (D.state self.new.disk)
+            (IsBeforeOrAfter self.old.version self.old.records added.now) }
+    {
+        let mut text = Vec::new(alloc);
+        encode_as(self.version, added, &mut text)?;
+        text.push(0)?;
+        let _size = self.disk.len();
+        let next = self.end + text.len();
+        self.disk.reserve(next + 1)?;
+        self.stopped = true;
+        self.disk.write_at(self.end + 1, &text)?;
+        self.disk.sync()?;
+        self.disk.write_at(self.end, &[1])?;
+        self.disk.sync()?;
+        self.end = next;
+        self.stopped = false;
+        Ok(())
+    }
+
+    /// Makes a file with no record on an empty disk: five bytes, the version's letters and a closed gate. A refusal
+    /// hands the disk back. `Failed` (20) comes only where the disk's count of failures rose, and leaves no record;
+    /// `Memory` (22) changes nothing.
+    pub fn format(version: Version, disk: D) -> Result<RecordFile<D>, (DiskFault, D)>
+        requires empty { (D.state disk).seen ≡ [] }
+        requires durable { Only (D.state disk).seen (D.state disk).may_leave }
+        ensures ok { IfOk result (λ file. (file.stopped ≡ false) × (file.version ≡ version) × (file.records ≡ [])) }
+        ensures steady { IsSteady (D.state disk) → MatchResult result
+            (λ file. IsSteady (D.state file.disk))
+            (λ e. (e.0 ≢ DiskFault.Failed) × IsSteady (D.state e.1)) }
+        ensures any_moment { MatchResult result
+            (λ file. LeavesOnly (D.state disk) (D.state file.disk) HasNoRecord)
+            (λ e. LeavesOnly (D.state disk) (D.state e.1) HasNoRecord) }
+        ensures memory { IfErr result (λ e. e.0 ≡ DiskFault.Memory → IsUntouched (D.state disk) (D.state e.1)) }
+        ensures failed { IfErr result (λ e. e.0 ≡ DiskFault.Failed → (D.state disk).failures < (D.state e.1).failures) }
+    {
+        let mut disk = disk;
+        match write_header(version, &mut disk) {
+            Ok(()) => Ok(RecordFile {
+                disk,
+                version,
+                end: 4,
+                stopped: false,
+            }),
+            Err(fault) => Err((fault, disk)),
+        }
+    }
+
+    /// Opens the file on a disk, as a crash may have left it. It syncs first, so that what it finds is all on the disk.
+    /// A refusal hands the disk back. `Failed` (20) comes only where the disk's count of failures rose; `Damaged` (21)
+    /// only where the bytes are no file of records: fewer than five of them, other letters, or an open gate with no
+    /// whole record and gate behind it; `Memory` (22) after the sync.
+    pub fn open(alloc: Global, disk: D) -> Result<RecordFile<D>, (FileFault, D)>
+        ensures ok { IfOk result (λ file. (file.stopped ≡ false) × ((D.state file.disk).seen ≡ (D.state disk).seen)
+            × IsFileOf file.version file.records (D.state disk).seen) }
+
+        // Damaged only where the bytes are no file of records.
+        ensures only { (v : Version) (rs : List Record) → IsFileOf v rs (D.state disk).seen
+            → MatchResult result (λ file. (file.version ≡ v) × (file.records ≡ rs)) (λ e. e.0 ≢ FileFault.Damaged) }
+
+        // A crash at any moment leaves what one before it might have left.
+        ensures any_moment { MatchResult result
+            (λ file. LeavesOnly (D.state disk) (D.state file.disk) (D.state disk).may_leave)
+            (λ e. LeavesOnly (D.state disk) (D.state e.1) (D.state disk).may_leave) }
+        ensures failed { MatchResult result
+            (λ file. (D.state disk).failures ≤ (D.state file.disk).failures)
+            (λ e. e.0 ≡ FileFault.Failed → (D.state disk).failures < (D.state e.1).failures) }
+        ensures steady { IsSteady (D.state disk) → MatchResult result
+            (λ file. IsSteady (D.state file.disk))
+            (λ e. (e.0 ≢ FileFault.Failed) × IsSteady (D.state e.1)) }
+    {
+        let mut disk = disk;
+        match find(alloc, &mut disk) {
+            Ok((version, end)) => Ok(RecordFile {
+                disk,
+                version,
+                end,
+                stopped: false,
+            }),
+            Err(fault) => Err((fault, disk)),
+        }
+    }
+
+    /// All its records, read again. `Failed` (20) comes only where the disk's count of failures rose, and `Memory` (22)
+    /// where there was none for the bytes and the records; neither changes the file. `Damaged` (21) does not come.
+    pub fn records(&mut self, alloc: Global) -> Result<Vec<Record>, FileFault>
+        ensures ok { IfOk result (λ rs. rs.items ≡ self.old.records) }
+        ensures same { (self.new.stopped ≡ self.old.stopped) × (self.new.version ≡ self.old.version) × (self.new.records ≡ self.old.records) }
+        ensures disk { IsSame (D.state self.old.disk) (D.state self.new.disk) }
+        ensures failed { IsErrOf result FileFault.Failed → (D.state self.old.disk).failures < (D.state self.new.disk).failures }
+        ensures damaged { IsErrOf result FileFault.Damaged → ⊥ }
+        ensures steady { IsSteady (D.state self.old.disk) → IsErrOf result FileFault.Failed → ⊥ }
+    {
+        let bytes = self.disk.read(alloc)?;
+        let (_, records, _) = read_file(alloc, &bytes)?;
+        Ok(records)
+    }
+
+    /// Whether it takes no record until it is opened again.
+    pub fn is_stopped(&self) -> bool
+        ensures { result ≡ self.now.stopped }
+    {
+        self.stopped
+    }
+
+    /// Stops it: it takes no record until it is opened again.
+    pub fn halt(&mut self)
+        ensures { self.new ≡ record self.old { stopped = true } }
+    {
+        self.stopped = true;
+    }
+
+    /// The disk, whether the file is stopped or not. Its bytes are a file of the records that the file had.
+    pub fn into_disk(self) -> D
+        ensures disk { result ≡ self.disk }
+        ensures stands { IsFileOf self.version self.records (D.state result).seen }
+    {
+        self.disk
+    }
+}
+
+impl RecordFile<MemDisk> {
+    /// Tells the disk to stop at the `calls`-th `write_at` or `sync` from now on, in place of what it was told before:
+    /// an append makes four of them. Bytes, records and all else stay.
+    pub fn stop_at(&mut self, calls: u64, keep: bool)
+        ensures told { (memory_state self.new.disk).stop ≡ Some (calls, keep) }
+        ensures disk { self.new.disk ≡ record self.old.disk { stop = Some (record { calls = calls; keep = keep }) } }
+        ensures same { (self.new.stopped ≡ self.old.stopped) × (self.new.version ≡ self.old.version)
+            × (self.new.records ≡ self.old.records) }
+    {
+        self.disk.stop_at(calls, keep);
+    }
+}

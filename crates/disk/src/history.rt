@@ -1,0 +1,32 @@
+//! What a disk has held, for clauses alone. It takes no memory, and its methods do nothing when they run.
+ghost use Rattle.std.specs.Prelude.{◌≡◌, List, [], ◌∷◌};
+ghost use Rattle.std.specs.Borrow.{ftrue};
+ghost use Rattle.disk.specs.History.{Event, event_of};
+
+use std::marker::{Model, PhantomData};
+
+/// The calls of a disk, the newest first.
+#[derive(Drop)]
+pub struct History {
+    marker: PhantomData<u8>,
+    pub ghost events: { List Event },
+}
+
+impl Model for History {
+    ghost also_owns = { λ _. ftrue };
+}
+
+impl History {
+    pub(crate) fn new() -> History
+        ensures { result.events ≡ [] }
+    {
+        History {
+            marker: PhantomData,
+        }
+    }
+
+    /// Notes a call: whether it failed, 1 or 0, and what the disk held before it.
+    pub(crate) fn note(&mut self, _failed: &[u64], _bytes: &[u8])
+        ensures { self.new.events ≡ event_of _failed.now _bytes.now ∷ self.old.events }
+    {}
+}

@@ -1,0 +1,28 @@
+//! Record files: lists of records on a disk that may fail at any call and lose power at any moment.
+//!
+//! A layer above sees a record file as a list of records. `append` adds one at its end; after `Ok` every crash leaves it,
+//! and a crash at any moment of the call leaves the records from before, with the new one or without. `open` gives just
+//! those records. A file that the disk failed under is stopped until it is opened again.
+//!
+//! The crate touches disks through the trait `Disk` alone: `MemDisk` is one in memory that can be told to stop at a
+//! call, `FileDisk` is one over a file of the operating system. The bytes are those of docs/FORMATS.md, "Record file".
+#![tactic(auto)]
+
+mod device;
+mod fault;
+mod file;
+mod history;
+mod image;
+mod memory;
+mod opening;
+mod real;
+mod scan;
+#[cfg(test)]
+mod tests;
+
+pub use device::{Disk, DiskFault};
+pub use fault::FileFault;
+pub use file::RecordFile;
+pub use memory::{MemDisk, Stop};
+pub use real::FileDisk;
+pub use scan::read_file;

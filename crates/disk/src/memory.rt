@@ -1,0 +1,139 @@
+//! A disk in memory, which can be told to stop at a call.
+ghost use Rattle.std.specs.Prelude.{◌≡◌, [], Some};
+ghost use Rattle.disk.specs.Disk.{IsSteady, Only};
+ghost use Rattle.disk.specs.Stopping.{IsDue};
+
+use crate::device::{Disk, DiskFault};
+use crate::history::History;
+use crate::image::Image;
+use std::alloc::{AllocError, Global};
+
+/// A plan: a disk stops at one of its next calls.
+#[derive(Clone, Copy, Debug, PartialEq, Eq)]
+pub struct Stop {
+    /// How many `write_at` and `sync` there are up to the one that fails, which counts too. 0 is as 1.
+    pub calls: u64,
+    /// Whether the failing call's bytes are kept. Where they are not, the disk goes back to its last sync.
+    pub keep: bool,
+}
+
+/// A disk in memory, for tests and simulations. A write and a sync cost what was written, and its memory is linear
+/// in its length. A crash leaves what is there, or what the last sync has made sure of.
+#[derive(Drop)]
+pub struct MemDisk {
+    image: Image,
+    stop: Option<Stop>,
+    history: History,
+}
+
+// Counts a call. At the one that is to fail it says whether that call's bytes are kept.
+fn due(stop: &mut Option<Stop>) -> Option<bool>
+    ensures { IsDue stop.old stop.new result }
+{
+    match *stop {
+        None => None,
+        Some(plan) => {
+            if plan.calls <= 1 {
+                *stop = None;
+                Some(plan.keep)
+            } else {
+                *stop = Some(Stop {
+                    calls: plan.calls - 1,
+                    keep: plan.keep,
+                });
+                None
+            }
+        }
+    }
+}
+
+impl MemDisk {
+    ghost use Rattle.disk.specs.Memory.{memory_state};
+
+    /// An empty disk, which is not told to stop.
+    pub fn new(alloc: Global) -> MemDisk
+        ensures seen { (memory_state result).seen ≡ [] }
+        ensures durable { Only (memory_state result).seen (memory_state result).may_leave }
+        ensures steady { IsSteady (memory_state result) }
+    {
+        MemDisk {
+            image: Image::new(alloc),
+            stop: None,
+            history: History::new(),
+        }
+    }
+
+    /// Tells the disk to stop at the `calls`-th `write_at` or `sync` from now on, in place of what it was told before.
+    /// That call answers `Failed`; after it the disk goes on, with its bytes kept or as the last sync left it.
+    pub fn stop_at(&mut self, calls: u64, keep: bool)
+        ensures told { (memory_state self.new).stop ≡ Some (calls, keep) }
+        ensures same { self.new ≡ record self.old { stop = Some (record { calls = calls; keep = keep }) } }
+    {
+        self.stop = Some(Stop { calls, keep });
+    }
+}
+
+impl Disk for MemDisk {
+    ghost use Rattle.std.proofs.Common.{inl, inr, refl};
+    ghost use Rattle.disk.specs.Memory.{memory_state};
+    ghost use Rattle.disk.specs.Laws.{memory_counts_now, memory_only_now};
+
+    ghost state = { memory_state };
+
+    ghost counts_now = { memory_counts_now };
+
+    ghost only_now = { memory_only_now };
+
+    ghost seen_is_there = { λ m. inl refl };
+
+    ghost synced_is_there = { λ m n keep told. inr refl };
+
+    fn len(&self) -> usize {
+        self.image.len()
+    }
+
+    fn read(&mut self, alloc: Global) -> Result<Vec<u8>, DiskFault> {
+        Ok(self.image.read(alloc)?)
+    }
+
+    fn reserve(&mut self, end: usize) -> Result<(), AllocError> {
+        self.image.reserve(end)
+    }
+
+    fn write_at(&mut self, at: usize, bytes: &[u8]) -> Result<(), DiskFault> {
+        match due(&mut self.stop) {
+            None => {
+                self.history.note(&[0], self.image.bytes());
+                Ok(self.image.overwrite(at, bytes)?)
+            }
+            Some(true) => {
+                self.history.note(&[1], self.image.bytes());
+                self.image.overwrite(at, bytes)?;
+                Err(DiskFault::Failed)
+            }
+            Some(false) => {
+                self.history.note(&[1], self.image.bytes());
+                self.image.forget();
+                Err(DiskFault::Failed)
+            }
+        }
+    }
+
+    fn sync(&mut self) -> Result<(), DiskFault> {
+        match due(&mut self.stop) {
+            None => {
+                self.history.note(&[0], self.image.synced());
+                Ok(self.image.sync()?)
+            }
+            Some(true) => {
+                self.history.note(&[1], self.image.synced());
+                Err(DiskFault::Failed)
+            }
+            Some(false) => {
+                self.history.note(&[1], self.image.synced());
+                self.image.forget();
+                Err(DiskFault::Failed)
+            }
+        }
+    }
+}

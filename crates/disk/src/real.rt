@@ -1,0 +1,159 @@
+//! A disk over a file of the operating system.
+ghost use Rattle.std.specs.Prelude.{◌≡◌, [], IfOk};
+ghost use Rattle.disk.specs.RealFile.{file_state};
+
+use crate::device::{Disk, DiskFault};
+use crate::history::History;
+use crate::image::Image;
+use std::alloc::{AllocError, Global};
+use std::fs::OpenFile;
+use std::io::Read;
+use std::os::unix::fs::FileExt;
+use std::path::Path;
+use std::rt::Files;
+use std::{fs, io};
+
+/// A disk over a file of the operating system. It keeps the file's bytes in memory too, in an image that is read when it
+/// is made: `read` gives the image, and `write_at` and `sync` change the file first and then the image. The clauses
+/// speak of the image, as no contract can say what a system's file holds: that the file has the same bytes, and that a
+/// sync puts them on the device, is tested and not proved. Each call may fail (20). After a write or a sync has failed,
+/// what the file holds is unknown, so that each later one fails too; make a new disk of the file to go on.
+#[derive(Drop)]
+pub struct FileDisk<F = fs::File> {
+    image: Image,
+    file: F,
+    // a write or a sync of the file has failed
+    broken: bool,
+    history: History,
+}
+
+// Opens a file for reading and writing, and syncs its folder, so that a crash leaves a file that was made.
+fn open_file<R: Files<File = fs::File>>(rt: &R, path: &str) -> io::Result<fs::File> {
+    let mut options = fs::OpenOptions::new();
+    options.read(true);
+    options.write(true);
+    options.create(true);
+    let file = options.open(rt, path)?;
+    let folder = match Path::new(path).parent() {
+        Some(folder) if !folder.as_str().is_empty() => folder,
+        _ => Path::new("."),
+    };
+    fs::open(rt, folder)?.sync_all()?;
+    Ok(file)
+}
+
+impl FileDisk {
+    /// Opens the file at a path, and makes an empty one where there is none. It makes sure of the file's name too.
+    /// `Failed` (20) where the file could not be opened or read, and `Memory` (22) where there was none for its bytes.
+    pub fn open<R: Files<File = fs::File> + AllocGlobal>(
+        rt: &R,
+        path: &str,
+    ) -> Result<FileDisk, DiskFault> {
+        match open_file(rt, path) {
+            Ok(file) => FileDisk::new(rt.alloc(), file),
+            Err(_) => Err(DiskFault::Failed),
+        }
+    }
+}
+
+impl<F: FileExt + OpenFile> FileDisk<F> {
+    /// Reads a file that is open for reading and writing. `Failed` (20) where a read failed, and `Memory` (22) where
+    /// there was none for the bytes; the file is closed then.
+    pub fn new(alloc: Global, file: F) -> Result<FileDisk<F>, DiskFault>
+    where
+        F: Read + Drop,
+    {
+        let mut file = file;
+        let mut bytes = Vec::new(alloc);
+        match file.read_to_end(&mut bytes) {
+            Ok(_) => {}
+            Err(error) => {
+                return Err(match error.kind() {
+                    io::ErrorKind::OutOfMemory => DiskFault::Memory,
+                    _ => DiskFault::Failed,
+                });
+            }
+        }
+        Ok(FileDisk {
+            image: Image::of(alloc, bytes),
+            file,
+            broken: false,
+            history: History::new(),
+        })
+    }
+
+    /// The file, as the last write left it.
+    pub fn into_file(self) -> F {
+        self.file
+    }
+
+    // Writes to the file. It answers whether the file took all bytes, and none before failed.
+    fn put(&mut self, at: usize, bytes: &[u8]) -> bool
+        ensures { (self.new.image ≡ self.old.image) × (self.new.history ≡ self.old.history) }
+    {
+        if !self.broken && self.file.write_all_at(bytes, at as u64).is_err() {
+            self.broken = true;
+        }
+        !self.broken
+    }
+
+    // Syncs the file, with the same answer.
+    fn flush(&mut self) -> bool
+        ensures { (self.new.image ≡ self.old.image) × (self.new.history ≡ self.old.history) }
+    {
+        if !self.broken && self.file.sync_data().is_err() {
+            self.broken = true;
+        }
+        !self.broken
+    }
+}
+
+impl<F: FileExt + OpenFile> Disk for FileDisk<F> {
+    ghost use Rattle.std.specs.Prelude.{None, false};
+    ghost use Rattle.std.proofs.Common.{inl, inr, refl};
+    ghost use Rattle.disk.specs.RealFile.{file_state};
+    ghost use Rattle.disk.specs.Laws.{file_counts_now, file_only_now};
+
+    ghost state = { file_state };
+
+    ghost counts_now = { file_counts_now };
+
+    ghost only_now = { file_only_now };
+
+    ghost seen_is_there = { λ d. inl refl };
+
+    ghost synced_is_there = { λ d n keep told. inr refl };
+
+    fn len(&self) -> usize {
+        self.image.len()
+    }
+
+    fn read(&mut self, alloc: Global) -> Result<Vec<u8>, DiskFault> {
+        Ok(self.image.read(alloc)?)
+    }
+
+    fn reserve(&mut self, end: usize) -> Result<(), AllocError> {
+        self.image.reserve(end)
+    }
+
+    fn write_at(&mut self, at: usize, bytes: &[u8]) -> Result<(), DiskFault> {
+        let _size = self.image.len();
+        self.image.reserve(at + bytes.len())?;
+        if !self.put(at, bytes) {
+            self.history.note(&[1], self.image.bytes());
+            return Err(DiskFault::Failed);
+        }
+        self.history.note(&[0], self.image.bytes());
+        Ok(self.image.overwrite(at, bytes)?)
+    }
+
+    fn sync(&mut self) -> Result<(), DiskFault> {
+        self.image.reserve(0)?;
+        if !self.flush() {
+            self.history.note(&[1], self.image.synced());
+            return Err(DiskFault::Failed);
+        }
+        self.history.note(&[0], self.image.synced());
+        Ok(self.image.sync()?)
+    }
+}

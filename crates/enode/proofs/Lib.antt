@@ -1,0 +1,5 @@
+pub mod Rowing
+pub mod Appending
+pub mod Making
+pub mod Stays
+pub mod Recovering

@@ -1,0 +1,56 @@
+-- One record more, when a node is made from its records.
+use Rattle.std.proofs.Common.{◌≡◌, ℕ, true, List, [], ◌∷◌, ◌++◌, Option, Some, None, Ok, Err, ap, sym, ◌∙◌, refl, ⊎_elim}
+use Rattle.std.proofs.lemmas.Bool.Decides.{eqb_tells}
+use Rattle.disk.specs.declared.fault.FileFault.{FileFault}
+use Rattle.disk.specs.declared.fault.FileFault.TheVariants.{Damaged}
+use Rattle.blocks.specs.declared.record.Record.{Record}
+use Rattle.replica.specs.Content.{Content}
+use Rattle.replica.specs.Replay.{applied, fits, fits_at, fit, replay, extent_of}
+use Rattle.replica.proofs.Replaying.{replay-here, replay-elsewhere, fit-push, fit-at}
+use Rattle.model.specs.Node.{Replica, contents}
+use Rattle.enode.specs.Node.{find, fresh_of, IsRestart}
+use Rattle.enode.specs.Recovery.{fits_among, Recovers}
+
+contents-fresh : (c : Option Content) → contents (fresh_of c) ≡ c
+contents-fresh None = refl
+contents-fresh (Some c) = refl
+
+-- what the records so far make is what the replicas are
+module _ (n : ℕ) (old : List (ℕ × Replica)) (rs : List Record) (before : IsRestart n old rs) where
+  is_made : (e : ℕ) → contents (find old e) ≡ replay e rs
+  is_made e = ap contents (before.each e) ∙ contents-fresh (replay e rs)
+
+  fits_same : (r : Record) (o : Option ℕ) → fits_among n old r o ≡ fits_at n rs r o
+  fits_same r None = refl
+  fits_same r (Some e) = ap (λ (c : Option Content). fits n c r) (is_made e)
+
+  recovered_at : (new : List (ℕ × Replica)) (r : Record) (o : Option ℕ) → extent_of r ≡ o → Recovers n old new r (Ok tt) → IsRestart n new (rs ++ r ∷ [])
+  recovered_at new r None about h = absurd (let no = ap (fits_among n old r) (sym about) ∙ h.fits in cc)
+  recovered_at new r (Some f) about h = record {
+    each = λ e. ⊎_elim
+        (λ same.
+        let here : extent_of r ≡ Some e = about ∙ ap (λ (k : ℕ). Some k) same.1 in
+        let was : find old e ≡ fresh_of (contents (find old e)) = before.each e ∙ ap fresh_of (sym (is_made e)) in
+        h.fresh e was ∙ ap fresh_of (h.here e here ∙ ap (λ (c : Option Content). applied c r) (is_made e) ∙ sym (replay-here e rs r here)))
+        (λ apart.
+        h.elsewhere e (λ is. let k = sym about ∙ is in apart.1 (same_number f e k)) ∙ before.each e
+        ∙ ap fresh_of (sym (replay-elsewhere e f rs r about (λ is. apart.1 (sym is)))))
+        (eqb_tells f e);
+    fits = fit-push n f rs r before.fits about (sym (fits_same r (Some f)) ∙ ap (fits_among n old r) (sym about) ∙ h.fits);
+  }
+    where
+      same_number : (a b : ℕ) → (Some a ≡ Some b) → a ≡ b
+      same_number a b e = cc
+
+  pub recovered : (new : List (ℕ × Replica)) (r : Record) → Recovers n old new r (Ok tt) → IsRestart n new (rs ++ r ∷ [])
+  recovered new r h = recovered_at new r (extent_of r) refl h
+
+  -- a record that fits is not refused as damaged
+  pub not_damaged : (new : List (ℕ × Replica)) (r : Record) (others whole : List Record) (x : FileFault) → whole ≡ rs ++ r ∷ others → fit n whole ≡ true → Recovers n old new r (Err x) → x ≡ Damaged → ⊥
+  not_damaged new r others whole x is fit_whole h damaged =
+      let fits_here = fit-at n [] rs others r (ap (fit n) (sym is) ∙ fit_whole) in
+      let no = sym (h.fault damaged) ∙ fits_same r (extent_of r) ∙ fits_here in
+      absurd cc
+
+pub restart_nothing : (n : ℕ) (entries : List (ℕ × Replica)) → entries ≡ [] → IsRestart n entries []
+restart_nothing n entries is = record { each = λ e. ap (λ (xs : List (ℕ × Replica)). find xs e) is; fits = refl }

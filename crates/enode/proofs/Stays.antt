@@ -1,0 +1,69 @@
+-- A node's replicas stay what the records of its file make of them.
+use Rattle.std.proofs.Common.{◌≡◌, ◌≢◌, ℕ, true, false, List, ◌++◌, Option, Some, None, Result, Ok, Err, ap, sym, ◌∙◌, refl, ⊎_elim, append-nil}
+use Rattle.std.proofs.lemmas.Bool.Decides.{eqb_tells}
+use Rattle.disk.specs.declared.device.DiskFault.{DiskFault}
+use Rattle.disk.specs.declared.device.DiskFault.TheVariants.{Failed, Memory}
+use Rattle.disk.specs.Disk.{DiskState}
+use Rattle.disk.specs.Filed.{Filed}
+use Rattle.disk.specs.Appends.{Records}
+use Rattle.blocks.specs.declared.record.Record.{Record}
+use Rattle.wire.specs.declared.packet.Step.{Step}
+use Rattle.replica.specs.Content.{Content}
+use Rattle.replica.specs.Replay.{applied, fits, fit, replay}
+use Rattle.replica.proofs.Replaying.{replay-here, replay-elsewhere, fit-push}
+use Rattle.model.specs.Outcome.{Outcome}
+use Rattle.model.specs.Node.{Replica, contents}
+use Rattle.model.proofs.Replay.{Replays, IsWritten, applied_if}
+use Rattle.enode.specs.Node.{find, IsReplay}
+use Rattle.enode.specs.Took.{Took, listed}
+
+-- the records after a row that was taken
+records_ok : {D : Type 0} (state : D → DiskState) (old new : Filed D) (written : Option Record) (s : Step) →
+    Records state old new (listed written) (Ok s) → new.records ≡ old.records ++ listed written
+records_ok state old new None s h = ap (λ (f : Filed _). f.records) h.0 ∙ sym (append-nil old.records)
+records_ok state old new (Some r) s h = h.ok.2
+
+-- without memory they are the old ones
+records_short : {D : Type 0} (state : D → DiskState) (old new : Filed D) (written : Option Record) →
+    Records {T = Step} state old new (listed written) (Err Memory) → new.records ≡ old.records
+records_short state old new None h = ap (λ (f : Filed _). f.records) h.0
+records_short state old new (Some r) h = (h.memory refl).records
+
+-- and where the disk failed the file is stopped
+records_broken : {D : Type 0} (state : D → DiskState) (old new : Filed D) (written : Option Record) →
+    Records {T = Step} state old new (listed written) (Err Failed) → new.stopped ≡ false → ⊥
+records_broken state old new None h up = h.1 refl
+records_broken state old new (Some r) h up = absurd (let down = (h.failed refl).0 in cc)
+
+-- replay over the old records and what was written of extent e
+module _ (n e : ℕ) (rs : List Record) (was : Option Replica) (before : contents was ≡ replay e rs) where
+  replay_written : (written : Option Record) → IsWritten n e (contents was) written → replay e (rs ++ listed written) ≡ applied_if (contents was) written
+  replay_written None about = ap (replay e) (append-nil rs) ∙ sym before
+  replay_written (Some r) about = replay-here e rs r about.0 ∙ ap (λ (c : Option Content). applied c r) (sym before)
+
+  replay_others : (f : ℕ) → f ≢ e → (written : Option Record) → IsWritten n e (contents was) written → replay f (rs ++ listed written) ≡ replay f rs
+  replay_others f apart None about = ap (replay f) (append-nil rs)
+  replay_others f apart (Some r) about = replay-elsewhere f e rs r about.0 apart
+
+  fit_written : fit n rs ≡ true → (written : Option Record) → IsWritten n e (contents was) written → fit n (rs ++ listed written) ≡ true
+  fit_written fits_before None about = ap (fit n) (append-nil rs) ∙ fits_before
+  fit_written fits_before (Some r) about = fit-push n e rs r fits_before about.0 (ap (λ (c : Option Content). fits n c r) (sym before) ∙ about.1)
+
+pub stays : {D : Type 0} (state : D → DiskState) (n : ℕ) (was is : List (ℕ × Replica)) (old new : Filed D) (e : ℕ) (o : Outcome (Option Replica)) (w : Result Step DiskFault) →
+    IsReplay n was old.records → Replays n e (find was e) o → Took state was is old new e o w → new.stopped ≡ false → IsReplay n is new.records
+stays state n was is old new e o (Ok s) before row h up =
+    let records = records_ok state old new o.written s h.file in
+    record {
+      each = λ f. ⊎_elim
+          (λ same. rw same.1 (ap contents h.here ∙ row.is ∙ sym (replay_written n e old.records (find was e) (before.each e) o.written row.written) ∙ ap (λ (x : List Record). replay e x) (sym records)))
+          (λ apart. ap contents (h.elsewhere f apart.1) ∙ before.each f ∙ sym (replay_others n e old.records (find was e) (before.each e) f apart.1 o.written row.written) ∙ ap (λ (x : List Record). replay f x) (sym records))
+          (eqb_tells f e);
+      fits = ap (λ (x : List Record). fit n x) records ∙ fit_written n e old.records (find was e) (before.each e) before.fits o.written row.written;
+    }
+stays state n was is old new e o (Err Memory) before row h up =
+    let records = records_short state old new o.written h.file in
+    record {
+      each = λ f. ap contents (h.same f) ∙ before.each f ∙ ap (λ (x : List Record). replay f x) (sym records);
+      fits = ap (λ (x : List Record). fit n x) records ∙ before.fits;
+    }
+stays state n was is old new e o (Err Failed) before row h up = absurd (records_broken state old new o.written h.file up)

@@ -1,0 +1,9 @@
+use Rattle.std.proofs.Common.{ap, ◌∙◌}
+use Rattle.replica.specs.Replay.{fit}
+use Rattle.enode.proofs.node.Node.restart.Goals as goal
+
+pub returns-in-Ok-clause-damaged : goal.returns-in-Ok-clause-damaged
+returns-in-Ok-clause-damaged g c = λ v rs is fits. c.recovered.ensures.damaged (ap (fit c.args.number) (c.in-Ok.ensures.only v rs is).1 ∙ fits)
+
+pub returns-in-Err-clause-damaged : goal.returns-in-Err-clause-damaged
+returns-in-Err-clause-damaged g c = λ v rs is fits. c.in-Err.ensures.only v rs is

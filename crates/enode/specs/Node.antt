@@ -1,0 +1,34 @@
+-- A node.
+use Rattle.std.specs.Prelude.{◌≡◌, ℕ, true, List, Option, Some, None}
+use Rattle.std.specs.Map.{lookup}
+use Rattle.std.specs.BTreeMap.{is_at}
+use Rattle.std.specs.Ordering.{nat_cmp}
+use Rattle.blocks.specs.declared.record.Record.{Record}
+use Rattle.disk.specs.Filed.{Filed}
+use Rattle.replica.specs.Content.{Content}
+use Rattle.replica.specs.Replay.{replay, fit}
+use Rattle.model.specs.Node.{Replica, fresh, contents}
+
+-- the replica of an extent, among entries of a map
+abbrev pub find : List (ℕ × Replica) → ℕ → Option Replica
+find entries e = lookup (is_at (nat_cmp e)) entries
+
+pub record NodeState (D : Type 0) : Type 0 where
+  pub number : ℕ
+  pub replicas : List (ℕ × Replica)
+  pub file : Filed D
+
+-- a replica that has just been made from records
+abbrev pub fresh_of : Option Content → Option Replica
+fresh_of None = None
+fresh_of (Some content) = Some (fresh content)
+
+-- each replica, but for what a stop drops, is what the records make of it, and each record fits those before it
+pub record IsReplay (n : ℕ) (replicas : List (ℕ × Replica)) (rs : List Record) : Type 0 where
+  pub each : (e : ℕ) → contents (find replicas e) ≡ replay e rs
+  pub fits : fit n rs ≡ true
+
+-- and nothing is there that a stop drops
+pub record IsRestart (n : ℕ) (replicas : List (ℕ × Replica)) (rs : List Record) : Type 0 where
+  pub each : (e : ℕ) → find replicas e ≡ fresh_of (replay e rs)
+  pub fits : fit n rs ≡ true

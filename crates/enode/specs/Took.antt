@@ -1,0 +1,36 @@
+-- What a row leaves of a node.
+use Rattle.std.specs.Prelude.{◌≡◌, ◌≢◌, ℕ, List, [], ◌∷◌, Option, Some, None, Result, IsErrOf, OnOk, OnErr, IfOk}
+use Rattle.blocks.specs.declared.record.Record.{Record}
+use Rattle.disk.specs.declared.device.DiskFault.{DiskFault}
+use Rattle.disk.specs.declared.device.DiskFault.TheVariants.{Failed}
+use Rattle.disk.specs.Disk.{DiskState}
+use Rattle.disk.specs.Filed.{Filed}
+use Rattle.disk.specs.Appends.{Records}
+use Rattle.wire.specs.declared.packet.Step.{Step}
+use Rattle.model.specs.Outcome.{Outcome}
+use Rattle.model.specs.Node.{Replica}
+use Rattle.enode.specs.Node.{find}
+
+abbrev pub listed : Option Record → List Record
+listed None = []
+listed (Some r) = r ∷ []
+
+-- a replica and its node's file after a row
+pub record Rowed {D : Type 0} (state : D → DiskState) (was is : Replica) (old new : Filed D) (o : Outcome (Option Replica)) (result : Result Step DiskFault) : Type 0 where
+  pub after : OnOk result (Some is ≡ o.after)
+  pub packets : IfOk result (λ step. step.packets ≡ o.packets)
+  pub notes : IfOk result (λ step. step.notes ≡ o.notes)
+  pub same : OnErr result (is ≡ was)
+  -- a row that writes a record observes nothing
+  pub shows : IsErrOf result Failed → o.notes ≡ []
+  pub file : Records state old new (listed o.written) result
+
+-- a node's replicas and its file after a row about extent e
+pub record Took {D : Type 0} (state : D → DiskState) (was is : List (ℕ × Replica)) (old new : Filed D) (e : ℕ) (o : Outcome (Option Replica)) (result : Result Step DiskFault) : Type 0 where
+  pub here : OnOk result (find is e ≡ o.after)
+  pub elsewhere : OnOk result ((f : ℕ) → f ≢ e → find is f ≡ find was f)
+  pub packets : IfOk result (λ step. step.packets ≡ o.packets)
+  pub notes : IfOk result (λ step. step.notes ≡ o.notes)
+  pub same : OnErr result ((f : ℕ) → find is f ≡ find was f)
+  pub shows : IsErrOf result Failed → o.notes ≡ []
+  pub file : Records state old new (listed o.written) result

@@ -1,0 +1,147 @@
+//! A node.
+ghost use Rattle.std.specs.Prelude.{◌≡◌, ◌≢◌, ◌<◌, ℕ, List, [], Some, false, true, IfOk, IfErr, option_map};
+ghost use Rattle.blocks.specs.declared.record.Record.{Record};
+ghost use Rattle.blocks.specs.declared.record.Version.{Version};
+ghost use Rattle.disk.specs.File.{IsFileOf};
+ghost use Rattle.replica.specs.State.{content_of};
+ghost use Rattle.replica.specs.Replay.{fit};
+ghost use Rattle.model.specs.Node.{node_row, extent_of, contents};
+ghost use Rattle.enode.specs.Node.{find, IsReplay, IsRestart};
+ghost use Rattle.enode.specs.Took.{Took};
+
+use crate::hosted::Hosted;
+use crate::recovery::replicas_of;
+use crate::rows::take;
+use disk::{Disk, DiskFault, FileFault, RecordFile};
+use replica::Replica;
+use std::alloc::Global;
+use std::collections::BTreeMap;
+use std::marker::Model;
+use wire::{ExtentId, Packet, Step};
+
+/// An extent node: its number, from 1 to 12, its replicas by extent, and the file of records that they come from
+/// (after Calder et al., SOSP 2011, section 4.2).
+#[derive(Drop)]
+pub struct Node<D: Disk> {
+    number: u8,
+    replicas: BTreeMap<u64, Hosted>,
+    file: RecordFile<D>,
+}
+
+/// While it runs, each replica is what the records make of it, but for what a stop drops.
+impl<D: Disk> Model for Node<D> {
+    ghost use Rattle.std.specs.Prelude.{◌≡◌, false};
+    ghost use Rattle.enode.specs.Node.{NodeState, IsReplay};
+
+    ghost Value = { NodeState D };
+
+    ghost view = { λ n. record { number = n.number; replicas = n.replicas.entries; file = n.file } };
+
+    ghost invariant = { λ n. n.file.stopped ≡ false → IsReplay n.number n.replicas.entries n.file.records };
+}
+
+/// The node that the records of a file make.
+fn recovered<D: Disk>(
+    alloc: Global,
+    number: u8,
+    file: RecordFile<D>,
+) -> Result<Node<D>, (FileFault, D)>
+    requires { file.stopped ≡ false }
+    ensures number { IfOk result (λ node. node.number ≡ number) }
+    ensures same { IfOk result (λ node. (node.file.stopped ≡ false) × (node.file.version ≡ file.version) × (node.file.records ≡ file.records)) }
+    ensures replays { IfOk result (λ node. IsRestart number node.replicas file.records) }
+    ensures damaged { fit number file.records ≡ true → IfErr result (λ e. e.0 ≢ FileFault.Damaged) }
+    ensures failed { IfErr result (λ e. e.0 ≡ FileFault.Failed → (D.state file.disk).failures < (D.state e.1).failures) }
+{
+    let mut file = file;
+    match replicas_of(alloc, number, &mut file) {
+        Ok(replicas) => Ok(Node {
+            number,
+            replicas,
+            file,
+        }),
+        Err(fault) => Err((fault, file.into_disk())),
+    }
+}
+
+impl<D: Disk> Node<D> {
+    /// The node that the records on a disk make, with nothing of what a stop drops. The file is synced, and then read.
+    /// A refusal hands the disk back: 20 (a device call failed), 21 (the bytes are no file of records, or a record does
+    /// not fit what those before it leave), 22 (nothing has changed).
+    pub fn restart(alloc: Global, number: u8, disk: D) -> Result<Node<D>, (FileFault, D)>
+        ensures number { IfOk result (λ node. node.number ≡ number) }
+        ensures running { IfOk result (λ node. node.file.stopped ≡ false) }
+        ensures file { IfOk result (λ node. IsFileOf node.file.version node.file.records (D.state disk).seen) }
+        ensures replays { IfOk result (λ node. IsRestart number node.replicas node.file.records) }
+
+        // 21 only where the bytes are no file of records that fit.
+        ensures damaged { (v : Version) (rs : List Record) → IsFileOf v rs (D.state disk).seen → fit number rs ≡ true
+            → IfErr result (λ e. e.0 ≢ FileFault.Damaged) }
+        ensures failed { IfErr result (λ e. e.0 ≡ FileFault.Failed → (D.state disk).failures < (D.state e.1).failures) }
+    {
+        match RecordFile::open(alloc, disk) {
+            Ok(file) => recovered(alloc, number, file),
+            Err(refused) => Err(refused),
+        }
+    }
+
+    /// What the node does with a packet: the row of its table, exactly. The record, if there is one, is on the disk
+    /// before the packets are handed out. A stopped node does nothing. 20: the disk failed, and the node is stopped
+    /// until it is restarted; its records are the old ones, with the new one or without. 22: nothing has changed.
+    pub fn handle(&mut self, alloc: Global, packet: &Packet) -> Result<Step, DiskFault>
+        ensures took { self.old.file.stopped ≡ false → Took D.state self.old.replicas self.new.replicas self.old.file self.new.file
+            (extent_of packet.now.body) (node_row self.old.number (find self.old.replicas (extent_of packet.now.body)) packet.now packet.now.body) result }
+        ensures number { self.new.number ≡ self.old.number }
+        ensures stopped { self.old.file.stopped ≡ true → (self.new ≡ self.old) × (result ≡ Ok (record { packets = []; notes = [] })) }
+
+        // While the node runs, its replicas are what its records make of them.
+        ensures replays { self.old.file.stopped ≡ false → IsReplay self.old.number self.old.replicas self.old.file.records }
+    {
+        if self.file.is_stopped() {
+            return Ok(Step::silent(alloc));
+        }
+        take(
+            &mut self.replicas,
+            &mut self.file,
+            alloc,
+            self.number,
+            packet,
+        )
+    }
+
+    /// The replica of an extent, if there is one; takes no memory.
+    pub fn replica(&self, extent: ExtentId) -> Option<&Replica>
+        ensures { option_map (λ r. content_of r.now) result ≡ contents (find self.now.replicas extent) }
+    {
+        match self.replicas.get(&extent.number()) {
+            None => None,
+            Some(hosted) => Some(hosted.replica()),
+        }
+    }
+
+    /// Its number.
+    pub fn number(&self) -> u8
+        ensures { result ≡ self.now.number }
+    {
+        self.number
+    }
+
+    /// Whether it has stopped. Then it does nothing until it is restarted from its disk.
+    pub fn is_stopped(&self) -> bool
+        ensures { result ≡ self.now.file.stopped }
+    {
+        self.file.is_stopped()
+    }
+
+    /// Its disk, whether it has stopped or not.
+    pub fn into_disk(self) -> D
+        ensures { result ≡ self.file.disk }
+    {
+        let Node {
+            number: _,
+            replicas: _,
+            file,
+        } = self;
+        file.into_disk()
+    }
+}

@@ -1,0 +1,113 @@
+//! Replicas from the records of a node's file.
+ghost use Rattle.std.specs.Prelude.{◌≡◌, ◌<◌, true, false, IfOk, IsErrOf};
+ghost use Rattle.blocks.specs.declared.record.Record.TheVariants as records;
+ghost use Rattle.replica.specs.Replay.{fit};
+ghost use Rattle.enode.specs.Node.{IsRestart};
+ghost use Rattle.enode.specs.Recovery.{Recovers};
+
+use crate::hosted::Hosted;
+use crate::rows::{insert_new, is_place};
+use blocks::{Group, Nodes, Record};
+use disk::{Disk, FileFault, RecordFile};
+use std::alloc::Global;
+use std::collections::BTreeMap;
+use wire::{ExtentId, Fence};
+
+/// The record of a new replica: there is none of its extent, and this node is one of its three places.
+fn recover_make(
+    replicas: &mut BTreeMap<u64, Hosted>,
+    alloc: Global,
+    number: u8,
+    extent: ExtentId,
+    fence: Fence,
+    target: u32,
+    places: &Nodes,
+) -> Result<(), FileFault>
+    ensures { Recovers number replicas.old.entries replicas.new.entries (records.Make extent fence target places.now) result }
+{
+    if replicas.contains_key(&extent.number()) {
+        return Err(FileFault::Damaged);
+    }
+    if !is_place(number, places) || !places.are_distinct_nodes() {
+        return Err(FileFault::Damaged);
+    }
+    if target < 4096 || target > 16777216 {
+        return Err(FileFault::Damaged);
+    }
+    let made = Hosted::new(alloc, *places, target, fence);
+    insert_new(replicas, extent, made)?;
+    Ok(())
+}
+
+/// The record of a group: it stands at the end of an open replica below its target.
+fn recover_append(
+    replicas: &mut BTreeMap<u64, Hosted>,
+    number: u8,
+    extent: ExtentId,
+    offset: u32,
+    group: Group,
+) -> Result<(), FileFault>
+    ensures { Recovers number replicas.old.entries replicas.new.entries (records.Append extent offset group) result }
+{
+    let Some(hosted) = replicas.get_mut(&extent.number()) else {
+        return Err(FileFault::Damaged);
+    };
+    let length = hosted.replica().len();
+    if offset != length || length >= hosted.replica().target() {
+        return Err(FileFault::Damaged);
+    }
+    hosted.add_recorded(group)?;
+    Ok(())
+}
+
+/// One record more.
+fn recover(
+    replicas: &mut BTreeMap<u64, Hosted>,
+    alloc: Global,
+    number: u8,
+    record_read: Record,
+) -> Result<(), FileFault>
+    ensures { Recovers number replicas.old.entries replicas.new.entries record_read result }
+{
+    match record_read {
+        Record::Make {
+            extent,
+            fence,
+            target,
+            nodes,
+        } => recover_make(
+            replicas,
+            alloc,
+            number,
+            ExtentId::new(extent),
+            Fence::new(fence),
+            target,
+            &nodes,
+        ),
+        Record::Append {
+            extent,
+            offset,
+            group,
+        } => recover_append(replicas, number, ExtentId::new(extent), offset, group),
+        _ => Err(FileFault::Damaged),
+    }
+}
+
+/// The replicas that the records of a file make.
+pub(crate) fn replicas_of<D: Disk>(
+    alloc: Global,
+    number: u8,
+    file: &mut RecordFile<D>,
+) -> Result<BTreeMap<u64, Hosted>, FileFault>
+    requires { file.old.stopped ≡ false }
+    ensures ok { IfOk result (λ replicas. IsRestart number replicas.entries file.old.records) }
+    ensures same { (file.new.stopped ≡ false) × (file.new.version ≡ file.old.version) × (file.new.records ≡ file.old.records) }
+    ensures damaged { fit number file.old.records ≡ true → IsErrOf result FileFault.Damaged → ⊥ }
+    ensures failed { IsErrOf result FileFault.Failed → (D.state file.old.disk).failures < (D.state file.new.disk).failures }
+{
+    let mut replicas = BTreeMap::new(alloc);
+    for record_read in file.records(alloc)? {
+        recover(&mut replicas, alloc, number, record_read)?;
+    }
+    Ok(replicas)
+}

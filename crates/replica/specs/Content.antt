@@ -1,0 +1,26 @@
+-- What a replica holds.
+use Rattle.std.specs.Prelude.{ℕ, List, [], ◌∷◌, ◌++◌}
+use Rattle.blocks.specs.declared.record.Nodes.{Nodes}
+use Rattle.replica.specs.declared.phase.Phase.{Phase}
+use Rattle.replica.specs.declared.phase.Phase.TheVariants.{Open}
+use Rattle.replica.specs.Groups.{Group}
+
+pub record Content : Type 0 where
+  pub places : Nodes
+  pub target : ℕ
+  pub fence : ℕ
+  pub phase : Phase
+  pub groups : List Group
+
+-- and for how many more groups there is memory
+pub record Held : Type 0 where
+  pub content : Content
+  pub room : ℕ
+
+-- an open replica with nothing in it
+abbrev pub new_content : Nodes → ℕ → ℕ → Content
+new_content places target fence = record { places = places; target = target; fence = fence; phase = Open; groups = [] }
+
+-- with one more group at the end
+abbrev pub appended : Content → Group → Content
+appended content group = record content { groups = content.groups ++ group ∷ [] }

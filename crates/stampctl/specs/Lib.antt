@@ -1,0 +1,8 @@
+pub mod Words
+pub mod CommandLine
+pub mod Failures
+pub mod Limits
+pub mod Values
+pub mod Reports
+pub mod Manager
+pub mod Telling

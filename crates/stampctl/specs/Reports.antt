@@ -1,0 +1,34 @@
+-- The lines that a script prints.
+use Rattle.std.specs.Prelude.{ℕ, List, ◌∷◌, ◌++◌, codes, decimal}
+use Rattle.stampctl.specs.declared.report.Answer.{Answer}
+use Rattle.stampctl.specs.declared.report.Answer.TheVariants as answers
+use Rattle.stampctl.specs.declared.report.Report.{Report}
+use Rattle.stampctl.specs.declared.report.Report.TheVariants as reports
+use Rattle.stampctl.specs.declared.report.Standing.{Standing}
+use Rattle.stampctl.specs.declared.report.Standing.TheVariants as standings
+use Rattle.wire.specs.Refusal.{text_of}
+
+abbrev pub answer_text : Answer → List ℕ
+answer_text answers.Created = codes "created"
+answer_text (answers.Extended extent) = codes "extended " ++ decimal extent
+answer_text (answers.Appended offset) = codes "appended " ++ decimal offset
+answer_text (answers.Refused refusal) = codes "refused " ++ text_of refusal
+
+abbrev pub standing_text : Standing → List ℕ
+standing_text standings.Open = codes "open"
+standing_text standings.Frozen = codes "frozen"
+standing_text standings.Sealed = codes "sealed"
+
+-- 32 is the blank
+abbrev pub report_text : Report → List ℕ
+report_text (reports.Acked extent offset size) =
+    codes "acked " ++ decimal extent ++ 32 ∷ decimal offset ++ 32 ∷ decimal size
+report_text (reports.Told user ticket answer) =
+    codes "user " ++ decimal user ++ 32 ∷ decimal ticket ++ 32 ∷ answer_text answer
+report_text (reports.Replica node extent standing size fence) =
+    codes "replica " ++ decimal node ++ 32 ∷ decimal extent ++ 32 ∷ standing_text standing
+    ++ 32 ∷ decimal size ++ 32 ∷ decimal fence
+report_text (reports.NoReplica node extent) =
+    codes "replica " ++ decimal node ++ 32 ∷ decimal extent ++ codes " none"
+report_text (reports.Stopped node extent) =
+    codes "replica " ++ decimal node ++ 32 ∷ decimal extent ++ codes " stopped"

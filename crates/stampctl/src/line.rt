@@ -1,0 +1,232 @@
+//! The lines of a script.
+ghost use Rattle.std.specs.Prelude.{◌≡◌, ◌==◌, ◌<◌, ◌≤◌, true, map, length, IfNone, IfOk, IfSome};
+ghost use Rattle.std.specs.Option.{SomeIff};
+ghost use Rattle.std.specs.Char.{is_ascii_digit};
+ghost use Rattle.std.specs.List.{list_all, repeat, slice_split};
+ghost use Rattle.std.specs.Str.{chars};
+ghost use Rattle.std.specs.Str.Parse.{digits_value};
+ghost use Rattle.stampctl.specs.Limits.{most_copies};
+ghost use Rattle.stampctl.specs.Values.{AsksCopies, IsNumber, IsTooMany, IsValue, after_star, before_star};
+
+use blocks::Nodes;
+use bytes::Bytes;
+use std::alloc::{AllocError, Global};
+use wire::StreamKind;
+
+/// What a user asks for.
+#[derive(Drop)]
+pub enum Request {
+    Create {
+        kind: StreamKind,
+    },
+    Extend {
+        kind: StreamKind,
+        last: Option<u64>,
+        pick: Nodes,
+    },
+    Append {
+        node: u8,
+        extent: u64,
+        blocks: Vec<Bytes>,
+    },
+}
+
+/// A line of a script.
+#[derive(Drop)]
+pub enum Line {
+    /// A user sends a packet.
+    Submit { user: u64, request: Request },
+    /// Delivers the packet of this number.
+    Deliver(u64),
+    /// Delivers the packet that was sent last.
+    DeliverLast,
+    /// Delivers what was never delivered, the lowest number first.
+    Settle,
+    /// Shows the replica of an extent at a node.
+    Show { node: u8, extent: u64 },
+}
+
+/// The most copies that a word may ask for.
+const MOST_COPIES: u64 = 16_777_216;
+
+/// The bytes of a value word: `N*c` is N copies of the character c, `-` is no byte, and any other word is itself.
+/// A word that asks for more copies than the most cannot be read.
+pub fn value(alloc: Global, word: &str) -> Result<Option<Vec<u8>>, AllocError>
+    ensures found { IfOk result (λ value. IfSome value (λ bytes. IsValue word.now bytes.items)) }
+    ensures none { IfOk result (λ value. IfNone value (IsTooMany word.now)) }
+{
+    if let Some((count, copied)) = copies(word) {
+        return repeated(alloc, count, copied);
+    }
+    if word == "-" {
+        return Ok(Some(Vec::new(alloc)));
+    }
+    match word.as_bytes().to_vec(alloc) {
+        Ok(bytes) => Ok(Some(bytes)),
+        Err(refused) => Err(refused),
+    }
+}
+
+/// What stands before and after the star of a word that asks for copies.
+fn copies(word: &str) -> Option<(&str, &str)>
+    ensures found { IfSome result (λ parts. AsksCopies word.now
+        × (parts.0.now ≡ before_star word.now) × (parts.1.now ≡ after_star word.now)) }
+    ensures none { IfNone result (AsksCopies word.now → ⊥) }
+{
+    let Some((count, copied)) = word.split_once('*') else {
+        return None;
+    };
+    if is_numeral(count) && !count.is_empty() && characters(copied) == 1 {
+        Some((count, copied))
+    } else {
+        None
+    }
+}
+
+/// As many copies as the numeral says, if these are not too many.
+fn repeated(alloc: Global, count: &str, copied: &str) -> Result<Option<Vec<u8>>, AllocError>
+    requires digits { list_all is_ascii_digit count.now ≡ true }
+    requires some { 0 < length count.now }
+    ensures found { IfOk result (λ value. IfSome value (λ bytes. (digits_value 10 count.now ≤ most_copies)
+        × (bytes.items ≡ repeat (digits_value 10 count.now) copied.now))) }
+    ensures none { IfOk result (λ value. IfNone value (most_copies < digits_value 10 count.now)) }
+{
+    let Some(count) = number(count) else {
+        return Ok(None);
+    };
+    if count > MOST_COPIES {
+        return Ok(None);
+    }
+    match copied.repeat(alloc, count as usize) {
+        Ok(text) => Ok(Some(text.into_bytes())),
+        Err(refused) => Err(refused),
+    }
+}
+
+/// How many characters the word has.
+#[tactic(auto, using(std::proofs::lemmas::Str::chars_from_encodes))]
+fn characters(word: &str) -> usize
+    ensures { result ≡ length (chars word.now) }
+{
+    word.chars().count()
+}
+
+/// Whether there is nothing but digits.
+fn is_numeral(word: &str) -> bool
+    ensures { result ≡ list_all is_ascii_digit word.now }
+{
+    word.bytes().all(|b| b.is_ascii_digit())
+}
+
+/// A number in digits alone.
+pub fn number(word: &str) -> Option<u64>
+    ensures { SomeIff result (IsNumber word.now) (digits_value 10 word.now) }
+{
+    if is_numeral(word) {
+        word.parse().ok()
+    } else {
+        None
+    }
+}
+
+/// The number of a node. No stamp has a node 255, which stands for all greater numbers.
+fn node(word: &str) -> Option<u8> {
+    let number = number(word)?;
+    Some(number.min(255) as u8)
+}
+
+fn kind(word: &str) -> Option<StreamKind> {
+    match number(word)? {
+        0 => Some(StreamKind::Metadata),
+        1 => Some(StreamKind::Log),
+        2 => Some(StreamKind::RowData),
+        3 => Some(StreamKind::BlobData),
+        _ => None,
+    }
+}
+
+/// The words of a line, which single blanks part.
+pub fn words(alloc: Global, line: &str) -> Result<Vec<&str>, AllocError>
+    ensures { IfOk result (λ words. map (λ w. w.now) words.items ≡ slice_split (λ b. b == 32) line.now) }
+{
+    line.split(' ').collect(alloc)
+}
+
+/// Reads the words of a line, or answers `None` where they are none of a script.
+pub fn parse(alloc: Global, words: &[&str]) -> Result<Option<Line>, AllocError> {
+    if words.iter().any(|word| word.is_empty()) {
+        return Ok(None);
+    }
+    Ok(match words {
+        ["user", user, request @ ..] => submit(alloc, user, request)?,
+        ["deliver", "last"] => Some(Line::DeliverLast),
+        ["deliver", packet] => number(packet).map(Line::Deliver),
+        ["settle"] => Some(Line::Settle),
+        ["show", node, extent] => show(node, extent),
+        _ => None,
+    })
+}
+
+/// A node above 255 is in no setup, so nothing shows it.
+fn show(node: &str, extent: &str) -> Option<Line> {
+    Some(Line::Show {
+        node: u8::try_from(number(node)?).ok()?,
+        extent: number(extent)?,
+    })
+}
+
+fn submit(alloc: Global, user: &str, words: &[&str]) -> Result<Option<Line>, AllocError> {
+    let Some(user) = number(user) else {
+        return Ok(None);
+    };
+    let request = match words {
+        ["create", kind] => create(kind),
+        ["extend", kind, last, a, b, c] => extend(kind, last, [a, b, c]),
+        ["append", node, extent, blocks @ ..] => append(alloc, node, extent, blocks)?,
+        _ => None,
+    };
+    Ok(request.map(|request| Line::Submit { user, request }))
+}
+
+fn create(word: &str) -> Option<Request> {
+    Some(Request::Create { kind: kind(word)? })
+}
+
+fn extend(word: &str, last: &str, [primary, second, third]: [&str; 3]) -> Option<Request> {
+    let last = match last {
+        "none" => None,
+        _ => Some(number(last)?),
+    };
+    Some(Request::Extend {
+        kind: kind(word)?,
+        last,
+        pick: Nodes {
+            primary: node(primary)?,
+            second: node(second)?,
+            third: node(third)?,
+        },
+    })
+}
+
+fn append(
+    alloc: Global,
+    primary: &str,
+    extent: &str,
+    words: &[&str],
+) -> Result<Option<Request>, AllocError> {
+    let (Some(node), Some(extent)) = (node(primary), number(extent)) else {
+        return Ok(None);
+    };
+    let mut blocks = Vec::with_capacity(alloc, words.len())?;
+    for word in words {
+        match value(alloc, word)? {
+            Some(bytes) => blocks.push(Bytes::from_vec(bytes)?)?,
+            None => return Ok(None),
+        }
+    }
+    Ok(Some(Request::Append {
+        node,
+        extent,
+        blocks,
+    }))
+}

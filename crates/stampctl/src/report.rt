@@ -1,0 +1,131 @@
+//! The lines of output.
+ghost use Rattle.std.specs.Prelude.{◌++◌, ◌∷◌, [], IfErr, OnOk};
+ghost use Rattle.std.specs.Io.KnownBytes.{Appends};
+ghost use Rattle.stampctl.specs.Failures.{IsRunFailure};
+ghost use Rattle.stampctl.specs.Reports.{report_text};
+
+use crate::error::Failure;
+use std::fmt;
+use std::io::Write;
+use wire::Refusal;
+
+/// What an answer tells a user.
+#[derive(Clone, Copy, Debug, PartialEq, Eq)]
+pub enum Answer {
+    Created,
+    Extended(u64),
+    Appended(u32),
+    Refused(Refusal),
+}
+
+/// What a replica does.
+#[derive(Clone, Copy, Debug, PartialEq, Eq)]
+pub enum Standing {
+    Open,
+    Frozen,
+    Sealed,
+}
+
+/// A line of output.
+#[derive(Clone, Copy, Debug, PartialEq, Eq)]
+pub enum Report {
+    /// The primary acknowledged a group.
+    Acked {
+        extent: u64,
+        offset: u32,
+        size: u32,
+    },
+    /// An answer came to a user.
+    Told {
+        user: u64,
+        ticket: u64,
+        answer: Answer,
+    },
+    Replica {
+        node: u8,
+        extent: u64,
+        standing: Standing,
+        length: u32,
+        fence: u64,
+    },
+    NoReplica {
+        node: u8,
+        extent: u64,
+    },
+    /// The node is stopped, so nobody knows what it has.
+    Stopped {
+        node: u8,
+        extent: u64,
+    },
+}
+
+impl fmt::Display for Answer {
+    ghost use Rattle.std.specs.Prelude.{Some};
+    ghost use Rattle.stampctl.specs.Reports.{answer_text};
+
+    ghost output = { λ answer. Some (answer_text answer) };
+
+    fn fmt<W: fmt::Write>(&self, f: &mut fmt::Formatter<W>) -> fmt::Result {
+        match self {
+            Answer::Created => write!(f, "created"),
+            Answer::Extended(extent) => write!(f, "extended {extent}"),
+            Answer::Appended(offset) => write!(f, "appended {offset}"),
+            Answer::Refused(refusal) => write!(f, "refused {refusal}"),
+        }
+    }
+}
+
+impl fmt::Display for Standing {
+    ghost use Rattle.std.specs.Prelude.{Some};
+    ghost use Rattle.stampctl.specs.Reports.{standing_text};
+
+    ghost output = { λ standing. Some (standing_text standing) };
+
+    fn fmt<W: fmt::Write>(&self, f: &mut fmt::Formatter<W>) -> fmt::Result {
+        match self {
+            Standing::Open => write!(f, "open"),
+            Standing::Frozen => write!(f, "frozen"),
+            Standing::Sealed => write!(f, "sealed"),
+        }
+    }
+}
+
+impl fmt::Display for Report {
+    ghost use Rattle.std.specs.Prelude.{Some};
+    ghost use Rattle.stampctl.specs.Reports.{report_text};
+
+    ghost output = { λ report. Some (report_text report) };
+
+    fn fmt<W: fmt::Write>(&self, f: &mut fmt::Formatter<W>) -> fmt::Result {
+        match self {
+            Report::Acked {
+                extent,
+                offset,
+                size,
+            } => write!(f, "acked {extent} {offset} {size}"),
+            Report::Told {
+                user,
+                ticket,
+                answer,
+            } => write!(f, "user {user} {ticket} {answer}"),
+            Report::Replica {
+                node,
+                extent,
+                standing,
+                length,
+                fence,
+            } => write!(f, "replica {node} {extent} {standing} {length} {fence}"),
+            Report::NoReplica { node, extent } => write!(f, "replica {node} {extent} none"),
+            Report::Stopped { node, extent } => write!(f, "replica {node} {extent} stopped"),
+        }
+    }
+}
+
+/// Prints a line.
+pub fn print<W: Write>(report: Report, writer: &mut W) -> Result<(), Failure>
+    ensures printed { OnOk result (Appends (W.contents writer.old) (W.contents writer.new)
+        (report_text report ++ 10 ∷ [])) }
+    ensures failed { IfErr result IsRunFailure }
+{
+    writeln!(writer, "{report}").map_err(Failure::Output)
+}

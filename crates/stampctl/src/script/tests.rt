@@ -1,0 +1,244 @@
+use super::*;
+use std::io::{self, ErrorKind};
+use std::test::Fail;
+
+/// A writer that has room for some bytes and then fails.
+#[derive(Drop)]
+struct Narrow {
+    room: usize,
+    fails: usize,
+}
+
+impl Write for Narrow {
+    fn write(&mut self, buf: &[u8]) -> io::Result<usize> {
+        if self.room < buf.len() {
+            self.fails = self.fails.saturating_add(1);
+            return Err(io::Error::from(ErrorKind::StorageFull));
+        }
+        self.room -= buf.len();
+        Ok(buf.len())
+    }
+
+    fn flush(&mut self) -> io::Result<()> {
+        Ok(())
+    }
+}
+
+/// A reader that gives some bytes and then fails.
+#[derive(Drop)]
+struct Broken {
+    reads: usize,
+    kind: ErrorKind,
+}
+
+impl Read for Broken {
+    fn read(&mut self, buf: &mut [u8]) -> io::Result<usize> {
+        if self.reads == 0 || buf.is_empty() {
+            return Err(io::Error::from(self.kind));
+        }
+        self.reads -= 1;
+        buf[0] = b'\n';
+        Ok(1)
+    }
+}
+
+const BEGUN: &str =
+    "setup 3 1 4096 1\nuser 1 create 0\nsettle\nuser 1 extend 0 none 1 2 3\nsettle\n";
+
+const TOLD: &str = "user 1 0 created\nuser 1 1 extended 1\n";
+
+/// What is run below `BEGUN`, and what it prints below `TOLD`.
+const RUNS: [(&str, &str); 14] = [
+    (
+        "user 1 append 1 1\nsettle\nuser 1 append 1 1 a a a a a a a a a a a a a a a a a a a a a a a a a a a a a a a a a a a a a a a a a a a a a a a a a a a a a a a a a a a a a a a a a\nsettle\nuser 1 append 1 1 -\nsettle\nuser 1 append 1 1 65537*a\nsettle\nshow 1 1\n",
+        "user 1 2 refused 6 TooManyBlocks\nuser 1 3 refused 6 TooManyBlocks\nuser 1 4 refused 5 BadBlock\nuser 1 5 refused 5 BadBlock\nreplica 1 1 open 0 0\n",
+    ),
+    (
+        "user 1 append 1 1 abc de\ndeliver 7\nshow 1 1\nshow 2 1\nshow 3 2\n",
+        "replica 1 1 open 5 0\nreplica 2 1 open 0 0\nreplica 3 2 none\n",
+    ),
+    // One character that is no byte, characters that are not one, and a numeral that is none.
+    (
+        "user 1 append 1 1 3*\u{e9} 2** 3*ab *a 0002*- 65536*a\ndeliver last\nshow 1 1\n",
+        "replica 1 1 open 65552 0\n",
+    ),
+    (
+        "user 1 append 1 1 0*a\nsettle\n",
+        "user 1 2 refused 5 BadBlock\n",
+    ),
+    (
+        "user 1 create 0\nsettle\n",
+        "user 1 2 refused 12 NameTaken\n",
+    ),
+    (
+        "user 1 extend 0 1 1 2 3\nsettle\n",
+        "user 1 2 refused 13 LastOpen\n",
+    ),
+    (
+        "user 1 extend 0 1 1 1 1\nsettle\n",
+        "user 1 2 refused 13 LastOpen\n",
+    ),
+    (
+        "user 1 extend 0 none 1 2 300\nuser 1 extend 0 2 3 2 1\nsettle\n",
+        "user 1 2 extended 1\nuser 1 3 extended 1\n",
+    ),
+    // Each user has tickets of its own. A stream that nobody keeps gives no answer.
+    (
+        "user 2 create 1\nuser 2 create 0\nuser 1 create 0\nuser 2 extend 3 none 1 2 3\nsettle\n",
+        "user 2 1 refused 12 NameTaken\nuser 1 2 refused 12 NameTaken\n",
+    ),
+    // An answer is told again when it is delivered again, and at a number that was never sent nothing happens.
+    (
+        "deliver 6\ndeliver 1\ndeliver 7\ndeliver 18446744073709551615\n",
+        "user 1 1 extended 1\nuser 1 0 created\n",
+    ),
+    // An absent node takes a ticket and a packet number, and nothing more.
+    (
+        "user 1 append 4 1 a\nuser 1 append 0 1 a\nuser 1 append 999 1 a\ndeliver 7\nuser 1 create 0\nsettle\ndeliver 11\n",
+        "user 1 5 refused 12 NameTaken\nuser 1 5 refused 12 NameTaken\n",
+    ),
+    (
+        "deliver 0006\n\n\r\nsettle\r\nshow 01 0001\r\n",
+        "user 1 1 extended 1\nreplica 1 1 open 0 0\n",
+    ),
+    (
+        "user 1 append 2 1 a\nuser 1 append 1 9 a\nsettle\n",
+        "user 1 2 refused 2 NotPrimary\nuser 1 3 refused 1 NoSuchExtent\n",
+    ),
+    ("settle\ndeliver last", "user 1 1 extended 1\n"),
+];
+
+#[test]
+fn runs_scripts(rt: HostRuntime) -> Result<(), Fail> {
+    for (more, want) in RUNS {
+        let text = format!(in rt.alloc(); "{BEGUN}{more}")?;
+        let wanted = format!(in rt.alloc(); "{TOLD}{want}")?;
+        let mut out = Vec::new(rt.alloc());
+        script(rt.alloc(), text.as_bytes(), &mut out)?;
+        assert_eq!(rt;
+            std::str::from_utf8(out.as_slice())?,
+            wanted.as_str(),
+            "at {more}"
+        );
+    }
+    Ok(())
+}
+
+#[test]
+fn refuses_streams(rt: HostRuntime) -> Result<(), Fail> {
+    let cases = [
+        ("deliver last\nshow 12 1\n", "replica 12 1 none\n"),
+        (
+            "user 1 extend 0 none 1 2 3\nsettle\n",
+            "user 1 0 refused 11 NoSuchStream\n",
+        ),
+        (
+            "user 1 create 0\nuser 1 extend 0 none 1 2 2\nuser 1 extend 0 7 0 1 2\nuser 1 extend 0 none 1 2 13\nsettle\n",
+            "user 1 0 created\nuser 1 1 refused 14 BadPick\nuser 1 2 refused 14 BadPick\nuser 1 3 refused 14 BadPick\n",
+        ),
+        (
+            "user 7 create 0\nuser 7 extend 0 5 12 2 7\nsettle\nshow 12 1\n",
+            "user 7 0 created\nuser 7 1 extended 1\nreplica 12 1 open 0 0\n",
+        ),
+    ];
+    for (more, want) in cases {
+        let text = format!(in rt.alloc(); "setup 12 4 16777216 1024\n{more}")?;
+        let mut out = Vec::new(rt.alloc());
+        script(rt.alloc(), text.as_bytes(), &mut out)?;
+        assert_eq!(rt; std::str::from_utf8(out.as_slice())?, want, "at {more}");
+    }
+    Ok(())
+}
+
+/// Setups that are none.
+const SETUPS: [&str; 14] = [
+    "",
+    "\n\r\n",
+    "settle\n",
+    "setup 2 1 4096 1\n",
+    "setup 13 1 4096 1\n",
+    "setup 3 0 4096 1\n",
+    "setup 3 5 4096 1\n",
+    "setup 3 1 4095 1\n",
+    "setup 3 1 16777217 1\n",
+    "setup 3 1 4096 0\n",
+    "setup 3 1 4096 1025\n",
+    "setup 3 1 4096\n",
+    "setup 3 1 4096 1 1\n",
+    " setup 3 1 4096 1\n",
+];
+
+/// Lines that are none below `BEGUN`.
+const LINES: [&str; 30] = [
+    "settle ",
+    " settle",
+    "settle now",
+    "setup 3 1 4096 1",
+    "deliver",
+    "deliver +1",
+    "deliver -1",
+    "deliver 1 2",
+    "deliver 18446744073709551616",
+    "show 1",
+    "show 0 1",
+    "show 4 1",
+    "show 257 1",
+    "show 1 x",
+    "user 1",
+    "user x create 0",
+    "user 1  create 0",
+    "user 1 create",
+    "user 1 create 4",
+    "user 1 create 0 0",
+    "user 1 extend 0 None 1 2 3",
+    "user 1 extend 0 none 1 2",
+    "user 1 extend 4 none 1 2 3",
+    "user 1 extend 0 none 1 2 x",
+    "user 1 append 1",
+    "user 1 append 1 1 ",
+    "user 1 append 1 1 a  b",
+    "user 1 append 1 1 16777217*a",
+    "user 1 append 1 1 18446744073709551616*a",
+    "user 1 read 1 1 0 1",
+];
+
+fn is_refused(rt: &HostRuntime, text: &[u8]) -> bool {
+    let mut out = Vec::new(rt.alloc());
+    let ended = script(rt.alloc(), text, &mut out);
+    out.is_empty() && matches!(ended, Err(Failure::Refused(Refusal::BadScript)))
+}
+
+#[test]
+fn refuses_what_is_no_script(rt: HostRuntime) -> Result<(), Fail> {
+    for text in SETUPS {
+        assert!(rt; is_refused(&rt, text.as_bytes()), "at {text:?}");
+    }
+    for line in LINES {
+        let text = format!(in rt.alloc(); "{BEGUN}{line}\nsettle\n")?;
+        assert!(rt; is_refused(&rt, text.as_bytes()), "at {line:?}");
+    }
+    assert!(rt; is_refused(&rt, b"setup 3 1 4096 1\nuser 1 create 0\nsettle\n\xff"));
+    Ok(())
+}
+
+#[test]
+fn names_a_failed_reader(rt: HostRuntime) {
+    for (kind, want) in [
+        (ErrorKind::BrokenPipe, Refusal::NoFile),
+        (ErrorKind::OutOfMemory, Refusal::Memory),
+    ] {
+        let mut out = Vec::new(rt.alloc());
+        let ended = script(rt.alloc(), Broken { reads: 3, kind }, &mut out);
+        assert!(rt; matches!(ended, Err(Failure::Refused(refusal)) if refusal == want));
+        assert!(rt; out.is_empty());
+    }
+}
+
+#[test]
+fn stops_at_a_failed_writer(rt: HostRuntime) {
+    let mut out = Narrow { room: 17, fails: 0 };
+    let ended = script(rt.alloc(), BEGUN.as_bytes(), &mut out);
+    assert!(rt; matches!(ended, Err(Failure::Output(_))));
+    assert_eq!(rt; out.room, 0);
+    assert_eq!(rt; out.fails, 1);
+}

@@ -1,0 +1,75 @@
+//! The blocks of an append that nobody has looked at yet.
+ghost use Rattle.std.specs.Prelude.{◌≡◌, length, false, IfOk};
+ghost use Rattle.std.specs.List.{AllByRecursion};
+ghost use Rattle.blocks.specs.Limits.{IsBlock, IsGroup};
+ghost use Rattle.wire.specs.Blocks.{has_bad_block};
+
+use blocks::Group;
+use bytes::Bytes;
+use std::alloc::{AllocError, Global};
+use std::marker::Model;
+
+/// Byte strings of any number and size, as an append carries them before they are known to be a group.
+#[derive(Drop)]
+pub struct Blocks {
+    items: Vec<Bytes>,
+}
+
+impl Model for Blocks {
+    ghost use Rattle.std.specs.Prelude.{ℕ, List};
+
+    ghost Value = { List (List ℕ) };
+
+    ghost view = { λ blocks. blocks.items.items };
+}
+
+impl Blocks {
+    /// Takes the byte strings as they are.
+    pub fn of(items: Vec<Bytes>) -> Blocks
+        ensures { result ≡ items.items }
+    {
+        Blocks { items }
+    }
+
+    /// The byte strings in order.
+    pub fn as_slice(&self) -> &[Bytes]
+        ensures { result.now ≡ self.now }
+    {
+        &self.items
+    }
+
+    /// The group of these blocks, which shares their bytes.
+    pub fn group(&self, alloc: Global) -> Result<Group, AllocError>
+        requires { IsGroup self.now }
+        ensures { IfOk result (λ group. group ≡ self.now) }
+    {
+        Group::shared(alloc, &self.items)
+    }
+
+    /// How many there are.
+    pub fn count(&self) -> usize
+        ensures { result ≡ length self.now }
+    {
+        self.items.len()
+    }
+
+    /// Whether some block has no byte, or more than 65,536.
+    pub fn has_bad_block(&self) -> bool
+        ensures value { result ≡ has_bad_block self.now }
+        ensures good { result ≡ false → AllByRecursion IsBlock self.now }
+    {
+        some_bad(self.items.as_slice())
+    }
+}
+
+fn some_bad(blocks: &[Bytes]) -> bool
+    ensures value { result ≡ has_bad_block blocks.now }
+    ensures good { result ≡ false → AllByRecursion IsBlock blocks.now }
+{
+    for block in blocks {
+        if block.is_empty() || block.len() > 65536 {
+            return true;
+        }
+    }
+    false
+}

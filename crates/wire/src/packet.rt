@@ -1,0 +1,94 @@
+//! Packets, and what an actor's step gives.
+ghost use Rattle.std.specs.Prelude.{◌≡◌, [], ◌∷◌, ◌++◌, OnOk, OnErr};
+
+use crate::actor::ActorId;
+use crate::body::Body;
+use crate::note::Notes;
+use std::alloc::{AllocError, Global};
+use std::marker::Model;
+
+/// A packet, which may be delivered any number of times.
+#[derive(Drop)]
+pub struct Packet {
+    pub from: ActorId,
+    pub to: ActorId,
+    pub body: Body,
+}
+
+/// Packets in the order in which they are sent.
+#[derive(Drop)]
+pub struct Packets {
+    items: Vec<Packet>,
+}
+
+impl Model for Packets {
+    ghost use Rattle.std.specs.Prelude.{List};
+    ghost use Rattle.wire.specs.declared.packet.Packet.{Packet};
+
+    ghost Value = { List Packet };
+
+    ghost view = { λ list. list.items.items };
+}
+
+impl Packets {
+    /// None yet; takes no memory.
+    pub fn new(alloc: Global) -> Packets
+        ensures { result ≡ [] }
+    {
+        Packets {
+            items: Vec::new(alloc),
+        }
+    }
+
+    /// Adds one at the end. Without memory nothing has changed.
+    pub fn push(&mut self, added: Packet) -> Result<(), AllocError>
+        ensures ok { OnOk result (self.new ≡ self.old ++ added ∷ []) }
+        ensures err { OnErr result (self.new ≡ self.old) }
+    {
+        self.items.push(added)?;
+        Ok(())
+    }
+
+    /// They, in order.
+    pub fn as_slice(&self) -> &[Packet]
+        ensures { result.now ≡ self.now }
+    {
+        &self.items
+    }
+
+    /// Adds these at the end. Without memory nothing has changed.
+    pub fn append(&mut self, more: Packets) -> Result<(), AllocError>
+        ensures ok { OnOk result (self.new ≡ self.old ++ more) }
+        ensures err { OnErr result (self.new ≡ self.old) }
+    {
+        let Packets { mut items } = more;
+        self.items.append(&mut items)
+    }
+
+    /// The vector of them.
+    pub fn into_vec(self) -> Vec<Packet>
+        ensures { result.items ≡ self }
+    {
+        self.items
+    }
+}
+
+/// What one step of an actor sends and shows.
+#[derive(Drop)]
+pub struct Step {
+    pub packets: Packets,
+    pub notes: Notes,
+}
+
+impl Step {
+    /// A step that sends nothing and shows nothing; takes no memory.
+    pub fn silent(alloc: Global) -> Step
+        ensures packets { result.packets ≡ [] }
+        ensures notes { result.notes ≡ [] }
+    {
+        Step {
+            packets: Packets::new(alloc),
+            notes: Notes::new(alloc),
+        }
+    }
+}

@@ -1,0 +1,43 @@
+//! The rows of a table.
+ghost use Rattle.std.specs.Prelude.{◌≡◌};
+
+use bytes::Bytes;
+use std::marker::Model;
+
+/// A key and its value.
+#[derive(Drop)]
+pub struct Row {
+    pub key: Bytes,
+    pub value: Bytes,
+}
+
+/// A table: its rows in order of their keys.
+#[derive(Drop)]
+pub struct Rows {
+    items: Vec<Row>,
+}
+
+impl Model for Rows {
+    ghost use Rattle.std.specs.Prelude.{List};
+    ghost use Rattle.wire.specs.declared.rows.Row.{Row};
+
+    ghost Value = { List Row };
+
+    ghost view = { λ list. list.items.items };
+}
+
+impl Rows {
+    /// Takes them as they are.
+    pub fn of(items: Vec<Row>) -> Rows
+        ensures { result ≡ items.items }
+    {
+        Rows { items }
+    }
+
+    /// They, in order.
+    pub fn as_slice(&self) -> &[Row]
+        ensures { result.now ≡ self.now }
+    {
+        &self.items
+    }
+}

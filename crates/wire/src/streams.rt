@@ -1,0 +1,155 @@
+//! Streams by name, and what the stream manager tells of them.
+ghost use Rattle.std.specs.Prelude.{◌≡◌};
+
+use crate::extent_id::ExtentId;
+use crate::fence::Fence;
+use crate::range_id::RangeId;
+use blocks::Nodes;
+use std::marker::Model;
+
+/// What a stream of a range is for (after Calder et al., SOSP 2011, section 5.2).
+#[derive(Clone, Copy, Debug, PartialEq, Eq)]
+pub enum StreamKind {
+    Metadata,
+    Log,
+    RowData,
+    BlobData,
+}
+
+/// The name of a stream: the range that it belongs to, and what it is for.
+#[derive(Clone, Copy, Debug, PartialEq, Eq)]
+pub struct StreamName {
+    pub range: RangeId,
+    pub kind: StreamKind,
+}
+
+/// An extent of a stream, its three places (the primary first), and its length in bytes once it is sealed.
+#[derive(Clone, Copy, Debug, PartialEq, Eq)]
+pub struct StreamExtent {
+    pub extent: ExtentId,
+    pub places: Nodes,
+    pub length: Option<u32>,
+}
+
+/// The extents of a stream, in order.
+#[derive(Drop)]
+pub struct StreamExtents {
+    items: Vec<StreamExtent>,
+}
+
+impl Model for StreamExtents {
+    ghost use Rattle.std.specs.Prelude.{List};
+    ghost use Rattle.wire.specs.declared.streams.StreamExtent.{StreamExtent};
+
+    ghost Value = { List StreamExtent };
+
+    ghost view = { λ list. list.items.items };
+}
+
+impl StreamExtents {
+    /// Takes them as they are.
+    pub fn of(items: Vec<StreamExtent>) -> StreamExtents
+        ensures { result ≡ items.items }
+    {
+        StreamExtents { items }
+    }
+
+    /// They, in order.
+    pub fn as_slice(&self) -> &[StreamExtent]
+        ensures { result.now ≡ self.now }
+    {
+        &self.items
+    }
+}
+
+/// A stream: the index of its first extent, and its extents.
+#[derive(Drop)]
+pub struct StreamList {
+    pub base: u64,
+    pub extents: StreamExtents,
+}
+
+/// The four streams of a range.
+#[derive(Drop)]
+pub struct StreamLists {
+    pub metadata: StreamList,
+    pub log: StreamList,
+    pub row_data: StreamList,
+    pub blob_data: StreamList,
+}
+
+/// A stream that another is built from, and the generation that its fence is to have.
+#[derive(Clone, Copy, Debug, PartialEq, Eq)]
+pub struct Source {
+    pub stream: StreamName,
+    pub generation: Fence,
+}
+
+/// Streams whose lists are joined, in order.
+#[derive(Drop)]
+pub struct Sources {
+    items: Vec<Source>,
+}
+
+impl Model for Sources {
+    ghost use Rattle.std.specs.Prelude.{List};
+    ghost use Rattle.wire.specs.declared.streams.Source.{Source};
+
+    ghost Value = { List Source };
+
+    ghost view = { λ list. list.items.items };
+}
+
+impl Sources {
+    /// Takes them as they are.
+    pub fn of(items: Vec<Source>) -> Sources
+        ensures { result ≡ items.items }
+    {
+        Sources { items }
+    }
+
+    /// They, in order.
+    pub fn as_slice(&self) -> &[Source]
+        ensures { result.now ≡ self.now }
+    {
+        &self.items
+    }
+}
+
+/// A stream to be built from the lists of others.
+#[derive(Drop)]
+pub struct Modify {
+    pub stream: StreamName,
+    pub sources: Sources,
+}
+
+/// Streams to be built, in order.
+#[derive(Drop)]
+pub struct Modifies {
+    items: Vec<Modify>,
+}
+
+impl Model for Modifies {
+    ghost use Rattle.std.specs.Prelude.{List};
+    ghost use Rattle.wire.specs.declared.streams.Modify.{Modify};
+
+    ghost Value = { List Modify };
+
+    ghost view = { λ list. list.items.items };
+}
+
+impl Modifies {
+    /// Takes them as they are.
+    pub fn of(items: Vec<Modify>) -> Modifies
+        ensures { result ≡ items.items }
+    {
+        Modifies { items }
+    }
+
+    /// They, in order.
+    pub fn as_slice(&self) -> &[Modify]
+        ensures { result.now ≡ self.now }
+    {
+        &self.items
+    }
+}
