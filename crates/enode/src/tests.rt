@@ -1,10 +1,8 @@
 use super::*;
-use blocks::{Group, Nodes, Record, Version};
+use blocks::{Nodes, Version};
 use bytes::Bytes;
-use disk::{FileFault, MemDisk, RecordFile};
-use replica::Phase;
+use disk::{DiskFault, MemDisk, RecordFile};
 use std::alloc::Global;
-use std::process::Abort;
 use std::test::Fail;
 use wire::{
     ActorId, AppendBody, Blocks, Body, ExtentId, Fence, Packet, Refusal, ReqNo, SealBody, Step,
@@ -16,18 +14,32 @@ const PLACES: Nodes = Nodes {
     third: 3,
 };
 
-const ASKED: ReqNo = ReqNo::User { user: 7, ticket: 0 };
-
-fn node(alloc: Global) -> Result<Node<MemDisk>, Fail> {
-    let disk = RecordFile::format(Version::V1, MemDisk::new(alloc))
-        .ok()
-        .ok_or("formatted")?
-        .into_disk();
-    Ok(Node::restart(alloc, 1, disk).ok().ok_or("started")?)
+// These calls pass no contract on, so that a test is proved from what it reads alone.
+fn started(alloc: Global, disk: MemDisk) -> Result<Node<MemDisk>, Fail> {
+    match Node::restart(alloc, 1, disk) {
+        Ok(node) => Ok(node),
+        Err((_fault, _disk)) => Err(Fail::from("the node did not start")),
+    }
 }
 
-fn make(fence: u64, target: u32) -> Packet {
-    Packet {
+fn formatted(alloc: Global) -> Result<RecordFile<MemDisk>, Fail> {
+    match RecordFile::format(Version::V1, MemDisk::new(alloc)) {
+        Ok(file) => Ok(file),
+        Err((_fault, _disk)) => Err(Fail::from("no file was made")),
+    }
+}
+
+fn take(node: &mut Node<MemDisk>, alloc: Global, packet: &Packet) -> Result<Step, DiskFault> {
+    node.handle(alloc, packet)
+}
+
+fn make(
+    node: &mut Node<MemDisk>,
+    alloc: Global,
+    fence: u64,
+    target: u32,
+) -> Result<Step, DiskFault> {
+    let packet = Packet {
         from: ActorId::Manager,
         to: ActorId::Node(1),
         body: Body::Seal(SealBody::Make {
@@ -36,24 +48,45 @@ fn make(fence: u64, target: u32) -> Packet {
             target,
             places: PLACES,
         }),
-    }
+    };
+    take(node, alloc, &packet)
 }
 
-fn append(alloc: Global, extent: u64, words: &[&str]) -> Result<Packet, Fail> {
+fn blocks(alloc: Global, words: &[&str]) -> Result<Blocks, Fail> {
     let mut blocks = Vec::new(alloc);
     for word in words {
         blocks.push(Bytes::copy_from_slice(alloc, word.as_bytes())?)?;
     }
-    Ok(Packet {
+    Ok(Blocks::of(blocks))
+}
+
+fn send(
+    node: &mut Node<MemDisk>,
+    alloc: Global,
+    extent: u64,
+    blocks: Blocks,
+) -> Result<Step, DiskFault> {
+    let packet = Packet {
         from: ActorId::User(7),
         to: ActorId::Node(1),
         body: Body::Append(AppendBody::Append {
             extent: ExtentId::new(extent),
             generation: Fence::new(9),
-            blocks: Blocks::of(blocks),
-            request: ASKED,
+            blocks,
+            request: ReqNo::User { user: 7, ticket: 0 },
         }),
-    })
+    };
+    take(node, alloc, &packet)
+}
+
+fn append(
+    node: &mut Node<MemDisk>,
+    alloc: Global,
+    extent: u64,
+    words: &[&str],
+) -> Result<Step, Fail> {
+    let blocks = blocks(alloc, words)?;
+    Ok(send(node, alloc, extent, blocks)?)
 }
 
 /// The refusal that a step sends, if it sends one packet that is one.
@@ -67,15 +100,23 @@ fn refusal(step: &Step) -> Option<Refusal> {
     }
 }
 
-/// The offsets and receivers of the Puts that a step sends.
-fn puts(alloc: Global, step: &Step) -> Result<Vec<(u32, ActorId)>, Fail> {
-    let mut found = Vec::new(alloc);
-    for packet in step.packets.as_slice() {
-        if let Body::Append(AppendBody::Put { offset, .. }) = &packet.body {
-            found.push((*offset, packet.to))?;
-        }
+/// The offset and the receiver of a Put.
+fn put(packet: &Packet) -> Option<(u32, ActorId)> {
+    match &packet.body {
+        Body::Append(AppendBody::Put { offset, .. }) => Some((*offset, packet.to)),
+        _ => None,
     }
-    Ok(found)
+}
+
+/// The offsets at which a step puts a group to nodes 2 and 3.
+fn puts(step: &Step) -> Option<(u32, u32)> {
+    match step.packets.as_slice() {
+        [second, third] => match (put(second), put(third)) {
+            (Some((a, ActorId::Node(2))), Some((b, ActorId::Node(3)))) => Some((a, b)),
+            _ => None,
+        },
+        _ => None,
+    }
 }
 
 fn length(node: &Node<MemDisk>) -> Option<u32> {
@@ -85,143 +126,107 @@ fn length(node: &Node<MemDisk>) -> Option<u32> {
     }
 }
 
-#[test]
-fn takes_appends_and_comes_back(rt: HostRuntime) -> Result<(), Fail> {
-    let alloc = rt.alloc();
-    let mut node = node(alloc)?;
-    node.handle(alloc, &make(0, 4096))?;
-    let first = node.handle(alloc, &append(alloc, 1, ["abc", "de"].as_slice())?)?;
-    let second = node.handle(alloc, &append(alloc, 1, ["f"].as_slice())?)?;
-    let (to_second, to_third) = (ActorId::Node(2), ActorId::Node(3));
-    assert_eq!(rt;
-        puts(alloc, &first)?.as_slice(),
-        [(0, to_second), (0, to_third)].as_slice()
-    );
-    assert_eq!(rt;
-        puts(alloc, &second)?.as_slice(),
-        [(5, to_second), (5, to_third)].as_slice()
-    );
-    assert_eq!(rt; length(&node), Some(6));
-    let again = Node::restart(alloc, 1, node.into_disk())
-        .ok()
-        .ok_or("restarted")?;
-    assert_eq!(rt; length(&again), Some(6));
-    assert_eq!(rt; again.number(), 1);
-    assert!(rt; !again.is_stopped());
-    match again.replica(ExtentId::new(1)) {
-        Some(replica) => {
-            assert_eq!(rt; replica.state(), Phase::Open);
-            assert_eq!(rt; replica.fence(), 0);
-        }
-        None => return Err(Fail::from("no replica")),
-    }
-    Ok(())
+/// A node with an empty replica of extent 1.
+fn made(alloc: Global, fence: u64, target: u32) -> Result<Node<MemDisk>, Fail> {
+    let mut node = started(alloc, formatted(alloc)?.into_disk())?;
+    make(&mut node, alloc, fence, target)?;
+    Ok(node)
 }
 
-fn refuses(
-    rt: &(impl Abort + AllocGlobal),
+fn put_offsets(
+    alloc: Global,
+    node: &mut Node<MemDisk>,
+    words: &[&str],
+) -> Result<Option<(u32, u32)>, Fail> {
+    let step = append(node, alloc, 1, words)?;
+    Ok(puts(&step))
+}
+
+fn refused(
+    alloc: Global,
     node: &mut Node<MemDisk>,
     extent: u64,
     words: &[&str],
-    want: Refusal,
-) -> Result<(), Fail> {
-    let alloc = rt.alloc();
-    let before = length(node);
-    let step = node.handle(alloc, &append(alloc, extent, words)?)?;
-    assert_eq!(rt; refusal(&step), Some(want));
-    assert_eq!(rt; length(node), before);
+) -> Result<Option<Refusal>, Fail> {
+    let step = append(node, alloc, extent, words)?;
+    Ok(refusal(&step))
+}
+
+#[test]
+fn comes_back_from_its_records(rt: HostRuntime) -> Result<(), Fail> {
+    let mut node = made(rt.alloc(), 0, 4096)?;
+    let first = put_offsets(rt.alloc(), &mut node, ["abc", "de"].as_slice())?;
+    let second = put_offsets(rt.alloc(), &mut node, ["f"].as_slice())?;
+    let again = started(rt.alloc(), node.into_disk())?;
+    assert_eq!(rt; first, Some((0, 0)));
+    assert_eq!(rt; second, Some((5, 5)));
+    assert_eq!(rt; length(&again), Some(6));
+    assert_eq!(rt; again.number(), 1);
+    assert!(rt; !again.is_stopped());
     Ok(())
 }
 
 #[test]
 fn refuses_by_name(rt: HostRuntime) -> Result<(), Fail> {
-    let alloc = rt.alloc();
-    let mut node = node(alloc)?;
-    refuses(&rt, &mut node, 1, ["a"].as_slice(), Refusal::NoSuchExtent)?;
-    node.handle(alloc, &make(0, 4096))?;
-    refuses(&rt, &mut node, 1, [].as_slice(), Refusal::TooManyBlocks)?;
-    refuses(&rt, &mut node, 1, [""].as_slice(), Refusal::BadBlock)?;
-    refuses(&rt, &mut node, 2, ["a"].as_slice(), Refusal::NoSuchExtent)?;
-    for _ in 0..256 {
-        node.handle(alloc, &append(alloc, 1, ["a"].as_slice())?)?;
-    }
-    refuses(&rt, &mut node, 1, ["a"].as_slice(), Refusal::Busy)?;
-    assert_eq!(rt; length(&node), Some(256));
+    let mut node = made(rt.alloc(), 0, 4096)?;
+    let none = refused(rt.alloc(), &mut node, 2, ["a"].as_slice())?;
+    let many = refused(rt.alloc(), &mut node, 1, [].as_slice())?;
+    let bad = refused(rt.alloc(), &mut node, 1, [""].as_slice())?;
+    assert_eq!(rt; none, Some(Refusal::NoSuchExtent));
+    assert_eq!(rt; many, Some(Refusal::TooManyBlocks));
+    assert_eq!(rt; bad, Some(Refusal::BadBlock));
+    assert_eq!(rt; length(&node), Some(0));
     Ok(())
 }
 
 #[test]
 fn refuses_an_old_generation(rt: HostRuntime) -> Result<(), Fail> {
-    let alloc = rt.alloc();
-    let mut node = node(alloc)?;
-    node.handle(alloc, &make(3, 4096))?;
-    refuses(&rt, &mut node, 1, ["a"].as_slice(), Refusal::Stale)
+    let mut node = made(rt.alloc(), 3, 4096)?;
+    let old = refused(rt.alloc(), &mut node, 1, ["a"].as_slice())?;
+    assert_eq!(rt; old, Some(Refusal::Stale));
+    Ok(())
+}
+
+#[test]
+fn is_busy_with_256_waiting(rt: HostRuntime) -> Result<(), Fail> {
+    let mut node = made(rt.alloc(), 0, 4096)?;
+    for _ in 0..256 {
+        append(&mut node, rt.alloc(), 1, ["a"].as_slice())?;
+    }
+    let busy = refused(rt.alloc(), &mut node, 1, ["a"].as_slice())?;
+    assert_eq!(rt; busy, Some(Refusal::Busy));
+    assert_eq!(rt; length(&node), Some(256));
+    Ok(())
 }
 
 #[test]
 fn makes_one_replica_within_limits(rt: HostRuntime) -> Result<(), Fail> {
-    let alloc = rt.alloc();
-    let mut node = node(alloc)?;
-    node.handle(alloc, &make(0, 4095))?;
-    assert_eq!(rt; length(&node), None);
-    node.handle(alloc, &make(0, 4096))?;
-    node.handle(alloc, &append(alloc, 1, ["a"].as_slice())?)?;
-    let again = node.handle(alloc, &make(0, 4096))?;
-    assert!(rt; again.packets.as_slice().is_empty());
+    let mut node = made(rt.alloc(), 0, 4095)?;
+    let out_of_range = length(&node);
+    make(&mut node, rt.alloc(), 0, 4096)?;
+    append(&mut node, rt.alloc(), 1, ["a"].as_slice())?;
+    make(&mut node, rt.alloc(), 0, 4096)?;
+    assert_eq!(rt; out_of_range, None);
     assert_eq!(rt; length(&node), Some(1));
     Ok(())
 }
 
+// The sync of the restart is the first call, and the gate of the record is opened in the fourth.
+fn stopping(alloc: Global) -> Result<Node<MemDisk>, Fail> {
+    let mut file = formatted(alloc)?;
+    file.stop_at(4, true);
+    started(alloc, file.into_disk())
+}
+
 #[test]
 fn stops_where_its_disk_fails(rt: HostRuntime) -> Result<(), Fail> {
-    let alloc = rt.alloc();
-    let mut file = RecordFile::format(Version::V1, MemDisk::new(alloc))
-        .ok()
-        .ok_or("formatted")?;
-    // The sync of the restart is the first call, and the gate of the record is opened in the fourth.
-    file.stop_at(4, true);
-    let mut node = Node::restart(alloc, 1, file.into_disk())
-        .ok()
-        .ok_or("started")?;
-    let told = node.handle(alloc, &make(0, 4096));
-    assert!(rt; matches!(told, Err(disk::DiskFault::Failed)));
-    assert!(rt; node.is_stopped());
-    let silent = node.handle(alloc, &append(alloc, 1, ["a"].as_slice())?)?;
-    assert!(rt; silent.packets.as_slice().is_empty());
-    let again = Node::restart(alloc, 1, node.into_disk())
-        .ok()
-        .ok_or("restarted")?;
+    let mut node = stopping(rt.alloc())?;
+    let told = make(&mut node, rt.alloc(), 0, 4096).is_err();
+    let stopped = node.is_stopped();
+    let silent = puts(&append(&mut node, rt.alloc(), 1, ["a"].as_slice())?);
+    let again = started(rt.alloc(), node.into_disk())?;
+    assert!(rt; told && stopped);
+    assert_eq!(rt; silent, None);
     assert_eq!(rt; length(&again), Some(0));
     Ok(())
-}
-
-fn texts(alloc: Global) -> Result<Vec<Vec<u8>>, Fail> {
-    let mut all = Vec::new(alloc);
-    all.push(b"abc".to_vec(alloc)?)?;
-    Ok(all)
-}
-
-#[test]
-fn refuses_records_that_do_not_fit(rt: HostRuntime) -> Result<(), Fail> {
-    let alloc = rt.alloc();
-    let mut file = RecordFile::format(Version::V1, MemDisk::new(alloc))
-        .ok()
-        .ok_or("formatted")?;
-    let group = Group::new(alloc, texts(alloc)?).ok().ok_or("a group")?;
-    let _blocks = group.blocks();
-    let added = Record::Append {
-        extent: 1,
-        offset: 0,
-        group,
-    };
-    file.append(alloc, &added)?;
-    match Node::restart(alloc, 1, file.into_disk()) {
-        Ok(_node) => Err(Fail::from("a group of no extent was taken")),
-        Err((fault, disk)) => {
-            assert_eq!(rt; fault, FileFault::Damaged);
-            let opened = RecordFile::open(alloc, disk);
-            assert!(rt; opened.is_ok());
-            Ok(())
-        }
-    }
 }

@@ -45,7 +45,7 @@ created request = bodies.Stream (streams.Created request)
 
 -- the stream's extent is extent 1
 abbrev pub extended : ReqNo → Nodes → Body
-extended request places = bodies.Stream (streams.Extended request 1 places)
+extended q places = bodies.Stream (streams.Extended q 1 places)
 
 abbrev pub is_first : Option ℕ → Bool
 is_first None = false
