@@ -1,4 +1,4 @@
-"""Measures appends to a node, whole scripts, and a record file over a real file. Prints one line a measurement."""
+"""Measures appends to a node, whole scripts, checks of observations, and a record file over a real file, in ratios."""
 import os
 import subprocess
 import sys
@@ -7,6 +7,12 @@ import time
 
 BENCH, STAMPCTL = (os.path.abspath(path) for path in sys.argv[1:3])
 ROUNDS = 5
+# The greatest target, 16,777,216 bytes, takes 16,384 appends of 1 KiB; each of the four streams can have one extent.
+APPENDS_PER_STREAM = 16_000
+# A primary lets at most 256 appends wait.
+APPENDS_PER_SETTLE = 64
+# The request, two Puts, two Haves and the answer.
+DELIVERIES_PER_APPEND = 6
 
 
 def run(words, text=None):
@@ -38,20 +44,47 @@ def appends_to_a_node():
 
 
 def script_of(count):
-    lines = ["setup 3 1 16777216 1", "user 1 create 0", "settle", "user 1 extend 0 none 1 2 3", "settle"]
-    for _ in range(count):
-        lines += ["user 1 append 1 1 1024*a", "settle"]
+    """Appends of 1 KiB to extents on three nodes that all answer: a settle after each 64, an extent for each 16,000."""
+    lines = ["setup 3 1 16777216 1"]
+    for ticket in range(count):
+        stream, before = divmod(ticket, APPENDS_PER_STREAM)
+        if before == 0:
+            lines += [f"user 1 create {stream}", "settle", f"user 1 extend {stream} none 1 2 3", "settle"]
+        lines.append(f"user 1 append 1 {stream + 1} 1024*a")
+        if ticket % APPENDS_PER_SETTLE == APPENDS_PER_SETTLE - 1:
+            lines.append("settle")
+    lines.append("settle")
     return "\n".join(lines).encode()
 
 
-def scripts():
+def answered(out):
+    """How many appends a script's output tells to its users: lines `user U TICKET appended O`."""
+    return sum(line.split()[3:4] == [b"appended"] for line in out.splitlines())
+
+
+def appends_to_three_nodes():
     found = {}
     for count in (10_000, 20_000):
         seconds, peak, out = best([STAMPCTL], script_of(count))
-        taken = count - out.count(b"refused 35")
+        assert answered(out) == count, (answered(out), count)
         found[count] = seconds
-        print(f"script: {count} appends of 1 KiB, {taken} of them taken: {seconds:.3f} s, peak {peak / (count * 1024):.2f} times the payload")
+        print(f"script: {count} appends of 1 KiB, all answered: {seconds:.3f} s, "
+              f"{DELIVERIES_PER_APPEND * count / seconds:.0f} events delivered a second, "
+              f"peak {peak / (count * 1024):.2f} times the payload (at most 16)")
     print(f"script: 2N over N: {found[20_000] / found[10_000]:.2f} (at most 2.3)")
+
+
+def check_of_observations():
+    found = {}
+    for count in (10_000, 20_000):
+        told = []
+        for _ in range(ROUNDS):
+            words = run([BENCH, "check", str(count)])[2].split()
+            assert words[:4] == [b"check", str(count).encode(), b"found", b"none"], words
+            told.append(int(words[5]))
+        found[count] = min(told)
+        print(f"check: observations of {count} appends of 1 KiB: {found[count] / 1e6:.4f} s")
+    print(f"check: 2N over N: {found[20_000] / found[10_000]:.2f} (at most 2.5)")
 
 
 def record_file():
@@ -68,5 +101,6 @@ def record_file():
 
 
 appends_to_a_node()
-scripts()
+appends_to_three_nodes()
+check_of_observations()
 record_file()

@@ -7,10 +7,13 @@ use crate::error::Failure;
 use blocks::{Group, Record, Version, encode};
 use disk::{Disk, FileDisk, RecordFile};
 use std::alloc::Global;
-use std::fs;
 use std::os::unix::fs::FileExt;
 use std::rt::{Clock, Files};
 use std::time::Instant;
+use std::{fs, io};
+
+/// So many times appends and plain writes follow each other.
+const TURNS: u64 = 10;
 
 /// The record of a group of 1 KiB.
 fn record_of(alloc: Global) -> Result<Record, Failure>
@@ -28,62 +31,78 @@ fn record_of(alloc: Global) -> Result<Record, Failure>
     })
 }
 
-/// Appends records to a new file of records over a file of the system that is empty.
-fn append_records<R: AllocGlobal + Files<File = fs::File>>(
+/// A new file of records over a file of the system that is empty.
+fn empty_records<R: AllocGlobal + Files<File = fs::File>>(
     rt: &R,
-    count: u64,
     path: &str,
-) -> Result<(), Failure> {
+) -> Result<RecordFile<FileDisk>, Failure> {
     let mut disk = FileDisk::open(rt, path)?;
     disk.sync()?;
     if disk.len() > 0 {
         return Err(Failure::Words);
     }
-    let Ok(mut file) = RecordFile::format(Version::V1, disk) else {
+    let Ok(file) = RecordFile::format(Version::V1, disk) else {
         return Err(Failure::Step);
     };
+    Ok(file)
+}
+
+/// Appends so many records.
+fn append_records(
+    alloc: Global,
+    count: u64,
+    file: &mut RecordFile<FileDisk>,
+) -> Result<(), Failure> {
     for _ in 0..count {
         if file.is_stopped() {
             return Err(Failure::Step);
         }
-        let added = record_of(rt.alloc())?;
-        file.append(rt.alloc(), &added)?;
+        let added = record_of(alloc)?;
+        file.append(alloc, &added)?;
     }
     Ok(())
 }
 
-/// Writes as many times the same bytes behind one another, with two syncs after each.
-fn write_plainly<R: AllocGlobal + Files<File = fs::File>>(
-    rt: &R,
-    count: u64,
-    path: &str,
-) -> Result<(), Failure> {
-    let mut text = Vec::new(rt.alloc());
-    encode(&record_of(rt.alloc())?, &mut text)?;
+/// The bytes that an append of the record writes.
+fn text_of(alloc: Global) -> Result<Vec<u8>, Failure> {
+    let mut text = Vec::new(alloc);
+    encode(&record_of(alloc)?, &mut text)?;
     text.push(1)?;
-    let file = fs::create(rt, path)?;
+    Ok(text)
+}
+
+/// Writes as many times the same bytes behind one another, from the `from`-th on, with two syncs after each.
+fn write_plainly(file: &fs::File, text: &[u8], from: u64, count: u64) -> io::Result<()> {
     let size = text.len() as u64;
     for at in 0..count {
-        file.write_all_at(&text, at.wrapping_mul(size))?;
+        file.write_all_at(text, from.wrapping_add(at).wrapping_mul(size))?;
         file.sync_data()?;
         file.sync_data()?;
     }
     Ok(())
 }
 
-/// Prints how long the appends took, and then the plain writes.
+/// Appends and writes plainly by turns, a tenth of the count each, so that both meet the same device. Prints how long the
+/// appends took in all, and the plain writes.
 pub fn measure<R: AllocGlobal + Clock + Files<File = fs::File> + Print>(
     rt: &R,
     count: u64,
     path: &str,
 ) -> Result<(), Failure> {
-    let plain = format!(in rt.alloc(); "{path}.plain")?;
-    let start = Instant::now(rt)?;
-    append_records(rt, count, path)?;
-    let appends = start.elapsed(rt)?.as_micros();
-    let start = Instant::now(rt)?;
-    write_plainly(rt, count, plain.as_str())?;
-    let writes = start.elapsed(rt)?.as_micros();
+    let mut records = empty_records(rt, path)?;
+    let text = text_of(rt.alloc())?;
+    let plain = fs::create(rt, &format!(in rt.alloc(); "{path}.plain")?)?;
+    let turn = count / TURNS;
+    let mut appends = 0u128;
+    let mut writes = 0u128;
+    for done in 0..TURNS {
+        let start = Instant::now(rt)?;
+        append_records(rt.alloc(), turn, &mut records)?;
+        appends = appends.saturating_add(start.elapsed(rt)?.as_micros());
+        let start = Instant::now(rt)?;
+        write_plainly(&plain, &text, done.wrapping_mul(turn), turn)?;
+        writes = writes.saturating_add(start.elapsed(rt)?.as_micros());
+    }
     rt.println(format_args!("appends {appends} plain {writes}"))?;
     Ok(())
 }

@@ -222,6 +222,17 @@ impl Groups {
         Groups { groups }
     }
 
+    /// The same groups again, which share their bytes. An error is want of memory (22).
+    pub fn copied(alloc: Global, groups: &[Group]) -> Result<Groups, AllocError>
+        ensures { IfOk result (λ copied. copied ≡ groups.now) }
+    {
+        let mut copied = Vec::with_capacity(alloc, groups.len())?;
+        for group in groups {
+            copied.push(group.copy(alloc)?)?;
+        }
+        Ok(Groups { groups: copied })
+    }
+
     /// The groups in order.
     pub fn as_slice(&self) -> &[Group]
         ensures { result.now ≡ self.now }

@@ -1,6 +1,6 @@
 //! A disk over a file of the operating system.
-ghost use Rattle.std.specs.Prelude.{◌≡◌, [], IfOk};
-ghost use Rattle.disk.specs.RealFile.{file_state};
+ghost use Rattle.std.specs.Prelude.{◌≡◌, ◌≤◌, ◌<◌, ◌+◌, ◌^◌, [], IsTrue, IfOk, true, false, not, length};
+ghost use Rattle.disk.specs.RealFile.{file_state, IsNew};
 
 use crate::device::{Disk, DiskFault};
 use crate::history::History;
@@ -13,15 +13,28 @@ use std::path::Path;
 use std::rt::Files;
 use std::{fs, io};
 
+// The file grows to multiples of so many bytes.
+const STEP: usize = 65_536;
+
+// What it grows by.
+static ZEROS: [u8; STEP] = [0; STEP];
+
 /// A disk over a file of the operating system. It keeps the file's bytes in memory too, in an image that is read when it
 /// is made: `read` gives the image, and `write_at` and `sync` change the file first and then the image. The clauses
-/// speak of the image, as no contract can say what a system's file holds: that the file has the same bytes, and that a
-/// sync puts them on the device, is tested and not proved. Each call may fail (20). After a write or a sync has failed,
-/// what the file holds is unknown, so that each later one fails too; make a new disk of the file to go on.
+/// speak of the image, as no contract can say what a system's file holds: that the file begins with the same bytes, and
+/// that a sync puts them on the device, is tested and not proved. Each call may fail (20). After a write or a sync has
+/// failed, what the file holds is unknown, so that each later one fails too; make a new disk of the file to go on.
+///
+/// A file that grows makes a sync write its new size too. So the file grows ahead: a write that ends past the file's end
+/// first puts zeros there, up to the next multiple of 65,536 bytes. Behind the image's bytes the file has only such
+/// zeros, and a disk that is made of the file again has them in its image. A zero is a closed gate, so that a record file
+/// ends before them.
 #[derive(Drop)]
 pub struct FileDisk<F = fs::File> {
     image: Image,
     file: F,
+    // so many bytes the file has, unless it is broken
+    size: usize,
     // a write or a sync of the file has failed
     broken: bool,
     history: History,
@@ -42,13 +55,24 @@ fn open_file<R: Files<File = fs::File>>(rt: &R, path: &str) -> io::Result<fs::Fi
     Ok(file)
 }
 
+// Puts zeros into a file from one place up to another.
+fn fill<F: FileExt>(file: &F, from: usize, to: usize) -> io::Result<()> {
+    for at in (from..to).step_by(STEP) {
+        let size = to.saturating_sub(at).min(STEP);
+        file.write_all_at(&ZEROS[..size], at as u64)?;
+    }
+    Ok(())
+}
+
 impl FileDisk {
     /// Opens the file at a path, and makes an empty one where there is none. It makes sure of the file's name too.
     /// `Failed` (20) where the file could not be opened or read, and `Memory` (22) where there was none for its bytes.
     pub fn open<R: Files<File = fs::File> + AllocGlobal>(
         rt: &R,
         path: &str,
-    ) -> Result<FileDisk, DiskFault> {
+    ) -> Result<FileDisk, DiskFault>
+        ensures { IfOk result (λ disk. IsNew disk) }
+    {
         match open_file(rt, path) {
             Ok(file) => FileDisk::new(rt.alloc(), file),
             Err(_) => Err(DiskFault::Failed),
@@ -62,6 +86,7 @@ impl<F: FileExt + OpenFile> FileDisk<F> {
     pub fn new(alloc: Global, file: F) -> Result<FileDisk<F>, DiskFault>
     where
         F: Read + Drop,
+        ensures { IfOk result (λ disk. IsNew disk) }
     {
         let mut file = file;
         let mut bytes = Vec::new(alloc);
@@ -74,44 +99,87 @@ impl<F: FileExt + OpenFile> FileDisk<F> {
                 });
             }
         }
+        let size = bytes.len();
         Ok(FileDisk {
             image: Image::of(alloc, bytes),
             file,
+            size,
             broken: false,
             history: History::new(),
         })
     }
 
     /// The file, as the last write left it.
-    pub fn into_file(self) -> F {
+    pub fn into_file(self) -> F
+        ensures { result ≡ self.file }
+    {
         self.file
     }
 
-    // Writes to the file. It answers whether the file took all bytes, and none before failed.
-    fn put(&mut self, at: usize, bytes: &[u8]) -> bool
-        ensures { (self.new.image ≡ self.old.image) × (self.new.history ≡ self.old.history) }
+    // Grows the file so that it reaches `end`, and says whether it does.
+    fn grow(&mut self, end: usize) -> bool
+        ensures same { (self.new.image ≡ self.old.image) × (self.new.history ≡ self.old.history) }
+        ensures broken { self.new.broken ≡ self.old.broken }
+        ensures reaches { IsTrue result → end ≤ self.new.size }
+        ensures no_shorter { self.old.size ≤ self.new.size }
     {
-        if !self.broken && self.file.write_all_at(bytes, at as u64).is_err() {
-            self.broken = true;
+        if end <= self.size {
+            return true;
         }
-        !self.broken
+        match end.checked_next_multiple_of(STEP) {
+            Some(size) => {
+                if fill(&self.file, self.size, size).is_err() {
+                    return false;
+                }
+                self.size = size;
+                true
+            }
+            None => false,
+        }
+    }
+
+    // Writes to the file, which grows first. It answers whether the file took all bytes, and none before failed.
+    fn put(&mut self, at: usize, bytes: &[u8]) -> bool
+        requires { at + length bytes.now < 2 ^ 64 }
+        ensures same { (self.new.image ≡ self.old.image) × (self.new.history ≡ self.old.history) }
+        ensures answer { result ≡ not self.new.broken }
+        ensures stays { self.old.broken ≡ true → result ≡ false }
+        ensures reaches { IsTrue result → at + length bytes.now ≤ self.new.size }
+        ensures no_shorter { self.old.size ≤ self.new.size }
+    {
+        if self.broken {
+            return false;
+        }
+        if !self.grow(at + bytes.len()) || self.file.write_all_at(bytes, at as u64).is_err() {
+            self.broken = true;
+            return false;
+        }
+        true
     }
 
     // Syncs the file, with the same answer.
     fn flush(&mut self) -> bool
-        ensures { (self.new.image ≡ self.old.image) × (self.new.history ≡ self.old.history) }
+        ensures same { (self.new.image ≡ self.old.image) × (self.new.history ≡ self.old.history) }
+        ensures answer { result ≡ not self.new.broken }
+        ensures stays { self.old.broken ≡ true → result ≡ false }
+        ensures size { self.new.size ≡ self.old.size }
     {
-        if !self.broken && self.file.sync_data().is_err() {
-            self.broken = true;
+        if self.broken {
+            return false;
         }
-        !self.broken
+        if self.file.sync_data().is_err() {
+            self.broken = true;
+            return false;
+        }
+        true
     }
 }
 
 impl<F: FileExt + OpenFile> Disk for FileDisk<F> {
     ghost use Rattle.std.specs.Prelude.{None, false};
     ghost use Rattle.std.proofs.Common.{inl, inr, refl};
-    ghost use Rattle.disk.specs.RealFile.{file_state};
+    ghost use Rattle.disk.specs.Disk.{Writes, Syncs};
+    ghost use Rattle.disk.specs.RealFile.{file_state, IsWhole, StaysBroken};
     ghost use Rattle.disk.specs.Laws.{file_counts_now, file_only_now};
 
     ghost state = { file_state };
@@ -136,7 +204,12 @@ impl<F: FileExt + OpenFile> Disk for FileDisk<F> {
         self.image.reserve(end)
     }
 
-    fn write_at(&mut self, at: usize, bytes: &[u8]) -> Result<(), DiskFault> {
+    fn write_at(&mut self, at: usize, bytes: &[u8]) -> Result<(), DiskFault>
+        requires { at ≤ length (file_state self.old).seen }
+        ensures writes { Writes (file_state self.old) (file_state self.new) at bytes.now result }
+        ensures broken { StaysBroken self.old self.new result }
+        ensures whole { IsWhole self.old → IsWhole self.new }
+    {
         let _size = self.image.len();
         self.image.reserve(at + bytes.len())?;
         if !self.put(at, bytes) {
@@ -147,7 +220,11 @@ impl<F: FileExt + OpenFile> Disk for FileDisk<F> {
         Ok(self.image.overwrite(at, bytes)?)
     }
 
-    fn sync(&mut self) -> Result<(), DiskFault> {
+    fn sync(&mut self) -> Result<(), DiskFault>
+        ensures syncs { Syncs (file_state self.old) (file_state self.new) result }
+        ensures broken { StaysBroken self.old self.new result }
+        ensures whole { IsWhole self.old → IsWhole self.new }
+    {
         self.image.reserve(0)?;
         if !self.flush() {
             self.history.note(&[1], self.image.synced());

@@ -1,5 +1,6 @@
 ghost use Rattle.std.specs.Prelude.{IfOk};
 ghost use Rattle.blocks.specs.Record.{Fits};
+ghost use Rattle.blocks.specs.declared.record.Version.{Version};
 ghost use Rattle.blocks.specs.declared.record.Version.TheVariants.{V1};
 
 use crate::{Disk, DiskFault, FileDisk, FileFault, MemDisk, RecordFile};
@@ -16,7 +17,8 @@ const TWO_RECORDS: [u8; 66] = *b"XRF1\
     \0";
 
 fn make() -> Record
-    ensures { Fits V1 result }
+    ensures first { Fits V1 result }
+    ensures any { (v : Version) → Fits v result }
 {
     Record::Make {
         extent: 1,
@@ -177,27 +179,71 @@ fn two_real_records(rt: &HostRuntime) -> Result<(), Fail> {
     Ok(())
 }
 
+// Opens the file again, and appends a third record to it. It answers how many records were found.
+fn one_more_real_record(rt: &HostRuntime) -> Result<usize, Fail> {
+    let alloc = rt.alloc();
+    let disk = FileDisk::open(rt, PATH)?;
+    let mut file = RecordFile::open(alloc, disk).ok().ok_or("opened again")?;
+    let count = file.records(alloc)?.len();
+    file.append(alloc, &make())?;
+    Ok(count)
+}
+
+// Whether the file begins with these bytes, and has zeros behind them, up to so many in all.
+fn holds(rt: &HostRuntime, begin: &[u8], size: usize) -> Result<bool, Fail> {
+    let bytes = fs::read(rt, PATH)?;
+    Ok(
+        bytes.len() == size
+            && bytes.starts_with(begin)
+            && bytes.iter().skip(begin.len()).all(|byte| *byte == 0),
+    )
+}
+
 #[test]
 fn a_real_file(rt: HostRuntime) -> Result<(), Fail> {
     let alloc = rt.alloc();
     let _ = fs::remove_file(&rt, PATH);
     two_real_records(&rt)?;
-    assert_eq!(rt; fs::read(&rt, PATH)?.as_slice(), TWO_RECORDS.as_slice());
-    let disk = FileDisk::open(&rt, PATH)?;
-    let mut file = RecordFile::open(alloc, disk).ok().ok_or("opened again")?;
-    assert_eq!(rt; file.records(alloc)?.len(), 2);
-    drop(file);
+    assert!(rt; holds(&rt, &TWO_RECORDS, 65_536)?);
+    assert_eq!(rt; one_more_real_record(&rt)?, 2);
+    let mut three = TWO_RECORDS.to_vec(alloc)?;
+    let _ = three.pop();
+    three.extend_from_slice(&TWO_RECORDS[4..33])?;
+    assert!(rt; holds(&rt, &three, 65_536)?);
+    assert_eq!(rt; one_more_real_record(&rt)?, 3);
+    fs::remove_file(&rt, PATH)?;
+    Ok(())
+}
+
+const OTHER_PATH: &str = "disk_test.bytes";
+
+#[test]
+fn other_real_files(rt: HostRuntime) -> Result<(), Fail> {
+    let alloc = rt.alloc();
+    fs::write(&rt, OTHER_PATH, b"XRF".as_slice())?;
     // a file that is open for reading alone
-    let mut disk = FileDisk::new(alloc, fs::open(&rt, PATH)?)?;
+    let mut disk = FileDisk::new(alloc, fs::open(&rt, OTHER_PATH)?)?;
     assert_eq!(rt; disk.write_at(0, b"abc"), Err(DiskFault::Failed));
     assert_eq!(rt; disk.sync(), Err(DiskFault::Failed));
-    assert_eq!(rt; disk.read(alloc)?.as_slice(), TWO_RECORDS.as_slice());
-    fs::write(&rt, PATH, b"XRF".as_slice())?;
-    let disk = FileDisk::open(&rt, PATH)?;
+    assert_eq!(rt; disk.read(alloc)?.as_slice(), b"XRF".as_slice());
+    drop(disk.into_file());
+    let disk = FileDisk::open(&rt, OTHER_PATH)?;
     match RecordFile::open(alloc, disk) {
         Err((FileFault::Damaged, disk)) => assert_eq!(rt; disk.len(), 3),
         _ => return Err(Fail::new("it is damaged")),
     }
-    fs::remove_file(&rt, PATH)?;
+    // over the next multiple of 65,536, from no multiple on
+    let mut disk = FileDisk::open(&rt, OTHER_PATH)?;
+    if disk.len() != 3 {
+        return Err(Fail::new("it has grown"));
+    }
+    disk.write_at(3, &[7; 70_000])?;
+    assert_eq!(rt; disk.len(), 70_003);
+    let bytes = fs::read(&rt, OTHER_PATH)?;
+    assert_eq!(rt; bytes.len(), 131_072);
+    assert!(rt; bytes.starts_with(b"XRF"));
+    assert!(rt; bytes.iter().skip(3).take(70_000).all(|byte| *byte == 7));
+    assert!(rt; bytes.iter().skip(70_003).all(|byte| *byte == 0));
+    fs::remove_file(&rt, OTHER_PATH)?;
     Ok(())
 }

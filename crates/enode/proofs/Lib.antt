@@ -3,3 +3,5 @@ pub mod Appending
 pub mod Making
 pub mod Stays
 pub mod Recovering
+pub mod Putting
+pub mod Telling

@@ -1,5 +1,5 @@
 -- One record more, when a node is made from its records.
-use Rattle.std.proofs.Common.{◌≡◌, ℕ, true, List, [], ◌∷◌, ◌++◌, Option, Some, None, Ok, Err, ap, sym, ◌∙◌, refl, ⊎_elim}
+use Rattle.std.proofs.Common.{◌≡◌, ℕ, true, List, [], ◌∷◌, ◌++◌, Option, Some, None, Result, Ok, Err, IfOk, ap, sym, subst, arith, ◌≤◌, length, ◌∙◌, refl, ⊎_elim}
 use Rattle.std.proofs.lemmas.Bool.Decides.{eqb_tells}
 use Rattle.disk.specs.declared.fault.FileFault.{FileFault}
 use Rattle.disk.specs.declared.fault.FileFault.TheVariants.{Damaged}
@@ -7,8 +7,9 @@ use Rattle.blocks.specs.declared.record.Record.{Record}
 use Rattle.replica.specs.Content.{Content}
 use Rattle.replica.specs.Replay.{applied, fits, fits_at, fit, replay, extent_of}
 use Rattle.replica.proofs.Replaying.{replay-here, replay-elsewhere, fit-push, fit-at}
-use Rattle.model.specs.Node.{Replica, contents}
-use Rattle.enode.specs.Node.{find, fresh_of, IsRestart}
+use Rattle.model.specs.Node.{Replica, contents, fresh}
+use Rattle.model.specs.Bounds.{FewWait}
+use Rattle.enode.specs.Node.{find, fresh_of, IsReplay, IsRestart}
 use Rattle.enode.specs.Recovery.{fits_among, Recovers}
 
 contents-fresh : (c : Option Content) → contents (fresh_of c) ≡ c
@@ -54,3 +55,20 @@ module _ (n : ℕ) (old : List (ℕ × Replica)) (rs : List Record) (before : Is
 
 pub restart_nothing : (n : ℕ) (entries : List (ℕ × Replica)) → entries ≡ [] → IsRestart n entries []
 restart_nothing n entries is = record { each = λ e. ap (λ (xs : List (ℕ × Replica)). find xs e) is; fits = refl }
+
+-- nothing waits at a replica that has just been made
+none_wait : (x : Option Content) → FewWait (fresh_of x)
+none_wait None = λ r e. absurd cc
+none_wait (Some content) = λ r e. let same : fresh content ≡ r = cc in subst (λ (t : Replica). length t.waiting ≤ 256) same (omega arith)
+
+pub restart_replays : (n : ℕ) (is : List (ℕ × Replica)) (rs : List Record) → IsRestart n is rs → IsReplay n is rs
+restart_replays n is rs h = record {
+  each = λ e. ap contents (h.each e) ∙ contents-fresh (replay e rs);
+  fits = h.fits;
+  few = λ e. subst FewWait (sym (h.each e)) (none_wait (replay e rs));
+}
+
+-- what follows of an `Ok` from what is known of it
+pub ok_more : {A B : Type 0} {P Q : A → Type 0} (r : Result A B) → ((x : A) → P x → Q x) → IfOk r P → IfOk r Q
+ok_more (Ok x) f h = f x h
+ok_more (Err y) f h = tt

@@ -1,5 +1,5 @@
 -- A node's replicas stay what the records of its file make of them.
-use Rattle.std.proofs.Common.{◌≡◌, ◌≢◌, ℕ, true, false, List, ◌++◌, Option, Some, None, Result, Ok, Err, ap, sym, ◌∙◌, refl, ⊎_elim, append-nil}
+use Rattle.std.proofs.Common.{◌≡◌, ◌≢◌, ℕ, true, false, List, ◌++◌, Option, Some, None, Result, Ok, Err, IfOk, ap, sym, subst, ◌∙◌, refl, ⊎_elim, append-nil}
 use Rattle.std.proofs.lemmas.Bool.Decides.{eqb_tells}
 use Rattle.disk.specs.declared.device.DiskFault.{DiskFault}
 use Rattle.disk.specs.declared.device.DiskFault.TheVariants.{Failed, Memory}
@@ -13,6 +13,8 @@ use Rattle.replica.specs.Replay.{applied, fits, fit, replay}
 use Rattle.replica.proofs.Replaying.{replay-here, replay-elsewhere, fit-push}
 use Rattle.model.specs.Outcome.{Outcome}
 use Rattle.model.specs.Node.{Replica, contents}
+use Rattle.model.specs.Bounds.{FewWait, AreFew}
+use Rattle.model.proofs.Bounds.{Bounded}
 use Rattle.model.proofs.Replay.{Replays, IsWritten, applied_if}
 use Rattle.enode.specs.Node.{find, IsReplay}
 use Rattle.enode.specs.Took.{Took, listed}
@@ -50,8 +52,8 @@ module _ (n e : ℕ) (rs : List Record) (was : Option Replica) (before : content
   fit_written fits_before (Some r) about = fit-push n e rs r fits_before about.0 (ap (λ (c : Option Content). fits n c r) (sym before) ∙ about.1)
 
 pub stays : {D : Type 0} (state : D → DiskState) (n : ℕ) (was is : List (ℕ × Replica)) (old new : Filed D) (e : ℕ) (o : Outcome (Option Replica)) (w : Result Step DiskFault) →
-    IsReplay n was old.records → Replays n e (find was e) o → Took state was is old new e o w → new.stopped ≡ false → IsReplay n is new.records
-stays state n was is old new e o (Ok s) before row h up =
+    IsReplay n was old.records → Replays n e (find was e) o → Bounded o → Took state was is old new e o w → new.stopped ≡ false → IsReplay n is new.records
+stays state n was is old new e o (Ok s) before row bounded h up =
     let records = records_ok state old new o.written s h.file in
     record {
       each = λ f. ⊎_elim
@@ -59,11 +61,21 @@ stays state n was is old new e o (Ok s) before row h up =
           (λ apart. ap contents (h.elsewhere f apart.1) ∙ before.each f ∙ sym (replay_others n e old.records (find was e) (before.each e) f apart.1 o.written row.written) ∙ ap (λ (x : List Record). replay f x) (sym records))
           (eqb_tells f e);
       fits = ap (λ (x : List Record). fit n x) records ∙ fit_written n e old.records (find was e) (before.each e) before.fits o.written row.written;
+      few = λ f. ⊎_elim
+          (λ same. subst (λ k. FewWait (find is k)) (sym same.1) (subst FewWait (sym h.here) bounded.waits))
+          (λ apart. subst FewWait (sym (h.elsewhere f apart.1)) (before.few f))
+          (eqb_tells f e);
     }
-stays state n was is old new e o (Err Memory) before row h up =
+stays state n was is old new e o (Err Memory) before row bounded h up =
     let records = records_short state old new o.written h.file in
     record {
       each = λ f. ap contents (h.same f) ∙ before.each f ∙ ap (λ (x : List Record). replay f x) (sym records);
       fits = ap (λ (x : List Record). fit n x) records ∙ before.fits;
+      few = λ f. subst FewWait (sym (h.same f)) (before.few f);
     }
-stays state n was is old new e o (Err Failed) before row h up = absurd (records_broken state old new o.written h.file up)
+stays state n was is old new e o (Err Failed) before row bounded h up = absurd (records_broken state old new o.written h.file up)
+
+pub took_few : {D : Type 0} (state : D → DiskState) (was is : List (ℕ × Replica)) (old new : Filed D) (e : ℕ) (o : Outcome (Option Replica)) (w : Result Step DiskFault) →
+    Bounded o → Took state was is old new e o w → IfOk w (λ step. AreFew step.packets step.notes)
+took_few state was is old new e o (Ok s) bounded h = subst (λ x. AreFew x s.notes) (sym h.packets) (subst (λ x. AreFew o.packets x) (sym h.notes) bounded.few)
+took_few state was is old new e o (Err x) bounded h = tt

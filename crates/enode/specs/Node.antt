@@ -8,6 +8,7 @@ use Rattle.disk.specs.Filed.{Filed}
 use Rattle.replica.specs.Content.{Content}
 use Rattle.replica.specs.Replay.{replay, fit}
 use Rattle.model.specs.Node.{Replica, fresh, contents}
+use Rattle.model.specs.Bounds.{FewWait}
 
 -- the replica of an extent, among entries of a map
 abbrev pub find : List (ℕ × Replica) → ℕ → Option Replica
@@ -23,10 +24,12 @@ abbrev pub fresh_of : Option Content → Option Replica
 fresh_of None = None
 fresh_of (Some content) = Some (fresh content)
 
--- each replica, but for what a stop drops, is what the records make of it, and each record fits those before it
+-- each replica, but for what a stop drops, is what the records make of it, each record fits those before it, and few
+-- appends wait at a replica
 pub record IsReplay (n : ℕ) (replicas : List (ℕ × Replica)) (rs : List Record) : Type 0 where
   pub each : (e : ℕ) → contents (find replicas e) ≡ replay e rs
   pub fits : fit n rs ≡ true
+  pub few : (e : ℕ) → FewWait (find replicas e)
 
 -- and nothing is there that a stop drops
 pub record IsRestart (n : ℕ) (replicas : List (ℕ × Replica)) (rs : List Record) : Type 0 where

@@ -1,8 +1,8 @@
 -- What a row leaves of a node.
-use Rattle.std.specs.Prelude.{◌≡◌, ◌≢◌, ℕ, List, [], ◌∷◌, Option, Some, None, Result, IsErrOf, OnOk, OnErr, IfOk}
+use Rattle.std.specs.Prelude.{◌≡◌, ◌≢◌, ℕ, List, [], ◌∷◌, Option, Some, None, Result, IsErrOf, OnOk, OnErr, IfOk, IfErr}
 use Rattle.blocks.specs.declared.record.Record.{Record}
 use Rattle.disk.specs.declared.device.DiskFault.{DiskFault}
-use Rattle.disk.specs.declared.device.DiskFault.TheVariants.{Failed}
+use Rattle.disk.specs.declared.device.DiskFault.TheVariants.{Failed, Memory}
 use Rattle.disk.specs.Disk.{DiskState}
 use Rattle.disk.specs.Filed.{Filed}
 use Rattle.disk.specs.Appends.{Records}
@@ -34,3 +34,13 @@ pub record Took {D : Type 0} (state : D → DiskState) (was is : List (ℕ × Re
   pub same : OnErr result ((f : ℕ) → find is f ≡ find was f)
   pub shows : IsErrOf result Failed → o.notes ≡ []
   pub file : Records state old new (listed o.written) result
+
+-- a node's replicas after a row about extent e that writes no record
+pub record Told (was is : List (ℕ × Replica)) (e : ℕ) (o : Outcome (Option Replica)) (result : Result Step DiskFault) : Type 0 where
+  pub here : OnOk result (find is e ≡ o.after)
+  pub elsewhere : OnOk result ((f : ℕ) → f ≢ e → find is f ≡ find was f)
+  pub packets : IfOk result (λ step. step.packets ≡ o.packets)
+  pub notes : IfOk result (λ step. step.notes ≡ o.notes)
+  pub same : OnErr result ((f : ℕ) → find is f ≡ find was f)
+  pub unwritten : o.written ≡ None
+  pub fault : IfErr result (λ x. x ≡ Memory)

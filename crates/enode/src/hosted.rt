@@ -11,7 +11,8 @@ ghost use Rattle.replica.specs.declared.phase.Phase.TheVariants as phases;
 ghost use Rattle.replica.specs.Groups.{text_length};
 ghost use Rattle.replica.specs.Content.{new_content, appended};
 ghost use Rattle.replica.specs.State.{content_of};
-ghost use Rattle.model.specs.Node.{is_open as is_open_phase, generation_of, append_refusal, append_row, append_taken, fresh};
+ghost use Rattle.model.specs.Actors.{generation_of};
+ghost use Rattle.model.specs.Node.{is_open as is_open_phase, append_refusal, append_row, append_taken, fresh};
 ghost use Rattle.enode.specs.Took.{Rowed};
 
 use crate::sending::{puts_of, refuse};
@@ -24,11 +25,13 @@ use std::collections::VecDeque;
 use std::marker::Model;
 use wire::{ActorId, Blocks, ExtentId, Fence, Packet, Refusal, ReqNo, Step};
 
-/// A replica, and at its primary the appends that wait for the secondaries.
+/// A replica, and at its primary how long each secondary is known to be, and the appends that wait for both.
 #[derive(Drop)]
 pub(crate) struct Hosted {
-    replica: Replica,
-    waiting: VecDeque<Waiting>,
+    pub(crate) replica: Replica,
+    pub(crate) second_has: u32,
+    pub(crate) third_has: u32,
+    pub(crate) waiting: VecDeque<Waiting>,
 }
 
 impl Model for Hosted {
@@ -37,10 +40,10 @@ impl Model for Hosted {
 
     ghost Value = { State };
 
-    ghost view = { λ h. record { content = content_of h.replica; waiting = h.waiting.items } };
+    ghost view = { λ h. record { content = content_of h.replica; second_has = h.second_has; third_has = h.third_has; waiting = h.waiting.items } };
 }
 
-fn is_open(phase: Phase) -> bool
+pub(crate) fn is_open(phase: Phase) -> bool
     ensures { result ≡ is_open_phase phase }
 {
     match phase {
@@ -64,7 +67,7 @@ fn generation(from: ActorId, generation: Fence) -> u64
 }
 
 /// Adds the record of a group to the node's file.
-fn write_append<D: Disk>(
+pub(crate) fn write_append<D: Disk>(
     alloc: Global,
     file: &mut RecordFile<D>,
     extent: ExtentId,
@@ -112,6 +115,8 @@ impl Hosted {
     {
         Hosted {
             replica: Replica::new(alloc, places, target, fence.number()),
+            second_has: 0,
+            third_has: 0,
             waiting: VecDeque::new(alloc),
         }
     }

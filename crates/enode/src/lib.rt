@@ -8,8 +8,11 @@
 
 mod hosted;
 mod node;
+mod primary;
+mod reading;
 mod recovery;
 mod rows;
+mod secondary;
 mod sending;
 
 pub use node::Node;

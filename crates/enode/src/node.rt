@@ -2,12 +2,14 @@
 ghost use Rattle.std.specs.Prelude.{◌≡◌, ◌≢◌, ◌<◌, ℕ, List, [], Some, false, true, IfOk, IfErr, option_map};
 ghost use Rattle.blocks.specs.declared.record.Record.{Record};
 ghost use Rattle.blocks.specs.declared.record.Version.{Version};
+ghost use Rattle.disk.specs.Disk.{IsSteady};
 ghost use Rattle.disk.specs.File.{IsFileOf};
 ghost use Rattle.replica.specs.State.{content_of};
 ghost use Rattle.replica.specs.Replay.{fit};
 ghost use Rattle.model.specs.Node.{node_row, extent_of, contents};
 ghost use Rattle.enode.specs.Node.{find, IsReplay, IsRestart};
 ghost use Rattle.enode.specs.Took.{Took};
+ghost use Rattle.model.specs.Bounds.{AreFew};
 
 use crate::hosted::Hosted;
 use crate::recovery::replicas_of;
@@ -52,6 +54,7 @@ fn recovered<D: Disk>(
     ensures replays { IfOk result (λ node. IsRestart number node.replicas file.records) }
     ensures damaged { fit number file.records ≡ true → IfErr result (λ e. e.0 ≢ FileFault.Damaged) }
     ensures failed { IfErr result (λ e. e.0 ≡ FileFault.Failed → (D.state file.disk).failures < (D.state e.1).failures) }
+    ensures steady { IsSteady (D.state file.disk) → IfOk result (λ node. IsSteady (D.state node.file.disk)) }
 {
     let mut file = file;
     match replicas_of(alloc, number, &mut file) {
@@ -78,6 +81,13 @@ impl<D: Disk> Node<D> {
         ensures damaged { (v : Version) (rs : List Record) → IsFileOf v rs (D.state disk).seen → fit number rs ≡ true
             → IfErr result (λ e. e.0 ≢ FileFault.Damaged) }
         ensures failed { IfErr result (λ e. e.0 ≡ FileFault.Failed → (D.state disk).failures < (D.state e.1).failures) }
+
+        // No other records make the node than those that the bytes are a file of.
+        ensures only { (v : Version) (rs : List Record) → IsFileOf v rs (D.state disk).seen
+            → IfOk result (λ node. (node.file.version ≡ v) × (node.file.records ≡ rs)) }
+
+        // The node of a disk that cannot fail has one.
+        ensures steady { IsSteady (D.state disk) → IfOk result (λ node. IsSteady (D.state node.file.disk)) }
     {
         match RecordFile::open(alloc, disk) {
             Ok(file) => recovered(alloc, number, file),
@@ -93,6 +103,9 @@ impl<D: Disk> Node<D> {
             (extent_of packet.now.body) (node_row self.old.number (find self.old.replicas (extent_of packet.now.body)) packet.now packet.now.body) result }
         ensures number { self.new.number ≡ self.old.number }
         ensures stopped { self.old.file.stopped ≡ true → (self.new ≡ self.old) × (result ≡ Ok (record { packets = []; notes = [] })) }
+
+        // A step sends no more than a caller can make room for beforehand.
+        ensures few { IfOk result (λ step. AreFew step.packets step.notes) }
 
         // While the node runs, its replicas are what its records make of them.
         ensures replays { self.old.file.stopped ≡ false → IsReplay self.old.number self.old.replicas self.old.file.records }

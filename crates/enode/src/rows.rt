@@ -6,23 +6,26 @@ ghost use Rattle.blocks.specs.Record.{Fits};
 ghost use Rattle.blocks.specs.declared.record.Record.TheVariants as records;
 ghost use Rattle.disk.specs.Appends.{Appends};
 ghost use Rattle.disk.specs.declared.device.DiskFault.TheVariants as faults;
-ghost use Rattle.wire.specs.declared.body.AppendBody.TheVariants.{Append};
+ghost use Rattle.wire.specs.declared.body.AppendBody.TheVariants.{Append, Put, Have};
+ghost use Rattle.wire.specs.declared.body.ReadBody.TheVariants.{ReadAt, ReadGroups};
 ghost use Rattle.wire.specs.declared.body.SealBody.TheVariants.{Make};
 ghost use Rattle.wire.specs.declared.body.Body.TheVariants as bodies;
 ghost use Rattle.replica.specs.Replay.{is_place as is_one_place};
 ghost use Rattle.model.specs.Outcome.{all_met};
-ghost use Rattle.model.specs.Node.{node_row, extent_of, make_taken, make_tests, is_manager as is_the_manager, append_body_row, append_extent, seal_body_row, seal_extent};
+ghost use Rattle.model.specs.Actors.{is_manager as is_the_manager};
+ghost use Rattle.model.specs.Node.{node_row, extent_of, make_taken, make_tests, append_body_row, append_extent, seal_body_row, seal_extent, read_body_row, read_extent};
 ghost use Rattle.enode.specs.Node.{find};
-ghost use Rattle.enode.specs.Took.{Took};
+ghost use Rattle.enode.specs.Took.{Took, Told};
 
 use crate::hosted::{Hosted, write};
 use crate::sending::refuse;
-use blocks::{Nodes, Record};
+use blocks::{Group, Nodes, Record};
 use disk::{Disk, DiskFault, RecordFile};
 use std::alloc::Global;
 use std::collections::BTreeMap;
 use wire::{
-    ActorId, AppendBody, Blocks, Body, ExtentId, Fence, Packet, Refusal, ReqNo, SealBody, Step,
+    ActorId, AppendBody, Blocks, Body, ExtentId, Fence, Packet, ReadBody, Refusal, ReqNo, SealBody,
+    Step,
 };
 
 /// An append, where there is a replica or none.
@@ -46,6 +49,128 @@ fn append<D: Disk>(
         Some(hosted) => hosted.append(
             alloc, file, number, packet, extent, generation, blocks, request,
         ),
+    }
+}
+
+/// A Put, where there is a replica or none.
+fn put<D: Disk>(
+    replicas: &mut BTreeMap<u64, Hosted>,
+    file: &mut RecordFile<D>,
+    alloc: Global,
+    number: u8,
+    packet: &Packet,
+    extent: ExtentId,
+    offset: u32,
+    group: &Group,
+) -> Result<Step, DiskFault>
+    requires running { file.old.stopped ≡ false }
+    ensures { Took D.state replicas.old.entries replicas.new.entries file.old file.new extent
+        (append_body_row number (find replicas.old.entries extent) packet.now (Put extent offset group.now)) result }
+{
+    match replicas.get_mut(&extent.number()) {
+        None => refuse(
+            alloc,
+            number,
+            packet.from,
+            ReqNo::NoRequest,
+            Refusal::NoSuchExtent,
+        ),
+        Some(hosted) => hosted.put(alloc, file, number, packet, extent, offset, group),
+    }
+}
+
+/// What a secondary tells of its length, where there is a replica or none.
+fn have(
+    replicas: &mut BTreeMap<u64, Hosted>,
+    alloc: Global,
+    number: u8,
+    packet: &Packet,
+    extent: ExtentId,
+    length: u32,
+) -> Result<Step, DiskFault>
+    ensures { Told replicas.old.entries replicas.new.entries extent
+        (append_body_row number (find replicas.old.entries extent) packet.now (Have extent length)) result }
+{
+    match replicas.get_mut(&extent.number()) {
+        None => refuse(
+            alloc,
+            number,
+            packet.from,
+            ReqNo::NoRequest,
+            Refusal::NoSuchExtent,
+        ),
+        Some(hosted) => hosted.have(alloc, number, packet, extent, length),
+    }
+}
+
+/// A read of bytes, where there is a replica or none.
+fn read(
+    replicas: &BTreeMap<u64, Hosted>,
+    alloc: Global,
+    number: u8,
+    packet: &Packet,
+    extent: ExtentId,
+    offset: u32,
+    length: u32,
+    request: ReqNo,
+) -> Result<Step, DiskFault>
+    ensures { Told replicas.now.entries replicas.now.entries extent
+        (read_body_row number (find replicas.now.entries extent) packet.now (ReadAt extent offset length request)) result }
+{
+    match replicas.get(&extent.number()) {
+        None => refuse(alloc, number, packet.from, request, Refusal::NoSuchExtent),
+        Some(hosted) => hosted.read(alloc, number, packet, extent, offset, length, request),
+    }
+}
+
+/// A read of groups, where there is a replica or none.
+fn read_groups(
+    replicas: &BTreeMap<u64, Hosted>,
+    alloc: Global,
+    number: u8,
+    packet: &Packet,
+    extent: ExtentId,
+    upto: u32,
+    sealed: bool,
+    request: ReqNo,
+) -> Result<Step, DiskFault>
+    ensures { Told replicas.now.entries replicas.now.entries extent
+        (read_body_row number (find replicas.now.entries extent) packet.now (ReadGroups extent upto sealed request)) result }
+{
+    match replicas.get(&extent.number()) {
+        None => refuse(alloc, number, packet.from, request, Refusal::NoSuchExtent),
+        Some(hosted) => { hosted.read_groups(alloc, number, packet, extent, upto, sealed, request) }
+    }
+}
+
+fn take_read(
+    replicas: &BTreeMap<u64, Hosted>,
+    alloc: Global,
+    number: u8,
+    packet: &Packet,
+    body: &ReadBody,
+) -> Result<Step, DiskFault>
+    ensures { Told replicas.now.entries replicas.now.entries (read_extent body.now)
+        (read_body_row number (find replicas.now.entries (read_extent body.now)) packet.now body.now) result }
+{
+    match body {
+        ReadBody::ReadAt {
+            extent,
+            offset,
+            length,
+            request,
+        } => read(
+            replicas, alloc, number, packet, *extent, *offset, *length, *request,
+        ),
+        ReadBody::ReadGroups {
+            extent,
+            upto,
+            sealed,
+            request,
+        } => read_groups(
+            replicas, alloc, number, packet, *extent, *upto, *sealed, *request,
+        ),
+        _ => Ok(Step::silent(alloc)),
     }
 }
 
@@ -221,6 +346,16 @@ fn take_append<D: Disk>(
             blocks,
             *request,
         ),
+        AppendBody::Put {
+            extent,
+            offset,
+            group,
+        } => put(
+            replicas, file, alloc, number, packet, *extent, *offset, group,
+        ),
+        AppendBody::Have { extent, length } => {
+            have(replicas, alloc, number, packet, *extent, *length)
+        }
         _ => Ok(Step::silent(alloc)),
     }
 }
@@ -265,6 +400,7 @@ pub(crate) fn take<D: Disk>(
     match &packet.body {
         Body::Append(body) => take_append(replicas, file, alloc, number, packet, body),
         Body::Seal(body) => take_seal(replicas, file, alloc, number, packet, body),
+        Body::Read(body) => take_read(replicas, alloc, number, packet, body),
         _ => Ok(Step::silent(alloc)),
     }
 }

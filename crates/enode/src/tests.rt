@@ -1,11 +1,12 @@
 use super::*;
-use blocks::{Nodes, Version};
+use blocks::{Group, Nodes, Version};
 use bytes::Bytes;
 use disk::{DiskFault, MemDisk, RecordFile};
 use std::alloc::Global;
 use std::test::Fail;
 use wire::{
-    ActorId, AppendBody, Blocks, Body, ExtentId, Fence, Packet, Refusal, ReqNo, SealBody, Step,
+    ActorId, AppendBody, Blocks, Body, ExtentId, Fence, Packet, ReadBody, Refusal, ReqNo, SealBody,
+    Step,
 };
 
 const PLACES: Nodes = Nodes {
@@ -228,5 +229,226 @@ fn stops_where_its_disk_fails(rt: HostRuntime) -> Result<(), Fail> {
     assert!(rt; told && stopped);
     assert_eq!(rt; silent, None);
     assert_eq!(rt; length(&again), Some(0));
+    Ok(())
+}
+
+/// A packet about extent 1 that comes from another node to this one.
+fn from_node(
+    node: &mut Node<MemDisk>,
+    alloc: Global,
+    from: u8,
+    body: AppendBody,
+) -> Result<Step, DiskFault> {
+    let packet = Packet {
+        from: ActorId::Node(from),
+        to: ActorId::Node(node.number()),
+        body: Body::Append(body),
+    };
+    take(node, alloc, &packet)
+}
+
+fn have(node: &mut Node<MemDisk>, alloc: Global, from: u8, length: u32) -> Result<Step, DiskFault> {
+    from_node(
+        node,
+        alloc,
+        from,
+        AppendBody::Have {
+            extent: ExtentId::new(1),
+            length,
+        },
+    )
+}
+
+fn group(alloc: Global, word: &str) -> Result<Group, Fail> {
+    let mut texts = Vec::new(alloc);
+    texts.push(word.as_bytes().to_vec(alloc)?)?;
+    match Group::new(alloc, texts) {
+        Ok(group) => Ok(group),
+        Err(_fault) => Err(Fail::from("no group")),
+    }
+}
+
+fn put_group(
+    node: &mut Node<MemDisk>,
+    alloc: Global,
+    from: u8,
+    offset: u32,
+    group: Group,
+) -> Result<Step, DiskFault> {
+    from_node(
+        node,
+        alloc,
+        from,
+        AppendBody::Put {
+            extent: ExtentId::new(1),
+            offset,
+            group,
+        },
+    )
+}
+
+/// The length that a step tells, if it sends one packet that does.
+fn told(step: &Step) -> Option<u32> {
+    match step.packets.as_slice() {
+        [only] => match &only.body {
+            Body::Append(AppendBody::Have { length, .. }) => Some(*length),
+            _ => None,
+        },
+        _ => None,
+    }
+}
+
+fn put_told(
+    alloc: Global,
+    node: &mut Node<MemDisk>,
+    from: u8,
+    offset: u32,
+    word: &str,
+) -> Result<Option<u32>, Fail> {
+    let group = group(alloc, word)?;
+    let step = put_group(node, alloc, from, offset, group)?;
+    Ok(told(&step))
+}
+
+/// How many appends a Have answers, and how many are acknowledged by it.
+fn answered(
+    alloc: Global,
+    node: &mut Node<MemDisk>,
+    from: u8,
+    length: u32,
+) -> Result<(usize, usize), Fail> {
+    let step = have(node, alloc, from, length)?;
+    Ok((step.packets.as_slice().len(), step.notes.as_slice().len()))
+}
+
+/// A secondary with an empty replica of extent 1.
+fn second(alloc: Global) -> Result<Node<MemDisk>, Fail> {
+    let mut node = match Node::restart(alloc, 2, formatted(alloc)?.into_disk()) {
+        Ok(node) => node,
+        Err((_fault, _disk)) => return Err(Fail::from("the node did not start")),
+    };
+    make(&mut node, alloc, 0, 4096)?;
+    Ok(node)
+}
+
+fn ask(node: &mut Node<MemDisk>, alloc: Global, body: ReadBody) -> Result<Step, DiskFault> {
+    let packet = Packet {
+        from: ActorId::User(7),
+        to: ActorId::Node(1),
+        body: Body::Read(body),
+    };
+    take(node, alloc, &packet)
+}
+
+fn read(
+    node: &mut Node<MemDisk>,
+    alloc: Global,
+    offset: u32,
+    length: u32,
+) -> Result<Step, DiskFault> {
+    ask(
+        node,
+        alloc,
+        ReadBody::ReadAt {
+            extent: ExtentId::new(1),
+            offset,
+            length,
+            request: ReqNo::User { user: 7, ticket: 1 },
+        },
+    )
+}
+
+fn read_groups(
+    node: &mut Node<MemDisk>,
+    alloc: Global,
+    upto: u32,
+    sealed: bool,
+) -> Result<Step, DiskFault> {
+    ask(
+        node,
+        alloc,
+        ReadBody::ReadGroups {
+            extent: ExtentId::new(1),
+            upto,
+            sealed,
+            request: ReqNo::User { user: 7, ticket: 1 },
+        },
+    )
+}
+
+/// The bytes that a step gives.
+fn bytes(step: &Step) -> Option<&[u8]> {
+    match step.packets.as_slice() {
+        [only] => match &only.body {
+            Body::Read(ReadBody::Bytes { bytes, .. }) => Some(bytes.as_slice()),
+            _ => None,
+        },
+        _ => None,
+    }
+}
+
+/// How many groups a step gives.
+fn groups(step: &Step) -> Option<usize> {
+    match step.packets.as_slice() {
+        [only] => match &only.body {
+            Body::Read(ReadBody::Groups { groups, .. }) => Some(groups.as_slice().len()),
+            _ => None,
+        },
+        _ => None,
+    }
+}
+
+#[test]
+fn a_secondary_takes_the_next_group(rt: HostRuntime) -> Result<(), Fail> {
+    let mut node = second(rt.alloc())?;
+    let early = put_told(rt.alloc(), &mut node, 1, 3, "def")?;
+    let first = put_told(rt.alloc(), &mut node, 1, 0, "abc")?;
+    let again = put_told(rt.alloc(), &mut node, 1, 0, "abc")?;
+    let next = put_told(rt.alloc(), &mut node, 1, 3, "def")?;
+    let stranger = put_told(rt.alloc(), &mut node, 3, 6, "ghi")?;
+    assert_eq!(rt; (early, first, again), (Some(0), Some(3), Some(3)));
+    assert_eq!(rt; (next, stranger), (Some(6), None));
+    assert_eq!(rt; length(&node), Some(6));
+    Ok(())
+}
+
+#[test]
+fn answers_when_both_secondaries_have_it(rt: HostRuntime) -> Result<(), Fail> {
+    let mut node = made(rt.alloc(), 0, 4096)?;
+    append(&mut node, rt.alloc(), 1, ["abc"].as_slice())?;
+    append(&mut node, rt.alloc(), 1, ["def"].as_slice())?;
+    let one = answered(rt.alloc(), &mut node, 2, 6)?;
+    let stranger = answered(rt.alloc(), &mut node, 4, 6)?;
+    let first = answered(rt.alloc(), &mut node, 3, 5)?;
+    let late = answered(rt.alloc(), &mut node, 3, 3)?;
+    let second = answered(rt.alloc(), &mut node, 3, 6)?;
+    assert_eq!(rt; (one, stranger, first), ((0, 0), (0, 0), (1, 1)));
+    assert_eq!(rt; (late, second), ((0, 0), (1, 1)));
+    Ok(())
+}
+
+#[test]
+fn reads_what_is_there(rt: HostRuntime) -> Result<(), Fail> {
+    let mut node = made(rt.alloc(), 0, 4096)?;
+    append(&mut node, rt.alloc(), 1, ["abc", "de"].as_slice())?;
+    append(&mut node, rt.alloc(), 1, ["fgh"].as_slice())?;
+    let some = read(&mut node, rt.alloc(), 2, 4)?;
+    let past = read(&mut node, rt.alloc(), 5, 4)?;
+    assert_eq!(rt; bytes(&some), Some(b"cdef".as_slice()));
+    assert_eq!(rt; refusal(&past), Some(Refusal::PastEnd));
+    Ok(())
+}
+
+#[test]
+fn reads_groups_up_to_a_boundary(rt: HostRuntime) -> Result<(), Fail> {
+    let mut node = made(rt.alloc(), 0, 4096)?;
+    append(&mut node, rt.alloc(), 1, ["abc", "de"].as_slice())?;
+    append(&mut node, rt.alloc(), 1, ["fgh"].as_slice())?;
+    let first = read_groups(&mut node, rt.alloc(), 5, false)?;
+    let none = read_groups(&mut node, rt.alloc(), 6, false)?;
+    let open = read_groups(&mut node, rt.alloc(), 8, true)?;
+    assert_eq!(rt; groups(&first), Some(1));
+    assert_eq!(rt; refusal(&none), Some(Refusal::PastEnd));
+    assert_eq!(rt; refusal(&open), Some(Refusal::NotSealed));
     Ok(())
 }

@@ -1,13 +1,16 @@
 -- What a row leaves, volatile parts aside, is what its record makes of what was there.
-use Rattle.std.proofs.Common.{◌≡◌, ℕ, true, false, ◌&&◌, ◌==◌, nat_lt, nat_le, Option, Some, None, refl, eq-eqb, arith}
+use Rattle.std.proofs.Common.{◌≡◌, ℕ, List, ap, true, false, ◌&&◌, ◌==◌, nat_lt, nat_le, Option, Some, None, refl, eq-eqb, arith}
 use Rattle.blocks.specs.declared.record.Nodes.{Nodes}
 use Rattle.blocks.specs.declared.record.Record.{Record}
 use Rattle.blocks.specs.Reading.{is_within, are_nodes}
 use Rattle.wire.specs.declared.actor.ReqNo.{ReqNo}
 use Rattle.wire.specs.declared.body.AppendBody.{AppendBody}
-use Rattle.wire.specs.declared.body.AppendBody.TheVariants.{Append}
+use Rattle.wire.specs.declared.body.AppendBody.TheVariants.{Append, Put, Have}
 use Rattle.wire.specs.declared.body.SealBody.{SealBody}
 use Rattle.wire.specs.declared.body.SealBody.TheVariants.{Make}
+use Rattle.wire.specs.declared.body.ReadBody.{ReadBody}
+use Rattle.wire.specs.declared.body.ReadBody.TheVariants as reads
+use Rattle.wire.specs.declared.actor.ReqNo.TheVariants.{NoRequest}
 use Rattle.wire.specs.declared.body.Body.{Body}
 use Rattle.wire.specs.declared.body.Body.TheVariants as bodies
 use Rattle.wire.specs.declared.packet.Packet.{Packet}
@@ -16,8 +19,9 @@ use Rattle.replica.specs.Groups.{Group, text_length}
 use Rattle.replica.specs.Content.{Content}
 use Rattle.replica.specs.Replay as replays
 use Rattle.replica.specs.Replay.{applied, fits, is_place}
+use Rattle.model.specs.Actors.{is_node}
 use Rattle.model.specs.Outcome.{Outcome, all_met, silent, or_refused}
-use Rattle.model.specs.Node.{Replica, contents, node_row, append_body_row, seal_body_row, append_taken, append_refusal, append_tests, make_row, make_taken, make_tests, extent_of, append_extent, seal_extent}
+use Rattle.model.specs.Node.{Replica, contents, node_row, append_body_row, seal_body_row, append_taken, append_refusal, append_tests, make_row, make_taken, make_tests, put_fits, put_added, put_passed, put_taken, put_refusal, put_row, answered_if, with_length, have_row, read_taken, groups_taken, read_body_row, extent_of, append_extent, seal_extent, read_extent, is_open}
 use Rattle.std.proofs.lemmas.Bool.Decides.{nat_tests}
 use Rattle.wire.specs.declared.actor.ActorId.TheVariants.{Node}
 use Rattle.model.proofs.Tests.{if_elim, both_true, none_met, all_are, AllMet}
@@ -59,16 +63,77 @@ make_replays n p e fence target places =
     (λ t. record { is = refl; written = (refl, made_fits n p target places (all_are (make_tests n p target places) t)) })
     (λ f. record { is = refl; written = tt {0} })
 
+-- nothing is written, and what the records make is as it was
+kept_replays : (n e : ℕ) (s : Option Replica) (o : Outcome (Option Replica)) → contents o.after ≡ contents s → o.written ≡ None → Replays n e s o
+kept_replays n e s o same none = record { is = rw none same; written = rw none (tt {0}) }
+
+put_taken_replays : (n : ℕ) (r : Replica) (e offset : ℕ) (group : Group) → Replays n e (Some r) (put_taken n r e offset group)
+put_taken_replays n r e offset group =
+    if_elim (Replays n e (Some r)) (put_fits r offset) (put_added n r e offset group) (put_passed n r e)
+    (λ t. record { is = refl; written = (refl, t) })
+    (λ f. record { is = refl; written = tt {0} })
+
+put_refused_replays : (n : ℕ) (r : Replica) (p : Packet) (e offset : ℕ) (group : Group) (x : Option Refusal) → Replays n e (Some r) (or_refused (Some r) (Node n) p NoRequest x (put_taken n r e offset group))
+put_refused_replays n r p e offset group (Some refusal) = record { is = refl; written = tt }
+put_refused_replays n r p e offset group None = put_taken_replays n r e offset group
+
+put_replays : (n : ℕ) (r : Replica) (p : Packet) (e offset : ℕ) (group : Group) → Replays n e (Some r) (put_row n r p e offset group)
+put_replays n r p e offset group =
+    if_elim (Replays n e (Some r)) (is_node r.content.places.primary p.from) (or_refused (Some r) (Node n) p NoRequest (put_refusal r) (put_taken n r e offset group)) (silent (Some r))
+    (λ t. put_refused_replays n r p e offset group (put_refusal r))
+    (λ f. record { is = refl; written = tt {0} })
+
+-- with_length changes nothing that the records make
+told_replays : (n : ℕ) (r : Replica) (e : ℕ) (told : Option Replica) → ((t : Replica) → told ≡ Some t → t.content ≡ r.content) → Replays n e (Some r) (answered_if n r e told)
+told_replays n r e None same = record { is = refl; written = tt }
+told_replays n r e (Some t) same = record { is = ap Some (same t refl); written = tt }
+
+length_keeps : (r : Replica) (p : Packet) (length : ℕ) (t : Replica) → with_length r p.from length ≡ Some t → t.content ≡ r.content
+length_keeps r p length t =
+    if_elim (λ x. x ≡ Some t → t.content ≡ r.content) (is_node r.content.places.second p.from) _ _
+    (λ y e. cc)
+    (λ f. if_elim (λ x. x ≡ Some t → t.content ≡ r.content) (is_node r.content.places.third p.from) _ _ (λ y e. cc) (λ y e. absurd cc))
+
+have_replays : (n : ℕ) (r : Replica) (p : Packet) (e length : ℕ) → Replays n e (Some r) (have_row n r p e length)
+have_replays n r p e length =
+    if_elim (Replays n e (Some r)) ((n == r.content.places.primary) && is_open r.content.phase) (answered_if n r e (with_length r p.from length)) (silent (Some r))
+    (λ t. told_replays n r e (with_length r p.from length) (length_keeps r p length))
+    (λ f. record { is = refl; written = tt {0} })
+
+read_replays : (n : ℕ) (r : Replica) (p : Packet) (e offset length : ℕ) (q : ReqNo) (x : Option Refusal) → Replays n e (Some r) (or_refused (Some r) (Node n) p q x (read_taken n r p e offset length q))
+read_replays n r p e offset length q (Some refusal) = record { is = refl; written = tt }
+read_replays n r p e offset length q None = record { is = refl; written = tt }
+
+groups_taken_replays : (n : ℕ) (r : Replica) (p : Packet) (e upto : ℕ) (q : ReqNo) (x : Option (List Group)) → Replays n e (Some r) (groups_taken n r p e upto q x)
+groups_taken_replays n r p e upto q None = record { is = refl; written = tt }
+groups_taken_replays n r p e upto q (Some groups) = record { is = refl; written = tt }
+
+groups_replays : (n : ℕ) (r : Replica) (p : Packet) (e upto : ℕ) (q : ReqNo) (x : Option Refusal) (y : Option (List Group)) → Replays n e (Some r) (or_refused (Some r) (Node n) p q x (groups_taken n r p e upto q y))
+groups_replays n r p e upto q (Some refusal) y = record { is = refl; written = tt }
+groups_replays n r p e upto q None y = groups_taken_replays n r p e upto q y
+
 append_body_replays : (n : ℕ) (s : Option Replica) (p : Packet) (body : AppendBody) → Replays n (append_extent body) s (append_body_row n s p body)
 append_body_replays n (Some r) p (Append e generation blocks q) = append_replays n r p e generation blocks q _ refl
 append_body_replays n None p (Append e generation blocks q) = record { is = refl; written = tt }
+append_body_replays n (Some r) p (Put e offset group) = put_replays n r p e offset group
+append_body_replays n None p (Put e offset group) = record { is = refl; written = tt }
+append_body_replays n (Some r) p (Have e length) = have_replays n r p e length
+append_body_replays n None p (Have e length) = record { is = refl; written = tt }
 append_body_replays n s p body = record { is = refl; written = tt }
 
 seal_body_replays : (n : ℕ) (s : Option Replica) (p : Packet) (body : SealBody) → Replays n (seal_extent body) s (seal_body_row n s p body)
 seal_body_replays n None p (Make e fence target places) = make_replays n p e fence target places
 seal_body_replays n s p body = record { is = refl; written = tt }
 
+read_body_replays : (n : ℕ) (s : Option Replica) (p : Packet) (body : ReadBody) → Replays n (read_extent body) s (read_body_row n s p body)
+read_body_replays n (Some r) p (reads.ReadAt e offset length q) = read_replays n r p e offset length q _
+read_body_replays n None p (reads.ReadAt e offset length q) = record { is = refl; written = tt }
+read_body_replays n (Some r) p (reads.ReadGroups e upto sealed q) = groups_replays n r p e upto q _ _
+read_body_replays n None p (reads.ReadGroups e upto sealed q) = record { is = refl; written = tt }
+read_body_replays n s p body = record { is = refl; written = tt }
+
 pub row_replays : (n : ℕ) (s : Option Replica) (p : Packet) (body : Body) → Replays n (extent_of body) s (node_row n s p body)
 row_replays n s p (bodies.Append body) = append_body_replays n s p body
 row_replays n s p (bodies.Seal body) = seal_body_replays n s p body
+row_replays n s p (bodies.Read body) = read_body_replays n s p body
 row_replays n s p body = record { is = refl; written = tt }

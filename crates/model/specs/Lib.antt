@@ -1,2 +1,9 @@
 pub mod Outcome
+pub mod Honest
+pub mod Pairs
+pub mod Maps
+pub mod Actors
 pub mod Node
+pub mod Bounds
+pub mod Manager
+pub mod World

@@ -1,62 +1,67 @@
 -- The table of an extent node: what it does with a packet about an extent, as a function of its replica.
-use Rattle.std.specs.Prelude.{ℕ, Bool, true, false, not, ◌||◌, List, [], ◌∷◌, ◌++◌, length, Option, Some, None, ◌==◌, nat_lt, nat_le, if◌then◌else◌}
+use Rattle.std.specs.Prelude.{ℕ, suc, ◌+◌, Bool, true, false, not, ◌&&◌, ◌||◌, List, [], ◌∷◌, ◌++◌, length, map, take, drop, Option, Some, None, ◌==◌, nat_lt, nat_le, if◌then◌else◌}
 use Rattle.blocks.specs.declared.record.Nodes.{Nodes}
 use Rattle.blocks.specs.declared.record.Record.TheVariants as records
 use Rattle.blocks.specs.Reading.{is_within, are_nodes}
 use Rattle.wire.specs.Blocks.{has_bad_block}
 use Rattle.wire.specs.declared.actor.ActorId.{ActorId}
-use Rattle.wire.specs.declared.actor.ActorId.TheVariants.{Node, Manager, Map, Server, User}
+use Rattle.wire.specs.declared.actor.ActorId.TheVariants.{Node}
 use Rattle.wire.specs.declared.actor.ReqNo.{ReqNo}
+use Rattle.wire.specs.declared.actor.ReqNo.TheVariants.{NoRequest}
 use Rattle.wire.specs.declared.body.AppendBody.{AppendBody}
-use Rattle.wire.specs.declared.body.AppendBody.TheVariants.{Append, Put}
+use Rattle.wire.specs.declared.body.AppendBody.TheVariants.{Append, Put, Have, Appended}
 use Rattle.wire.specs.declared.body.SealBody.{SealBody}
 use Rattle.wire.specs.declared.body.SealBody.TheVariants.{Make}
+use Rattle.wire.specs.declared.body.ReadBody.{ReadBody}
+use Rattle.wire.specs.declared.body.ReadBody.TheVariants as reads
 use Rattle.wire.specs.declared.body.Body.{Body}
 use Rattle.wire.specs.declared.body.Body.TheVariants as bodies
+use Rattle.wire.specs.declared.note.Note.{Note}
+use Rattle.wire.specs.declared.note.Note.TheVariants as notes
 use Rattle.wire.specs.declared.packet.Packet.{Packet}
 use Rattle.wire.specs.declared.refusal.Refusal.{Refusal}
-use Rattle.wire.specs.declared.refusal.Refusal.TheVariants.{NoSuchExtent, NotPrimary, NotOpen, Stale, TooManyBlocks, BadBlock, ExtentFull, Busy}
+use Rattle.wire.specs.declared.refusal.Refusal.TheVariants.{NoSuchExtent, NotPrimary, NotOpen, Stale, TooManyBlocks, BadBlock, ExtentFull, PastEnd, NotSealed, Busy}
 use Rattle.replica.specs.declared.phase.Phase.{Phase}
 use Rattle.replica.specs.declared.phase.Phase.TheVariants as phases
-use Rattle.replica.specs.Groups.{Group, text_length}
+use Rattle.replica.specs.Groups.{Group, text, size, text_length}
 use Rattle.replica.specs.Content.{Content, new_content, appended}
+use Rattle.replica.specs.Reading.{bytes_at, groups_to}
 use Rattle.replica.specs.Replay.{is_place}
 use Rattle.model.specs.declared.waiting.Waiting.{Waiting}
-use Rattle.model.specs.Outcome.{Outcome, packet, first_met, all_met, silent, refused, or_refused}
+use Rattle.model.specs.Actors.{is_node, is_manager, generation_of}
+use Rattle.model.specs.Outcome.{Outcome, packet, first_met, all_met, silent, sends, refused, or_refused}
 
--- a replica: what its records say, and what a stop drops
+-- a replica: what its records say, and what a stop drops. Its primary keeps how long the second and the third place
+-- are known to be, and the appends that wait for them
 pub record Replica : Type 0 where
   pub content : Content
+  pub second_has : ℕ
+  pub third_has : ℕ
   pub waiting : List Waiting
 
 -- with what a stop drops empty
 abbrev pub fresh : Content → Replica
-fresh content = record { content = content; waiting = [] }
+fresh content = record { content = content; second_has = 0; third_has = 0; waiting = [] }
 
 -- without what a stop drops
 abbrev pub contents : Option Replica → Option Content
 contents None = None
 contents (Some r) = Some r.content
 
+-- what a stop leaves
+abbrev pub stopped : Option Replica → Option Replica
+stopped None = None
+stopped (Some r) = Some (fresh r.content)
+
 abbrev pub is_open : Phase → Bool
 is_open phases.Open = true
 is_open phases.Frozen = false
 is_open phases.Sealed = false
 
-abbrev pub is_manager : ActorId → Bool
-is_manager (Node n) = false
-is_manager Manager = true
-is_manager Map = false
-is_manager (Server s) = false
-is_manager (User u) = false
-
--- a user counts with generation 0
-abbrev pub generation_of : ActorId → ℕ → ℕ
-generation_of (Node n) generation = generation
-generation_of Manager generation = generation
-generation_of Map generation = generation
-generation_of (Server s) generation = generation
-generation_of (User u) generation = 0
+abbrev pub is_sealed : Phase → Bool
+is_sealed phases.Open = false
+is_sealed phases.Frozen = false
+is_sealed phases.Sealed = true
 
 -- ---- Make
 
@@ -103,7 +108,7 @@ abbrev pub append_taken : ℕ → Replica → Packet → ℕ → Group → ReqNo
 append_taken n r p e group q =
     let offset = text_length r.content.groups
     in record {
-      after = Some (record {
+      after = Some (record r {
         content = appended r.content group;
         waiting = r.waiting ++ record { offset = offset; group = group; asker = p.from; request = q } ∷ [];
       });
@@ -115,33 +120,191 @@ append_taken n r p e group q =
 abbrev pub append_row : ℕ → Replica → Packet → ℕ → ℕ → Group → ReqNo → Outcome (Option Replica)
 append_row n r p e generation blocks q = or_refused (Some r) (Node n) p q (append_refusal n r p generation blocks) (append_taken n r p e blocks q)
 
+-- ---- Put
+
+-- the secondary tells the primary how long it is
+abbrev pub tells_length : ℕ → Replica → ℕ → ℕ → List Packet
+tells_length n r e length = packet (Node n) (Node r.content.places.primary) (bodies.Append (Have e length)) ∷ []
+
+-- the group goes to the end of the replica, and there is still room
+abbrev pub put_fits : Replica → ℕ → Bool
+put_fits r offset = (offset == text_length r.content.groups) && nat_lt (text_length r.content.groups) r.content.target
+
+abbrev pub put_added : ℕ → Replica → ℕ → ℕ → Group → Outcome (Option Replica)
+put_added n r e offset group =
+    record {
+      after = Some (record r { content = appended r.content group });
+      written = Some (records.Append e offset group);
+      packets = tells_length n r e (text_length (r.content.groups ++ group ∷ []));
+      notes = [];
+    }
+
+-- a group that is already there, or that comes too early, is not taken
+abbrev pub put_passed : ℕ → Replica → ℕ → Outcome (Option Replica)
+put_passed n r e = sends (Some r) (tells_length n r e (text_length r.content.groups))
+
+abbrev pub put_taken : ℕ → Replica → ℕ → ℕ → Group → Outcome (Option Replica)
+put_taken n r e offset group = if put_fits r offset then put_added n r e offset group else put_passed n r e
+
+abbrev pub put_tests : Replica → List (Refusal × Bool)
+put_tests r = (NotOpen, not (is_open r.content.phase)) ∷ []
+
+abbrev pub put_refusal : Replica → Option Refusal
+put_refusal r = first_met (put_tests r)
+
+abbrev pub put_row : ℕ → Replica → Packet → ℕ → ℕ → Group → Outcome (Option Replica)
+put_row n r p e offset group =
+    if is_node r.content.places.primary p.from
+    then or_refused (Some r) (Node n) p NoRequest (put_refusal r) (put_taken n r e offset group)
+    else silent (Some r)
+
+-- ---- Have
+
+-- how many of the waiting appends, from the first on, end within this length
+abbrev pub covered : ℕ → List Waiting → ℕ
+covered length [] = 0
+covered length (w ∷ ws) = if nat_le (w.offset + size w.group) length then suc (covered length ws) else 0
+
+abbrev pub lesser : ℕ → ℕ → ℕ
+lesser a b = if nat_le a b then a else b
+
+abbrev pub greater : ℕ → ℕ → ℕ
+greater a b = if nat_lt a b then b else a
+
+abbrev pub acked : ℕ → List Waiting → List Note
+acked e ws = map (λ w. notes.Acked e w.offset w.group) ws
+
+abbrev pub answers : ℕ → ℕ → List Waiting → List Packet
+answers n e ws = map (λ w. packet (Node n) w.asker (bodies.Append (Appended w.request e w.offset))) ws
+
+-- the appends that both secondaries have are answered, and wait no more
+abbrev pub answered : ℕ → Replica → ℕ → Outcome (Option Replica)
+answered n r e =
+    let count = covered (lesser r.second_has r.third_has) r.waiting
+    in record {
+      after = Some (record r { waiting = drop count r.waiting });
+      written = None;
+      packets = answers n e (take count r.waiting);
+      notes = acked e (take count r.waiting);
+    }
+
+-- with what a secondary tells of its length; none where the sender is no secondary
+abbrev pub with_length : Replica → ActorId → ℕ → Option Replica
+with_length r from length =
+    if is_node r.content.places.second from then Some (record r { second_has = greater r.second_has length })
+    else if is_node r.content.places.third from then Some (record r { third_has = greater r.third_has length })
+    else None
+
+abbrev pub answered_if : ℕ → Replica → ℕ → Option Replica → Outcome (Option Replica)
+answered_if n r e None = silent (Some r)
+answered_if n r e (Some told) = answered n told e
+
+abbrev pub have_row : ℕ → Replica → Packet → ℕ → ℕ → Outcome (Option Replica)
+have_row n r p e length =
+    if (n == r.content.places.primary) && is_open r.content.phase
+    then answered_if n r e (with_length r p.from length)
+    else silent (Some r)
+
+-- ---- ReadAt
+
+abbrev pub read_tests : Replica → ℕ → ℕ → List (Refusal × Bool)
+read_tests r offset length = (PastEnd, nat_lt (text_length r.content.groups) (offset + length)) ∷ []
+
+abbrev pub read_refusal : Replica → ℕ → ℕ → Option Refusal
+read_refusal r offset length = first_met (read_tests r offset length)
+
+abbrev pub read_taken : ℕ → Replica → Packet → ℕ → ℕ → ℕ → ReqNo → Outcome (Option Replica)
+read_taken n r p e offset length q =
+    let bytes = bytes_at offset length r.content.groups
+    in record {
+      after = Some r;
+      written = None;
+      packets = packet (Node n) p.from (bodies.Read (reads.Bytes q e offset bytes)) ∷ [];
+      notes = notes.Seen e n offset bytes ∷ [];
+    }
+
+abbrev pub read_row : ℕ → Replica → Packet → ℕ → ℕ → ℕ → ReqNo → Outcome (Option Replica)
+read_row n r p e offset length q =
+    or_refused (Some r) (Node n) p q (read_refusal r offset length) (read_taken n r p e offset length q)
+
+-- ---- ReadGroups
+
+-- a sealed replica that is read to its end shows its content
+abbrev pub groups_note : ℕ → Replica → ℕ → ℕ → List Group → Note
+groups_note n r e upto groups =
+    if is_sealed r.content.phase && (upto == text_length r.content.groups) then notes.Content e n groups
+    else notes.Seen e n 0 (text groups)
+
+abbrev pub groups_shown : ℕ → Replica → Packet → ℕ → ℕ → ReqNo → List Group → Outcome (Option Replica)
+groups_shown n r p e upto q groups =
+    record {
+      after = Some r;
+      written = None;
+      packets = packet (Node n) p.from (bodies.Read (reads.Groups q e groups)) ∷ [];
+      notes = groups_note n r e upto groups ∷ [];
+    }
+
+abbrev pub groups_taken : ℕ → Replica → Packet → ℕ → ℕ → ReqNo → Option (List Group) → Outcome (Option Replica)
+groups_taken n r p e upto q None = refused (Some r) (Node n) p q PastEnd
+groups_taken n r p e upto q (Some groups) = groups_shown n r p e upto q groups
+
+abbrev pub groups_tests : Replica → Bool → List (Refusal × Bool)
+groups_tests r sealed = (NotSealed, sealed && not (is_sealed r.content.phase)) ∷ []
+
+abbrev pub groups_refusal : Replica → Bool → Option Refusal
+groups_refusal r sealed = first_met (groups_tests r sealed)
+
+abbrev pub groups_row : ℕ → Replica → Packet → ℕ → ℕ → Bool → ReqNo → Outcome (Option Replica)
+groups_row n r p e upto sealed q =
+    or_refused (Some r) (Node n) p q (groups_refusal r sealed) (groups_taken n r p e upto q (groups_to upto r.content.groups))
+
 -- ---- the table
 
 abbrev pub append_body_row : ℕ → Option Replica → Packet → AppendBody → Outcome (Option Replica)
 append_body_row n (Some r) p (Append e generation blocks q) = append_row n r p e generation blocks q
 append_body_row n None p (Append e generation blocks q) = refused None (Node n) p q NoSuchExtent
+append_body_row n (Some r) p (Put e offset group) = put_row n r p e offset group
+append_body_row n None p (Put e offset group) = refused None (Node n) p NoRequest NoSuchExtent
+append_body_row n (Some r) p (Have e length) = have_row n r p e length
+append_body_row n None p (Have e length) = refused None (Node n) p NoRequest NoSuchExtent
 append_body_row n s p body = silent s
 
 abbrev pub seal_body_row : ℕ → Option Replica → Packet → SealBody → Outcome (Option Replica)
 seal_body_row n None p (Make e fence target places) = make_row n p e fence target places
 seal_body_row n s p body = silent s
 
+abbrev pub read_body_row : ℕ → Option Replica → Packet → ReadBody → Outcome (Option Replica)
+read_body_row n (Some r) p (reads.ReadAt e offset length q) = read_row n r p e offset length q
+read_body_row n None p (reads.ReadAt e offset length q) = refused None (Node n) p q NoSuchExtent
+read_body_row n (Some r) p (reads.ReadGroups e upto sealed q) = groups_row n r p e upto sealed q
+read_body_row n None p (reads.ReadGroups e upto sealed q) = refused None (Node n) p q NoSuchExtent
+read_body_row n s p body = silent s
+
 -- what node n does with a packet about an extent of which it has this replica
 abbrev pub node_row : ℕ → Option Replica → Packet → Body → Outcome (Option Replica)
 node_row n s p (bodies.Append body) = append_body_row n s p body
 node_row n s p (bodies.Seal body) = seal_body_row n s p body
+node_row n s p (bodies.Read body) = read_body_row n s p body
 node_row n s p body = silent s
 
 abbrev pub append_extent : AppendBody → ℕ
 append_extent (Append e generation blocks q) = e
+append_extent (Put e offset group) = e
+append_extent (Have e length) = e
 append_extent _ = 0
 
 abbrev pub seal_extent : SealBody → ℕ
 seal_extent (Make e fence target places) = e
 seal_extent _ = 0
 
+abbrev pub read_extent : ReadBody → ℕ
+read_extent (reads.ReadAt e offset length q) = e
+read_extent (reads.ReadGroups e upto sealed q) = e
+read_extent _ = 0
+
 -- the extent that a packet to a node is about, where its row is built; 0 is no extent
 abbrev pub extent_of : Body → ℕ
 extent_of (bodies.Append body) = append_extent body
 extent_of (bodies.Seal body) = seal_extent body
+extent_of (bodies.Read body) = read_extent body
 extent_of _ = 0

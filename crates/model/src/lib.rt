@@ -1,9 +1,12 @@
-//! The tables of the actors, as definitions: what each does with a packet, as a function of its state.
+//! The tables of the actors and whole runs, as definitions: what each actor does with a packet, as a function of its
+//! state, what the network may deliver, and what the observations of a run owe to those who see them.
 //!
-//! This crate has no code but the plain values that states are made of, and touches nothing. The actors' crates prove
-//! that their calls are these functions, and the laws of whole runs are proved of the functions alone.
+//! This crate has no code but the plain values that states and events are made of, and touches nothing. The actors' crates
+//! prove that their calls are these functions, and the laws of whole runs are proved of the functions alone.
 #![tactic(auto)]
 
+mod event;
 mod waiting;
 
+pub use event::Event;
 pub use waiting::Waiting;

@@ -1,5 +1,7 @@
 pub mod Groups
 pub mod Content
+pub mod Placed
+pub mod Reading
 pub mod Put
 pub mod State
 pub mod Replay

@@ -7,6 +7,7 @@
 
 mod open;
 mod phase;
+mod placed;
 mod replica;
 
 pub use open::{OpenReplica, PutFault};

@@ -1,12 +1,15 @@
 //! A replica that takes groups.
-ghost use Rattle.std.specs.Prelude.{◌≡◌, ◌⊎◌, ◌+◌, ◌<◌, ◌++◌, [], ◌∷◌, vec_len, vec_capacity, None, Some, IfOk, IfErr, OnOk, MatchResult};
+ghost use Rattle.std.specs.Prelude.{◌≡◌, ◌⊎◌, ◌+◌, ◌<◌, None, Some, IfOk, IfErr, OnOk, MatchResult};
 ghost use Rattle.blocks.specs.Limits.{IsTarget};
 ghost use Rattle.replica.specs.Groups.{text_length};
 ghost use Rattle.replica.specs.Content.{new_content, appended};
 ghost use Rattle.replica.specs.Put.{put_fault};
+ghost use Rattle.replica.specs.Reading.{bytes_at, groups_to};
 
 use crate::phase::Phase;
-use blocks::{Group, Nodes};
+use crate::placed::PlacedGroups;
+use blocks::{Group, Groups, Nodes};
+use bytes::Bytes;
 use std::alloc::{AllocError, Global};
 use std::marker::Model;
 use thiserror::Error;
@@ -34,12 +37,11 @@ pub struct OpenReplica {
     places: Nodes,
     target: u32,
     fence: u64,
-    groups: Vec<Group>,
-    length: u32,
+    held: PlacedGroups,
 }
 
 impl Model for OpenReplica {
-    ghost use Rattle.std.specs.Prelude.{◌≡◌, ◌<◌, ◌+◌, ◌-◌, vec_capacity, vec_len};
+    ghost use Rattle.std.specs.Prelude.{◌<◌, ◌+◌};
     ghost use Rattle.blocks.specs.Limits.{IsTarget};
     ghost use Rattle.replica.specs.declared.phase.Phase.TheVariants.{Open};
     ghost use Rattle.replica.specs.Groups.{text_length};
@@ -48,19 +50,11 @@ impl Model for OpenReplica {
     ghost Value = { Held };
 
     ghost view = { λ r. record {
-      content = record { places = r.places; target = r.target; fence = r.fence; phase = Open; groups = r.groups.items };
-      room = vec_capacity r.groups - vec_len r.groups;
+      content = record { places = r.places; target = r.target; fence = r.fence; phase = Open; groups = r.held.groups };
+      room = r.held.room;
     } };
 
-    ghost invariant = { λ r. (r.length ≡ text_length r.groups.items) × IsTarget r.target × (r.length < r.target + 4194304) };
-}
-
-/// Adds a group into room that is there.
-fn push_group(groups: &mut Vec<Group>, group: Group)
-    requires { vec_len groups.old < vec_capacity groups.old }
-    ensures { groups.new.items ≡ groups.old.items ++ group ∷ [] }
-{
-    if let Err(_full) = groups.push(group) {}
+    ghost invariant = { λ r. IsTarget r.target × (text_length r.held.groups < r.target + 4194304) };
 }
 
 impl OpenReplica {
@@ -73,8 +67,7 @@ impl OpenReplica {
             places,
             target,
             fence,
-            groups: Vec::new(alloc),
-            length: 0,
+            held: PlacedGroups::new(alloc),
         }
     }
 
@@ -82,7 +75,7 @@ impl OpenReplica {
     pub fn state(&self) -> Phase
         ensures { result ≡ self.now.content.phase }
     {
-        let _length = self.length;
+        let _target = self.target;
         Phase::Open
     }
 
@@ -92,7 +85,7 @@ impl OpenReplica {
         ensures bound { result < self.now.content.target + 4194304 }
         ensures target { IsTarget self.now.content.target }
     {
-        self.length
+        self.held.len()
     }
 
     /// The length at which no more groups are taken, in bytes.
@@ -121,7 +114,7 @@ impl OpenReplica {
         ensures same { self.new.content ≡ self.old.content }
         ensures room { OnOk result (0 < self.new.room) }
     {
-        self.groups.reserve(1)
+        self.held.reserve()
     }
 
     /// Adds a group at the end, into room that was made.
@@ -130,10 +123,23 @@ impl OpenReplica {
         requires below { text_length self.old.content.groups < self.old.content.target }
         ensures { self.new.content ≡ appended self.old.content group }
     {
-        let _blocks = group.blocks();
-        let size = group.size();
-        push_group(&mut self.groups, group);
-        self.length += size;
+        let _size = group.size();
+        self.held.push(group);
+    }
+
+    /// A copy of so many bytes from an offset on, as far as there are any. An error is want of memory (22).
+    pub fn bytes(&self, alloc: Global, offset: u32, length: u32) -> Result<Bytes, AllocError>
+        ensures { IfOk result (λ bytes. bytes ≡ bytes_at offset length self.now.content.groups) }
+    {
+        self.held.bytes(alloc, offset, length)
+    }
+
+    /// The first groups, of `upto` bytes together, which share their bytes; none where a group goes over that boundary,
+    /// or where there are not so many bytes. An error is want of memory (22).
+    pub fn groups_to(&self, alloc: Global, upto: u32) -> Result<Option<Groups>, AllocError>
+        ensures { IfOk result (λ groups. groups ≡ groups_to upto self.now.content.groups) }
+    {
+        self.held.groups_to(alloc, upto)
     }
 
     /// Adds a group of a generation at an offset, which is to be the replica's length. The first reason refuses it:
@@ -153,10 +159,10 @@ impl OpenReplica {
         if generation < self.fence {
             return Err((PutFault::Stale, self, group));
         }
-        if offset != self.length {
+        if offset != self.held.len() {
             return Err((PutFault::PastEnd, self, group));
         }
-        if self.length >= self.target {
+        if self.held.len() >= self.target {
             return Err((PutFault::ExtentFull, self, group));
         }
         let mut open = self;

@@ -1,13 +1,15 @@
 //! A replica in any state.
-ghost use Rattle.std.specs.Prelude.{◌≡◌, ◌<◌, ◌+◌, ◌≤◌, OnOk};
+ghost use Rattle.std.specs.Prelude.{◌≡◌, ◌<◌, ◌+◌, ◌≤◌, IfOk, OnOk};
 ghost use Rattle.blocks.specs.Limits.{IsTarget};
 ghost use Rattle.replica.specs.Groups.{text_length};
 ghost use Rattle.replica.specs.Content.{appended, new_content};
+ghost use Rattle.replica.specs.Reading.{bytes_at, groups_to};
 ghost use Rattle.replica.specs.State.{content_of, room_of};
 
 use crate::open::OpenReplica;
 use crate::phase::Phase;
-use blocks::{Group, Nodes};
+use blocks::{Group, Groups, Nodes};
+use bytes::Bytes;
 use std::alloc::{AllocError, Global};
 
 /// A replica in the state that it is in.
@@ -69,6 +71,25 @@ impl Replica {
     {
         match self {
             Replica::Open(open) => open.places(),
+        }
+    }
+
+    /// A copy of so many bytes from an offset on, as far as there are any. An error is want of memory (22).
+    pub fn bytes(&self, alloc: Global, offset: u32, length: u32) -> Result<Bytes, AllocError>
+        ensures { IfOk result (λ bytes. bytes ≡ bytes_at offset length (content_of self.now).groups) }
+    {
+        match self {
+            Replica::Open(open) => open.bytes(alloc, offset, length),
+        }
+    }
+
+    /// The first groups, of `upto` bytes together, which share their bytes; none where a group goes over that boundary,
+    /// or where there are not so many bytes. An error is want of memory (22).
+    pub fn groups_to(&self, alloc: Global, upto: u32) -> Result<Option<Groups>, AllocError>
+        ensures { IfOk result (λ groups. groups ≡ groups_to upto (content_of self.now).groups) }
+    {
+        match self {
+            Replica::Open(open) => open.groups_to(alloc, upto),
         }
     }
 

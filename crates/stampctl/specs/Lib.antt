@@ -4,5 +4,5 @@ pub mod Failures
 pub mod Limits
 pub mod Values
 pub mod Reports
-pub mod Manager
+pub mod Asking
 pub mod Telling

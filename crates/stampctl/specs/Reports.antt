@@ -1,5 +1,6 @@
 -- The lines that a script prints.
-use Rattle.std.specs.Prelude.{ℕ, List, ◌∷◌, ◌++◌, codes, decimal}
+use Rattle.std.specs.Prelude.{ℕ, List, [], ◌∷◌, ◌++◌, codes, decimal}
+use Rattle.hex.specs.Hex.{encode_lower}
 use Rattle.stampctl.specs.declared.report.Answer.{Answer}
 use Rattle.stampctl.specs.declared.report.Answer.TheVariants as answers
 use Rattle.stampctl.specs.declared.report.Report.{Report}
@@ -8,10 +9,17 @@ use Rattle.stampctl.specs.declared.report.Standing.{Standing}
 use Rattle.stampctl.specs.declared.report.Standing.TheVariants as standings
 use Rattle.wire.specs.Refusal.{text_of}
 
+-- bytes in two digits each, and a dash for none
+abbrev pub shown_bytes : List ℕ → List ℕ
+shown_bytes [] = codes "-"
+shown_bytes (b ∷ bytes) = encode_lower (b ∷ bytes)
+
 abbrev pub answer_text : Answer → List ℕ
 answer_text answers.Created = codes "created"
 answer_text (answers.Extended extent) = codes "extended " ++ decimal extent
 answer_text (answers.Appended offset) = codes "appended " ++ decimal offset
+answer_text (answers.Bytes text) = codes "bytes " ++ text
+answer_text (answers.Content size) = codes "content " ++ decimal size
 answer_text (answers.Refused refusal) = codes "refused " ++ text_of refusal
 
 abbrev pub standing_text : Standing → List ℕ
@@ -23,6 +31,12 @@ standing_text standings.Sealed = codes "sealed"
 abbrev pub report_text : Report → List ℕ
 report_text (reports.Acked extent offset size) =
     codes "acked " ++ decimal extent ++ 32 ∷ decimal offset ++ 32 ∷ decimal size
+report_text (reports.SealedAt extent size) = codes "sealed " ++ decimal extent ++ 32 ∷ decimal size
+report_text (reports.Content extent node size groups) =
+    codes "content " ++ decimal extent ++ 32 ∷ decimal node ++ 32 ∷ decimal size ++ 32 ∷ decimal groups
+report_text (reports.Seen extent node offset count) =
+    codes "seen " ++ decimal extent ++ 32 ∷ decimal node ++ 32 ∷ decimal offset ++ 32 ∷ decimal count
+report_text (reports.Refused refusal) = codes "refused " ++ text_of refusal
 report_text (reports.Told user ticket answer) =
     codes "user " ++ decimal user ++ 32 ∷ decimal ticket ++ 32 ∷ answer_text answer
 report_text (reports.Replica node extent standing size fence) =

@@ -1,6 +1,6 @@
--- What the lines of a script send, and what deliveries and observations print.
-use Rattle.std.specs.Prelude.{ℕ, Option, Some, None}
-use Rattle.blocks.specs.Limits.{group_size}
+-- What deliveries and observations print.
+use Rattle.std.specs.Prelude.{ℕ, List, length, Option, Some, None}
+use Rattle.blocks.specs.Limits.{group_size, groups_size}
 use Rattle.wire.specs.declared.actor.ActorId.{ActorId}
 use Rattle.wire.specs.declared.actor.ActorId.TheVariants as actors
 use Rattle.wire.specs.declared.actor.ReqNo.{ReqNo}
@@ -9,33 +9,17 @@ use Rattle.wire.specs.declared.body.AppendBody.{AppendBody}
 use Rattle.wire.specs.declared.body.AppendBody.TheVariants as appends
 use Rattle.wire.specs.declared.body.Body.{Body}
 use Rattle.wire.specs.declared.body.Body.TheVariants as bodies
+use Rattle.wire.specs.declared.body.ReadBody.{ReadBody}
+use Rattle.wire.specs.declared.body.ReadBody.TheVariants as reads
 use Rattle.wire.specs.declared.body.StreamBody.{StreamBody}
 use Rattle.wire.specs.declared.body.StreamBody.TheVariants as streams
 use Rattle.wire.specs.declared.note.Note.{Note}
 use Rattle.wire.specs.declared.note.Note.TheVariants as notes
-use Rattle.wire.specs.declared.packet.Packet.{Packet}
-use Rattle.wire.specs.declared.streams.StreamKind.{StreamKind}
-use Rattle.wire.specs.declared.streams.StreamName.{StreamName}
-use Rattle.stampctl.specs.declared.line.Request.{Request}
-use Rattle.stampctl.specs.declared.line.Request.TheVariants as requests
 use Rattle.stampctl.specs.declared.report.Answer.{Answer}
 use Rattle.stampctl.specs.declared.report.Answer.TheVariants as answers
 use Rattle.stampctl.specs.declared.report.Report.{Report}
 use Rattle.stampctl.specs.declared.report.Report.TheVariants as reports
-
--- users work on the streams of range 0
-abbrev pub stream_of : StreamKind → StreamName
-stream_of kind = record { range = 0; kind = kind }
-
-abbrev pub call_by : ℕ → StreamBody → Packet
-call_by user body = record { from = actors.User user; to = actors.Manager; body = bodies.Stream body }
-
--- the packet of a user's request; the generation of a user is 0
-abbrev pub asked : ℕ → ReqNo → Request → Packet
-asked user number (requests.Create kind) = call_by user (streams.CreateStream (stream_of kind) 0 number)
-asked user number (requests.Extend kind last pick) = call_by user (streams.Extend (stream_of kind) 0 last pick number)
-asked user number (requests.Append node extent blocks) =
-    record { from = actors.User user; to = actors.Node node; body = bodies.Append (appends.Append extent 0 blocks.items number) }
+use Rattle.stampctl.specs.Reports.{shown_bytes}
 
 -- the answer that a body brings, and the request that it answers
 abbrev pub append_answer : AppendBody → Option (ReqNo × Answer)
@@ -48,8 +32,15 @@ stream_answer (streams.Created number) = Some (number, answers.Created)
 stream_answer (streams.Extended number extent places) = Some (number, answers.Extended extent)
 stream_answer other = None
 
+-- the bytes in two digits each, and of groups how many bytes they have
+abbrev pub read_answer : ReadBody → Option (ReqNo × Answer)
+read_answer (reads.Bytes number extent offset bytes) = Some (number, answers.Bytes (shown_bytes bytes))
+read_answer (reads.Groups number extent groups) = Some (number, answers.Content (groups_size groups))
+read_answer other = None
+
 abbrev pub answer_of : Body → Option (ReqNo × Answer)
 answer_of (bodies.Append body) = append_answer body
+answer_of (bodies.Read body) = read_answer body
 answer_of (bodies.Stream body) = stream_answer body
 answer_of other = None
 
@@ -68,4 +59,7 @@ told_to other body = None
 -- the line of an observation
 abbrev pub observed : Note → Option Report
 observed (notes.Acked extent offset group) = Some (reports.Acked extent offset (group_size group))
+observed (notes.SealedAt extent size) = Some (reports.SealedAt extent size)
+observed (notes.Content extent node groups) = Some (reports.Content extent node (groups_size groups) (length groups))
+observed (notes.Seen extent node offset bytes) = Some (reports.Seen extent node offset (length bytes))
 observed other = None

@@ -1,10 +1,11 @@
-//! The packets of users.
+//! The requests of users, as events.
 ghost use Rattle.std.specs.Prelude.{◌≡◌};
-ghost use Rattle.stampctl.specs.Telling.{asked, call_by, stream_of};
+ghost use Rattle.stampctl.specs.Asking.{asked, call_by, read_by, stream_of};
 
 use crate::line::Request;
+use model::Event;
 use wire::{
-    ActorId, AppendBody, Blocks, Body, ExtentId, Fence, Packet, RangeId, ReqNo, StreamBody,
+    ActorId, AppendBody, Blocks, Body, ExtentId, Fence, RangeId, ReadBody, ReqNo, StreamBody,
     StreamKind, StreamName,
 };
 
@@ -19,13 +20,24 @@ fn stream_of(kind: StreamKind) -> StreamName
 }
 
 /// A user's call of the manager.
-fn call(user: u64, body: StreamBody) -> Packet
+fn call(user: u64, body: StreamBody) -> Event
     ensures { result ≡ call_by user body }
 {
-    Packet {
-        from: ActorId::User(user),
+    Event::Submit {
+        user,
         to: ActorId::Manager,
         body: Body::Stream(body),
+    }
+}
+
+/// A user's read at a node.
+fn read(user: u64, node: u8, body: ReadBody) -> Event
+    ensures { result ≡ read_by user node body }
+{
+    Event::Submit {
+        user,
+        to: ActorId::Node(node),
+        body: Body::Read(body),
     }
 }
 
@@ -39,8 +51,8 @@ fn extent_of(number: Option<u64>) -> Option<ExtentId>
     }
 }
 
-/// The packet of a user's request.
-pub fn packet_of(user: u64, number: ReqNo, task: Request) -> Packet
+/// The event of a user's request.
+pub fn event_of(user: u64, number: ReqNo, task: Request) -> Event
     ensures { result ≡ asked user number task }
 {
     match task {
@@ -66,8 +78,8 @@ pub fn packet_of(user: u64, number: ReqNo, task: Request) -> Packet
             node,
             extent,
             blocks,
-        } => Packet {
-            from: ActorId::User(user),
+        } => Event::Submit {
+            user,
             to: ActorId::Node(node),
             body: Body::Append(AppendBody::Append {
                 extent: ExtentId::new(extent),
@@ -76,5 +88,30 @@ pub fn packet_of(user: u64, number: ReqNo, task: Request) -> Packet
                 request: number,
             }),
         },
+        Request::Read {
+            node,
+            extent,
+            offset,
+            length,
+        } => read(
+            user,
+            node,
+            ReadBody::ReadAt {
+                extent: ExtentId::new(extent),
+                offset,
+                length,
+                request: number,
+            },
+        ),
+        Request::Content { node, extent, upto } => read(
+            user,
+            node,
+            ReadBody::ReadGroups {
+                extent: ExtentId::new(extent),
+                upto,
+                sealed: true,
+                request: number,
+            },
+        ),
     }
 }

@@ -11,7 +11,7 @@ ghost use Rattle.stampctl.specs.Values.{AsksCopies, IsNumber, IsTooMany, IsValue
 use blocks::Nodes;
 use bytes::Bytes;
 use std::alloc::{AllocError, Global};
-use wire::StreamKind;
+use wire::{ActorId, ServerNo, StreamKind};
 
 /// What a user asks for.
 #[derive(Drop)]
@@ -29,6 +29,18 @@ pub enum Request {
         extent: u64,
         blocks: Vec<Bytes>,
     },
+    Read {
+        node: u8,
+        extent: u64,
+        offset: u32,
+        length: u32,
+    },
+    /// The content of a sealed replica, up to a length.
+    Content {
+        node: u8,
+        extent: u64,
+        upto: u32,
+    },
 }
 
 /// A line of a script.
@@ -42,6 +54,10 @@ pub enum Line {
     DeliverLast,
     /// Delivers what was never delivered, the lowest number first.
     Settle,
+    /// From here on a settle passes over packets to this actor.
+    Cut(ActorId),
+    /// And from here on it does not.
+    Heal(ActorId),
     /// Shows the replica of an extent at a node.
     Show { node: u8, extent: u64 },
 }
@@ -162,6 +178,8 @@ pub fn parse(alloc: Global, words: &[&str]) -> Result<Option<Line>, AllocError> 
         ["deliver", "last"] => Some(Line::DeliverLast),
         ["deliver", packet] => number(packet).map(Line::Deliver),
         ["settle"] => Some(Line::Settle),
+        ["cut", word] => actor(word).map(Line::Cut),
+        ["heal", word] => actor(word).map(Line::Heal),
         ["show", node, extent] => show(node, extent),
         _ => None,
     })
@@ -183,6 +201,8 @@ fn submit(alloc: Global, user: &str, words: &[&str]) -> Result<Option<Line>, All
         ["create", kind] => create(kind),
         ["extend", kind, last, a, b, c] => extend(kind, last, [a, b, c]),
         ["append", node, extent, blocks @ ..] => append(alloc, node, extent, blocks)?,
+        ["read", node, extent, offset, length] => read(node, extent, offset, length),
+        ["content", node, extent, upto] => content(node, extent, upto),
         _ => None,
     };
     Ok(request.map(|request| Line::Submit { user, request }))
@@ -206,6 +226,55 @@ fn extend(word: &str, last: &str, [primary, second, third]: [&str; 3]) -> Option
             third: node(third)?,
         },
     })
+}
+
+/// No extent has so many bytes, and all numbers above stand for one past every end.
+fn place(word: &str) -> Option<u32> {
+    let number = number(word)?;
+    Some(number.min(4_294_967_295) as u32)
+}
+
+fn read(at: &str, extent: &str, offset: &str, length: &str) -> Option<Request> {
+    Some(Request::Read {
+        node: node(at)?,
+        extent: number(extent)?,
+        offset: place(offset)?,
+        length: place(length)?,
+    })
+}
+
+fn content(at: &str, extent: &str, upto: &str) -> Option<Request> {
+    Some(Request::Content {
+        node: node(at)?,
+        extent: number(extent)?,
+        upto: place(upto)?,
+    })
+}
+
+/// An actor by its name: `n1` and on, `s1` and on, `m` the manager, `p` the map.
+fn actor(word: &str) -> Option<ActorId> {
+    if word == "m" {
+        return Some(ActorId::Manager);
+    }
+    if word == "p" {
+        return Some(ActorId::Map);
+    }
+    if let Some(digits) = word.strip_prefix('n') {
+        return Some(ActorId::Node(numbered(digits)?));
+    }
+    let digits = word.strip_prefix('s')?;
+    Some(ActorId::Server(ServerNo::new(numbered(digits)?)))
+}
+
+/// Actors are numbered from 1, and 255 stands for all greater numbers, which no stamp has.
+fn numbered(digits: &str) -> Option<u8> {
+    if digits.is_empty() {
+        return None;
+    }
+    match node(digits)? {
+        0 => None,
+        number => Some(number),
+    }
 }
 
 fn append(

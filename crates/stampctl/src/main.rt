@@ -18,16 +18,14 @@ use wire::Refusal;
 
 mod asking;
 mod command;
+mod deliveries;
 mod error;
+mod hex_text;
 mod line;
-mod manager;
 mod plan;
-mod post;
 mod report;
 mod script;
 mod session;
-mod setup;
-mod stamp;
 mod telling;
 mod tickets;
 

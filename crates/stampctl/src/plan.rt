@@ -4,9 +4,9 @@ ghost use Rattle.stampctl.specs.Failures.{IsTextFailure};
 
 use crate::error::Failure;
 use crate::line::{self, Line};
-use crate::setup::Setup;
 use std::alloc::Global;
 use wire::Refusal;
+use world::Setup;
 
 /// A setup, and the lines below it in order.
 #[derive(Drop)]

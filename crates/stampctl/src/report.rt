@@ -5,16 +5,20 @@ ghost use Rattle.stampctl.specs.Failures.{IsRunFailure};
 ghost use Rattle.stampctl.specs.Reports.{report_text};
 
 use crate::error::Failure;
+use crate::hex_text::HexText;
 use std::fmt;
 use std::io::Write;
 use wire::Refusal;
 
 /// What an answer tells a user.
-#[derive(Clone, Copy, Debug, PartialEq, Eq)]
+#[derive(Drop)]
 pub enum Answer {
     Created,
     Extended(u64),
     Appended(u32),
+    Bytes(HexText),
+    /// How many bytes the groups have together.
+    Content(u128),
     Refused(Refusal),
 }
 
@@ -27,7 +31,7 @@ pub enum Standing {
 }
 
 /// A line of output.
-#[derive(Clone, Copy, Debug, PartialEq, Eq)]
+#[derive(Drop)]
 pub enum Report {
     /// The primary acknowledged a group.
     Acked {
@@ -35,6 +39,27 @@ pub enum Report {
         offset: u32,
         size: u32,
     },
+    /// An extent was sealed at this length.
+    SealedAt {
+        extent: u64,
+        length: u32,
+    },
+    /// A sealed replica showed its content: how many bytes and how many groups.
+    Content {
+        extent: u64,
+        node: u8,
+        size: u128,
+        groups: u64,
+    },
+    /// A replica showed so many bytes from an offset on.
+    Seen {
+        extent: u64,
+        node: u8,
+        offset: u32,
+        count: u64,
+    },
+    /// The event was refused.
+    Refused(Refusal),
     /// An answer came to a user.
     Told {
         user: u64,
@@ -70,6 +95,8 @@ impl fmt::Display for Answer {
             Answer::Created => write!(f, "created"),
             Answer::Extended(extent) => write!(f, "extended {extent}"),
             Answer::Appended(offset) => write!(f, "appended {offset}"),
+            Answer::Bytes(bytes) => write!(f, "bytes {bytes}"),
+            Answer::Content(size) => write!(f, "content {size}"),
             Answer::Refused(refusal) => write!(f, "refused {refusal}"),
         }
     }
@@ -103,6 +130,20 @@ impl fmt::Display for Report {
                 offset,
                 size,
             } => write!(f, "acked {extent} {offset} {size}"),
+            Report::SealedAt { extent, length } => write!(f, "sealed {extent} {length}"),
+            Report::Content {
+                extent,
+                node,
+                size,
+                groups,
+            } => write!(f, "content {extent} {node} {size} {groups}"),
+            Report::Seen {
+                extent,
+                node,
+                offset,
+                count,
+            } => write!(f, "seen {extent} {node} {offset} {count}"),
+            Report::Refused(refusal) => write!(f, "refused {refusal}"),
             Report::Told {
                 user,
                 ticket,

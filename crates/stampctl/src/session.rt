@@ -2,29 +2,31 @@
 ghost use Rattle.std.specs.Prelude.{IfErr};
 ghost use Rattle.stampctl.specs.Failures.{IsRunFailure};
 
-use crate::asking::packet_of;
+use crate::asking::event_of;
+use crate::deliveries::Deliveries;
 use crate::error::Failure;
 use crate::line::{Line, Request};
-use crate::post::Post;
-use crate::report::{Report, print};
-use crate::setup::Setup;
-use crate::stamp::Stamp;
+use crate::report::{Report, Standing, print};
 use crate::telling::{report_answer, report_note};
 use crate::tickets::Tickets;
+use model::Event;
+use replica::Phase;
 use std::alloc::Global;
 use std::io::Write;
-use wire::{Note, ReqNo};
+use wire::{ActorId, ExtentId, Note, Packet, Refusal, ReqNo};
+use world::{Run, Setup, WorldFault};
 
-/// The most packets that one `settle` delivers.
+/// The most packets that one settle delivers.
 const MOST_DELIVERIES: usize = 100_000;
 
-/// A stamp, its packets, and the tickets of its users.
+/// The actors, the network, what users have asked, and to whom no settle delivers.
 #[derive(Drop)]
 pub struct Session {
     alloc: Global,
-    stamp: Stamp,
-    post: Post,
+    run: Run,
+    deliveries: Deliveries,
     tickets: Tickets,
+    cut: Vec<ActorId>,
 }
 
 fn print_some<W: Write>(report: Option<Report>, writer: &mut W) -> Result<(), Failure>
@@ -45,62 +47,153 @@ fn print_notes<W: Write>(notes: &[Note], writer: &mut W) -> Result<(), Failure>
     Ok(())
 }
 
+fn print_answer<W: Write>(alloc: Global, packet: &Packet, writer: &mut W) -> Result<(), Failure>
+    ensures { IfErr result IsRunFailure }
+{
+    print_some(report_answer(alloc, packet)?, writer)
+}
+
+/// An event that is refused says so.
+fn happen<W: Write>(
+    run: &mut Run,
+    alloc: Global,
+    event: &Event,
+    writer: &mut W,
+) -> Result<(), Failure>
+    ensures { IfErr result IsRunFailure }
+{
+    match run.step(alloc, event) {
+        Ok(Some(refusal)) => print(Report::Refused(refusal), writer),
+        Ok(None) => Ok(()),
+        Err(WorldFault::Memory) => Err(Failure::Refused(Refusal::Memory)),
+    }
+}
+
+fn standing_of(phase: Phase) -> Standing {
+    match phase {
+        Phase::Open => Standing::Open,
+        Phase::Frozen => Standing::Frozen,
+        Phase::Sealed => Standing::Sealed,
+    }
+}
+
+fn look(run: &Run, node: u8, extent: u64) -> Report {
+    let Some(looked) = run.node(node) else {
+        return Report::Stopped { node, extent };
+    };
+    match looked.replica(ExtentId::new(extent)) {
+        Some(replica) => Report::Replica {
+            node,
+            extent,
+            standing: standing_of(replica.state()),
+            length: replica.len(),
+            fence: replica.fence(),
+        },
+        None => Report::NoReplica { node, extent },
+    }
+}
+
 impl Session {
-    /// A stamp of this setup, before its first event.
+    /// A stamp of this setup, in which nothing has happened.
     pub fn start(alloc: Global, setup: &Setup) -> Result<Session, Failure> {
-        Ok(Session {
-            alloc,
-            stamp: Stamp::start(alloc, setup)?,
-            post: Post::new(alloc),
-            tickets: Tickets::new(alloc),
-        })
+        match Run::start(alloc, setup) {
+            Ok(run) => Ok(Session {
+                alloc,
+                run,
+                deliveries: Deliveries::new(alloc),
+                tickets: Tickets::new(alloc),
+                cut: Vec::new(alloc),
+            }),
+            Err(WorldFault::Memory) => Err(Failure::Refused(Refusal::Memory)),
+        }
     }
 
-    /// Runs one line, and prints what is observed.
+    /// Runs a line, and prints what is observed and answered.
     pub fn play<W: Write>(&mut self, line: Line, writer: &mut W) -> Result<(), Failure>
         ensures { IfErr result IsRunFailure }
     {
         match line {
-            Line::Submit { user, request } => self.submit(user, request),
+            Line::Submit { user, request } => self.submit(user, request, writer),
             Line::Deliver(number) => self.deliver(number as usize, writer),
-            Line::DeliverLast => match self.post.last() {
+            Line::DeliverLast => match self.run.sent().len().checked_sub(1) {
                 Some(last) => self.deliver(last, writer),
                 None => Ok(()),
             },
             Line::Settle => self.settle(writer),
-            Line::Show { node, extent } => print(self.stamp.look(node, extent), writer),
+            Line::Cut(actor) => self.cut_off(actor),
+            Line::Heal(actor) => {
+                self.cut.retain(|other| *other != actor);
+                Ok(())
+            }
+            Line::Show { node, extent } => print(look(&self.run, node, extent), writer),
         }
     }
 
-    fn submit(&mut self, user: u64, asked: Request) -> Result<(), Failure>
+    fn cut_off(&mut self, actor: ActorId) -> Result<(), Failure>
         ensures { IfErr result IsRunFailure }
     {
-        let ticket = self.tickets.take(user)?;
-        let request = ReqNo::User { user, ticket };
-        self.post.send(packet_of(user, request, asked))?;
+        self.cut.push(actor)?;
         Ok(())
     }
 
-    /// Delivers the packet of this number, if it was sent.
+    fn submit<W: Write>(&mut self, user: u64, asked: Request, writer: &mut W) -> Result<(), Failure>
+        ensures { IfErr result IsRunFailure }
+    {
+        let ticket = self.tickets.take(user)?;
+        let event = event_of(user, ReqNo::User { user, ticket }, asked);
+        happen(&mut self.run, self.alloc, &event, writer)
+    }
+
+    // A number that was never sent delivers nothing.
     fn deliver<W: Write>(&mut self, number: usize, writer: &mut W) -> Result<(), Failure>
         ensures { IfErr result IsRunFailure }
     {
-        self.post.note_delivery(number);
-        let Some(packet) = self.post.packet(number) else {
+        if number >= self.run.sent().len() {
             return Ok(());
-        };
-        let step = self.stamp.handle(self.alloc, packet)?;
-        print_notes(step.notes.as_slice(), writer)?;
-        print_some(report_answer(packet), writer)?;
-        self.post.send_all(step.packets)?;
-        Ok(())
+        }
+        self.deliveries.note(number)?;
+        let shown = self.run.observations().len();
+        happen(
+            &mut self.run,
+            self.alloc,
+            &Event::Deliver { number },
+            writer,
+        )?;
+        if let Some(more) = self.run.observations().get(shown..) {
+            print_notes(more, writer)?;
+        }
+        match self.run.sent().get(number) {
+            Some(packet) => print_answer(self.alloc, packet, writer),
+            None => Ok(()),
+        }
+    }
+
+    fn is_cut(&self, number: usize) -> bool {
+        match self.run.sent().get(number) {
+            Some(packet) => self.cut.contains(&packet.to),
+            None => false,
+        }
+    }
+
+    /// The lowest packet that a settle delivers next. Those to actors that are cut off are passed over for good.
+    fn next(&mut self) -> Result<Option<usize>, Failure>
+        ensures { IfErr result IsRunFailure }
+    {
+        let sent = self.run.sent().len();
+        for _ in 0..sent {
+            match self.deliveries.lowest(sent) {
+                Some(number) if self.is_cut(number) => self.deliveries.note(number)?,
+                found => return Ok(found),
+            }
+        }
+        Ok(None)
     }
 
     fn settle<W: Write>(&mut self, writer: &mut W) -> Result<(), Failure>
         ensures { IfErr result IsRunFailure }
     {
         for _ in 0..MOST_DELIVERIES {
-            match self.post.lowest() {
+            match self.next()? {
                 Some(number) => self.deliver(number, writer)?,
                 None => break,
             }

@@ -1,9 +1,13 @@
 //! What deliveries and observations print.
-ghost use Rattle.std.specs.Prelude.{◌≡◌, Some};
-ghost use Rattle.stampctl.specs.Telling.{answer_of, append_answer, observed, stream_answer, told_to, told_with};
+ghost use Rattle.std.specs.Prelude.{◌≡◌, Some, IfOk};
+ghost use Rattle.blocks.specs.Limits.{groups_size};
+ghost use Rattle.stampctl.specs.Telling.{answer_of, append_answer, observed, read_answer, stream_answer, told_to, told_with};
 
+use crate::hex_text::HexText;
 use crate::report::{Answer, Report};
-use wire::{ActorId, AppendBody, Body, Note, Packet, ReqNo, StreamBody};
+use blocks::Group;
+use std::alloc::{AllocError, Global};
+use wire::{ActorId, AppendBody, Body, Note, Packet, ReadBody, ReqNo, StreamBody};
 
 fn append_answer(body: &AppendBody) -> Option<(ReqNo, Answer)>
     ensures { result ≡ append_answer body.now }
@@ -33,14 +37,48 @@ fn stream_answer(body: &StreamBody) -> Option<(ReqNo, Answer)>
     }
 }
 
-/// The answer that a body brings, and the request that it answers.
-fn answer_of(body: &Body) -> Option<(ReqNo, Answer)>
-    ensures { result ≡ answer_of body.now }
+/// How many bytes the groups have together.
+fn size_of(groups: &[Group]) -> u128
+    ensures { result ≡ groups_size groups.now }
+{
+    let mut size: u128 = 0;
+    for group in groups {
+        size += u128::from(group.size());
+    }
+    size
+}
+
+fn read_answer(alloc: Global, body: &ReadBody) -> Result<Option<(ReqNo, Answer)>, AllocError>
+    ensures { IfOk result (λ told. told ≡ read_answer body.now) }
 {
     match body {
-        Body::Append(body) => append_answer(body),
-        Body::Stream(body) => stream_answer(body),
-        _ => None,
+        ReadBody::Bytes {
+            request,
+            extent: _,
+            offset: _,
+            bytes,
+        } => match HexText::of(alloc, bytes.as_slice()) {
+            Ok(text) => Ok(Some((*request, Answer::Bytes(text)))),
+            Err(refused) => Err(refused),
+        },
+        ReadBody::Groups {
+            request,
+            extent: _,
+            groups,
+        } => Ok(Some((*request, Answer::Content(size_of(groups.as_slice()))))),
+        _ => Ok(None),
+    }
+}
+
+/// The answer that a body brings, and the request that it answers.
+fn answer_of(alloc: Global, body: &Body) -> Result<Option<(ReqNo, Answer)>, AllocError>
+    ensures { IfOk result (λ told. told ≡ answer_of body.now) }
+{
+    match body {
+        Body::Append(body) => Ok(append_answer(body)),
+        Body::Read(body) => read_answer(alloc, body),
+        Body::Stream(body) => Ok(stream_answer(body)),
+        _ => Ok(None),
     }
 }
 
@@ -58,16 +96,17 @@ fn told(user: u64, number: ReqNo, answer: Answer) -> Option<Report>
     }
 }
 
-/// The line of a delivery, where it brings an answer to a user.
-pub fn report_answer(packet: &Packet) -> Option<Report>
-    ensures { result ≡ told_to packet.now.to packet.now.body }
+/// The line of a delivery, where it brings an answer to a user. An error is want of memory (22).
+pub fn report_answer(alloc: Global, packet: &Packet) -> Result<Option<Report>, AllocError>
+    ensures { IfOk result (λ report. report ≡ told_to packet.now.to packet.now.body) }
 {
     let ActorId::User(user) = packet.to else {
-        return None;
+        return Ok(None);
     };
-    match answer_of(&packet.body) {
-        Some((number, answer)) => told(user, number, answer),
-        None => None,
+    match answer_of(alloc, &packet.body) {
+        Ok(Some((number, answer))) => Ok(told(user, number, answer)),
+        Ok(None) => Ok(None),
+        Err(refused) => Err(refused),
     }
 }
 
@@ -84,6 +123,31 @@ pub fn report_note(note: &Note) -> Option<Report>
             extent: extent.number(),
             offset: *offset,
             size: group.size(),
+        }),
+        Note::SealedAt { extent, length } => Some(Report::SealedAt {
+            extent: extent.number(),
+            length: *length,
+        }),
+        Note::Content {
+            extent,
+            node,
+            groups,
+        } => Some(Report::Content {
+            extent: extent.number(),
+            node: *node,
+            size: size_of(groups.as_slice()),
+            groups: groups.as_slice().len() as u64,
+        }),
+        Note::Seen {
+            extent,
+            node,
+            offset,
+            bytes,
+        } => Some(Report::Seen {
+            extent: extent.number(),
+            node: *node,
+            offset: *offset,
+            count: bytes.len() as u64,
         }),
         _ => None,
     }

@@ -8,6 +8,7 @@
 mod actor;
 mod blocks_list;
 mod body;
+mod copying;
 mod extent_id;
 mod fence;
 mod note;

@@ -82,10 +82,10 @@ const RUNS: [(&str, &str); 14] = [
         "user 1 extend 0 none 1 2 300\nuser 1 extend 0 2 3 2 1\nsettle\n",
         "user 1 2 extended 1\nuser 1 3 extended 1\n",
     ),
-    // Each user has tickets of its own. A stream that nobody keeps gives no answer.
+    // Each user has tickets of its own, and each stream an extent of its own.
     (
-        "user 2 create 1\nuser 2 create 0\nuser 1 create 0\nuser 2 extend 3 none 1 2 3\nsettle\n",
-        "user 2 1 refused 12 NameTaken\nuser 1 2 refused 12 NameTaken\n",
+        "user 2 create 1\nuser 2 create 0\nuser 1 create 0\nuser 2 extend 3 none 1 2 3\nsettle\nuser 2 extend 1 none 3 1 2\nsettle\nshow 3 2\n",
+        "user 2 0 created\nuser 2 1 refused 12 NameTaken\nuser 1 2 refused 12 NameTaken\nuser 2 2 refused 11 NoSuchStream\nuser 2 3 extended 2\nreplica 3 2 open 0 0\n",
     ),
     // An answer is told again when it is delivered again, and at a number that was never sent nothing happens.
     (
@@ -107,6 +107,81 @@ const RUNS: [(&str, &str); 14] = [
     ),
     ("settle\ndeliver last", "user 1 1 extended 1\n"),
 ];
+
+/// Appends that all three replicas take, and reads of them.
+const READS: [(&str, &str); 12] = [
+    (
+        "user 1 append 1 1 abc de\nsettle\nuser 1 append 1 1 f\nsettle\n",
+        "acked 1 0 5\nuser 1 2 appended 0\nacked 1 5 1\nuser 1 3 appended 5\n",
+    ),
+    (
+        "user 1 append 1 1 abc\ndeliver 7\ndeliver 7\nsettle\n",
+        "acked 1 0 3\nacked 1 3 3\nuser 1 2 appended 0\nuser 1 2 appended 3\n",
+    ),
+    (
+        "user 1 append 1 1 abc\nuser 1 append 1 1 def\ndeliver 7\ndeliver 8\ndeliver 11\nshow 2 1\ndeliver 9\nshow 2 1\ndeliver 11\nshow 2 1\nsettle\n",
+        "replica 2 1 open 0 0\nreplica 2 1 open 3 0\nreplica 2 1 open 6 0\nacked 1 0 3\nacked 1 3 3\nuser 1 2 appended 0\nuser 1 3 appended 3\n",
+    ),
+    (
+        "user 1 append 1 1 4095*a\nsettle\nuser 1 append 1 1 65536*b 65536*b 65536*b 65536*b 65536*b 65536*b 65536*b 65536*b 65536*b 65536*b 65536*b 65536*b 65536*b 65536*b 65536*b 65536*b 65536*b 65536*b 65536*b 65536*b 65536*b 65536*b 65536*b 65536*b 65536*b 65536*b 65536*b 65536*b 65536*b 65536*b 65536*b 65536*b 65536*b 65536*b 65536*b 65536*b 65536*b 65536*b 65536*b 65536*b 65536*b 65536*b 65536*b 65536*b 65536*b 65536*b 65536*b 65536*b 65536*b 65536*b 65536*b 65536*b 65536*b 65536*b 65536*b 65536*b 65536*b 65536*b 65536*b 65536*b 65536*b 65536*b 65536*b 65536*b\nsettle\nshow 1 1\nuser 1 append 1 1 c\nsettle\n",
+        "acked 1 0 4095\nuser 1 2 appended 0\nacked 1 4095 4194304\nuser 1 3 appended 4095\nreplica 1 1 open 4198399 0\nuser 1 4 refused 7 ExtentFull\n",
+    ),
+    (
+        "user 1 append 1 1 abc de\nsettle\nuser 1 append 1 1 f\nsettle\nuser 1 read 2 1 3 3\nsettle\nuser 1 read 2 1 4 3\nsettle\n",
+        "acked 1 0 5\nuser 1 2 appended 0\nacked 1 5 1\nuser 1 3 appended 5\nseen 1 2 3 3\nuser 1 4 bytes 646566\nuser 1 5 refused 8 PastEnd\n",
+    ),
+    // A secondary that is cut off keeps the append from being answered, and what it missed is not delivered later.
+    (
+        "cut n3\nuser 1 append 1 1 abc\nsettle\nheal n3\nsettle\nshow 1 1\nshow 2 1\nshow 3 1\n",
+        "replica 1 1 open 3 0\nreplica 2 1 open 3 0\nreplica 3 1 open 0 0\n",
+    ),
+    // A packet that was passed over is delivered by its number.
+    (
+        "user 1 append 1 1 abc\ncut n3\nsettle\nheal n3\ndeliver 9\nsettle\n",
+        "acked 1 0 3\nuser 1 2 appended 0\n",
+    ),
+    // The manager and users can be cut off.
+    (
+        "cut m\nuser 1 create 1\nsettle\nheal m\nuser 1 create 2\nsettle\n",
+        "user 1 3 created\n",
+    ),
+    // An open replica has no content to show, and a read names what is not there.
+    (
+        "user 1 append 1 1 abc\nsettle\nuser 1 content 1 1 3\nuser 1 read 1 9 0 1\nuser 1 read 4 1 0 1\nuser 1 read 3 1 0 0\nuser 1 read 3 1 4294967295 99999999999\nsettle\n",
+        "acked 1 0 3\nuser 1 2 appended 0\nseen 1 3 0 0\nuser 1 3 refused 9 NotSealed\nuser 1 4 refused 1 NoSuchExtent\nuser 1 6 bytes -\nuser 1 7 refused 8 PastEnd\n",
+    ),
+    // A secondary shows what it has before it is acknowledged.
+    (
+        "user 1 append 1 1 abc\ndeliver 7\ndeliver 8\nuser 1 read 2 1 1 2\nsettle\n",
+        "seen 1 2 1 2\nacked 1 0 3\nuser 1 3 bytes 6263\nuser 1 2 appended 0\n",
+    ),
+    // A Put that comes again changes nothing, and neither does a Have.
+    (
+        "user 1 append 1 1 abc\nsettle\ndeliver 8\ndeliver 10\ndeliver 11\nshow 2 1\nuser 1 append 1 1 d\nsettle\n",
+        "acked 1 0 3\nuser 1 2 appended 0\nreplica 2 1 open 3 0\nacked 1 3 1\nuser 1 3 appended 3\n",
+    ),
+    // Servers and the map are named too.
+    (
+        "cut s1\ncut p\ncut n12\nheal s4\nheal p\nuser 1 append 1 1 abc\nsettle\n",
+        "acked 1 0 3\nuser 1 2 appended 0\n",
+    ),
+];
+
+#[test]
+fn reads_what_all_replicas_have(rt: HostRuntime) -> Result<(), Fail> {
+    for (more, want) in READS {
+        let text = format!(in rt.alloc(); "{BEGUN}{more}")?;
+        let wanted = format!(in rt.alloc(); "{TOLD}{want}")?;
+        let mut out = Vec::new(rt.alloc());
+        script(rt.alloc(), text.as_bytes(), &mut out)?;
+        assert_eq!(rt;
+            std::str::from_utf8(out.as_slice())?,
+            wanted.as_str(),
+            "at {more}"
+        );
+    }
+    Ok(())
+}
 
 #[test]
 fn runs_scripts(rt: HostRuntime) -> Result<(), Fail> {
@@ -169,7 +244,7 @@ const SETUPS: [&str; 14] = [
 ];
 
 /// Lines that are none below `BEGUN`.
-const LINES: [&str; 30] = [
+const LINES: [&str; 40] = [
     "settle ",
     " settle",
     "settle now",
@@ -199,7 +274,17 @@ const LINES: [&str; 30] = [
     "user 1 append 1 1 a  b",
     "user 1 append 1 1 16777217*a",
     "user 1 append 1 1 18446744073709551616*a",
-    "user 1 read 1 1 0 1",
+    "user 1 read 1 1 0",
+    "user 1 read 1 1 0 x",
+    "user 1 content 1 1",
+    "user 1 content 1 1 0 0",
+    "cut",
+    "cut n",
+    "cut n0",
+    "cut x1",
+    "cut M",
+    "heal 1",
+    "heal n1 n2",
 ];
 
 fn is_refused(rt: &HostRuntime, text: &[u8]) -> bool {

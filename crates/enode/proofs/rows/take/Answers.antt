@@ -3,6 +3,7 @@ use Rattle.wire.specs.declared.body.Body.{Body}
 use Rattle.model.specs.Node.{node_row, extent_of}
 use Rattle.enode.specs.Node.{find}
 use Rattle.enode.specs.Took.{Took}
+use Rattle.enode.proofs.Telling.{took_told}
 use Rattle.enode.proofs.rows.take.Goals as goal
 
 pub returns-in-Append : goal.returns-in-Append
@@ -10,3 +11,7 @@ returns-in-Append g c = subst (λ (b : Body). Took g.D.Disk.state c.args.replica
 
 pub returns-in-Seal : goal.returns-in-Seal
 returns-in-Seal g c = subst (λ (b : Body). Took g.D.Disk.state c.args.replicas.now.entries c.take_seal.new.replicas.entries c.args.file.now c.take_seal.new.file (extent_of b) (node_row c.args.number (find c.args.replicas.now.entries (extent_of b)) c.args.packet.now b) c.take_seal.result) (sym c.in-Seal.is) c.take_seal.ensures
+
+pub returns-in-Read : goal.returns-in-Read
+returns-in-Read g c = subst (λ (b : Body). Took g.D.Disk.state c.args.replicas.now.entries c.args.replicas.now.entries c.args.file.now c.args.file.now (extent_of b) (node_row c.args.number (find c.args.replicas.now.entries (extent_of b)) c.args.packet.now b) c.take_read.result) (sym c.in-Read.is)
+    (took_told g.D.Disk.state _ _ c.args.file.now _ _ c.take_read.result c.take_read.ensures)

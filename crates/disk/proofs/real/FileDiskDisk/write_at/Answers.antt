@@ -4,11 +4,11 @@ use Rattle.disk.specs.Image.{Held, KeepsRoom}
 use Rattle.disk.proofs.Images.{crash_done, goes_by, spends_write}
 use Rattle.disk.proofs.real.FileDiskDisk.write_at.Goals as goal
 
-pub returns : goal.returns
-returns g c =
+pub returns-clause-writes : goal.returns-clause-writes
+returns-clause-writes g c =
     let was = c.args.self.now.image in
     let now = c.overwrite.new.self in
-    let held = c.put.ensures.0 in
+    let held = c.put.ensures.same.0 in
     let seen : c.put.new.self.image.seen ≡ was.seen = ap (λ (h : Held). h.seen) held ∙ c.reserve.ensures.same.0 in
     let synced : now.synced ≡ was.synced = c.overwrite.ensures.synced ∙ ap (λ (h : Held). h.synced) held ∙ c.reserve.ensures.same.1 in
     let done : Holds was.seen c.args.at c.args.bytes.now now.seen = subst (λ (old : List ℕ). Holds old c.args.at c.args.bytes.now now.seen) seen c.in_ok-overwrite.ensures.ok in
@@ -16,7 +16,7 @@ returns g c =
       seen = omega (arith, c.reserve.ensures.keeps.seen, c.overwrite.ensures.keeps.seen, ap (λ (h : Held). h.seen_room) held);
       synced = omega (arith, c.reserve.ensures.keeps.synced, c.overwrite.ensures.keeps.synced, ap (λ (h : Held). h.synced_room) held);
     } in
-    let noted : c.note-2.new.self.events ≡ (0, was.seen) ∷ c.args.self.now.history.events = c.note-2.ensures ∙ ap (λ (l : List ℕ). (0, l) ∷ c.put.new.self.history.events) (c.bytes-2.ensures ∙ seen) ∙ ap (λ (h : _). (0, was.seen) ∷ h.events) c.put.ensures.1 in
+    let noted : c.note-2.new.self.events ≡ (0, was.seen) ∷ c.args.self.now.history.events = c.note-2.ensures ∙ ap (λ (l : List ℕ). (0, l) ∷ c.put.new.self.history.events) (c.bytes-2.ensures ∙ seen) ∙ ap (λ (h : _). (0, was.seen) ∷ h.events) c.put.ensures.same.1 in
     record {
       written = done;
       crash = crash_done was now c.args.at c.args.bytes.now c.requires done synced;

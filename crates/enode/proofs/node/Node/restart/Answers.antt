@@ -1,5 +1,6 @@
 use Rattle.std.proofs.Common.{ap, ◌∙◌}
 use Rattle.replica.specs.Replay.{fit}
+use Rattle.enode.proofs.Recovering.{ok_more}
 use Rattle.enode.proofs.node.Node.restart.Goals as goal
 
 pub returns-in-Ok-clause-damaged : goal.returns-in-Ok-clause-damaged
@@ -7,3 +8,6 @@ returns-in-Ok-clause-damaged g c = λ v rs is fits. c.recovered.ensures.damaged 
 
 pub returns-in-Err-clause-damaged : goal.returns-in-Err-clause-damaged
 returns-in-Err-clause-damaged g c = λ v rs is fits. c.in-Err.ensures.only v rs is
+
+pub returns-in-Ok-clause-only : goal.returns-in-Ok-clause-only
+returns-in-Ok-clause-only g c = λ v rs is. ok_more c.recovered.result (λ node same. (same.1 ∙ (c.in-Ok.ensures.only v rs is).0, same.2 ∙ (c.in-Ok.ensures.only v rs is).1)) c.recovered.ensures.same

@@ -1,0 +1,5 @@
+mod Places
+mod Showing
+mod Pairs
+mod Comparing
+mod Linking

@@ -1,0 +1,84 @@
+-- Agree, Kept and Origins follow from what each observation rests on.
+use Rattle.std.proofs.Common.{◌≡◌, ℕ, ◌+◌, ◌<◌, ◌≤◌, List, [], ◌∷◌, Option, Some, Contains, sym, ◌∙◌, inl, inr, arith, ap, ◌==◌, ◌||◌}
+use Rattle.wire.specs.declared.note.Note.{Note}
+use Rattle.wire.specs.declared.note.Note.TheVariants.{Acked, SealedAt, Content, Seen}
+use Rattle.replica.specs.Groups.{Group, joined, text, size, text_length}
+use Rattle.replica.proofs.Lengths.{text-append}
+use Rattle.model.specs.Honest.{Stands, Apart, Agree, Kept}
+use Rattle.model.specs.declared.event.Event.{Event}
+use Rattle.model.specs.World.{World, run}
+use Rattle.laws_streams.specs.Origins.{Begins, Shows, Came, Origins}
+use Rattle.laws_streams.proofs.Lists.{shows_both, shows_within, same_beginning, stands_back}
+use Rattle.laws_streams.proofs.Tests.{each-contains, all_pairs, either, tested}
+use Rattle.laws_streams.proofs.Ground.{Ground, FineAck, FineContent, FineNote, Holds}
+use Rattle.laws_streams.proofs.Dates.{Dated, each_of-get, pair-get}
+
+-- a beginning of the script shows its text
+content_shows : {c s : List Group} → Begins c s → Shows 0 (text c) (text s)
+content_shows {c} {s} b = rw (b.is, text-append c b.rest) (shows_within [] (text c) (text b.rest))
+
+group_shows : {group : Group} {o : ℕ} {s : List Group} → Stands group o s → Shows o (joined group) (text s)
+group_shows {group} {o} {s} h =
+    rw (h.split, text-append h.before (group ∷ h.after), ← h.place) (shows_within (text h.before) (joined group) (text h.after))
+
+module _ (w : World) (g : Ground) (holds : Holds w g) where
+  pub told : (x : Note) → Contains w.notes x → FineNote g x
+  told x h = each-contains (FineNote g) w.notes x holds.notes h
+
+  same_length : (a b : ℕ) (o : Option ℕ) → o ≡ Some a → o ≡ Some b → a ≡ b
+  same_length a b o p q = cc
+
+  pub agree : Agree w.notes
+  agree = record {
+    same_content = λ e n m c d p q.
+        let x : FineContent g e c = told (Content e n c) p in
+        let y : FineContent g e d = told (Content e m d) q in
+        let l : text_length c ≡ text_length d = same_length _ _ (g.sealed e) x.sealed y.sealed in
+        same_beginning c d x.begins.rest y.begins.rest (sym x.begins.is ∙ y.begins.is) (rw (← x.begins.is) (holds.sound.none_empty e)) l;
+    content_length = λ e n l c p q.
+        let x : FineContent g e c = told (Content e n c) p in
+        same_length _ _ (g.sealed e) x.sealed (told (SealedAt e l) q);
+    one_length = λ e l k p q. same_length l k (g.sealed e) (told (SealedAt e l) p) (told (SealedAt e k) q);
+    seen_content = λ e n m o bytes c p q.
+        let y : FineContent g e c = told (Content e m c) q in
+        shows_both (told (Seen e n o bytes) p) (content_shows y.begins);
+    seen_seen = λ e n m o p xs ys a b. shows_both (told (Seen e n o xs) a) (told (Seen e m p ys) b);
+  }
+
+  pub kept : Kept w.notes
+  kept = record {
+    stands = λ e n o group c p q.
+        let a : FineAck g e o group = told (Acked e o group) p in
+        let x : FineContent g e c = told (Content e n c) q in
+        stands_back x.begins a.stands a.some (let d = acked_within e o group (text_length c) a x.sealed in d);
+    shown = λ e n o p group bytes a b.
+        let x : FineAck g e o group = told (Acked e o group) a in
+        shows_both (group_shows x.stands) (told (Seen e n p bytes) b);
+    within = λ e o l group p q. acked_within e o group l (told (Acked e o group) p) (told (SealedAt e l) q);
+    apart = all_pairs Apart w.notes holds.apart;
+  }
+    where
+      acked_within : (e o : ℕ) (group : Group) (l : ℕ) → FineAck g e o group → g.sealed e ≡ Some l → o + size group ≤ l
+      acked_within e o group l a s =
+          let (at, n, made, place, closed, last) = holds.sound.noted e l s in
+          let had = holds.sound.all_had e at made in
+          elim (either (n == at.primary) ((n == at.second) || (n == at.third)) place) [
+            | inl x ↦ let m : n ≡ at.primary = tested n at.primary x in omega (arith, a.within, had.0, ap (λ k. g.last k e) m)
+            | inr y ↦ elim (either (n == at.second) (n == at.third) y) [
+              | inl x ↦ let m : n ≡ at.second = tested n at.second x in omega (arith, a.within, had.1, ap (λ k. g.last k e) m)
+              | inr x ↦ let m : n ≡ at.third = tested n at.third x in omega (arith, a.within, had.2, ap (λ k. g.last k e) m)
+            ]
+          ]
+
+module _ (k : ℕ) (events : List Event) (first : World) (g : Ground) (holds : Holds (run events first) g) (dated : Dated (Came events first) k g) where
+  pub origins : Origins events first
+  origins = record {
+    script = g.script;
+    origin = g.origin;
+    one_each = holds.sound.aged;
+    came = λ e i group o p q. each_of-get (Came events first e) (g.script e) (g.origin e) i group o (dated.came e) p q;
+    in_order = λ e i j o p l a b. pair-get (λ x y. x.event < y.event) (g.origin e) i j o p (dated.in_order e) l a b;
+    acked = λ e o group p. (told (run events first) g holds (Acked e o group) p).stands;
+    content = λ e n groups p. (told (run events first) g holds (Content e n groups) p).begins;
+    seen = λ e n o bytes p. told (run events first) g holds (Seen e n o bytes) p;
+  }

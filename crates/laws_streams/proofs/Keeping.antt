@@ -1,0 +1,106 @@
+-- What a row of a node's table keeps: the invariant, with more known or the same.
+use Rattle.std.proofs.Common.{◌≡◌, ℕ, ◌≤◌, true, false, List, [], ◌∷◌, length, Option, Some, None, refl, sym, ◌∙◌, inl, arith, subst}
+use Rattle.blocks.specs.declared.record.Nodes.{Nodes}
+use Rattle.wire.specs.declared.actor.ReqNo.{ReqNo}
+use Rattle.wire.specs.declared.actor.ActorId.TheVariants.{Node}
+use Rattle.wire.specs.declared.body.AppendBody.TheVariants.{Refused}
+use Rattle.wire.specs.declared.body.Body.TheVariants as bodies
+use Rattle.wire.specs.declared.note.Note.{Note}
+use Rattle.wire.specs.declared.packet.Packet.{Packet}
+use Rattle.wire.specs.declared.refusal.Refusal.{Refusal}
+use Rattle.replica.specs.declared.phase.Phase.{Phase}
+use Rattle.replica.specs.declared.phase.Phase.TheVariants as phases
+use Rattle.replica.specs.Groups.{Group}
+use Rattle.model.specs.Honest.{Apart}
+use Rattle.model.specs.Maps.{changed_at}
+use Rattle.model.specs.Node.{Replica, is_open}
+use Rattle.model.specs.Outcome.{Outcome, packet, silent, sends, or_refused}
+use Rattle.laws_streams.proofs.Lists.{NoneEmpty}
+use Rattle.laws_streams.proofs.Tests.{changed_at_elim, Each, EachPair}
+use Rattle.laws_streams.proofs.Ground.{Ground, Sound, FinePacket, FineNote, FinePhase, FineOne, FineReplica, Later, later_refl, still_refl, Moment, FineRow}
+
+abbrev pub Keeps : Moment → Ground → ℕ → ℕ → Outcome (Option Replica) → Type 0
+Keeps now g n e o = (h : Ground) × FineRow now g h n e o
+
+pub each_all : {A : Type 0} (P : A → Type 0) → ((x : A) → P x) → (xs : List A) → Each P xs
+each_all P f [] = tt
+each_all P f (x ∷ xs) = (f x, each_all P f xs)
+
+-- a row that adds nothing to what is known
+pub plain : (now : Moment) (g : Ground) (n e : ℕ) (o : Outcome (Option Replica)) → Sound g →
+    FineReplica g n e o.after → Each (FinePacket g) o.packets → Each (FineNote g) o.notes →
+    EachPair Apart o.notes → Each (λ x. Each (Apart x) o.notes) now.told → Keeps now g n e o
+plain now g n e o sound replica packets notes apart cross = (
+  g,
+  record {
+    sound = sound;
+    later = later_refl g;
+    still = λ m k other. still_refl g m k;
+    replica = replica;
+    packets = packets;
+    notes = notes;
+    apart = apart;
+    cross = cross;
+    grown = λ k. inl (refl, refl);
+    places = λ k. refl;
+    sealed = λ k. refl;
+  },
+)
+
+pub told_nothing : (told : List Note) → Each (λ x. Each (Apart x) []) told
+told_nothing told = each_all (λ x. Each (Apart x) []) (λ x. tt) told
+
+pub sent : (now : Moment) (g : Ground) (n e : ℕ) (s : Option Replica) (packets : List Packet) → Sound g →
+    FineReplica g n e s → Each (FinePacket g) packets → Keeps now g n e (sends s packets)
+sent now g n e s packets sound replica fine = plain now g n e (sends s packets) sound replica fine tt tt (told_nothing now.told)
+
+pub kept_silent : (now : Moment) (g : Ground) (n e : ℕ) (s : Option Replica) → Sound g → FineReplica g n e s → Keeps now g n e (silent s)
+kept_silent now g n e s sound replica = sent now g n e s [] sound replica tt
+
+pub unless_refused : (now : Moment) (g : Ground) (n e : ℕ) (s : Option Replica) (p : Packet) (q : ReqNo) (x : Option Refusal) (o : Outcome (Option Replica)) →
+    Sound g → FineReplica g n e s → (x ≡ None → Keeps now g n e o) → Keeps now g n e (or_refused s (Node n) p q x o)
+unless_refused now g n e s p q (Some c) o sound replica taken = sent now g n e s (packet (Node n) p.from (bodies.Append (Refused q c)) ∷ []) sound replica (tt, tt)
+unless_refused now g n e s p q None o sound replica taken = taken refl
+
+-- ---- open replicas
+
+pub open_is : (phase : Phase) → is_open phase ≡ true → phase ≡ phases.Open
+open_is phases.Open t = refl
+open_is phases.Frozen t = cc
+open_is phases.Sealed t = cc
+
+pub open_phase : (g : Ground) (n e : ℕ) (r : Replica) → is_open r.content.phase ≡ true → FineOne g n e r → FinePhase g n e r.content.places r.content.groups phases.Open
+open_phase g n e r t f = subst (λ x. FinePhase g n e r.content.places r.content.groups x) (open_is r.content.phase t) f.phase
+
+pub phase_open : (g : Ground) (n e : ℕ) (at : Nodes) (groups : List Group) (phase : Phase) → is_open phase ≡ true →
+    FinePhase g n e at groups phases.Open → FinePhase g n e at groups phase
+phase_open g n e at groups phase t f = subst (λ x. FinePhase g n e at groups x) (sym (open_is phase t)) f
+
+-- ---- the ground grows
+
+-- the sum of facts that hold when the ground grows and no append is acknowledged
+pub sound_later : (g h : Ground) → Sound g → Later g h → ((k : ℕ) → h.places k ≡ g.places k) → ((k : ℕ) → h.sealed k ≡ g.sealed k) →
+    ((k : ℕ) → NoneEmpty (h.script k)) → ((k : ℕ) → length (h.origin k) ≡ length (h.script k)) →
+    ((k : ℕ) → g.places k ≡ None → (h.script k ≡ []) × (h.acked k ≡ 0) × (h.fence k ≡ 0)) →
+    ((k : ℕ) (at : Nodes) → g.places k ≡ Some at → (h.acked k ≤ h.last at.primary k) × (h.acked k ≤ h.last at.second k) × (h.acked k ≤ h.last at.third k)) →
+    Sound h
+sound_later g h sound later places sealed none_empty aged unmade all_had = record {
+  none_empty = none_empty;
+  aged = aged;
+  unmade = λ k m. unmade k (sym (places k) ∙ m);
+  all_had = λ k at m. all_had k at (sym (places k) ∙ m);
+  noted = λ k l m.
+      let (at, n, made, place, closed, last) = sound.noted k l (sym (sealed k) ∙ m) in
+      let c = later.closed n k closed in
+      (at, n, places k ∙ made, place, c.0, c.1 ∙ last);
+}
+
+-- node n gains a group, and is open
+module _ (g : Ground) (n e : ℕ) (v : ℕ) (closed : g.closed n e ≡ false) (more : g.last n e ≤ v) where
+  pub grown_last : (m k : ℕ) → g.last m k ≤ changed_at n e v g.last m k
+  grown_last m k = changed_at_elim (λ x. g.last m k ≤ x) n e v g.last m k
+      (λ p q. let c : g.last m k ≡ g.last n e = cc in omega (arith, c)) (λ o. omega arith)
+
+  pub grown_closed : (m k : ℕ) → g.closed m k ≡ true → changed_at n e v g.last m k ≡ g.last m k
+  grown_closed m k c = changed_at_elim (λ x. x ≡ g.last m k) n e v g.last m k
+      (λ p q. let d : g.closed m k ≡ g.closed n e = cc in absurd (cc)) (λ o. refl)

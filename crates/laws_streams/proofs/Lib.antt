@@ -1,0 +1,13 @@
+pub mod Lists
+pub mod Tests
+pub mod Ground
+pub mod Keeping
+pub mod Appends
+pub mod Haves
+pub mod Readings
+pub mod Rows
+pub mod Rulings
+pub mod Claims
+pub mod Dates
+pub mod Law
+pub mod Examples

@@ -1,0 +1,53 @@
+-- Each row of a node's table keeps what is known.
+use Rattle.std.proofs.Common.{◌≡◌, ℕ, Option, Some, None, refl}
+use Rattle.wire.specs.declared.body.AppendBody.{AppendBody}
+use Rattle.wire.specs.declared.body.AppendBody.TheVariants.{Append, Put, Have}
+use Rattle.wire.specs.declared.body.SealBody.{SealBody}
+use Rattle.wire.specs.declared.body.SealBody.TheVariants.{Make}
+use Rattle.wire.specs.declared.body.ReadBody.{ReadBody}
+use Rattle.wire.specs.declared.body.ReadBody.TheVariants as reads
+use Rattle.wire.specs.declared.body.Body.{Body}
+use Rattle.wire.specs.declared.body.Body.TheVariants as bodies
+use Rattle.model.specs.Node.{Replica, append_extent, seal_extent, read_extent, extent_of, append_body_row, seal_body_row, read_body_row, node_row}
+use Rattle.laws_streams.proofs.Tests.{Each}
+use Rattle.laws_streams.proofs.Ground.{Ground, Sound, FineAppend, FineSeal, FineBody, FineNote, FineReplica, Moment}
+use Rattle.laws_streams.proofs.Keeping.{Keeps, sent, kept_silent}
+use Rattle.laws_streams.proofs.Appends.{make_keeps, append_keeps, put_keeps}
+use Rattle.laws_streams.proofs.Haves.{have_keeps}
+use Rattle.laws_streams.proofs.Readings.{read_keeps, groups_keep}
+
+append_body_keeps : (now : Moment) (g : Ground) (n : ℕ) (s : Option Replica) (b : AppendBody) → now.packet.body ≡ bodies.Append b → Sound g → Each (FineNote g) now.told →
+    FineReplica g n (append_extent b) s → FineAppend g now.packet.from b → Keeps now g n (append_extent b) (append_body_row n s now.packet b)
+append_body_keeps now g n (Some r) (Append e generation blocks q) is sound notes fine body = append_keeps now g n e generation r blocks q sound fine is
+append_body_keeps now g n None (Append e generation blocks q) is sound notes fine body = sent now g n e None _ sound fine (tt, tt)
+append_body_keeps now g n (Some r) (Put e offset group) is sound notes fine body = put_keeps now g n e offset r now.packet group sound fine body
+append_body_keeps now g n None (Put e offset group) is sound notes fine body = sent now g n e None _ sound fine (tt, tt)
+append_body_keeps now g n (Some r) (Have e length) is sound notes fine body = have_keeps now g n e length r now.packet sound notes fine body
+append_body_keeps now g n None (Have e length) is sound notes fine body = sent now g n e None _ sound fine (tt, tt)
+append_body_keeps now g n s b is sound notes fine body = kept_silent now g n (append_extent b) s sound fine
+
+seal_body_keeps : (now : Moment) (g : Ground) (n : ℕ) (s : Option Replica) (b : SealBody) → Sound g →
+    FineReplica g n (seal_extent b) s → FineSeal g now.packet.from b → Keeps now g n (seal_extent b) (seal_body_row n s now.packet b)
+seal_body_keeps now g n None (Make e fence target places) sound fine body = make_keeps now g n now.packet e fence target places sound fine body
+seal_body_keeps now g n s b sound fine body = kept_silent now g n (seal_extent b) s sound fine
+
+read_body_keeps : (now : Moment) (g : Ground) (n : ℕ) (s : Option Replica) (b : ReadBody) → Sound g →
+    FineReplica g n (read_extent b) s → Keeps now g n (read_extent b) (read_body_row n s now.packet b)
+read_body_keeps now g n (Some r) (reads.ReadAt e offset length q) sound fine = read_keeps now g n e offset length r now.packet q sound fine
+read_body_keeps now g n None (reads.ReadAt e offset length q) sound fine = sent now g n e None _ sound fine (tt, tt)
+read_body_keeps now g n (Some r) (reads.ReadGroups e upto sealed q) sound fine = groups_keep now g n e upto sealed r now.packet q sound fine
+read_body_keeps now g n None (reads.ReadGroups e upto sealed q) sound fine = sent now g n e None _ sound fine (tt, tt)
+read_body_keeps now g n s b sound fine = kept_silent now g n (read_extent b) s sound fine
+
+body_keeps : (now : Moment) (g : Ground) (n : ℕ) (s : Option Replica) (b : Body) → now.packet.body ≡ b → Sound g → Each (FineNote g) now.told →
+    FineReplica g n (extent_of b) s → FineBody g now.packet.from b → Keeps now g n (extent_of b) (node_row n s now.packet b)
+body_keeps now g n s (bodies.Append b) is sound notes fine body = append_body_keeps now g n s b is sound notes fine body
+body_keeps now g n s (bodies.Seal b) is sound notes fine body = seal_body_keeps now g n s b sound fine body
+body_keeps now g n s (bodies.Read b) is sound notes fine body = read_body_keeps now g n s b sound fine
+body_keeps now g n s b is sound notes fine body = kept_silent now g n (extent_of b) s sound fine
+
+-- whatever is delivered to node n
+pub node_keeps : (now : Moment) (g : Ground) (n : ℕ) (s : Option Replica) → Sound g → Each (FineNote g) now.told →
+    FineReplica g n (extent_of now.packet.body) s → FineBody g now.packet.from now.packet.body →
+    Keeps now g n (extent_of now.packet.body) (node_row n s now.packet now.packet.body)
+node_keeps now g n s sound notes fine body = body_keeps now g n s now.packet.body refl sound notes fine body

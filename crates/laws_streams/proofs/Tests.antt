@@ -1,0 +1,117 @@
+-- Choices by a test, and functions that are changed at one place.
+use Rattle.std.proofs.Common.{◌≡◌, ◌≢◌, ◌⊎◌, ℕ, zero, suc, ◌<◌, Bool, true, false, not, ◌&&◌, ◌||◌, ◌==◌, ◌≤◌, nat_lt, nat_le, List, [], ◌∷◌, ◌++◌, Some, slice_get, Contains, AllPairs, length, slice_index_or, refl, inl, inr, arith, eqb-true, subst}
+use Rattle.std.proofs.lemmas.Bool.Decides.{nat_tests}
+use Rattle.model.specs.Maps.{changed, changed_at}
+use Rattle.model.proofs.Tests.{if_elim, both_parts}
+
+pub neither : (a b : Bool) → (a && b) ≡ false → (a ≡ false) ⊎ (b ≡ false)
+neither true b e = inr e
+neither false b e = inl refl
+
+pub either : (a b : Bool) → (a || b) ≡ true → (a ≡ true) ⊎ (b ≡ true)
+either true b e = inl refl
+either false b e = inr e
+
+pub or_left : (a b : Bool) → a ≡ true → (a || b) ≡ true
+or_left true b e = refl
+or_left false b e = cc
+
+pub or_right : (a b : Bool) → b ≡ true → (a || b) ≡ true
+or_right true b e = refl
+or_right false b e = e
+
+pub none_of : (a b : Bool) → (a || b) ≡ false → (a ≡ false) × (b ≡ false)
+none_of true b e = absurd (cc)
+none_of false b e = (refl, e)
+
+pub is_below : (a b : ℕ) → nat_lt a b ≡ true → a < b
+is_below a b e = grind (arith, nat_tests)
+
+pub not_below : (a b : ℕ) → nat_lt a b ≡ false → b ≤ a
+not_below a b e = grind (arith, nat_tests)
+
+pub at_most : (a b : ℕ) → nat_le a b ≡ true → a ≤ b
+at_most a b e = grind (arith, nat_tests)
+
+pub above : (a b : ℕ) → nat_le a b ≡ false → b < a
+above a b e = grind (arith, nat_tests)
+
+pub not_true : (a : Bool) → not a ≡ false → a ≡ true
+not_true true e = refl
+not_true false e = cc
+
+pub tested : (m n : ℕ) → ((m == n) ≡ true) → m ≡ n
+tested m n e = eqb-true m n e
+
+pub untested : (m n : ℕ) → ((m == n) ≡ false) → m ≢ n
+untested m n e = grind (arith, nat_tests)
+
+-- a function that is changed at (n, e) has a property at (m, k), if the new value has it where they are the same
+pub changed_at_elim : {A : Type 0} (P : A → Type 0) (n e : ℕ) (v : A) (f : ℕ → ℕ → A) (m k : ℕ) →
+    (m ≡ n → k ≡ e → P v) → ((m ≢ n) ⊎ (k ≢ e) → P (f m k)) → P (changed_at n e v f m k)
+changed_at_elim P n e v f m k same other =
+    if_elim P ((m == n) && (k == e)) v (f m k)
+    (λ t. let b = both_parts (m == n) (k == e) t in same (tested m n b.0) (tested k e b.1))
+    (λ t. other (elim (neither (m == n) (k == e) t) [ inl x ↦ inl (untested m n x) | inr x ↦ inr (untested k e x) ]))
+
+pub changed_elim : {A : Type 0} (P : A → Type 0) (e : ℕ) (v : A) (f : ℕ → A) (k : ℕ) →
+    (k ≡ e → P v) → (k ≢ e → P (f k)) → P (changed e v f k)
+changed_elim P e v f k same other =
+    if_elim P (k == e) v (f k) (λ t. same (tested k e t)) (λ t. other (untested k e t))
+
+pub changed_at-same : {A : Type 0} (n e : ℕ) (v : A) (f : ℕ → ℕ → A) → changed_at n e v f n e ≡ v
+changed_at-same n e v f = changed_at_elim (λ x. x ≡ v) n e v f n e (λ p q. refl) (λ o. elim o [ inl x ↦ absurd (x refl) | inr x ↦ absurd (x refl) ])
+
+pub changed_at-other : {A : Type 0} (n e : ℕ) (v : A) (f : ℕ → ℕ → A) (m k : ℕ) → (m ≢ n) ⊎ (k ≢ e) → changed_at n e v f m k ≡ f m k
+changed_at-other n e v f m k o =
+    changed_at_elim (λ x. x ≡ f m k) n e v f m k (λ p q. elim o [ inl x ↦ absurd (x p) | inr x ↦ absurd (x q) ]) (λ h. refl)
+
+pub changed-same : {A : Type 0} (e : ℕ) (v : A) (f : ℕ → A) → changed e v f e ≡ v
+changed-same e v f = changed_elim (λ x. x ≡ v) e v f e (λ p. refl) (λ o. absurd (o refl))
+
+pub changed-other : {A : Type 0} (e : ℕ) (v : A) (f : ℕ → A) (k : ℕ) → k ≢ e → changed e v f k ≡ f k
+changed-other e v f k o = changed_elim (λ x. x ≡ f k) e v f k (λ p. absurd (o p)) (λ h. refl)
+
+-- P holds of each element, by cases on the list
+abbrev pub Each : {A : Type 0} → (A → Type 0) → List A → Type 0
+Each P [] = Unit {0}
+Each P (x ∷ xs) = P x × Each P xs
+
+pub each-append : {A : Type 0} (P : A → Type 0) (xs ys : List A) → Each P xs → Each P ys → Each P (xs ++ ys)
+each-append P [] ys a b = b
+each-append P (x ∷ xs) ys a b = (a.0, each-append P xs ys a.1 b)
+
+pub each-weaker : {A : Type 0} (P Q : A → Type 0) → ((x : A) → P x → Q x) → (xs : List A) → Each P xs → Each Q xs
+each-weaker P Q f [] a = tt
+each-weaker P Q f (x ∷ xs) a = (f x a.0, each-weaker P Q f xs a.1)
+
+pub each-get : {A : Type 0} (P : A → Type 0) (xs : List A) (k : ℕ) (x : A) → Each P xs → slice_get xs k ≡ Some x → P x
+each-get P [] k x a e = absurd (cc)
+each-get P (y ∷ ys) zero x a e = let s : y ≡ x = cc in subst P s a.0
+each-get P (y ∷ ys) (suc k) x a e = each-get P ys k x a.1 e
+
+pub each-contains : {A : Type 0} (P : A → Type 0) (xs : List A) (x : A) → Each P xs → Contains xs x → P x
+each-contains P [] x a (k, lt, e) = absurd (omega arith)
+each-contains P (y ∷ ys) x a (zero, lt, e) = subst P e a.0
+each-contains P (y ∷ ys) x a (suc k, lt, e) = each-contains P ys x a.1 (k, omega arith, e)
+
+pub each-at : {A : Type 0} (P : A → Type 0) (xs : List A) (k : ℕ) (d : A) → k < length xs → Each P xs → P (slice_index_or xs k d)
+each-at P [] k d h a = absurd (omega arith)
+each-at P (x ∷ xs) zero d h a = a.0
+each-at P (x ∷ xs) (suc k) d h a = each-at P xs k d (omega arith) a.1
+
+-- R holds of each element and each later one
+abbrev pub EachPair : {A : Type 0} → (A → A → Type 0) → List A → Type 0
+EachPair R [] = Unit {0}
+EachPair R (x ∷ xs) = Each (R x) xs × EachPair R xs
+
+pub pairs-append : {A : Type 0} (R : A → A → Type 0) (xs ys : List A) → EachPair R xs → EachPair R ys → Each (λ x. Each (R x) ys) xs → EachPair R (xs ++ ys)
+pairs-append R [] ys a b c = b
+pairs-append R (x ∷ xs) ys a b c = (each-append (R x) xs ys a.0 c.0, pairs-append R xs ys a.1 b c.1)
+
+pub all_pairs : {A : Type 0} (R : A → A → Type 0) (xs : List A) → EachPair R xs → AllPairs R xs
+all_pairs R [] a i j d l h = absurd (omega arith)
+all_pairs R (x ∷ xs) a zero zero d l h = absurd (omega arith)
+all_pairs R (x ∷ xs) a zero (suc j) d l h = each-at (R x) xs j d (omega arith) a.0
+all_pairs R (x ∷ xs) a (suc i) zero d l h = absurd (omega arith)
+all_pairs R (x ∷ xs) a (suc i) (suc j) d l h = all_pairs R xs a.1 i j d (omega arith) (omega arith)

@@ -1,0 +1,57 @@
+-- Where the groups of an extent come from: each was appended by one delivery of an append.
+use Rattle.std.specs.Prelude.{◌≡◌, ℕ, ◌+◌, ◌<◌, ◌≤◌, List, ◌++◌, length, get_or, take, Some, slice_get, Contains}
+use Rattle.wire.specs.declared.actor.ReqNo.{ReqNo}
+use Rattle.wire.specs.declared.body.AppendBody.TheVariants.{Append}
+use Rattle.wire.specs.declared.body.Body.TheVariants as bodies
+use Rattle.wire.specs.declared.note.Note.TheVariants.{Acked, Content, Seen}
+use Rattle.wire.specs.declared.packet.Packet.{Packet}
+use Rattle.replica.specs.Groups.{Group, text}
+use Rattle.model.specs.declared.event.Event.{Event}
+use Rattle.model.specs.declared.event.Event.TheVariants.{Deliver}
+use Rattle.model.specs.Actors.{generation_of}
+use Rattle.model.specs.Honest.{Stands}
+use Rattle.model.specs.World.{World, run}
+
+-- for which generation and with which request a group was appended, and by which event of the run, counted from 0
+pub record Origin : Type 0 where
+  pub generation : ℕ
+  pub request : ReqNo
+  pub event : ℕ
+
+-- the second list begins with the first
+pub record Begins {A : Type 0} (xs ys : List A) : Type 0 where
+  pub rest : List A
+  pub is : ys ≡ xs ++ rest
+
+-- the bytes are those of the text from this offset on
+pub record Shows (o : ℕ) (bytes whole : List ℕ) : Type 0 where
+  pub fits : o + length bytes ≤ length whole
+  pub reads : (i : ℕ) → i < length bytes → get_or bytes i 0 ≡ get_or whole (o + i) 0
+
+-- in the run of these events from w on, the event of this number delivered an append of the group to the extent, which
+-- had been sent before
+pub record Came (events : List Event) (w : World) (e : ℕ) (group : Group) (origin : Origin) : Type 0 where
+  pub number : ℕ
+  pub packet : Packet
+  pub generation : ℕ
+  pub delivered : slice_get events origin.event ≡ Some (Deliver number)
+  pub sent : slice_get (run (take origin.event events) w).post number ≡ Some packet
+  pub body : packet.body ≡ bodies.Append (Append e generation group origin.request)
+  pub counted : origin.generation ≡ generation_of packet.from generation
+
+-- each extent has a script: groups that were appended one after the other, each by a delivery of its own; and all that
+-- is acknowledged or shown of the extent stands in its script
+pub record Origins (events : List Event) (w : World) : Type 0 where
+  pub script : ℕ → List Group
+  pub origin : ℕ → List Origin
+  pub one_each : (e : ℕ) → length (origin e) ≡ length (script e)
+  pub came : (e i : ℕ) (group : Group) (o : Origin) →
+      slice_get (script e) i ≡ Some group → slice_get (origin e) i ≡ Some o → Came events w e group o
+  pub in_order : (e i j : ℕ) (o p : Origin) → i < j →
+      slice_get (origin e) i ≡ Some o → slice_get (origin e) j ≡ Some p → o.event < p.event
+  pub acked : (e o : ℕ) (group : Group) →
+      Contains (run events w).notes (Acked e o group) → Stands group o (script e)
+  pub content : (e n : ℕ) (groups : List Group) →
+      Contains (run events w).notes (Content e n groups) → Begins groups (script e)
+  pub seen : (e n o : ℕ) (bytes : List ℕ) →
+      Contains (run events w).notes (Seen e n o bytes) → Shows o bytes (text (script e))

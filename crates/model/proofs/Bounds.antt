@@ -1,0 +1,143 @@
+-- A row of a node sends and observes few things, and few appends wait after it.
+use Rattle.std.proofs.Common.{◌≡◌, ℕ, ◌≤◌, ◌<◌, false, ◌&&◌, ◌==◌, nat_le, List, [], ◌∷◌, ◌++◌, length, map, take, drop, Option, Some, None, refl, ap, subst, arith, length-append}
+use Rattle.std.proofs.lemmas.Bool.Decides.{nat_tests}
+use Rattle.std.proofs.lemmas.List.{length-map}
+use Rattle.std.proofs.lemmas.Grind.{common_steps}
+use Rattle.blocks.specs.declared.record.Nodes.{Nodes}
+use Rattle.wire.specs.declared.actor.ActorId.TheVariants.{Node}
+use Rattle.wire.specs.declared.actor.ReqNo.{ReqNo}
+use Rattle.wire.specs.declared.actor.ReqNo.TheVariants.{NoRequest}
+use Rattle.wire.specs.declared.body.AppendBody.{AppendBody}
+use Rattle.wire.specs.declared.body.AppendBody.TheVariants.{Append, Put, Have}
+use Rattle.wire.specs.declared.body.SealBody.{SealBody}
+use Rattle.wire.specs.declared.body.SealBody.TheVariants.{Make}
+use Rattle.wire.specs.declared.body.ReadBody.{ReadBody}
+use Rattle.wire.specs.declared.body.ReadBody.TheVariants as reads
+use Rattle.wire.specs.declared.body.Body.{Body}
+use Rattle.wire.specs.declared.body.Body.TheVariants as bodies
+use Rattle.wire.specs.declared.packet.Packet.{Packet}
+use Rattle.wire.specs.declared.refusal.Refusal.{Refusal}
+use Rattle.replica.specs.Groups.{Group}
+use Rattle.model.specs.declared.waiting.Waiting.{Waiting}
+use Rattle.model.specs.Actors.{is_node}
+use Rattle.model.specs.Outcome.{Outcome, all_met, silent, sends, or_refused}
+use Rattle.model.specs.Node.{Replica, is_open, node_row, append_body_row, seal_body_row, read_body_row, append_taken, append_refusal, append_tests, make_row, make_taken, make_tests, put_fits, put_added, put_passed, put_taken, put_refusal, put_row, answered, answered_if, covered, lesser, with_length, have_row, read_taken, groups_taken}
+use Rattle.model.specs.Bounds.{FewWait, AreFew}
+use Rattle.model.proofs.Tests.{if_elim, none_met}
+
+pub record Bounded (o : Outcome (Option Replica)) : Type 0 where
+  pub waits : FewWait o.after
+  pub few : AreFew o.packets o.notes
+
+same_if : (r t : Replica) → Some r ≡ Some t → r ≡ t
+same_if r t e = cc
+
+-- a replica of which few wait
+here : (r : Replica) → length r.waiting ≤ 256 → FewWait (Some r)
+here r h = λ t e. subst (λ (x : Replica). length x.waiting ≤ 256) (same_if r t e) h
+
+quiet : (s : Option Replica) → FewWait s → Bounded (silent s)
+quiet s h = record { waits = h; few = (omega arith, omega arith) }
+
+sent : (s : Option Replica) (packets : List Packet) → FewWait s → length packets ≤ 2048 → Bounded (sends s packets)
+sent s packets h few = record { waits = h; few = (few, omega arith) }
+
+below : (a b : ℕ) → nat_le b a ≡ false → a < b
+below a b h = grind (arith, nat_tests)
+
+one_more : (ws : List Waiting) (w : Waiting) → length ws < 256 → length (ws ++ w ∷ []) ≤ 256
+one_more ws w h = omega (arith, h, length-append ws (w ∷ []))
+
+append_bounded : (n : ℕ) (r : Replica) (p : Packet) (e generation : ℕ) (blocks : Group) (q : ReqNo) (x : Option Refusal) → FewWait (Some r) → append_refusal n r p generation blocks ≡ x → Bounded (or_refused (Some r) (Node n) p q x (append_taken n r p e blocks q))
+append_bounded n r p e generation blocks q (Some refusal) h is = sent (Some r) _ h (omega arith)
+append_bounded n r p e generation blocks q None h is =
+    let unmet = none_met (append_tests n r p generation blocks) is in
+    record { waits = here _ (one_more r.waiting _ (below (length r.waiting) 256 unmet.1.1.1.1.1.1.0)); few = (omega arith, omega arith) }
+
+make_bounded : (n : ℕ) (p : Packet) (e fence target : ℕ) (places : Nodes) → FewWait None → Bounded (make_row n p e fence target places)
+make_bounded n p e fence target places h =
+    if_elim Bounded (all_met (make_tests n p target places)) (make_taken e fence target places) (silent None)
+    (λ t. record { waits = here _ (omega arith); few = (omega arith, omega arith) })
+    (λ f. quiet None h)
+
+put_taken_bounded : (n : ℕ) (r : Replica) (e offset : ℕ) (group : Group) → FewWait (Some r) → Bounded (put_taken n r e offset group)
+put_taken_bounded n r e offset group h =
+    if_elim Bounded (put_fits r offset) (put_added n r e offset group) (put_passed n r e)
+    (λ t. record { waits = here _ (h r refl); few = (omega arith, omega arith) })
+    (λ f. sent (Some r) _ h (omega arith))
+
+put_refused_bounded : (n : ℕ) (r : Replica) (p : Packet) (e offset : ℕ) (group : Group) (x : Option Refusal) → FewWait (Some r) → Bounded (or_refused (Some r) (Node n) p NoRequest x (put_taken n r e offset group))
+put_refused_bounded n r p e offset group (Some refusal) h = sent (Some r) _ h (omega arith)
+put_refused_bounded n r p e offset group None h = put_taken_bounded n r e offset group h
+
+put_bounded : (n : ℕ) (r : Replica) (p : Packet) (e offset : ℕ) (group : Group) → FewWait (Some r) → Bounded (put_row n r p e offset group)
+put_bounded n r p e offset group h =
+    if_elim Bounded (is_node r.content.places.primary p.from) (or_refused (Some r) (Node n) p NoRequest (put_refusal r) (put_taken n r e offset group)) (silent (Some r))
+    (λ t. put_refused_bounded n r p e offset group (put_refusal r) h)
+    (λ f. quiet (Some r) h)
+
+part : (count : ℕ) (ws : List Waiting) → length ws ≤ 256 → (length (take count ws) ≤ 256) × (length (drop count ws) ≤ 256)
+part count ws h = (grind (arith, common_steps), grind (arith, common_steps))
+
+mapped : {B : Type 0} (f : Waiting → B) (ws : List Waiting) → length ws ≤ 256 → length (map f ws) ≤ 2048
+mapped f ws h = omega (arith, h, length-map ws f)
+
+answered_bounded : (n : ℕ) (r : Replica) (e : ℕ) → length r.waiting ≤ 256 → Bounded (answered n r e)
+answered_bounded n r e h =
+    let count = covered (lesser r.second_has r.third_has) r.waiting in
+    let parts = part count r.waiting h in
+    record { waits = here _ parts.1; few = (mapped _ (take count r.waiting) parts.0, mapped _ (take count r.waiting) parts.0) }
+
+told_bounded : (n : ℕ) (r : Replica) (e : ℕ) (told : Option Replica) → FewWait (Some r) → ((t : Replica) → told ≡ Some t → t.waiting ≡ r.waiting) → Bounded (answered_if n r e told)
+told_bounded n r e None h same = quiet (Some r) h
+told_bounded n r e (Some t) h same = answered_bounded n t e (omega (arith, h r refl, ap length (same t refl)))
+
+length_keeps : (r : Replica) (p : Packet) (length : ℕ) (t : Replica) → with_length r p.from length ≡ Some t → t.waiting ≡ r.waiting
+length_keeps r p length t =
+    if_elim (λ x. x ≡ Some t → t.waiting ≡ r.waiting) (is_node r.content.places.second p.from) _ _
+    (λ y e. cc)
+    (λ f. if_elim (λ x. x ≡ Some t → t.waiting ≡ r.waiting) (is_node r.content.places.third p.from) _ _ (λ y e. cc) (λ y e. absurd cc))
+
+have_bounded : (n : ℕ) (r : Replica) (p : Packet) (e length : ℕ) → FewWait (Some r) → Bounded (have_row n r p e length)
+have_bounded n r p e length h =
+    if_elim Bounded ((n == r.content.places.primary) && is_open r.content.phase) (answered_if n r e (with_length r p.from length)) (silent (Some r))
+    (λ t. told_bounded n r e (with_length r p.from length) h (length_keeps r p length))
+    (λ f. quiet (Some r) h)
+
+read_bounded : (n : ℕ) (r : Replica) (p : Packet) (e offset length : ℕ) (q : ReqNo) (x : Option Refusal) → FewWait (Some r) → Bounded (or_refused (Some r) (Node n) p q x (read_taken n r p e offset length q))
+read_bounded n r p e offset length q (Some refusal) h = sent (Some r) _ h (omega arith)
+read_bounded n r p e offset length q None h = record { waits = h; few = (omega arith, omega arith) }
+
+groups_taken_bounded : (n : ℕ) (r : Replica) (p : Packet) (e upto : ℕ) (q : ReqNo) (x : Option (List Group)) → FewWait (Some r) → Bounded (groups_taken n r p e upto q x)
+groups_taken_bounded n r p e upto q None h = sent (Some r) _ h (omega arith)
+groups_taken_bounded n r p e upto q (Some groups) h = record { waits = h; few = (omega arith, omega arith) }
+
+groups_bounded : (n : ℕ) (r : Replica) (p : Packet) (e upto : ℕ) (q : ReqNo) (x : Option Refusal) (y : Option (List Group)) → FewWait (Some r) → Bounded (or_refused (Some r) (Node n) p q x (groups_taken n r p e upto q y))
+groups_bounded n r p e upto q (Some refusal) y h = sent (Some r) _ h (omega arith)
+groups_bounded n r p e upto q None y h = groups_taken_bounded n r p e upto q y h
+
+append_body_bounded : (n : ℕ) (s : Option Replica) (p : Packet) (body : AppendBody) → FewWait s → Bounded (append_body_row n s p body)
+append_body_bounded n (Some r) p (Append e generation blocks q) h = append_bounded n r p e generation blocks q _ h refl
+append_body_bounded n None p (Append e generation blocks q) h = sent None _ h (omega arith)
+append_body_bounded n (Some r) p (Put e offset group) h = put_bounded n r p e offset group h
+append_body_bounded n None p (Put e offset group) h = sent None _ h (omega arith)
+append_body_bounded n (Some r) p (Have e length) h = have_bounded n r p e length h
+append_body_bounded n None p (Have e length) h = sent None _ h (omega arith)
+append_body_bounded n s p body h = quiet s h
+
+seal_body_bounded : (n : ℕ) (s : Option Replica) (p : Packet) (body : SealBody) → FewWait s → Bounded (seal_body_row n s p body)
+seal_body_bounded n None p (Make e fence target places) h = make_bounded n p e fence target places h
+seal_body_bounded n s p body h = quiet s h
+
+read_body_bounded : (n : ℕ) (s : Option Replica) (p : Packet) (body : ReadBody) → FewWait s → Bounded (read_body_row n s p body)
+read_body_bounded n (Some r) p (reads.ReadAt e offset length q) h = read_bounded n r p e offset length q _ h
+read_body_bounded n None p (reads.ReadAt e offset length q) h = sent None _ h (omega arith)
+read_body_bounded n (Some r) p (reads.ReadGroups e upto sealed q) h = groups_bounded n r p e upto q _ _ h
+read_body_bounded n None p (reads.ReadGroups e upto sealed q) h = sent None _ h (omega arith)
+read_body_bounded n s p body h = quiet s h
+
+pub row_bounded : (n : ℕ) (s : Option Replica) (p : Packet) (body : Body) → FewWait s → Bounded (node_row n s p body)
+row_bounded n s p (bodies.Append body) h = append_body_bounded n s p body h
+row_bounded n s p (bodies.Seal body) h = seal_body_bounded n s p body h
+row_bounded n s p (bodies.Read body) h = read_body_bounded n s p body h
+row_bounded n s p body h = quiet s h

@@ -1,0 +1,176 @@
+-- Whole runs: the network is the list of all packets sent, and a delivery takes any of them, again and in any order.
+use Rattle.std.specs.Prelude.{ℕ, ◌-◌, Bool, true, false, ◌&&◌, List, [], ◌∷◌, ◌++◌, Option, Some, None, ◌==◌, nat_lt, nat_le, slice_get, if◌then◌else◌}
+use Rattle.blocks.specs.declared.record.Record.{Record}
+use Rattle.wire.specs.declared.actor.ActorId.{ActorId}
+use Rattle.wire.specs.declared.actor.ActorId.TheVariants.{Node, Manager, Map, Server, User}
+use Rattle.wire.specs.declared.body.AppendBody.{AppendBody}
+use Rattle.wire.specs.declared.body.AppendBody.TheVariants as appends
+use Rattle.wire.specs.declared.body.SealBody.{SealBody}
+use Rattle.wire.specs.declared.body.SealBody.TheVariants as seals
+use Rattle.wire.specs.declared.body.ReadBody.{ReadBody}
+use Rattle.wire.specs.declared.body.ReadBody.TheVariants as reads
+use Rattle.wire.specs.declared.body.StreamBody.{StreamBody}
+use Rattle.wire.specs.declared.body.StreamBody.TheVariants as streams
+use Rattle.wire.specs.declared.body.MapBody.{MapBody}
+use Rattle.wire.specs.declared.body.MapBody.TheVariants as maps
+use Rattle.wire.specs.declared.body.TableBody.{TableBody}
+use Rattle.wire.specs.declared.body.TableBody.TheVariants as tables
+use Rattle.wire.specs.declared.body.Body.{Body}
+use Rattle.wire.specs.declared.body.Body.TheVariants as bodies
+use Rattle.wire.specs.declared.note.Note.{Note}
+use Rattle.wire.specs.declared.packet.Packet.{Packet}
+use Rattle.model.specs.declared.event.Event.{Event}
+use Rattle.model.specs.declared.event.Event.TheVariants.{Submit, Deliver}
+use Rattle.model.specs.Maps.{changed, changed_at}
+use Rattle.model.specs.Outcome.{Outcome, packet}
+use Rattle.model.specs.Node.{Replica, stopped, node_row, extent_of}
+use Rattle.model.specs.Manager.{Book, first_book, manager_row}
+
+-- whether an actor runs, and in which of its next device calls it stops (0: in none)
+pub record Cell : Type 0 where
+  pub up : Bool
+  pub fuse : ℕ
+  pub keep : Bool
+
+pub record World : Type 0 where
+  pub post : List Packet
+  pub notes : List Note
+  pub replica : ℕ → ℕ → Option Replica  -- by node and extent
+  pub book : Book
+  pub cell : ℕ → Cell  -- of each node
+  pub nodes : ℕ  -- how many nodes there are, numbered from 1
+
+abbrev pub running : Cell
+running = record { up = true; fuse = 0; keep = false }
+
+abbrev pub down : Cell
+down = record { up = false; fuse = 0; keep = false }
+
+-- ---- a node
+
+-- a record takes four device calls
+abbrev pub stops_in : Cell → Option Record → Bool
+stops_in c None = false
+stops_in c (Some added) = nat_lt 0 c.fuse && nat_le c.fuse 4
+
+-- the record that is being written stands
+abbrev pub stands_in : Cell → Bool
+stands_in c = nat_le 3 c.fuse && c.keep
+
+abbrev pub burnt : Cell → Option Record → Cell
+burnt c None = c
+burnt c (Some added) = record c { fuse = c.fuse - 4 }
+
+abbrev pub stopped_at : ℕ → (ℕ → ℕ → Option Replica) → ℕ → ℕ → Option Replica
+stopped_at n replica m e = if m == n then stopped (replica m e) else replica m e
+
+-- a node stops
+abbrev pub halted : World → ℕ → World
+halted w n = record w { replica = stopped_at n w.replica; cell = changed n down w.cell }
+
+abbrev pub unsent : {S : Type 0} → Outcome S → Outcome S
+unsent o = record o { packets = [] }
+
+abbrev pub after_row : World → ℕ → ℕ → Outcome (Option Replica) → World
+after_row w n e o =
+    record w {
+      replica = changed_at n e o.after w.replica;
+      post = w.post ++ o.packets;
+      notes = w.notes ++ o.notes;
+    }
+
+-- a node goes through a row, or stops while it writes the row's record
+abbrev pub node_does : World → ℕ → ℕ → Outcome (Option Replica) → World
+node_does w n e o =
+    if stops_in (w.cell n) o.written
+    then (if stands_in (w.cell n) then halted (after_row w n e (unsent o)) n else halted w n)
+    else after_row (record w { cell = changed n (burnt (w.cell n) o.written) w.cell }) n e o
+
+abbrev pub node_takes : World → ℕ → Packet → World
+node_takes w n p =
+    if (w.cell n).up then node_does w n (extent_of p.body) (node_row n (w.replica n (extent_of p.body)) p p.body) else w
+
+-- ---- the manager
+
+abbrev pub manager_does : World → Outcome Book → World
+manager_does w o = record w { book = o.after; post = w.post ++ o.packets; notes = w.notes ++ o.notes }
+
+abbrev pub manager_takes : World → Packet → World
+manager_takes w p = manager_does w (manager_row w.book p p.body)
+
+-- ---- events
+
+abbrev pub sent_more : World → List Packet → World
+sent_more w packets = record w { post = w.post ++ packets }
+
+abbrev pub delivered : World → Packet → ActorId → World
+delivered w p (Node n) = node_takes w n p
+delivered w p Manager = manager_takes w p
+delivered w p Map = w
+delivered w p (Server s) = w
+delivered w p (User u) = w
+
+abbrev pub delivered_if : World → Option Packet → World
+delivered_if w None = w
+delivered_if w (Some p) = delivered w p p.to
+
+abbrev pub is_append : AppendBody → Bool
+is_append (appends.Append e generation blocks q) = true
+is_append _ = false
+
+abbrev pub is_seal : SealBody → Bool
+is_seal (seals.SealExtent e q) = true
+is_seal _ = false
+
+abbrev pub is_read : ReadBody → Bool
+is_read (reads.ReadAt e offset length q) = true
+is_read (reads.ReadGroups e upto sealed q) = true
+is_read _ = false
+
+abbrev pub is_stream_call : StreamBody → Bool
+is_stream_call (streams.CreateStream s fence q) = true
+is_stream_call (streams.Extend s generation last pick q) = true
+is_stream_call _ = false
+
+abbrev pub is_route : MapBody → Bool
+is_route (maps.Route key q) = true
+is_route _ = false
+
+abbrev pub is_table_call : TableBody → Bool
+is_table_call (tables.Transact range changes q) = true
+is_table_call (tables.Get range key q) = true
+is_table_call _ = false
+
+-- what users may ask
+abbrev pub is_request : Body → Bool
+is_request (bodies.Append body) = is_append body
+is_request (bodies.Check body) = false
+is_request (bodies.Seal body) = is_seal body
+is_request (bodies.Read body) = is_read body
+is_request (bodies.Stream body) = is_stream_call body
+is_request (bodies.Map body) = is_route body
+is_request (bodies.Table body) = is_table_call body
+
+-- an event that does not fit changes nothing
+abbrev pub happens : World → Event → World
+happens w (Submit user to body) = if is_request body then sent_more w (packet (User user) to body ∷ []) else w
+happens w (Deliver number) = delivered_if w (slice_get w.post number)
+
+abbrev pub run : List Event → World → World
+run [] w = w
+run (event ∷ events) w = run events (happens w event)
+
+abbrev pub cell_at : ℕ → ℕ → Cell
+cell_at nodes n = if nat_lt 0 n && nat_le n nodes then running else down
+
+-- so many nodes, and extents that take appends below this target
+abbrev pub start : ℕ → ℕ → World
+start nodes target =
+    record {
+      post = [];
+      notes = [];
+      replica = λ n e. None;
+      book = first_book nodes target;
+      cell = cell_at nodes;
+      nodes = nodes;
+    }

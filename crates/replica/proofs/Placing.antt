@@ -1,0 +1,152 @@
+-- Where groups end.
+use Rattle.std.proofs.Common.{◌≡◌, ◌⊎◌, ℕ, ◌==◌, zero, suc, ◌+◌, ◌-◌, ◌<◌, ◌≤◌, true, false, nat_le, List, [], ◌∷◌, ◌++◌, length, take, drop, get_or, Some, None, refl, sym, ap, ◌∙◌, subst, inl, inr, arith, length-append, length-drop}
+use Rattle.std.proofs.lemmas.Bool.{cases_lt}
+use Rattle.std.proofs.lemmas.Bool.Decides.{nat_tests}
+use Rattle.std.specs.List.Sorted.{IsPartitionedBy, IsPartitionPoint}
+use Rattle.std.proofs.lemmas.List.{take-append-drop, take_all}
+use Rattle.std.proofs.Math.Seq.{drop-append-add}
+use Rattle.blocks.specs.Limits.{IsGroup, group_size}
+use Rattle.replica.specs.Groups.{Group, joined, text, size, text_length}
+use Rattle.replica.specs.Placed.{ends_from, NoneEmpty, IsPlaced, IsBefore}
+use Rattle.replica.specs.Reading.{bytes_at, groups_to}
+use Rattle.replica.proofs.Lengths.{text-append, text_length-push, group_size-size}
+
+pub ends-length : (s : ℕ) (gs : List Group) → length (ends_from s gs) ≡ length gs
+ends-length s [] = refl
+ends-length s (g ∷ gs) = ap (λ n. suc n) (ends-length (s + size g) gs)
+
+length-cons : (g : Group) (gs : List Group) → text_length (g ∷ gs) ≡ size g + text_length gs
+length-cons g gs = length-append (joined g) (text gs)
+
+pub ends-at : (s : ℕ) (gs : List Group) (i d : ℕ) → i < length gs → get_or (ends_from s gs) i d ≡ s + text_length (take (suc i) gs)
+ends-at s [] i d h = absurd (omega (arith, h))
+ends-at s (g ∷ gs) zero d h = omega (arith, length-cons g [])
+ends-at s (g ∷ gs) (suc i) d h = omega (arith, ends-at (s + size g) gs i d (omega (arith, h)), length-cons g (take (suc i) gs))
+
+pub ends-push : (s : ℕ) (gs : List Group) (g : Group) → ends_from s (gs ++ g ∷ []) ≡ ends_from s gs ++ (s + text_length gs + size g) ∷ []
+ends-push s [] g = ap (λ n. n ∷ []) (omega arith)
+ends-push s (x ∷ gs) g = ap (λ l. (s + size x) ∷ l) (ends-push (s + size x) gs g ∙ ap (λ n. ends_from (s + size x) gs ++ n ∷ []) (omega (arith, length-cons x gs)))
+
+pub full-push : (gs : List Group) (g : Group) → NoneEmpty gs → 0 < size g → NoneEmpty (gs ++ g ∷ [])
+full-push [] g full h = (h, tt)
+full-push (x ∷ gs) g full h = (full.0, full-push gs g full.1 h)
+
+rises : (gs : List Group) (i j : ℕ) → i ≤ j → text_length (take i gs) ≤ text_length (take j gs)
+rises gs zero j h = omega arith
+rises [] (suc i) j h = omega arith
+rises (g ∷ gs) (suc i) zero h = absurd (omega (arith, h))
+rises (g ∷ gs) (suc i) (suc j) h = omega (arith, rises gs i j (omega (arith, h)), length-cons g (take i gs), length-cons g (take j gs))
+
+at_most : (a b : ℕ) → nat_le a b ≡ true → a ≤ b
+at_most a b h = grind (arith, nat_tests)
+
+above : (a b : ℕ) → nat_le a b ≡ false → b < a
+above a b h = grind (arith, nat_tests)
+
+is_at_most : (a b : ℕ) → a ≤ b → nat_le a b ≡ true
+is_at_most a b h = grind (arith, nat_tests)
+
+is_above : (a b : ℕ) → b < a → nat_le a b ≡ false
+is_above a b h = grind (arith, nat_tests)
+
+start_at : (gs : List Group) (offset r : ℕ) → r ≤ length gs → ((k d : ℕ) → 0 ≤ k → k < r → nat_le (get_or (ends_from 0 gs) k d) offset ≡ true) → text_length (take r gs) ≤ offset
+start_at gs offset zero h low = omega arith
+start_at gs offset (suc k) h low = omega (arith, at_most _ offset (low k 0 (omega arith) (omega arith)), ends-at 0 gs k 0 (omega (arith, h)))
+
+next_at : (gs : List Group) (offset r : ℕ) → r ≤ length gs → ((k d : ℕ) → r ≤ k → k < length (ends_from 0 gs) → nat_le (get_or (ends_from 0 gs) k d) offset ≡ false) → (r ≡ length gs) ⊎ (offset < text_length (take (suc r) gs))
+next_at gs offset r h high =
+    elim (cases_lt r (length gs)) [
+      | inl under ↦ inr (omega (arith, above _ offset (high r 0 (omega arith) (omega (arith, ends-length 0 gs, under))), ends-at 0 gs r 0 under))
+      | inr over ↦ inl (omega (arith, h, over))
+    ]
+
+pub found : (gs : List Group) (offset r : ℕ) → r ≤ length (ends_from 0 gs) → IsPartitionPoint (λ e. nat_le e offset ≡ true) (λ e. nat_le e offset ≡ false) (ends_from 0 gs) r → IsBefore gs offset r
+found gs offset r bound split =
+    let within : r ≤ length gs = omega (arith, bound, ends-length 0 gs) in
+    record { within = within; start = start_at gs offset r within split.0; next = next_at gs offset r within split.1 }
+
+pub parted : (gs : List Group) (offset : ℕ) → IsPartitionedBy (λ e. nat_le e offset) (ends_from 0 gs)
+parted gs offset = λ i j d le lt e.
+    let within : j < length gs = omega (arith, lt, ends-length 0 gs) in
+    is_at_most _ offset (omega (arith, at_most _ offset e, ends-at 0 gs j d within, ends-at 0 gs i d (omega (arith, le, within)), rises gs (suc i) (suc j) (omega (arith, le))))
+
+some_size : (b : List ℕ) (g : Group) → 1 ≤ length b → 0 < size (b ∷ g)
+some_size b g h = omega (arith, h, length-append b (joined g))
+
+pub has_size : (g : Group) → IsGroup g → 0 < size g
+has_size [] h = absurd (omega (arith, h.0))
+has_size (b ∷ g) h = some_size b g h.2.0.0
+
+-- the text from a place on
+text_from : (gs : List Group) (i offset : ℕ) → text_length (take i gs) ≤ offset → drop offset (text gs) ≡ drop (offset - text_length (take i gs)) (text (drop i gs))
+text_from gs i offset h =
+    let whole : text gs ≡ text (take i gs) ++ text (drop i gs) = ap text (sym (take-append-drop i gs)) ∙ text-append (take i gs) (drop i gs) in
+    let sum : text_length (take i gs) + (offset - text_length (take i gs)) ≡ offset = omega arith in
+    ap (drop offset) whole ∙ ap (λ n. drop n (text (take i gs) ++ text (drop i gs))) (sym sum) ∙ drop-append-add (text (take i gs)) (text (drop i gs)) (offset - text_length (take i gs))
+
+pub bytes_from : (gs : List Group) (i offset length : ℕ) → text_length (take i gs) ≤ offset → bytes_at offset length gs ≡ take length (drop (offset - text_length (take i gs)) (text (drop i gs)))
+bytes_from gs i offset length h = ap (take length) (text_from gs i offset h)
+
+-- a boundary, and a place that is none
+shown : (g : Group) (gs found : List Group) (n : ℕ) → 0 < size g → n ≡ size g + text_length found → groups_to (text_length found) gs ≡ Some found → groups_to n (g ∷ gs) ≡ Some (g ∷ found)
+shown g gs found n some is more =
+    let rest : n - size g ≡ text_length found = omega arith in
+    let over : (n == 0) ≡ false = grind (arith, nat_tests) in
+    let enough : nat_le (size g) n ≡ true = is_at_most (size g) n (omega arith) in
+    rw (over, enough, rest, more) refl
+
+pub boundary : (gs : List Group) (i : ℕ) → i ≤ length gs → NoneEmpty gs → groups_to (text_length (take i gs)) gs ≡ Some (take i gs)
+boundary [] zero h full = refl
+boundary [] (suc i) h full = refl
+boundary (g ∷ gs) zero h full = refl
+boundary (g ∷ gs) (suc i) h full = shown g gs (take i gs) _ full.0 (length-cons g (take i gs)) (boundary gs i (omega (arith, h)) full.1)
+
+not_shown : (g : Group) (gs : List Group) (n : ℕ) → 0 < n → ((size g ≤ n) → groups_to (n - size g) gs ≡ None) → groups_to n (g ∷ gs) ≡ None
+not_shown g gs n some more =
+    let over : (n == 0) ≡ false = grind (arith, nat_tests) in
+    elim (cases_lt n (size g)) [
+      | inl under ↦ let less : nat_le (size g) n ≡ false = is_above (size g) n under in rw (over, less) refl
+      | inr enough ↦ let fits : nat_le (size g) n ≡ true = is_at_most (size g) n enough in rw (over, fits, more enough) refl
+    ]
+
+past : (upto : ℕ) → 0 < upto → groups_to upto [] ≡ None
+past upto h = let over : (upto == 0) ≡ false = grind (arith, nat_tests) in rw over refl
+
+pub no_boundary : (gs : List Group) (i upto : ℕ) → i ≤ length gs → text_length (take i gs) < upto → (i ≡ length gs) ⊎ (upto < text_length (take (suc i) gs)) → groups_to upto gs ≡ None
+no_boundary [] i upto h low high = past upto (omega (arith, low))
+no_boundary (g ∷ gs) zero upto h low (inl none) = absurd (omega (arith, none))
+no_boundary (g ∷ gs) zero upto h low (inr under) = not_shown g gs upto (omega (arith, low)) (λ enough. absurd (omega (arith, enough, under, length-cons g [])))
+no_boundary (g ∷ gs) (suc i) upto h low (inl all) = not_shown g gs upto (omega (arith, low)) (λ enough. no_boundary gs i (upto - size g) (omega (arith, h)) (omega (arith, low, enough, length-cons g (take i gs))) (inl (omega (arith, all))))
+no_boundary (g ∷ gs) (suc i) upto h low (inr under) = not_shown g gs upto (omega (arith, low)) (λ enough. no_boundary gs i (upto - size g) (omega (arith, h)) (omega (arith, low, enough, length-cons g (take i gs))) (inr (omega (arith, under, enough, length-cons g (take (suc i) gs)))))
+
+-- one more
+pub pushed : (gs more : List Group) (es ends : List ℕ) (l n end : ℕ) (g : Group) → IsPlaced gs es l → IsGroup g → n ≡ group_size g → end ≡ l + n →
+    more ≡ gs ++ g ∷ [] → ends ≡ es ++ end ∷ [] → IsPlaced more ends end
+pushed gs more es ends l n end g is group size_is end_is more_is ends_is =
+    let n_is : n ≡ size g = size_is ∙ group_size-size g in
+    let at : end ≡ 0 + text_length gs + size g = omega (arith, end_is, n_is, is.length) in
+    record {
+      ends = ends_is ∙ ap (λ l. l ++ end ∷ []) is.ends ∙ ap (λ k. ends_from 0 gs ++ k ∷ []) at ∙ sym (ends-push 0 gs g) ∙ ap (ends_from 0) (sym more_is);
+      length = rw more_is (omega (arith, at, text_length-push gs g));
+      full = subst NoneEmpty (sym more_is) (full-push gs g is.full (has_size g group));
+    }
+
+-- where a group starts that is not the first
+pub starts : (gs : List Group) (es : List ℕ) (l i last x : ℕ) → IsPlaced gs es l → i ≤ length gs → 1 ≤ i → last ≡ i - 1 → x ≡ get_or es last x → x ≡ text_length (take i gs)
+starts gs es l zero last x is h one last_is x_is = absurd (omega (arith, one))
+starts gs es l (suc i) last x is h one last_is x_is =
+    let at : last ≡ i = omega (arith, last_is) in
+    x_is ∙ ap (λ (k : ℕ). get_or es k x) at ∙ ap (λ (k : List ℕ). get_or k i x) is.ends ∙ omega (arith, ends-at 0 gs i x (omega (arith, h)))
+
+pub start_within : (gs : List Group) (es : List ℕ) (l i last : ℕ) → IsPlaced gs es l → i ≤ length gs → 1 ≤ i → last ≡ i - 1 → last < length es
+start_within gs es l i last is h one last_is = omega (arith, last_is, h, one, ap length is.ends, ends-length 0 gs)
+
+all_of : (gs : List Group) (i : ℕ) → take (length gs - i) (drop i gs) ≡ drop i gs
+all_of gs i = take_all (length gs - i) (drop i gs) (simp length-drop (omega arith))
+
+-- what is copied from a place on
+pub from_place : (gs held : List Group) (i offset count start : ℕ) → held ≡ gs → text_length (take i gs) ≤ offset → start ≡ text_length (take i gs) →
+    take count (drop (offset - start) (text (take (length held - i) (drop i held)))) ≡ bytes_at offset count gs
+from_place gs held i offset count start same before is =
+    let rest : take (length held - i) (drop i held) ≡ drop i gs = all_of held i ∙ ap (drop i) same in
+    ap (λ l. take count (drop (offset - start) (text l))) rest ∙ ap (λ k. take count (drop (offset - k) (text (drop i gs)))) is ∙ sym (bytes_from gs i offset count before)

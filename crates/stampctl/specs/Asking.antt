@@ -1,0 +1,35 @@
+-- What the lines of a script submit.
+use Rattle.std.specs.Prelude.{ℕ, true}
+use Rattle.wire.specs.declared.actor.ActorId.TheVariants as actors
+use Rattle.wire.specs.declared.actor.ReqNo.{ReqNo}
+use Rattle.wire.specs.declared.body.AppendBody.TheVariants as appends
+use Rattle.wire.specs.declared.body.Body.TheVariants as bodies
+use Rattle.wire.specs.declared.body.ReadBody.{ReadBody}
+use Rattle.wire.specs.declared.body.ReadBody.TheVariants as reads
+use Rattle.wire.specs.declared.body.StreamBody.{StreamBody}
+use Rattle.wire.specs.declared.body.StreamBody.TheVariants as streams
+use Rattle.wire.specs.declared.streams.StreamKind.{StreamKind}
+use Rattle.wire.specs.declared.streams.StreamName.{StreamName}
+use Rattle.model.specs.declared.event.Event.{Event}
+use Rattle.model.specs.declared.event.Event.TheVariants.{Submit}
+use Rattle.stampctl.specs.declared.line.Request.{Request}
+use Rattle.stampctl.specs.declared.line.Request.TheVariants as requests
+
+-- users work on the streams of range 0
+abbrev pub stream_of : StreamKind → StreamName
+stream_of kind = record { range = 0; kind = kind }
+
+abbrev pub call_by : ℕ → StreamBody → Event
+call_by user body = Submit user actors.Manager (bodies.Stream body)
+
+abbrev pub read_by : ℕ → ℕ → ReadBody → Event
+read_by user node body = Submit user (actors.Node node) (bodies.Read body)
+
+-- what a user's request submits; the generation of a user is 0, and content is asked of sealed replicas alone
+abbrev pub asked : ℕ → ReqNo → Request → Event
+asked user number (requests.Create kind) = call_by user (streams.CreateStream (stream_of kind) 0 number)
+asked user number (requests.Extend kind last pick) = call_by user (streams.Extend (stream_of kind) 0 last pick number)
+asked user number (requests.Append node extent blocks) =
+    Submit user (actors.Node node) (bodies.Append (appends.Append extent 0 blocks.items number))
+asked user number (requests.Read node extent offset length) = read_by user node (reads.ReadAt extent offset length number)
+asked user number (requests.Content node extent upto) = read_by user node (reads.ReadGroups extent upto true number)

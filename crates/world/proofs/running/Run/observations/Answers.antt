@@ -1,0 +1,10 @@
+use Rattle.std.proofs.Common.{sym, subst}
+use Rattle.model.specs.Honest.{Agree, Kept}
+use Rattle.world.proofs.Honest.{agrees, keeps}
+use Rattle.world.proofs.running.Run.observations.Goals as goal
+
+pub returns-clause-agree : goal.returns-clause-agree
+returns-clause-agree c = subst Agree (sym c.observations.ensures) (agrees c.self.inside.cluster c.self.invariant)
+
+pub returns-clause-kept : goal.returns-clause-kept
+returns-clause-kept c = subst Kept (sym c.observations.ensures) (keeps c.self.inside.cluster c.self.invariant)

@@ -1,0 +1,4 @@
+pub mod Limits
+pub mod Book
+pub mod Nodes
+pub mod Run

@@ -1,0 +1,40 @@
+-- A run of real actors beside the model's world.
+use Rattle.std.specs.Prelude.{◌≡◌, ◌++◌, ◌≤◌, ℕ, List, length}
+use Rattle.wire.specs.declared.note.Note.{Note}
+use Rattle.wire.specs.declared.packet.Packet.{Packet}
+use Rattle.wire.specs.declared.packet.Step.{Step}
+use Rattle.model.specs.declared.event.Event.{Event}
+use Rattle.model.specs.World.{World, run, start}
+use Rattle.world.specs.Book.{BookState, BookMirrors}
+use Rattle.world.specs.Nodes.{NodeSeen, NodesMirror}
+
+pub record RunState : Type 0 where
+  pub nodes : List NodeSeen
+  pub book : BookState
+  pub post : List Packet
+  pub notes : List Note
+
+-- the world is this run
+pub record Mirrors (r : RunState) (w : World) : Type 0 where
+  pub post : r.post ≡ w.post
+  pub notes : r.notes ≡ w.notes
+  pub nodes : NodesMirror r.nodes w
+  pub book : BookMirrors r.book w.book
+
+-- from w to v the actors became these, and this step was sent and shown
+pub record Moved (xs : List NodeSeen) (b : BookState) (w v : World) (s : Step) : Type 0 where
+  pub post : v.post ≡ w.post ++ s.packets
+  pub notes : v.notes ≡ w.notes ++ s.notes
+  pub nodes : NodesMirror xs v
+  pub book : BookMirrors b v.book
+
+-- no more than a run makes room for before it hands a packet out
+abbrev pub IsFew : Step → Type 0
+IsFew s = (length s.packets ≤ 2048) × (length s.notes ≤ 2048)
+
+-- some list of events makes this, from the start
+pub record IsRun (r : RunState) : Type 0 where
+  pub nodes : ℕ
+  pub target : ℕ
+  pub events : List Event
+  pub mirrors : Mirrors r (run events (start nodes target))

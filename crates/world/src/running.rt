@@ -1,0 +1,81 @@
+//! A run: a cluster that events brought to where it is.
+ghost use Rattle.std.specs.Prelude.{◌≡◌, None, IfOk, OnOk, OnErr, option_map};
+ghost use Rattle.model.specs.Honest.{Agree, Kept};
+ghost use Rattle.model.specs.World.{World, happens, start};
+ghost use Rattle.world.specs.Nodes.{seen_of, running_at};
+ghost use Rattle.world.specs.Run.{Mirrors};
+
+use crate::cluster::Cluster;
+use crate::fault::WorldFault;
+use crate::setup::Setup;
+use disk::MemDisk;
+use enode::Node;
+use model::Event;
+use std::alloc::Global;
+use std::marker::Model;
+use wire::{Note, Packet, Refusal};
+
+/// A cluster beside the events that made it: at each moment it is what the model makes of some list of events, from the
+/// start. So what was observed is honest, at any moment and of any run.
+#[derive(Drop)]
+pub struct Run {
+    cluster: Cluster,
+}
+
+impl Model for Run {
+    ghost use Rattle.world.specs.Run.{RunState, IsRun};
+
+    ghost Value = { RunState };
+
+    ghost view = { λ run. run.cluster };
+
+    ghost invariant = { λ run. IsRun run.cluster };
+}
+
+impl Run {
+    /// The actors of this setup, with nothing on their disks, and nothing sent or observed. An error is want of memory
+    /// (22).
+    pub fn start(alloc: Global, setup: &Setup) -> Result<Run, WorldFault>
+        ensures mirrors { IfOk result (λ run. Mirrors run (start setup.now.nodes setup.now.target)) }
+    {
+        match Cluster::start(alloc, setup) {
+            Ok(cluster) => Ok(Run { cluster }),
+            Err(fault) => Err(fault),
+        }
+    }
+
+    /// One event more. It answers the refusal of an event that is refused, and none of those that are built is. An error
+    /// is want of memory (22), and nothing has changed then.
+    pub fn step(&mut self, alloc: Global, event: &Event) -> Result<Option<Refusal>, WorldFault>
+        ensures ok { OnOk result ((w : World) → Mirrors self.old w → Mirrors self.new (happens w event.now)) }
+        ensures err { OnErr result (self.new ≡ self.old) }
+        ensures none { IfOk result (λ refusal. refusal ≡ None) }
+    {
+        self.cluster.step(alloc, event)
+    }
+
+    /// All packets that were sent, in order: their places, from 0, are their numbers.
+    pub fn sent(&self) -> &[Packet]
+        ensures { result.now ≡ self.now.post }
+    {
+        self.cluster.sent()
+    }
+
+    /// All that was observed, in order. Whatever was asked, lost, repeated or reordered: all that is shown of an extent
+    /// agrees, and every acknowledged append stands in it at its answered offset (after Calder et al., SOSP 2011, section
+    /// 4.3).
+    pub fn observations(&self) -> &[Note]
+        ensures notes { result.now ≡ self.now.notes }
+        ensures agree { Agree result.now }
+        ensures kept { Kept result.now }
+    {
+        self.cluster.observations()
+    }
+
+    /// The node of a number, from 1; none where it is stopped, or where there is none.
+    pub fn node(&self, number: u8) -> Option<&Node<MemDisk>>
+        ensures { option_map (λ node. seen_of node.now) result ≡ running_at self.now.nodes number }
+    {
+        self.cluster.node(number)
+    }
+}
