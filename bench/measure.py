@@ -1,4 +1,4 @@
-"""Measures appends to a node, whole scripts, checks of observations, and a record file over a real file, in ratios."""
+"""Measures appends to a node, whole scripts, seals, restarts, checks of observations, and a record file over a real file, in ratios."""
 import os
 import subprocess
 import sys
@@ -74,6 +74,43 @@ def appends_to_three_nodes():
     print(f"script: 2N over N: {found[20_000] / found[10_000]:.2f} (at most 2.3)")
 
 
+def restarts_of_a_node():
+    found = {}
+    for count in (100_000, 200_000):
+        told = []
+        for _ in range(ROUNDS):
+            words = run([BENCH, "restart", str(count)])[2].split()
+            assert words[:3] == [b"taken", str(count).encode(), b"micros"], words
+            told.append(int(words[3]))
+        found[count] = min(told)
+        print(f"restart: a node with {count} records of 1 KiB: {found[count] / 1e6:.3f} s")
+    print(f"restart: 2N over N: {found[200_000] / found[100_000]:.2f} (at most 2.3)")
+
+
+def seals_of(count):
+    """Extents of one stream, each filled with 64 appends of 1 KiB and sealed while the third place is cut off."""
+    lines = ["setup 3 1 16777216 1", "user 1 create 0", "settle"]
+    for extent in range(1, count + 1):
+        last = "none" if extent == 1 else extent - 1
+        lines += [f"user 1 extend 0 {last} 1 2 3", "settle"]
+        lines += [f"user 1 append 1 {extent} 1024*a"] * 64
+        lines += ["settle", "cut n3", f"user 1 seal {extent}", "settle", f"decide {extent}", "settle"]
+        lines += ["heal n3", f"decide {extent}", "settle"]
+    return "\n".join(lines).encode()
+
+
+def seals_of_extents():
+    found = {}
+    for count in (1_000, 2_000):
+        seconds, peak, out = best([STAMPCTL], seals_of(count))
+        sealed = sum(line.startswith(b"sealed ") and line.endswith(b" 65536") for line in out.splitlines())
+        assert sealed == count and answered(out) == 64 * count, (sealed, answered(out))
+        found[count] = (seconds, peak)
+        print(f"seals: {count} extents of 64 appends of 1 KiB: {seconds:.3f} s, peak {peak / (count * 65536):.2f} times the payload")
+    (few, little), (many, much) = found[1_000], found[2_000]
+    print(f"seals: 2N over N: {many / few:.2f} in time, {much / little:.2f} in memory (at most 2.3 each)")
+
+
 def check_of_observations():
     found = {}
     for count in (10_000, 20_000):
@@ -102,5 +139,7 @@ def record_file():
 
 appends_to_a_node()
 appends_to_three_nodes()
+seals_of_extents()
+restarts_of_a_node()
 check_of_observations()
 record_file()

@@ -1,7 +1,7 @@
 //! Measures appends; bench/run.sh calls it and prints ratios.
 //!
 //! `bench node N` makes extents on one node over a disk in memory and appends N groups of 1 KiB to them, 256 to an
-//! extent. `bench file N FILE` appends N records of 1 KiB to a record file over FILE, and writes and syncs as many bytes
+//! extent. `bench restart N` does the same, and then starts the node again from its disk. `bench file N FILE` appends N records of 1 KiB to a record file over FILE, and writes and syncs as many bytes
 //! to FILE.plain, a write and two syncs each, by turns of a tenth of N. `bench check N` checks the observations that N
 //! acknowledged appends of 1 KiB give, 64 to an extent. Times are printed in microseconds. Without words it appends ten
 //! groups and prints how many were taken.
@@ -17,7 +17,7 @@ use std::process::ExitCode;
 use std::rt::{Clock, Env, Files};
 use std::{env, fs, io};
 
-const USAGE: &str = "usage: bench node N | bench file N FILE | bench check N";
+const USAGE: &str = "usage: bench node N | bench restart N | bench file N FILE | bench check N";
 
 fn run<R: AllocGlobal + Env + Files<File = fs::File> + Clock + Print>(
     rt: &R,
@@ -33,6 +33,9 @@ fn run<R: AllocGlobal + Env + Files<File = fs::File> + Clock + Print>(
             rt.println(format_args!("taken {taken}"))?;
         }
         [_, "node", count] => node::measure(rt, count.parse().map_err(|_| Failure::Words)?)?,
+        [_, "restart", count] => {
+            node::measure_restart(rt, count.parse().map_err(|_| Failure::Words)?)?
+        }
         [_, "file", count, path] => {
             device::measure(rt, count.parse().map_err(|_| Failure::Words)?, path)?
         }

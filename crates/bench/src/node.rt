@@ -45,8 +45,8 @@ fn append(alloc: Global, extent: ExtentId, ticket: u64) -> Result<Packet, Failur
     })
 }
 
-/// Appends groups of 1 KiB to a new node, and answers how many were taken: so many sent their Puts.
-pub fn appended(alloc: Global, count: u64) -> Result<u64, Failure> {
+/// A new node to which groups of 1 KiB were appended, and how many were taken: so many sent their Puts.
+fn filled(alloc: Global, count: u64) -> Result<(Node<MemDisk>, u64), Failure> {
     let disk = RecordFile::format(Version::V1, MemDisk::new(alloc))?.into_disk();
     let mut node = Node::restart(alloc, 1, disk)?;
     let mut taken = 0u64;
@@ -60,7 +60,24 @@ pub fn appended(alloc: Global, count: u64) -> Result<u64, Failure> {
             taken = taken.saturating_add(1);
         }
     }
+    Ok((node, taken))
+}
+
+/// Appends groups of 1 KiB to a new node, and answers how many were taken.
+pub fn appended(alloc: Global, count: u64) -> Result<u64, Failure> {
+    let (_node, taken) = filled(alloc, count)?;
     Ok(taken)
+}
+
+/// Prints how many appends were taken, and how long the node takes to come back with them.
+pub fn measure_restart<R: AllocGlobal + Clock + Print>(rt: &R, count: u64) -> Result<(), Failure> {
+    let (node, taken) = filled(rt.alloc(), count)?;
+    let disk = node.into_disk();
+    let start = Instant::now(rt)?;
+    let _restarted = Node::restart(rt.alloc(), 1, disk)?;
+    let micros = start.elapsed(rt)?.as_micros();
+    rt.println(format_args!("taken {taken} micros {micros}"))?;
+    Ok(())
 }
 
 /// Prints how many appends were taken and how long they took.

@@ -1,5 +1,5 @@
 -- What an append of one record leaves of a record file.
-use Rattle.std.specs.Prelude.{◌≡◌, ◌⊎◌, ◌<◌, ◌≤◌, ◌-◌, ℕ, Bool, true, false, List, [], ◌∷◌, ◌++◌, Some, None, Result, IsErrOf, IsOk, OnOk}
+use Rattle.std.specs.Prelude.{◌≡◌, ◌⊎◌, ◌<◌, ◌≤◌, ◌-◌, ℕ, Bool, true, false, List, [], ◌∷◌, ◌++◌, Option, Some, None, Result, IsErrOf, IsOk, OnOk}
 use Rattle.blocks.specs.declared.record.Record.{Record}
 use Rattle.disk.specs.declared.device.DiskFault.{DiskFault}
 use Rattle.disk.specs.declared.device.DiskFault.TheVariants.{Failed, Memory}
@@ -37,6 +37,11 @@ pub record Appends {D T : Type 0} (state : D → DiskState) (old new : Filed D) 
   -- one that cannot fail does not
   pub steady : IsSteady (state old.disk) → (IsErrOf result Failed → ⊥) × IsSteady (state new.disk)
   pub sure : (state new.disk).sure ≡ (state old.disk).sure
+
+-- a record, where there is one
+abbrev pub listed : Option Record → List Record
+listed None = []
+listed (Some r) = r ∷ []
 
 -- no record is appended, or the one that is given
 abbrev pub Records : {D T : Type 0} → (D → DiskState) → Filed D → Filed D → List Record → Result T DiskFault → Type 0

@@ -1,6 +1,6 @@
 //! A file of records: four letters, and then each record behind a gate. A gate of 1 is open. Any other byte is
 //! closed, and there the file ends for its reader (docs/FORMATS.md).
-ghost use Rattle.std.specs.Prelude.{◌≡◌, ◌≢◌, ◌<◌, ◌≤◌, [], List, IsErrOf, IfOk, IfErr, MatchResult, Some, false, true};
+ghost use Rattle.std.specs.Prelude.{◌≡◌, ◌≢◌, ◌<◌, ◌≤◌, [], List, IsErrOf, IfOk, IfErr, MatchResult, None, Some, false, true, option_map};
 ghost use Rattle.blocks.specs.Record.{Fits};
 ghost use Rattle.disk.specs.Appends.{Appends};
 ghost use Rattle.disk.specs.Disk.{LeavesOnly, IsSame, IsUntouched, IsSteady, Only};
@@ -9,11 +9,11 @@ ghost use Rattle.disk.specs.File.{IsFileOf, IsBeforeOrAfter, HasNoRecord};
 
 use crate::device::{Disk, DiskFault};
 use crate::fault::FileFault;
-use crate::memory::MemDisk;
+use crate::memory::{MemDisk, Stop};
 use crate::opening::{find, write_header};
 use crate::scan::read_file;
 use blocks::{Record, Version, encode_as};
-use std::alloc::Global;
+use std::alloc::{AllocError, Global};
 use std::marker::Model;
 
 /// A list of records on a disk, to which records are added one by one. In a clause its value shows the disk, the
@@ -180,5 +180,32 @@ impl RecordFile<MemDisk> {
             × (self.new.records ≡ self.old.records) }
     {
         self.disk.stop_at(calls, keep);
+    }
+
+    /// What its disk was told last and has not come to.
+    pub fn told(&self) -> Option<Stop>
+        ensures { option_map (λ s. (s.calls, s.keep)) result ≡ (memory_state self.now.disk).stop }
+    {
+        self.disk.told()
+    }
+
+    /// Another disk with the bytes of this one, as a restart finds it: all made sure of, and not told to stop. An error
+    /// is want of memory (22).
+    pub fn copy_disk(&self, alloc: Global) -> Result<MemDisk, AllocError>
+        ensures stands { IfOk result (λ disk. IsFileOf self.now.version self.now.records (memory_state disk).seen) }
+        ensures durable { IfOk result (λ disk. Only (memory_state disk).seen (memory_state disk).may_leave) }
+        ensures steady { IfOk result (λ disk. IsSteady (memory_state disk)) }
+    {
+        self.disk.copy(alloc)
+    }
+
+    /// Its disk goes on, whatever it was told before. Bytes, records and all else stay.
+    pub fn cancel_stop(&mut self)
+        ensures steady { IsSteady (memory_state self.new.disk) }
+        ensures disk { self.new.disk ≡ record self.old.disk { stop = None } }
+        ensures same { (self.new.stopped ≡ self.old.stopped) × (self.new.version ≡ self.old.version)
+            × (self.new.records ≡ self.old.records) }
+    {
+        self.disk.cancel_stop();
     }
 }

@@ -1,5 +1,5 @@
 //! A disk in memory, which can be told to stop at a call.
-ghost use Rattle.std.specs.Prelude.{◌≡◌, [], Some};
+ghost use Rattle.std.specs.Prelude.{◌≡◌, [], Some, None, IfOk, option_map};
 ghost use Rattle.disk.specs.Disk.{IsSteady, Only};
 ghost use Rattle.disk.specs.Stopping.{IsDue};
 
@@ -70,6 +70,34 @@ impl MemDisk {
         ensures same { self.new ≡ record self.old { stop = Some (record { calls = calls; keep = keep }) } }
     {
         self.stop = Some(Stop { calls, keep });
+    }
+
+    /// What it was told last and has not come to.
+    pub fn told(&self) -> Option<Stop>
+        ensures { option_map (λ s. (s.calls, s.keep)) result ≡ (memory_state self.now).stop }
+    {
+        self.stop.as_ref().copied()
+    }
+
+    /// Another disk with the same bytes, all of them made sure of, that is not told to stop. An error is want of memory
+    /// (22).
+    pub fn copy(&self, alloc: Global) -> Result<MemDisk, AllocError>
+        ensures seen { IfOk result (λ disk. (memory_state disk).seen ≡ (memory_state self.now).seen) }
+        ensures durable { IfOk result (λ disk. Only (memory_state disk).seen (memory_state disk).may_leave) }
+        ensures steady { IfOk result (λ disk. IsSteady (memory_state disk)) }
+    {
+        let mut disk = MemDisk::new(alloc);
+        disk.image = Image::of(alloc, self.image.read(alloc)?);
+        disk.image.sync()?;
+        Ok(disk)
+    }
+
+    /// It goes on, whatever it was told before.
+    pub fn cancel_stop(&mut self)
+        ensures steady { IsSteady (memory_state self.new) }
+        ensures same { self.new ≡ record self.old { stop = None } }
+    {
+        self.stop = None;
     }
 }
 

@@ -5,3 +5,4 @@ pub mod Stays
 pub mod Recovering
 pub mod Putting
 pub mod Telling
+pub mod Ending

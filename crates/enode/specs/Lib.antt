@@ -1,3 +1,4 @@
 pub mod Node
 pub mod Took
 pub mod Recovery
+pub mod Sealing

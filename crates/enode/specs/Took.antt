@@ -1,19 +1,15 @@
 -- What a row leaves of a node.
-use Rattle.std.specs.Prelude.{◌≡◌, ◌≢◌, ℕ, List, [], ◌∷◌, Option, Some, None, Result, IsErrOf, OnOk, OnErr, IfOk, IfErr}
-use Rattle.blocks.specs.declared.record.Record.{Record}
+use Rattle.std.specs.Prelude.{◌≡◌, ◌≢◌, ℕ, List, [], Option, Some, None, Result, IsErrOf, OnOk, OnErr, IfOk, IfErr}
 use Rattle.disk.specs.declared.device.DiskFault.{DiskFault}
 use Rattle.disk.specs.declared.device.DiskFault.TheVariants.{Failed, Memory}
 use Rattle.disk.specs.Disk.{DiskState}
 use Rattle.disk.specs.Filed.{Filed}
 use Rattle.disk.specs.Appends.{Records}
+pub use Rattle.disk.specs.Appends.{listed}
 use Rattle.wire.specs.declared.packet.Step.{Step}
 use Rattle.model.specs.Outcome.{Outcome}
 use Rattle.model.specs.Node.{Replica}
 use Rattle.enode.specs.Node.{find}
-
-abbrev pub listed : Option Record → List Record
-listed None = []
-listed (Some r) = r ∷ []
 
 -- a replica and its node's file after a row
 pub record Rowed {D : Type 0} (state : D → DiskState) (was is : Replica) (old new : Filed D) (o : Outcome (Option Replica)) (result : Result Step DiskFault) : Type 0 where

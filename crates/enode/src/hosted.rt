@@ -137,6 +137,7 @@ impl Hosted {
     ) -> Option<Refusal>
         ensures value { result ≡ append_refusal node self.now packet.now fence blocks.now }
         ensures fits { IfNone result (IsGroup blocks.now) }
+        ensures open { IfNone result (is_open_phase self.now.content.phase ≡ true) }
         ensures room { IfNone result (text_length self.now.content.groups < self.now.content.target) }
     {
         if node != self.replica.places().primary {
@@ -198,6 +199,7 @@ impl Hosted {
     ) -> Result<Step, DiskFault>
         requires running { file.old.stopped ≡ false }
         requires group { IsGroup blocks.now }
+        requires open { is_open_phase self.old.content.phase ≡ true }
         requires room { text_length self.old.content.groups < self.old.content.target }
         ensures { Rowed D.state self.old self.new file.old file.new (append_taken node self.old packet.now extent blocks.now request) result }
     {
@@ -211,7 +213,7 @@ impl Hosted {
             request,
         };
         let step = puts_of(alloc, node, self.replica.places(), extent, offset, blocks)?;
-        self.replica.reserve()?;
+        self.replica.reserve(1)?;
         self.waiting.reserve(1)?;
         match write_append(alloc, file, extent, offset, added) {
             Ok(()) => {
@@ -225,11 +227,12 @@ impl Hosted {
 
     /// Adds a group that the node's records have.
     pub(crate) fn add_recorded(&mut self, group: Group) -> Result<(), DiskFault>
-        requires { text_length self.old.content.groups < self.old.content.target }
+        requires open { is_open_phase self.old.content.phase ≡ true }
+        requires room { text_length self.old.content.groups < self.old.content.target }
         ensures ok { OnOk result (self.new ≡ record self.old { content = appended self.old.content group }) }
         ensures fault { IfErr result (λ e. e ≡ faults.Memory) }
     {
-        self.replica.reserve()?;
+        self.replica.reserve(1)?;
         self.replica.add(group);
         Ok(())
     }

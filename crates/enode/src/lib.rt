@@ -12,6 +12,7 @@ mod primary;
 mod reading;
 mod recovery;
 mod rows;
+mod sealing;
 mod secondary;
 mod sending;
 

@@ -4,6 +4,7 @@ ghost use Rattle.blocks.specs.declared.record.Record.{Record};
 ghost use Rattle.blocks.specs.declared.record.Version.{Version};
 ghost use Rattle.disk.specs.Disk.{IsSteady};
 ghost use Rattle.disk.specs.File.{IsFileOf};
+ghost use Rattle.disk.specs.Memory.{memory_state};
 ghost use Rattle.replica.specs.State.{content_of};
 ghost use Rattle.replica.specs.Replay.{fit};
 ghost use Rattle.model.specs.Node.{node_row, extent_of, contents};
@@ -14,9 +15,9 @@ ghost use Rattle.model.specs.Bounds.{AreFew};
 use crate::hosted::Hosted;
 use crate::recovery::replicas_of;
 use crate::rows::take;
-use disk::{Disk, DiskFault, FileFault, RecordFile};
+use disk::{Disk, DiskFault, FileFault, MemDisk, RecordFile};
 use replica::Replica;
-use std::alloc::Global;
+use std::alloc::{AllocError, Global};
 use std::collections::BTreeMap;
 use std::marker::Model;
 use wire::{ExtentId, Packet, Step};
@@ -148,7 +149,8 @@ impl<D: Disk> Node<D> {
 
     /// Its disk, whether it has stopped or not.
     pub fn into_disk(self) -> D
-        ensures { result ≡ self.file.disk }
+        ensures disk { result ≡ self.file.disk }
+        ensures stands { IsFileOf self.file.version self.file.records (D.state result).seen }
     {
         let Node {
             number: _,
@@ -156,5 +158,39 @@ impl<D: Disk> Node<D> {
             file,
         } = self;
         file.into_disk()
+    }
+}
+
+impl Node<MemDisk> {
+    /// Tells its disk to stop at the `calls`-th `write_at` or `sync` from now on, in place of what it was told before: a
+    /// record makes four of them. All else stays.
+    pub fn stop_at(&mut self, calls: u64, keep: bool)
+        ensures told { (memory_state self.new.file.disk).stop ≡ Some (calls, keep) }
+        ensures same { (self.new.number ≡ self.old.number) × (self.new.replicas ≡ self.old.replicas)
+            × (self.new.file.stopped ≡ self.old.file.stopped) × (self.new.file.version ≡ self.old.file.version)
+            × (self.new.file.records ≡ self.old.file.records) }
+    {
+        self.file.stop_at(calls, keep);
+    }
+
+    /// Another disk, as a restart finds it: with its records, all made sure of, and not told to stop. An error is want
+    /// of memory (22).
+    pub fn copy_disk(&self, alloc: Global) -> Result<MemDisk, AllocError>
+        ensures stands { IfOk result (λ disk. IsFileOf self.now.file.version self.now.file.records (memory_state disk).seen) }
+        ensures steady { IfOk result (λ disk. IsSteady (memory_state disk)) }
+    {
+        self.file.copy_disk(alloc)
+    }
+
+    /// It stops, and its disk is not told to stop any more. Its records stay.
+    pub fn stop_now(&mut self)
+        ensures stopped { self.new.file.stopped ≡ true }
+        ensures steady { IsSteady (memory_state self.new.file.disk) }
+        ensures same { (self.new.number ≡ self.old.number) × (self.new.file.version ≡ self.old.file.version)
+            × (self.new.file.records ≡ self.old.file.records) }
+        ensures replays { self.old.file.stopped ≡ false → IsReplay self.old.number self.old.replicas self.old.file.records }
+    {
+        self.file.cancel_stop();
+        self.file.halt();
     }
 }

@@ -15,7 +15,7 @@ use replica::Phase;
 use std::alloc::Global;
 use wire::{ActorId, Body, ExtentId, Note, Packet, ReadBody, Refusal, ReqNo, Step};
 
-fn is_sealed(phase: Phase) -> bool
+pub(crate) fn is_sealed(phase: Phase) -> bool
     ensures { result ≡ is_sealed_phase phase }
 {
     match phase {

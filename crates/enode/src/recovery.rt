@@ -6,9 +6,11 @@ ghost use Rattle.replica.specs.Replay.{fit};
 ghost use Rattle.enode.specs.Node.{IsRestart};
 ghost use Rattle.enode.specs.Recovery.{Recovers};
 
-use crate::hosted::Hosted;
+use crate::hosted::{Hosted, is_open};
+use crate::reading::is_sealed;
 use crate::rows::{insert_new, is_place};
-use blocks::{Group, Nodes, Record};
+use crate::sealing::{is_frozen, is_tail};
+use blocks::{Group, Groups, Nodes, Record};
 use disk::{Disk, FileFault, RecordFile};
 use std::alloc::Global;
 use std::collections::BTreeMap;
@@ -53,11 +55,103 @@ fn recover_append(
     let Some(hosted) = replicas.get_mut(&extent.number()) else {
         return Err(FileFault::Damaged);
     };
+    if !is_open(hosted.replica().state()) {
+        return Err(FileFault::Damaged);
+    }
     let length = hosted.replica().len();
     if offset != length || length >= hosted.replica().target() {
         return Err(FileFault::Damaged);
     }
     hosted.add_recorded(group)?;
+    Ok(())
+}
+
+/// The record of a higher fence: the replica is open, and its fence is below it.
+fn recover_fence(
+    replicas: &mut BTreeMap<u64, Hosted>,
+    number: u8,
+    extent: ExtentId,
+    generation: u64,
+) -> Result<(), FileFault>
+    ensures { Recovers number replicas.old.entries replicas.new.entries (records.Fence extent generation) result }
+{
+    let Some(hosted) = replicas.get_mut(&extent.number()) else {
+        return Err(FileFault::Damaged);
+    };
+    if !is_open(hosted.replica().state()) {
+        return Err(FileFault::Damaged);
+    }
+    if hosted.replica().fence() >= generation {
+        return Err(FileFault::Damaged);
+    }
+    hosted.raise_recorded(generation);
+    Ok(())
+}
+
+/// The record of a freeze: the replica is open.
+fn recover_freeze(
+    replicas: &mut BTreeMap<u64, Hosted>,
+    alloc: Global,
+    number: u8,
+    extent: ExtentId,
+) -> Result<(), FileFault>
+    ensures { Recovers number replicas.old.entries replicas.new.entries (records.Freeze extent) result }
+{
+    let Some(hosted) = replicas.get_mut(&extent.number()) else {
+        return Err(FileFault::Damaged);
+    };
+    if !is_open(hosted.replica().state()) {
+        return Err(FileFault::Damaged);
+    }
+    hosted.freeze_recorded(alloc);
+    Ok(())
+}
+
+/// The record of a seal: the replica is not sealed yet, and a group ends there.
+fn recover_seal(
+    replicas: &mut BTreeMap<u64, Hosted>,
+    alloc: Global,
+    number: u8,
+    extent: ExtentId,
+    length: u32,
+) -> Result<(), FileFault>
+    ensures { Recovers number replicas.old.entries replicas.new.entries (records.Seal extent length) result }
+{
+    let Some(hosted) = replicas.get_mut(&extent.number()) else {
+        return Err(FileFault::Damaged);
+    };
+    if is_sealed(hosted.replica().state()) {
+        return Err(FileFault::Damaged);
+    }
+    if !hosted.replica().is_boundary(length) {
+        return Err(FileFault::Damaged);
+    }
+    hosted.seal_recorded(alloc, length);
+    Ok(())
+}
+
+/// The record of groups that bring a frozen replica from its end to its length.
+fn recover_fill(
+    replicas: &mut BTreeMap<u64, Hosted>,
+    alloc: Global,
+    number: u8,
+    extent: ExtentId,
+    from: u32,
+    length: u32,
+    groups: Groups,
+) -> Result<(), FileFault>
+    ensures { Recovers number replicas.old.entries replicas.new.entries (records.Fill extent from length groups) result }
+{
+    let Some(hosted) = replicas.get_mut(&extent.number()) else {
+        return Err(FileFault::Damaged);
+    };
+    if !is_frozen(hosted.replica().state()) {
+        return Err(FileFault::Damaged);
+    }
+    if !is_tail(hosted.replica(), from, length, &groups) {
+        return Err(FileFault::Damaged);
+    }
+    hosted.fill_recorded(alloc, groups)?;
     Ok(())
 }
 
@@ -90,7 +184,28 @@ fn recover(
             offset,
             group,
         } => recover_append(replicas, number, ExtentId::new(extent), offset, group),
-        _ => Err(FileFault::Damaged),
+        Record::Fence { extent, generation } => {
+            recover_fence(replicas, number, ExtentId::new(extent), generation)
+        }
+        Record::Freeze { extent } => recover_freeze(replicas, alloc, number, ExtentId::new(extent)),
+        Record::Seal { extent, length } => {
+            recover_seal(replicas, alloc, number, ExtentId::new(extent), length)
+        }
+        Record::Fill {
+            extent,
+            from,
+            length,
+            groups,
+        } => recover_fill(
+            replicas,
+            alloc,
+            number,
+            ExtentId::new(extent),
+            from,
+            length,
+            groups,
+        ),
+        Record::Manage { .. } => Err(FileFault::Damaged),
     }
 }
 

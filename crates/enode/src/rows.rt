@@ -1,5 +1,5 @@
 //! The rows of a node's table, over its replicas and its file.
-ghost use Rattle.std.specs.Prelude.{◌≡◌, ◌≢◌, ℕ, Some, None, false, true, OnOk, OnErr, IfErr};
+ghost use Rattle.std.specs.Prelude.{◌≡◌, ◌≢◌, ℕ, [], Some, None, false, true, OnOk, OnErr, IfOk, IfErr};
 ghost use Rattle.blocks.specs.Limits.{AreNodes, IsTarget};
 ghost use Rattle.blocks.specs.Reading.{is_within};
 ghost use Rattle.blocks.specs.Record.{Fits};
@@ -8,18 +8,18 @@ ghost use Rattle.disk.specs.Appends.{Appends};
 ghost use Rattle.disk.specs.declared.device.DiskFault.TheVariants as faults;
 ghost use Rattle.wire.specs.declared.body.AppendBody.TheVariants.{Append, Put, Have};
 ghost use Rattle.wire.specs.declared.body.ReadBody.TheVariants.{ReadAt, ReadGroups};
-ghost use Rattle.wire.specs.declared.body.SealBody.TheVariants.{Make};
+ghost use Rattle.wire.specs.declared.body.SealBody.TheVariants.{Make, Freeze, Seal, SendTail, Tail};
 ghost use Rattle.wire.specs.declared.body.Body.TheVariants as bodies;
 ghost use Rattle.replica.specs.Replay.{is_place as is_one_place};
 ghost use Rattle.model.specs.Outcome.{all_met};
 ghost use Rattle.model.specs.Actors.{is_manager as is_the_manager};
-ghost use Rattle.model.specs.Node.{node_row, extent_of, make_taken, make_tests, append_body_row, append_extent, seal_body_row, seal_extent, read_body_row, read_extent};
+ghost use Rattle.model.specs.Node.{node_row, extent_of, make_taken, make_tests, missing as missing_row, append_body_row, append_extent, seal_body_row, seal_extent, read_body_row, read_extent};
 ghost use Rattle.enode.specs.Node.{find};
 ghost use Rattle.enode.specs.Took.{Took, Told};
 
 use crate::hosted::{Hosted, write};
 use crate::sending::refuse;
-use blocks::{Group, Nodes, Record};
+use blocks::{Group, Groups, Nodes, Record};
 use disk::{Disk, DiskFault, RecordFile};
 use std::alloc::Global;
 use std::collections::BTreeMap;
@@ -249,7 +249,7 @@ fn make_taken<D: Disk>(
     }
 }
 
-fn is_manager(actor: ActorId) -> bool
+pub(crate) fn is_manager(actor: ActorId) -> bool
     ensures { result ≡ is_the_manager actor }
 {
     match actor {
@@ -317,6 +317,112 @@ fn make<D: Disk>(
     make_taken(replicas, file, alloc, extent, fence, target, *places)
 }
 
+/// The manager alone is told that there is no replica.
+fn missing(alloc: Global, number: u8, packet: &Packet) -> Result<Step, DiskFault>
+    ensures after { (missing_row number packet.now).after ≡ None }
+    ensures unwritten { (missing_row number packet.now).written ≡ None }
+    ensures packets { IfOk result (λ step. step.packets ≡ (missing_row number packet.now).packets) }
+    ensures notes { IfOk result (λ step. step.notes ≡ (missing_row number packet.now).notes) }
+    ensures fault { IfErr result (λ e. e ≡ faults.Memory) }
+{
+    if is_manager(packet.from) {
+        return refuse(
+            alloc,
+            number,
+            packet.from,
+            ReqNo::NoRequest,
+            Refusal::NoSuchExtent,
+        );
+    }
+    Ok(Step::silent(alloc))
+}
+
+/// A freeze, where there is a replica or none.
+fn freeze<D: Disk>(
+    replicas: &mut BTreeMap<u64, Hosted>,
+    file: &mut RecordFile<D>,
+    alloc: Global,
+    number: u8,
+    packet: &Packet,
+    extent: ExtentId,
+) -> Result<Step, DiskFault>
+    requires running { file.old.stopped ≡ false }
+    ensures { Took D.state replicas.old.entries replicas.new.entries file.old file.new extent
+        (seal_body_row number (find replicas.old.entries extent) packet.now (Freeze extent)) result }
+{
+    match replicas.get_mut(&extent.number()) {
+        None => missing(alloc, number, packet),
+        Some(hosted) => hosted.freeze(alloc, file, number, packet, extent),
+    }
+}
+
+/// A seal, where there is a replica or none.
+fn seal<D: Disk>(
+    replicas: &mut BTreeMap<u64, Hosted>,
+    file: &mut RecordFile<D>,
+    alloc: Global,
+    number: u8,
+    packet: &Packet,
+    extent: ExtentId,
+    length: u32,
+) -> Result<Step, DiskFault>
+    requires running { file.old.stopped ≡ false }
+    ensures { Took D.state replicas.old.entries replicas.new.entries file.old file.new extent
+        (seal_body_row number (find replicas.old.entries extent) packet.now (Seal extent length)) result }
+{
+    match replicas.get_mut(&extent.number()) {
+        None => missing(alloc, number, packet),
+        Some(hosted) => hosted.seal(alloc, file, number, packet, extent, length),
+    }
+}
+
+/// The groups of a sealed replica for another node, where there is a replica or none.
+fn send_tail(
+    replicas: &BTreeMap<u64, Hosted>,
+    alloc: Global,
+    number: u8,
+    packet: &Packet,
+    extent: ExtentId,
+    from: u32,
+    to: u8,
+) -> Result<Step, DiskFault>
+    ensures { Told replicas.now.entries replicas.now.entries extent
+        (seal_body_row number (find replicas.now.entries extent) packet.now (SendTail extent from to)) result }
+{
+    match replicas.get(&extent.number()) {
+        None => missing(alloc, number, packet),
+        Some(hosted) => hosted.send_tail(alloc, number, packet, extent, from, to),
+    }
+}
+
+/// Groups of another node, where there is a replica or none.
+fn tail<D: Disk>(
+    replicas: &mut BTreeMap<u64, Hosted>,
+    file: &mut RecordFile<D>,
+    alloc: Global,
+    number: u8,
+    packet: &Packet,
+    extent: ExtentId,
+    from: u32,
+    length: u32,
+    groups: &Groups,
+) -> Result<Step, DiskFault>
+    requires running { file.old.stopped ≡ false }
+    ensures { Took D.state replicas.old.entries replicas.new.entries file.old file.new extent
+        (seal_body_row number (find replicas.old.entries extent) packet.now (Tail extent from length groups.now)) result }
+{
+    match replicas.get_mut(&extent.number()) {
+        None => refuse(
+            alloc,
+            number,
+            packet.from,
+            ReqNo::NoRequest,
+            Refusal::NoSuchExtent,
+        ),
+        Some(hosted) => hosted.tail(alloc, file, number, packet, extent, from, length, groups),
+    }
+}
+
 fn take_append<D: Disk>(
     replicas: &mut BTreeMap<u64, Hosted>,
     file: &mut RecordFile<D>,
@@ -380,6 +486,21 @@ fn take_seal<D: Disk>(
             places,
         } => make(
             replicas, file, alloc, number, packet, *extent, *fence, *target, places,
+        ),
+        SealBody::Freeze { extent } => freeze(replicas, file, alloc, number, packet, *extent),
+        SealBody::Seal { extent, length } => {
+            seal(replicas, file, alloc, number, packet, *extent, *length)
+        }
+        SealBody::SendTail { extent, from, to } => {
+            send_tail(replicas, alloc, number, packet, *extent, *from, *to)
+        }
+        SealBody::Tail {
+            extent,
+            from,
+            length,
+            groups,
+        } => tail(
+            replicas, file, alloc, number, packet, *extent, *from, *length, groups,
         ),
         _ => Ok(Step::silent(alloc)),
     }

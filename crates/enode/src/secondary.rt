@@ -2,7 +2,7 @@
 ghost use Rattle.std.specs.Prelude.{◌≡◌, ◌<◌, ◌++◌, ◌∷◌, [], None, Some, false, true};
 ghost use Rattle.replica.specs.Groups.{text_length};
 ghost use Rattle.model.specs.Actors.{is_node as is_the_node};
-ghost use Rattle.model.specs.Node.{put_added, put_row};
+ghost use Rattle.model.specs.Node.{is_open as is_open_phase, put_added, put_row};
 ghost use Rattle.enode.specs.Took.{Rowed};
 
 use crate::hosted::{Hosted, is_open, write_append};
@@ -68,6 +68,7 @@ impl Hosted {
         group: &Group,
     ) -> Result<Step, DiskFault>
         requires running { file.old.stopped ≡ false }
+        requires open { is_open_phase self.old.content.phase ≡ true }
         requires room { text_length self.old.content.groups < self.old.content.target }
         ensures { Rowed D.state self.old self.new file.old file.new (put_added node self.old extent (text_length self.old.content.groups) group.now) result }
     {
@@ -77,7 +78,7 @@ impl Hosted {
         let added = group.copy(alloc)?;
         let end = offset + group.size();
         let step = tell_length(alloc, node, self.replica.places().primary, extent, end)?;
-        self.replica.reserve()?;
+        self.replica.reserve(1)?;
         match write_append(alloc, file, extent, offset, added) {
             Ok(()) => {
                 self.replica.add(kept);

@@ -15,7 +15,7 @@ use std::alloc::Global;
 use wire::{ActorId, AppendBody, Blocks, Body, ExtentId, Note, Packet, Refusal, ReqNo, Step};
 
 /// One packet of a node and no observation.
-fn one(alloc: Global, from: u8, to: ActorId, body: Body) -> Result<Step, DiskFault>
+pub(crate) fn one(alloc: Global, from: u8, to: ActorId, body: Body) -> Result<Step, DiskFault>
     ensures packets { IfOk result (λ step. step.packets ≡ sent (Node from) to body ∷ []) }
     ensures notes { IfOk result (λ step. step.notes ≡ []) }
     ensures fault { IfErr result (λ e. e ≡ faults.Memory) }

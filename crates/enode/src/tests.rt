@@ -1,5 +1,5 @@
 use super::*;
-use blocks::{Group, Nodes, Version};
+use blocks::{Group, Groups, Nodes, Version};
 use bytes::Bytes;
 use disk::{DiskFault, MemDisk, RecordFile};
 use std::alloc::Global;
@@ -450,5 +450,222 @@ fn reads_groups_up_to_a_boundary(rt: HostRuntime) -> Result<(), Fail> {
     assert_eq!(rt; groups(&first), Some(1));
     assert_eq!(rt; refusal(&none), Some(Refusal::PastEnd));
     assert_eq!(rt; refusal(&open), Some(Refusal::NotSealed));
+    Ok(())
+}
+
+/// A packet about the end of an extent.
+fn from_actor(
+    node: &mut Node<MemDisk>,
+    alloc: Global,
+    from: ActorId,
+    body: SealBody,
+) -> Result<Step, DiskFault> {
+    let packet = Packet {
+        from,
+        to: ActorId::Node(node.number()),
+        body: Body::Seal(body),
+    };
+    take(node, alloc, &packet)
+}
+
+fn freeze(
+    node: &mut Node<MemDisk>,
+    alloc: Global,
+    from: ActorId,
+    extent: u64,
+) -> Result<Step, DiskFault> {
+    from_actor(
+        node,
+        alloc,
+        from,
+        SealBody::Freeze {
+            extent: ExtentId::new(extent),
+        },
+    )
+}
+
+fn seal(node: &mut Node<MemDisk>, alloc: Global, length: u32) -> Result<Step, DiskFault> {
+    from_actor(
+        node,
+        alloc,
+        ActorId::Manager,
+        SealBody::Seal {
+            extent: ExtentId::new(1),
+            length,
+        },
+    )
+}
+
+fn send_tail(node: &mut Node<MemDisk>, alloc: Global, from: u32) -> Result<Step, DiskFault> {
+    from_actor(
+        node,
+        alloc,
+        ActorId::Manager,
+        SealBody::SendTail {
+            extent: ExtentId::new(1),
+            from,
+            to: 3,
+        },
+    )
+}
+
+fn tail(
+    node: &mut Node<MemDisk>,
+    alloc: Global,
+    from: u8,
+    offset: u32,
+    groups: Groups,
+) -> Result<Step, DiskFault> {
+    from_actor(
+        node,
+        alloc,
+        ActorId::Node(from),
+        SealBody::Tail {
+            extent: ExtentId::new(1),
+            from: offset,
+            length: 9,
+            groups,
+        },
+    )
+}
+
+/// What a step says of the end of an extent, if it sends one packet that does.
+fn ending(step: &Step) -> Option<&SealBody> {
+    match step.packets.as_slice() {
+        [only] => match &only.body {
+            Body::Seal(body) => Some(body),
+            _ => None,
+        },
+        _ => None,
+    }
+}
+
+/// The length at which a step says that the replica is frozen.
+fn frozen(step: &Step) -> Option<u32> {
+    match ending(step) {
+        Some(SealBody::Frozen { length, .. }) => Some(*length),
+        _ => None,
+    }
+}
+
+/// The length that a step says to be too short.
+fn short(step: &Step) -> Option<u32> {
+    match ending(step) {
+        Some(SealBody::Short { length, .. }) => Some(*length),
+        _ => None,
+    }
+}
+
+/// Whether a step says that the replica is sealed.
+fn is_sealed(step: &Step) -> bool {
+    match ending(step) {
+        Some(SealBody::IsSealed { .. }) => true,
+        _ => false,
+    }
+}
+
+/// From where and to where a step sends groups.
+fn sent(step: &Step) -> Option<(u32, u32)> {
+    match ending(step) {
+        Some(SealBody::Tail { from, length, .. }) => Some((*from, *length)),
+        _ => None,
+    }
+}
+
+/// A node with "abc" and "def" in extent 1.
+fn filled(alloc: Global) -> Result<Node<MemDisk>, Fail> {
+    let mut node = made(alloc, 0, 4096)?;
+    append(&mut node, alloc, 1, ["abc"].as_slice())?;
+    append(&mut node, alloc, 1, ["def"].as_slice())?;
+    Ok(node)
+}
+
+fn tail_taken(
+    alloc: Global,
+    node: &mut Node<MemDisk>,
+    from: u8,
+    offset: u32,
+) -> Result<bool, Fail> {
+    let mut groups = Vec::new(alloc);
+    groups.push(group(alloc, "ghi")?)?;
+    let step = tail(node, alloc, from, offset, Groups::of(groups))?;
+    Ok(is_sealed(&step))
+}
+
+#[test]
+fn a_freeze_survives_a_restart(rt: HostRuntime) -> Result<(), Fail> {
+    let mut node = filled(rt.alloc())?;
+    let stranger = frozen(&freeze(&mut node, rt.alloc(), ActorId::User(7), 1)?);
+    let first = frozen(&freeze(&mut node, rt.alloc(), ActorId::Manager, 1)?);
+    let mut again = started(rt.alloc(), node.into_disk())?;
+    let second = frozen(&freeze(&mut again, rt.alloc(), ActorId::Manager, 1)?);
+    let late = refused(rt.alloc(), &mut again, 1, ["a"].as_slice())?;
+    assert_eq!(rt; (stranger, first, second), (None, Some(6), Some(6)));
+    assert_eq!(rt; late, Some(Refusal::NotOpen));
+    Ok(())
+}
+
+#[test]
+fn a_frozen_secondary_takes_no_group(rt: HostRuntime) -> Result<(), Fail> {
+    let mut node = second(rt.alloc())?;
+    let told = frozen(&freeze(&mut node, rt.alloc(), ActorId::Manager, 1)?);
+    let late = refusal(&put_group(&mut node, rt.alloc(), 1, 0, group(rt.alloc(), "abc")?)?);
+    assert_eq!(rt; told, Some(0));
+    assert_eq!(rt; late, Some(Refusal::NotOpen));
+    assert_eq!(rt; length(&node), Some(0));
+    Ok(())
+}
+
+#[test]
+fn a_longer_replica_is_cut(rt: HostRuntime) -> Result<(), Fail> {
+    let mut node = filled(rt.alloc())?;
+    let within = refusal(&seal(&mut node, rt.alloc(), 4)?);
+    let cut = is_sealed(&seal(&mut node, rt.alloc(), 3)?);
+    let mut again = started(rt.alloc(), node.into_disk())?;
+    let same = is_sealed(&seal(&mut again, rt.alloc(), 3)?);
+    let other = refusal(&seal(&mut again, rt.alloc(), 6)?);
+    assert_eq!(rt; within, Some(Refusal::PastEnd));
+    assert!(rt; cut && same);
+    assert_eq!(rt; other, Some(Refusal::NotOpen));
+    assert_eq!(rt; length(&again), Some(3));
+    Ok(())
+}
+
+#[test]
+fn a_shorter_replica_is_filled(rt: HostRuntime) -> Result<(), Fail> {
+    let mut node = filled(rt.alloc())?;
+    let open = tail_taken(rt.alloc(), &mut node, 2, 6)?;
+    let told = short(&seal(&mut node, rt.alloc(), 9)?);
+    let gap = tail_taken(rt.alloc(), &mut node, 2, 7)?;
+    let stranger = tail_taken(rt.alloc(), &mut node, 4, 6)?;
+    let before = length(&node);
+    let taken = tail_taken(rt.alloc(), &mut node, 2, 6)?;
+    let again = started(rt.alloc(), node.into_disk())?;
+    assert_eq!(rt; told, Some(6));
+    assert!(rt; !open && !gap && !stranger && taken);
+    assert_eq!(rt; (before, length(&again)), (Some(6), Some(9)));
+    Ok(())
+}
+
+#[test]
+fn sends_the_tail_of_a_sealed_replica(rt: HostRuntime) -> Result<(), Fail> {
+    let mut node = filled(rt.alloc())?;
+    let open = refusal(&send_tail(&mut node, rt.alloc(), 3)?);
+    seal(&mut node, rt.alloc(), 6)?;
+    let within = refusal(&send_tail(&mut node, rt.alloc(), 4)?);
+    let tail = sent(&send_tail(&mut node, rt.alloc(), 3)?);
+    assert_eq!(rt; open, Some(Refusal::NotSealed));
+    assert_eq!(rt; within, Some(Refusal::PastEnd));
+    assert_eq!(rt; tail, Some((3, 6)));
+    Ok(())
+}
+
+#[test]
+fn tells_the_manager_alone_that_there_is_none(rt: HostRuntime) -> Result<(), Fail> {
+    let mut node = made(rt.alloc(), 0, 4096)?;
+    let manager = refusal(&freeze(&mut node, rt.alloc(), ActorId::Manager, 2)?);
+    let user = refusal(&freeze(&mut node, rt.alloc(), ActorId::User(7), 2)?);
+    assert_eq!(rt; manager, Some(Refusal::NoSuchExtent));
+    assert_eq!(rt; user, None);
     Ok(())
 }

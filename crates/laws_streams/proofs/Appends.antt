@@ -23,7 +23,8 @@ use Rattle.model.proofs.Tests.{if_elim, both_parts, none_met}
 use Rattle.laws_streams.specs.Origins.{Begins, Origin}
 use Rattle.laws_streams.proofs.Lists.{begins_refl, begins_push, NoneEmpty, none_empty-push, stands_on, stands_last, stands_end, same_beginning}
 use Rattle.laws_streams.proofs.Tests.{none_of, is_below, not_below, not_true, tested, changed_elim, changed_at-same, changed_at-other, changed-same, changed-other, untested, Each}
-use Rattle.laws_streams.proofs.Ground.{Ground, Sound, FineAppend, Chain, FinePhase, FineOne, FineNone, FineReplica, no_more, Later, Still, Moment, origin_of, Unmoved, Added, FineRow}
+use Rattle.laws_streams.proofs.Ground.{Ground, Sound, FineAppend, Chain, FinePhase, FineOne, FineNone, FineReplica, no_more, Later, Still}
+use Rattle.laws_streams.proofs.Holding.{Moment, origin_of, Unmoved, Added, FineRow}
 use Rattle.laws_streams.proofs.Keeping.{Keeps, plain, sent, kept_silent, unless_refused, told_nothing, open_phase, phase_open, sound_later, grown_last, grown_closed}
 
 -- ---- Make

@@ -7,10 +7,11 @@ use Rattle.replica.proofs.Lengths.{text-append}
 use Rattle.model.specs.Honest.{Stands, Apart, Agree, Kept}
 use Rattle.model.specs.declared.event.Event.{Event}
 use Rattle.model.specs.World.{World, run}
-use Rattle.laws_streams.specs.Origins.{Begins, Shows, Came, Origins}
+use Rattle.laws_streams.specs.Origins.{Begins, Shows, Came, Decided, Origins}
 use Rattle.laws_streams.proofs.Lists.{shows_both, shows_within, same_beginning, stands_back}
 use Rattle.laws_streams.proofs.Tests.{each-contains, all_pairs, either, tested}
-use Rattle.laws_streams.proofs.Ground.{Ground, FineAck, FineContent, FineNote, Holds}
+use Rattle.laws_streams.proofs.Ground.{Ground, FineAck, FineContent, FineNote}
+use Rattle.laws_streams.proofs.Holding.{Holds}
 use Rattle.laws_streams.proofs.Dates.{Dated, each_of-get, pair-get}
 
 -- a beginning of the script shows its text
@@ -70,7 +71,7 @@ module _ (w : World) (g : Ground) (holds : Holds w g) where
             ]
           ]
 
-module _ (k : ℕ) (events : List Event) (first : World) (g : Ground) (holds : Holds (run events first) g) (dated : Dated (Came events first) k g) where
+module _ (k : ℕ) (events : List Event) (first : World) (g : Ground) (holds : Holds (run events first) g) (dated : Dated (Came events first) (Decided events first) k g) where
   pub origins : Origins events first
   origins = record {
     script = g.script;
@@ -81,4 +82,5 @@ module _ (k : ℕ) (events : List Event) (first : World) (g : Ground) (holds : H
     acked = λ e o group p. (told (run events first) g holds (Acked e o group) p).stands;
     content = λ e n groups p. (told (run events first) g holds (Content e n groups) p).begins;
     seen = λ e n o bytes p. told (run events first) g holds (Seen e n o bytes) p;
+    sealed = λ e l p. dated.decided e l (told (run events first) g holds (SealedAt e l) p);
   }

@@ -1,12 +1,13 @@
--- Each group of a script with its origin, in the order of the events.
-use Rattle.std.proofs.Common.{◌≡◌, ◌⊎◌, ℕ, zero, suc, ◌<◌, List, [], ◌∷◌, ◌++◌, Some, slice_get, inl, inr, arith, subst}
+-- Each group of a script with its origin, in the order of the events, and each sealed length with its decision.
+use Rattle.std.proofs.Common.{◌≡◌, ◌⊎◌, ℕ, zero, suc, ◌<◌, List, [], ◌∷◌, ◌++◌, Some, slice_get, sym, ◌∙◌, inl, inr, arith, subst}
 use Rattle.wire.specs.declared.actor.ReqNo.{ReqNo}
 use Rattle.wire.specs.declared.body.AppendBody.TheVariants.{Append}
 use Rattle.wire.specs.declared.body.Body.TheVariants as bodies
 use Rattle.replica.specs.Groups.{Group}
 use Rattle.laws_streams.specs.Origins.{Origin}
 use Rattle.laws_streams.proofs.Tests.{Each, each-append, each-weaker, each-get, EachPair, pairs-append}
-use Rattle.laws_streams.proofs.Ground.{Ground, Moment, origin_of, Unmoved, Added}
+use Rattle.laws_streams.proofs.Ground.{Ground}
+use Rattle.laws_streams.proofs.Holding.{Moment, origin_of, Unmoved, Added}
 
 -- R holds of the elements of two lists that are as long, one after the other
 abbrev pub EachOf : {A B : Type 0} → (A → B → Type 0) → List A → List B → Type 0
@@ -38,11 +39,13 @@ pair-get R (z ∷ zs) zero (suc j) x y a l p q = let s : z ≡ x = cc in subst (
 pair-get R (z ∷ zs) (suc i) zero x y a l p q = absurd (omega arith)
 pair-get R (z ∷ zs) (suc i) (suc j) x y a l p q = pair-get R zs i j x y a.1 (omega arith) p q
 
--- C holds of each group of each extent with its origin, all from before the event of this number
-pub record Dated (C : ℕ → Group → Origin → Type 0) (k : ℕ) (g : Ground) : Type 0 where
+-- C holds of each group of each extent with its origin, all from before the event of this number, and D of each extent
+-- that is sealed with its length
+pub record Dated (C : ℕ → Group → Origin → Type 0) (D : ℕ → ℕ → Type 0) (k : ℕ) (g : Ground) : Type 0 where
   pub came : (e : ℕ) → EachOf (C e) (g.script e) (g.origin e)
   pub earlier : (e : ℕ) → Each (λ o. o.event < k) (g.origin e)
   pub in_order : (e : ℕ) → EachPair (λ o p. o.event < p.event) (g.origin e)
+  pub decided : (e l : ℕ) → g.sealed e ≡ Some l → D e l
 
 -- what comes of one event, for one extent
 record DatedAt (C : ℕ → Group → Origin → Type 0) (k e : ℕ) (script : List Group) (origin : List Origin) : Type 0 where
@@ -55,15 +58,19 @@ abbrev pub Comes : (ℕ → Group → Origin → Type 0) → Moment → Type 0
 Comes C now = (e generation : ℕ) (group : Group) (request : ReqNo) →
     now.packet.body ≡ bodies.Append (Append e generation group request) → C e group (origin_of now generation request)
 
-module _ (C : ℕ → Group → Origin → Type 0) where
-  kept_at : (k : ℕ) (g h : Ground) (e : ℕ) → Dated C k g → Unmoved g h e → DatedAt C (suc k) e (h.script e) (h.origin e)
+-- what is sealed was sealed before, or is one of these news
+abbrev pub Sealings : (ℕ → ℕ → Type 0) → Ground → Ground → Type 0
+Sealings News g h = (e l : ℕ) → h.sealed e ≡ Some l → (g.sealed e ≡ Some l) ⊎ News e l
+
+module _ (C : ℕ → Group → Origin → Type 0) (D : ℕ → ℕ → Type 0) where
+  kept_at : (k : ℕ) (g h : Ground) (e : ℕ) → Dated C D k g → Unmoved g h e → DatedAt C (suc k) e (h.script e) (h.origin e)
   kept_at k g h e d same = rw (same.0, same.1) (record {
     came = d.came e;
     earlier = each-weaker (λ o. o.event < k) (λ o. o.event < suc k) (λ o l. omega (arith, l)) (g.origin e) (d.earlier e);
     in_order = d.in_order e;
   })
 
-  added_at : (now : Moment) (g h : Ground) (e : ℕ) → Dated C now.number g → Comes C now → Added now g h e → DatedAt C (suc now.number) e (h.script e) (h.origin e)
+  added_at : (now : Moment) (g h : Ground) (e : ℕ) → Dated C D now.number g → Comes C now → Added now g h e → DatedAt C (suc now.number) e (h.script e) (h.origin e)
   added_at now g h e d comes a =
       let new = origin_of now a.generation a.request in
       rw (a.script, a.origin) (record {
@@ -74,16 +81,18 @@ module _ (C : ℕ → Group → Origin → Type 0) where
             (each-weaker (λ o. o.event < now.number) (λ o. Each (λ p. o.event < p.event) (origin_of now a.generation a.request ∷ [])) (λ o l. (l, tt)) (g.origin e) (d.earlier e));
       })
 
-  all_at : (k : ℕ) (h : Ground) → ((e : ℕ) → DatedAt C k e (h.script e) (h.origin e)) → Dated C k h
-  all_at k h each = record {
+  all_at : (k : ℕ) (g h : Ground) → Dated C D k g → Sealings D g h → ((e : ℕ) → DatedAt C (suc k) e (h.script e) (h.origin e)) → Dated C D (suc k) h
+  all_at k g h d sealings each = record {
     came = λ e. (each e).came;
     earlier = λ e. (each e).earlier;
     in_order = λ e. (each e).in_order;
+    decided = λ e l is. elim (sealings e l is) [ inl old ↦ d.decided e l old | inr new ↦ new ];
   }
 
-  pub unmoved_dated : (k : ℕ) (g h : Ground) → Dated C k g → ((e : ℕ) → Unmoved g h e) → Dated C (suc k) h
-  unmoved_dated k g h d same = all_at (suc k) h (λ e. kept_at k g h e d (same e))
+  pub unmoved_dated : (k : ℕ) (g h : Ground) → Dated C D k g → ((e : ℕ) → Unmoved g h e) → Sealings D g h → Dated C D (suc k) h
+  unmoved_dated k g h d same sealings = all_at k g h d sealings (λ e. kept_at k g h e d (same e))
 
-  pub grown_dated : (now : Moment) (g h : Ground) → Dated C now.number g → Comes C now → ((e : ℕ) → Unmoved g h e ⊎ Added now g h e) → Dated C (suc now.number) h
-  grown_dated now g h d comes grown = all_at (suc now.number) h
+  pub grown_dated : (now : Moment) (g h : Ground) → Dated C D now.number g → Comes C now → ((e : ℕ) → Unmoved g h e ⊎ Added now g h e) →
+      ((e : ℕ) → h.sealed e ≡ g.sealed e) → Dated C D (suc now.number) h
+  grown_dated now g h d comes grown sealed = all_at now.number g h d (λ e l is. inl (sym (sealed e) ∙ is))
       (λ e. elim (grown e) [ inl s ↦ kept_at now.number g h e d s | inr a ↦ added_at now g h e d comes a ])

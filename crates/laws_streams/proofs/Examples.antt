@@ -17,32 +17,32 @@ use Rattle.model.specs.declared.event.Event.TheVariants.{Submit, Deliver}
 use Rattle.model.specs.World.{run, start}
 use Rattle.blocks.specs.Reading as tests
 
-abbrev asked : ℕ → ReqNo
+abbrev pub asked : ℕ → ReqNo
 asked ticket = numbers.User 1 ticket
 
-abbrev metadata : StreamName
+abbrev pub metadata : StreamName
 metadata = record { range = 0; kind = Metadata }
 
-abbrev places : Nodes
+abbrev pub places : Nodes
 places = record { primary = 1; second = 2; third = 3 }
 
-abbrev delivered : List ℕ → List Event
+abbrev pub delivered : List ℕ → List Event
 delivered [] = []
 delivered (k ∷ ks) = Deliver k ∷ delivered ks
 
 -- a stream with one extent, which has a replica on each of three nodes: packets 0 to 6
-abbrev begun : List Event
+abbrev pub begun : List Event
 begun =
     Submit 1 Manager (bodies.Stream (CreateStream metadata 0 (asked 0))) ∷ delivered (0 ∷ 1 ∷ [])
     ++ Submit 1 Manager (bodies.Stream (Extend metadata 0 None places (asked 1))) ∷ delivered (2 ∷ 3 ∷ 4 ∷ 5 ∷ 6 ∷ [])
 
-abbrev append : ℕ → Group → Event
+abbrev pub append : ℕ → Group → Event
 append ticket blocks = Submit 1 (Node 1) (bodies.Append (Append 1 0 blocks (asked ticket)))
 
-abbrev abc : Group
+abbrev pub abc : Group
 abc = (97 ∷ 98 ∷ 99 ∷ []) ∷ []
 
-abbrev def : Group
+abbrev pub def : Group
 def = (100 ∷ 101 ∷ 102 ∷ []) ∷ []
 
 abbrev abc_de : Group

@@ -1,10 +1,9 @@
 -- What is known for good of each extent, and how packets, observations and replicas rest on it.
-use Rattle.std.proofs.Common.{◌≡◌, ◌≢◌, ◌⊎◌, ℕ, ◌+◌, ◌<◌, ◌≤◌, Bool, true, false, List, [], ◌∷◌, ◌++◌, length, Option, Some, None, refl, sym, ◌∙◌, arith, ap, ◌==◌, append-nil}
+use Rattle.std.proofs.Common.{◌≡◌, ℕ, ◌+◌, ◌<◌, ◌≤◌, Bool, true, false, List, [], ◌∷◌, ◌++◌, length, Option, Some, None, refl, sym, ◌∙◌, arith, ap, append-nil}
 use Rattle.blocks.specs.declared.record.Nodes.{Nodes}
 use Rattle.wire.specs.declared.actor.ActorId.{ActorId}
-use Rattle.wire.specs.declared.actor.ReqNo.{ReqNo}
 use Rattle.wire.specs.declared.body.AppendBody.{AppendBody}
-use Rattle.wire.specs.declared.body.AppendBody.TheVariants.{Append, Put, Have}
+use Rattle.wire.specs.declared.body.AppendBody.TheVariants.{Put, Have}
 use Rattle.wire.specs.declared.body.SealBody.{SealBody}
 use Rattle.wire.specs.declared.body.SealBody.TheVariants as seals
 use Rattle.wire.specs.declared.body.Body.{Body}
@@ -18,16 +17,12 @@ use Rattle.replica.specs.Groups.{Group, text, size, text_length}
 use Rattle.replica.specs.Replay.{is_place}
 use Rattle.replica.proofs.Lengths.{text-append}
 use Rattle.model.specs.declared.waiting.Waiting.{Waiting}
-use Rattle.model.specs.Actors.{is_node, generation_of}
-use Rattle.model.specs.Honest.{Stands, Apart}
-use Rattle.model.specs.Node.{Replica, stopped}
-use Rattle.model.specs.Manager.{Book, Extent}
-use Rattle.model.specs.Outcome.{Outcome}
-use Rattle.model.specs.World.{World, after_row, manager_does, unsent, halted}
-use Rattle.model.proofs.Tests.{if_elim}
+use Rattle.model.specs.Actors.{is_node}
+use Rattle.model.specs.Honest.{Stands}
+use Rattle.model.specs.Node.{Replica}
 use Rattle.laws_streams.specs.Origins.{Begins, Shows, Origin}
 use Rattle.laws_streams.proofs.Lists.{begins_refl, begins_trans, NoneEmpty, shows_on, stands_on}
-use Rattle.laws_streams.proofs.Tests.{Each, each-append, each-weaker, EachPair, pairs-append, changed_at_elim}
+use Rattle.laws_streams.proofs.Tests.{Each}
 
 -- What never turns false again, by extent, and by node and extent. A node's last length is the one that it has while it
 -- is not sealed.
@@ -241,147 +236,3 @@ replica_later g h sound later n e still (Some r) f =
       waiting = λ i. let k = still.primary r.content.places made i in rw (k.0, k.1) (f.waiting i);
       fence = λ i. let k = still.primary r.content.places made i in omega (arith, k.2, f.fence i);
     }
-
--- ---- the world
-
-abbrev pub places_of : Option Extent → Option Nodes
-places_of None = None
-places_of (Some x) = Some x.places
-
-abbrev pub sealed_of : Option Extent → Option ℕ
-sealed_of None = None
-sealed_of (Some x) = x.sealed
-
--- the manager's book
-pub record FineBook (g : Ground) (b : Book) : Type 0 where
-  pub places : (e : ℕ) → g.places e ≡ places_of (b.extent e)
-  pub sealed : (e : ℕ) → g.sealed e ≡ sealed_of (b.extent e)
-  pub fresh : (e : ℕ) → b.count < e → b.extent e ≡ None
-
--- the whole invariant
-pub record Holds (w : World) (g : Ground) : Type 0 where
-  pub sound : Sound g
-  pub packets : Each (FinePacket g) w.post
-  pub notes : Each (FineNote g) w.notes
-  pub apart : EachPair Apart w.notes
-  pub replicas : (n e : ℕ) → FineReplica g n e (w.replica n e)
-  pub book : FineBook g w.book
-
--- an event: what was observed before it, its number, and the packet that is delivered
-pub record Moment : Type 0 where
-  pub told : List Note
-  pub number : ℕ
-  pub packet : Packet
-
-abbrev pub Unmoved : Ground → Ground → ℕ → Type 0
-Unmoved g h e = (h.script e ≡ g.script e) × (h.origin e ≡ g.origin e)
-
--- where a group comes from that is appended now
-abbrev pub origin_of : Moment → ℕ → ReqNo → Origin
-origin_of now generation request =
-    record { generation = generation_of now.packet.from generation; request = request; event = now.number }
-
--- the script gained the group of the append that was delivered
-pub record Added (now : Moment) (g h : Ground) (e : ℕ) : Type 0 where
-  pub group : Group
-  pub generation : ℕ
-  pub request : ReqNo
-  pub body : now.packet.body ≡ bodies.Append (Append e generation group request)
-  pub script : h.script e ≡ g.script e ++ group ∷ []
-  pub origin : h.origin e ≡ g.origin e ++ origin_of now generation request ∷ []
-
--- what a row of a node's table leaves
-pub record FineRow (now : Moment) (g h : Ground) (n e : ℕ) (o : Outcome (Option Replica)) : Type 0 where
-  pub sound : Sound h
-  pub later : Later g h
-  pub still : (m k : ℕ) → (m ≢ n) ⊎ (k ≢ e) → Still g h m k
-  pub grown : (k : ℕ) → Unmoved g h k ⊎ Added now g h k
-  pub replica : FineReplica h n e o.after
-  pub packets : Each (FinePacket h) o.packets
-  pub notes : Each (FineNote h) o.notes
-  pub apart : EachPair Apart o.notes
-  pub cross : Each (λ x. Each (Apart x) o.notes) now.told
-  pub places : (k : ℕ) → h.places k ≡ g.places k
-  pub sealed : (k : ℕ) → h.sealed k ≡ g.sealed k
-
-book_later : (g h : Ground) → ((k : ℕ) → h.places k ≡ g.places k) → ((k : ℕ) → h.sealed k ≡ g.sealed k) → (b : Book) → FineBook g b → FineBook h b
-book_later g h places sealed b f = record {
-  places = λ e. places e ∙ f.places e;
-  sealed = λ e. sealed e ∙ f.sealed e;
-  fresh = f.fresh;
-}
-
-pub row_holds : (w : World) (now : Moment) (g h : Ground) (n e : ℕ) (o : Outcome (Option Replica)) → now.told ≡ w.notes →
-    Holds w g → FineRow now g h n e o → Holds (after_row w n e o) h
-row_holds w now g h n e o before a r = record {
-  sound = r.sound;
-  packets = each-append (FinePacket h) w.post o.packets (each-weaker (FinePacket g) (FinePacket h) (packet_later g h r.later) w.post a.packets) r.packets;
-  notes = each-append (FineNote h) w.notes o.notes (each-weaker (FineNote g) (FineNote h) (note_later g h r.later) w.notes a.notes) r.notes;
-  apart = pairs-append Apart w.notes o.notes a.apart r.apart (rw (← before) r.cross);
-  replicas = λ m k. changed_at_elim (FineReplica h m k) n e o.after w.replica m k
-      (λ p q. rw (p, q) r.replica)
-      (λ other. replica_later g h a.sound r.later m k (r.still m k other) (w.replica m k) (a.replicas m k));
-  book = book_later g h r.places r.sealed w.book a.book;
-}
-
--- the same without its packets
-pub row_unsent : (now : Moment) (g h : Ground) (n e : ℕ) (o : Outcome (Option Replica)) → FineRow now g h n e o → FineRow now g h n e (unsent o)
-row_unsent now g h n e o r = record {
-  sound = r.sound;
-  later = r.later;
-  still = r.still;
-  grown = r.grown;
-  replica = r.replica;
-  packets = tt;
-  notes = r.notes;
-  apart = r.apart;
-  cross = r.cross;
-  places = r.places;
-  sealed = r.sealed;
-}
-
--- what a row of the manager's table leaves
-pub record FineRuling (told : List Note) (g h : Ground) (o : Outcome Book) : Type 0 where
-  pub sound : Sound h
-  pub later : Later g h
-  pub still : (m k : ℕ) → Still g h m k
-  pub unmoved : (k : ℕ) → Unmoved g h k
-  pub book : FineBook h o.after
-  pub packets : Each (FinePacket h) o.packets
-  pub notes : Each (FineNote h) o.notes
-  pub apart : EachPair Apart o.notes
-  pub cross : Each (λ x. Each (Apart x) o.notes) told
-
-pub ruling_holds : (w : World) (g h : Ground) (o : Outcome Book) → Holds w g → FineRuling w.notes g h o → Holds (manager_does w o) h
-ruling_holds w g h o a r = record {
-  sound = r.sound;
-  packets = each-append (FinePacket h) w.post o.packets (each-weaker (FinePacket g) (FinePacket h) (packet_later g h r.later) w.post a.packets) r.packets;
-  notes = each-append (FineNote h) w.notes o.notes (each-weaker (FineNote g) (FineNote h) (note_later g h r.later) w.notes a.notes) r.notes;
-  apart = pairs-append Apart w.notes o.notes a.apart r.apart r.cross;
-  replicas = λ m k. replica_later g h a.sound r.later m k (r.still m k) (w.replica m k) (a.replicas m k);
-  book = r.book;
-}
-
--- ---- stops
-
-stopped_fine : (g : Ground) (n e : ℕ) (s : Option Replica) → FineReplica g n e s → FineReplica g n e (stopped s)
-stopped_fine g n e None f = f
-stopped_fine g n e (Some r) f = record {
-  places = f.places;
-  begins = f.begins;
-  phase = f.phase;
-  second_has = omega arith;
-  third_has = omega arith;
-  waiting = λ i. tt;
-  fence = f.fence;
-}
-
-pub halted_holds : (w : World) (g : Ground) (n : ℕ) → Holds w g → Holds (halted w n) g
-halted_holds w g n a = record {
-  sound = a.sound;
-  packets = a.packets;
-  notes = a.notes;
-  apart = a.apart;
-  book = a.book;
-  replicas = λ m e. if_elim (FineReplica g m e) (m == n) _ _ (λ t. stopped_fine g m e (w.replica m e) (a.replicas m e)) (λ f. a.replicas m e);
-}

@@ -15,7 +15,8 @@ use Rattle.model.specs.Node.{Replica, is_open, covered, lesser, greater, acked, 
 use Rattle.model.proofs.Tests.{if_elim, both_parts}
 use Rattle.laws_streams.proofs.Lists.{begins_refl, stands_end}
 use Rattle.laws_streams.proofs.Tests.{at_most, above, tested, changed_elim, changed-same, Each, each-weaker, EachPair}
-use Rattle.laws_streams.proofs.Ground.{Ground, Sound, FineAppend, FinePacket, FineNote, Chain, FinePhase, FineOne, no_more, Later, Still, Moment, FineRow}
+use Rattle.laws_streams.proofs.Ground.{Ground, Sound, FineAppend, FinePacket, FineNote, Chain, FinePhase, FineOne, no_more, Later, Still}
+use Rattle.laws_streams.proofs.Holding.{Moment, FineRow}
 use Rattle.laws_streams.proofs.Keeping.{Keeps, each_all, kept_silent, open_phase, sound_later}
 
 -- ---- the waiting appends

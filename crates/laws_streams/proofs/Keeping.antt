@@ -1,8 +1,9 @@
--- What a row of a node's table keeps: the invariant, with more known or the same.
+-- What a row of a table keeps: the invariant, with more known or the same.
 use Rattle.std.proofs.Common.{◌≡◌, ℕ, ◌≤◌, true, false, List, [], ◌∷◌, length, Option, Some, None, refl, sym, ◌∙◌, inl, arith, subst}
 use Rattle.blocks.specs.declared.record.Nodes.{Nodes}
+use Rattle.blocks.specs.declared.record.Record.{Record}
 use Rattle.wire.specs.declared.actor.ReqNo.{ReqNo}
-use Rattle.wire.specs.declared.actor.ActorId.TheVariants.{Node}
+use Rattle.wire.specs.declared.actor.ActorId.TheVariants.{Node, Manager}
 use Rattle.wire.specs.declared.body.AppendBody.TheVariants.{Refused}
 use Rattle.wire.specs.declared.body.Body.TheVariants as bodies
 use Rattle.wire.specs.declared.note.Note.{Note}
@@ -13,11 +14,13 @@ use Rattle.replica.specs.declared.phase.Phase.TheVariants as phases
 use Rattle.replica.specs.Groups.{Group}
 use Rattle.model.specs.Honest.{Apart}
 use Rattle.model.specs.Maps.{changed_at}
+use Rattle.model.specs.Manager.{Book}
 use Rattle.model.specs.Node.{Replica, is_open}
-use Rattle.model.specs.Outcome.{Outcome, packet, silent, sends, or_refused}
+use Rattle.model.specs.Outcome.{Outcome, packet, silent, sends, refused, or_refused}
 use Rattle.laws_streams.proofs.Lists.{NoneEmpty}
 use Rattle.laws_streams.proofs.Tests.{changed_at_elim, Each, EachPair}
-use Rattle.laws_streams.proofs.Ground.{Ground, Sound, FinePacket, FineNote, FinePhase, FineOne, FineReplica, Later, later_refl, still_refl, Moment, FineRow}
+use Rattle.laws_streams.proofs.Ground.{Ground, Sound, FinePacket, FineNote, FinePhase, FineOne, FineReplica, Later, later_refl, still_refl}
+use Rattle.laws_streams.proofs.Holding.{FineBook, Moment, FineRow, FineRuling}
 
 abbrev pub Keeps : Moment → Ground → ℕ → ℕ → Outcome (Option Replica) → Type 0
 Keeps now g n e o = (h : Ground) × FineRow now g h n e o
@@ -104,3 +107,37 @@ module _ (g : Ground) (n e : ℕ) (v : ℕ) (closed : g.closed n e ≡ false) (m
   pub grown_closed : (m k : ℕ) → g.closed m k ≡ true → changed_at n e v g.last m k ≡ g.last m k
   grown_closed m k c = changed_at_elim (λ x. x ≡ g.last m k) n e v g.last m k
       (λ p q. let d : g.closed m k ≡ g.closed n e = cc in absurd (cc)) (λ o. refl)
+
+-- ---- a row of the manager's table
+
+abbrev pub Rules : (ℕ → ℕ → Type 0) → List Note → Ground → Outcome Book → Type 0
+Rules News told g o = (h : Ground) × FineRuling News told g h o
+
+module _ (News : ℕ → ℕ → Type 0) (told : List Note) (g : Ground) (b : Book) (sound : Sound g) (book : FineBook g b) where
+  -- a row that adds nothing to what is known
+  pub written_rule : (written : Option Record) (packets : List Packet) → Each (FinePacket g) packets →
+      Rules News told g (record { after = b; written = written; packets = packets; notes = [] })
+  written_rule written packets fine = (
+    g,
+    record {
+      sound = sound;
+      later = later_refl g;
+      still = still_refl g;
+      unmoved = λ k. (refl, refl);
+      sealed = λ k l is. inl is;
+      book = book;
+      packets = fine;
+      notes = tt;
+      apart = tt;
+      cross = told_nothing told;
+    },
+  )
+
+  pub plain_rule : (packets : List Packet) → Each (FinePacket g) packets → Rules News told g (sends b packets)
+  plain_rule packets fine = written_rule None packets fine
+
+  pub silent_rule : Rules News told g (silent b)
+  silent_rule = plain_rule [] tt
+
+  pub refused_rule : (p : Packet) (q : ReqNo) (refusal : Refusal) → Rules News told g (refused b Manager p q refusal)
+  refused_rule p q refusal = plain_rule _ (tt, tt)

@@ -1,13 +1,17 @@
 pub mod Lists
 pub mod Tests
 pub mod Ground
+pub mod Holding
 pub mod Keeping
 pub mod Appends
 pub mod Haves
 pub mod Readings
+pub mod Sealing
 pub mod Rows
+pub mod Deciding
 pub mod Rulings
 pub mod Claims
 pub mod Dates
 pub mod Law
 pub mod Examples
+pub mod SealedExamples

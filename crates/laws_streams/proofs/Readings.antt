@@ -16,7 +16,8 @@ use Rattle.model.proofs.Tests.{if_elim, both_parts, none_met}
 use Rattle.laws_streams.specs.Origins.{Begins, Shows}
 use Rattle.laws_streams.proofs.Lists.{begins_refl, begins_trans, shows_on, shows_part, shows_within, text_length-cons}
 use Rattle.laws_streams.proofs.Tests.{not_below, at_most, tested, Each}
-use Rattle.laws_streams.proofs.Ground.{Ground, Sound, FineNote, FinePhase, FineOne, Moment}
+use Rattle.laws_streams.proofs.Ground.{Ground, Sound, FineNote, FinePhase, FineOne}
+use Rattle.laws_streams.proofs.Holding.{Moment}
 use Rattle.laws_streams.proofs.Keeping.{Keeps, each_all, plain, sent, unless_refused}
 
 apart_seen : (e n o : ℕ) (bytes : List ℕ) (x : Note) → Each (Apart x) (Seen e n o bytes ∷ [])
@@ -66,7 +67,7 @@ prefix_fine upto (x ∷ xs) c is =
     (λ t k. prefix_more upto x xs c (at_most (size x) upto t) (groups_to (upto - size x) xs) (λ d. prefix_fine (upto - size x) xs d) k)
     (λ _ k. absurd (cc))) is
 
-sealed_length : (g : Ground) (n e : ℕ) (at : Nodes) (groups : List Group) (phase : Phase) → is_sealed phase ≡ true → FinePhase g n e at groups phase → g.sealed e ≡ Some (text_length groups)
+pub sealed_length : (g : Ground) (n e : ℕ) (at : Nodes) (groups : List Group) (phase : Phase) → is_sealed phase ≡ true → FinePhase g n e at groups phase → g.sealed e ≡ Some (text_length groups)
 sealed_length g n e at groups phases.Open t f = absurd (cc)
 sealed_length g n e at groups phases.Frozen t f = absurd (cc)
 sealed_length g n e at groups phases.Sealed t f = f.1

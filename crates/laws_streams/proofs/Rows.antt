@@ -3,18 +3,23 @@ use Rattle.std.proofs.Common.{◌≡◌, ℕ, Option, Some, None, refl}
 use Rattle.wire.specs.declared.body.AppendBody.{AppendBody}
 use Rattle.wire.specs.declared.body.AppendBody.TheVariants.{Append, Put, Have}
 use Rattle.wire.specs.declared.body.SealBody.{SealBody}
-use Rattle.wire.specs.declared.body.SealBody.TheVariants.{Make}
+use Rattle.wire.specs.declared.body.SealBody.TheVariants.{Make, Freeze, Seal, SendTail, Tail}
 use Rattle.wire.specs.declared.body.ReadBody.{ReadBody}
 use Rattle.wire.specs.declared.body.ReadBody.TheVariants as reads
 use Rattle.wire.specs.declared.body.Body.{Body}
 use Rattle.wire.specs.declared.body.Body.TheVariants as bodies
-use Rattle.model.specs.Node.{Replica, append_extent, seal_extent, read_extent, extent_of, append_body_row, seal_body_row, read_body_row, node_row}
+use Rattle.model.specs.Actors.{is_manager}
+use Rattle.model.specs.Node.{Replica, append_extent, seal_extent, read_extent, extent_of, append_body_row, seal_body_row, read_body_row, missing, node_row}
+use Rattle.model.specs.Outcome.{silent}
+use Rattle.model.proofs.Tests.{if_elim}
 use Rattle.laws_streams.proofs.Tests.{Each}
-use Rattle.laws_streams.proofs.Ground.{Ground, Sound, FineAppend, FineSeal, FineBody, FineNote, FineReplica, Moment}
+use Rattle.laws_streams.proofs.Ground.{Ground, Sound, FineAppend, FineSeal, FineBody, FineNote, FineReplica}
+use Rattle.laws_streams.proofs.Holding.{Moment}
 use Rattle.laws_streams.proofs.Keeping.{Keeps, sent, kept_silent}
 use Rattle.laws_streams.proofs.Appends.{make_keeps, append_keeps, put_keeps}
 use Rattle.laws_streams.proofs.Haves.{have_keeps}
 use Rattle.laws_streams.proofs.Readings.{read_keeps, groups_keep}
+use Rattle.laws_streams.proofs.Sealing.{freeze_keeps, seal_keeps, send_tail_keeps, tail_keeps}
 
 append_body_keeps : (now : Moment) (g : Ground) (n : ℕ) (s : Option Replica) (b : AppendBody) → now.packet.body ≡ bodies.Append b → Sound g → Each (FineNote g) now.told →
     FineReplica g n (append_extent b) s → FineAppend g now.packet.from b → Keeps now g n (append_extent b) (append_body_row n s now.packet b)
@@ -26,9 +31,21 @@ append_body_keeps now g n (Some r) (Have e length) is sound notes fine body = ha
 append_body_keeps now g n None (Have e length) is sound notes fine body = sent now g n e None _ sound fine (tt, tt)
 append_body_keeps now g n s b is sound notes fine body = kept_silent now g n (append_extent b) s sound fine
 
+missing_keeps : (now : Moment) (g : Ground) (n e : ℕ) → Sound g → FineReplica g n e None → Keeps now g n e (missing n now.packet)
+missing_keeps now g n e sound fine =
+    if_elim (Keeps now g n e) (is_manager now.packet.from) _ (silent None) (λ t. sent now g n e None _ sound fine (tt, tt)) (λ f. kept_silent now g n e None sound fine)
+
 seal_body_keeps : (now : Moment) (g : Ground) (n : ℕ) (s : Option Replica) (b : SealBody) → Sound g →
     FineReplica g n (seal_extent b) s → FineSeal g now.packet.from b → Keeps now g n (seal_extent b) (seal_body_row n s now.packet b)
 seal_body_keeps now g n None (Make e fence target places) sound fine body = make_keeps now g n now.packet e fence target places sound fine body
+seal_body_keeps now g n (Some r) (Freeze e) sound fine body = freeze_keeps now g n e r now.packet sound fine
+seal_body_keeps now g n None (Freeze e) sound fine body = missing_keeps now g n e sound fine
+seal_body_keeps now g n (Some r) (Seal e length) sound fine body = seal_keeps now g n e length r now.packet sound fine body
+seal_body_keeps now g n None (Seal e length) sound fine body = missing_keeps now g n e sound fine
+seal_body_keeps now g n (Some r) (SendTail e from to) sound fine body = send_tail_keeps now g n e from to r now.packet sound fine
+seal_body_keeps now g n None (SendTail e from to) sound fine body = missing_keeps now g n e sound fine
+seal_body_keeps now g n (Some r) (Tail e from length groups) sound fine body = tail_keeps now g n e from length groups r now.packet sound fine body
+seal_body_keeps now g n None (Tail e from length groups) sound fine body = sent now g n e None _ sound fine (tt, tt)
 seal_body_keeps now g n s b sound fine body = kept_silent now g n (seal_extent b) s sound fine
 
 read_body_keeps : (now : Moment) (g : Ground) (n : ℕ) (s : Option Replica) (b : ReadBody) → Sound g →

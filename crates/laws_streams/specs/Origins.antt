@@ -1,13 +1,15 @@
--- Where the groups of an extent come from: each was appended by one delivery of an append.
-use Rattle.std.specs.Prelude.{◌≡◌, ℕ, ◌+◌, ◌<◌, ◌≤◌, List, ◌++◌, length, get_or, take, Some, slice_get, Contains}
+-- Where the groups of an extent come from: each was appended by one delivery of an append. And where its length comes
+-- from: it is the least that a place had told when it was decided.
+use Rattle.std.specs.Prelude.{◌≡◌, ◌⊎◌, ℕ, ◌+◌, ◌<◌, ◌≤◌, List, ◌++◌, length, get_or, take, Some, None, slice_get, Contains}
 use Rattle.wire.specs.declared.actor.ReqNo.{ReqNo}
 use Rattle.wire.specs.declared.body.AppendBody.TheVariants.{Append}
 use Rattle.wire.specs.declared.body.Body.TheVariants as bodies
-use Rattle.wire.specs.declared.note.Note.TheVariants.{Acked, Content, Seen}
+use Rattle.wire.specs.declared.note.Note.TheVariants.{Acked, SealedAt, Content, Seen}
 use Rattle.wire.specs.declared.packet.Packet.{Packet}
 use Rattle.replica.specs.Groups.{Group, text}
 use Rattle.model.specs.declared.event.Event.{Event}
-use Rattle.model.specs.declared.event.Event.TheVariants.{Deliver}
+use Rattle.model.specs.declared.event.Event.TheVariants.{Deliver, Decide}
+use Rattle.model.specs.declared.extent.Extent.{Extent}
 use Rattle.model.specs.Actors.{generation_of}
 use Rattle.model.specs.Honest.{Stands}
 use Rattle.model.specs.World.{World, run}
@@ -39,8 +41,27 @@ pub record Came (events : List Event) (w : World) (e : ℕ) (group : Group) (ori
   pub body : packet.body ≡ bodies.Append (Append e generation group origin.request)
   pub counted : origin.generation ≡ generation_of packet.from generation
 
+-- a place of the extent has told that it is frozen at this length
+abbrev pub Tells : Extent → ℕ → Type 0
+Tells x length = (x.primary.frozen ≡ Some length) ⊎ ((x.second.frozen ≡ Some length) ⊎ (x.third.frozen ≡ Some length))
+
+-- a place has told this length, and none has told less
+pub record LeastTold (x : Extent) (length : ℕ) : Type 0 where
+  pub told : Tells x length
+  pub least : (other : ℕ) → Tells x other → length ≤ other
+
+-- in the run of these events from w on, the event of this number was the decision on the extent, which was unsealed then,
+-- and this was the least length that its places had told
+pub record Decided (events : List Event) (w : World) (e length : ℕ) : Type 0 where
+  pub number : ℕ
+  pub extent : Extent
+  pub decided : slice_get events number ≡ Some (Decide e)
+  pub there : (run (take number events) w).book.extent e ≡ Some extent
+  pub unsealed : extent.sealed ≡ None
+  pub least : LeastTold extent length
+
 -- each extent has a script: groups that were appended one after the other, each by a delivery of its own; and all that
--- is acknowledged or shown of the extent stands in its script
+-- is acknowledged or shown of the extent stands in its script; and a length at which it is sealed was decided
 pub record Origins (events : List Event) (w : World) : Type 0 where
   pub script : ℕ → List Group
   pub origin : ℕ → List Origin
@@ -55,3 +76,4 @@ pub record Origins (events : List Event) (w : World) : Type 0 where
       Contains (run events w).notes (Content e n groups) → Begins groups (script e)
   pub seen : (e n o : ℕ) (bytes : List ℕ) →
       Contains (run events w).notes (Seen e n o bytes) → Shows o bytes (text (script e))
+  pub sealed : (e length : ℕ) → Contains (run events w).notes (SealedAt e length) → Decided events w e length

@@ -1,5 +1,5 @@
 -- A row of a node sends and observes few things, and few appends wait after it.
-use Rattle.std.proofs.Common.{◌≡◌, ℕ, ◌≤◌, ◌<◌, false, ◌&&◌, ◌==◌, nat_le, List, [], ◌∷◌, ◌++◌, length, map, take, drop, Option, Some, None, refl, ap, subst, arith, length-append}
+use Rattle.std.proofs.Common.{◌≡◌, ℕ, ◌≤◌, ◌<◌, false, ◌&&◌, ◌==◌, nat_lt, nat_le, List, [], ◌∷◌, ◌++◌, length, map, take, drop, Option, Some, None, refl, ap, subst, arith, length-append}
 use Rattle.std.proofs.lemmas.Bool.Decides.{nat_tests}
 use Rattle.std.proofs.lemmas.List.{length-map}
 use Rattle.std.proofs.lemmas.Grind.{common_steps}
@@ -10,18 +10,22 @@ use Rattle.wire.specs.declared.actor.ReqNo.TheVariants.{NoRequest}
 use Rattle.wire.specs.declared.body.AppendBody.{AppendBody}
 use Rattle.wire.specs.declared.body.AppendBody.TheVariants.{Append, Put, Have}
 use Rattle.wire.specs.declared.body.SealBody.{SealBody}
-use Rattle.wire.specs.declared.body.SealBody.TheVariants.{Make}
+use Rattle.wire.specs.declared.body.SealBody.TheVariants.{Make, Freeze, Seal, SendTail, Tail}
 use Rattle.wire.specs.declared.body.ReadBody.{ReadBody}
 use Rattle.wire.specs.declared.body.ReadBody.TheVariants as reads
 use Rattle.wire.specs.declared.body.Body.{Body}
 use Rattle.wire.specs.declared.body.Body.TheVariants as bodies
 use Rattle.wire.specs.declared.packet.Packet.{Packet}
 use Rattle.wire.specs.declared.refusal.Refusal.{Refusal}
-use Rattle.replica.specs.Groups.{Group}
+use Rattle.replica.specs.declared.phase.Phase.{Phase}
+use Rattle.replica.specs.declared.phase.Phase.TheVariants as phases
+use Rattle.replica.specs.Groups.{Group, text_length}
+use Rattle.replica.specs.Reading.{groups_to, groups_from}
+use Rattle.replica.specs.Content.{Content}
 use Rattle.model.specs.declared.waiting.Waiting.{Waiting}
-use Rattle.model.specs.Actors.{is_node}
+use Rattle.model.specs.Actors.{is_node, is_manager}
 use Rattle.model.specs.Outcome.{Outcome, all_met, silent, sends, or_refused}
-use Rattle.model.specs.Node.{Replica, is_open, node_row, append_body_row, seal_body_row, read_body_row, append_taken, append_refusal, append_tests, make_row, make_taken, make_tests, put_fits, put_added, put_passed, put_taken, put_refusal, put_row, answered, answered_if, covered, lesser, with_length, have_row, read_taken, groups_taken}
+use Rattle.model.specs.Node.{Replica, fresh, is_open, node_row, append_body_row, seal_body_row, read_body_row, append_taken, append_refusal, append_tests, make_row, make_taken, make_tests, put_fits, put_added, put_passed, put_taken, put_refusal, put_row, answered, answered_if, covered, lesser, with_length, have_row, read_taken, groups_taken, is_sealed, freezes, freeze_row, shorts, cuts, seals_again, seals, seal_row, tail_sent, send_tail_refusal, send_tail_row, tail_fits, tail_taken, tail_row, missing}
 use Rattle.model.specs.Bounds.{FewWait, AreFew}
 use Rattle.model.proofs.Tests.{if_elim, none_met}
 
@@ -116,6 +120,70 @@ groups_bounded : (n : ℕ) (r : Replica) (p : Packet) (e upto : ℕ) (q : ReqNo)
 groups_bounded n r p e upto q (Some refusal) y h = sent (Some r) _ h (omega arith)
 groups_bounded n r p e upto q None y h = groups_taken_bounded n r p e upto q y h
 
+-- nothing waits at a replica that has just been made or closed
+closed : (content : Content) → FewWait (Some (fresh content))
+closed content = here (fresh content) (omega arith)
+
+freezes_bounded : (n : ℕ) (r : Replica) (e : ℕ) (phase : Phase) → FewWait (Some r) → Bounded (freezes n r e phase)
+freezes_bounded n r e phases.Open h = record { waits = closed _; few = (omega arith, omega arith) }
+freezes_bounded n r e phases.Frozen h = sent (Some r) _ h (omega arith)
+freezes_bounded n r e phases.Sealed h = sent (Some r) _ h (omega arith)
+
+freeze_bounded : (n : ℕ) (r : Replica) (p : Packet) (e : ℕ) → FewWait (Some r) → Bounded (freeze_row n r p e)
+freeze_bounded n r p e h =
+    if_elim Bounded (is_manager p.from) (freezes n r e r.content.phase) (silent (Some r))
+    (λ t. freezes_bounded n r e r.content.phase h)
+    (λ f. quiet (Some r) h)
+
+shorts_bounded : (n : ℕ) (r : Replica) (e : ℕ) (phase : Phase) → FewWait (Some r) → Bounded (shorts n r e phase)
+shorts_bounded n r e phases.Open h = record { waits = closed _; few = (omega arith, omega arith) }
+shorts_bounded n r e phases.Frozen h = sent (Some r) _ h (omega arith)
+shorts_bounded n r e phases.Sealed h = sent (Some r) _ h (omega arith)
+
+cuts_bounded : (n : ℕ) (r : Replica) (p : Packet) (e length : ℕ) (x : Option (List Group)) → FewWait (Some r) → Bounded (cuts n r p e length x)
+cuts_bounded n r p e length None h = sent (Some r) _ h (omega arith)
+cuts_bounded n r p e length (Some groups) h = record { waits = closed _; few = (omega arith, omega arith) }
+
+seals_again_bounded : (n : ℕ) (r : Replica) (p : Packet) (e length : ℕ) → FewWait (Some r) → Bounded (seals_again n r p e length)
+seals_again_bounded n r p e length h =
+    if_elim Bounded (text_length r.content.groups == length) _ _
+    (λ t. sent (Some r) _ h (omega arith))
+    (λ f. sent (Some r) _ h (omega arith))
+
+seals_bounded : (n : ℕ) (r : Replica) (p : Packet) (e length : ℕ) → FewWait (Some r) → Bounded (seals n r p e length)
+seals_bounded n r p e length h =
+    if_elim Bounded (is_sealed r.content.phase) (seals_again n r p e length) _
+    (λ t. seals_again_bounded n r p e length h)
+    (λ f. if_elim Bounded (nat_lt (text_length r.content.groups) length) (shorts n r e r.content.phase) (cuts n r p e length (groups_to length r.content.groups))
+    (λ x. shorts_bounded n r e r.content.phase h)
+    (λ x. cuts_bounded n r p e length (groups_to length r.content.groups) h))
+
+seal_bounded : (n : ℕ) (r : Replica) (p : Packet) (e length : ℕ) → FewWait (Some r) → Bounded (seal_row n r p e length)
+seal_bounded n r p e length h =
+    if_elim Bounded (is_manager p.from) (seals n r p e length) (silent (Some r))
+    (λ t. seals_bounded n r p e length h)
+    (λ f. quiet (Some r) h)
+
+tail_sent_bounded : (n : ℕ) (r : Replica) (p : Packet) (e from to : ℕ) (x : Option Refusal) (y : Option (List Group)) → FewWait (Some r) → Bounded (or_refused (Some r) (Node n) p NoRequest x (tail_sent n r p e from to y))
+tail_sent_bounded n r p e from to (Some refusal) y h = sent (Some r) _ h (omega arith)
+tail_sent_bounded n r p e from to None None h = sent (Some r) _ h (omega arith)
+tail_sent_bounded n r p e from to None (Some groups) h = sent (Some r) _ h (omega arith)
+
+send_tail_bounded : (n : ℕ) (r : Replica) (p : Packet) (e from to : ℕ) → FewWait (Some r) → Bounded (send_tail_row n r p e from to)
+send_tail_bounded n r p e from to h =
+    if_elim Bounded (is_manager p.from) (or_refused (Some r) (Node n) p NoRequest (send_tail_refusal r) (tail_sent n r p e from to (groups_from from r.content.groups))) (silent (Some r))
+    (λ t. tail_sent_bounded n r p e from to (send_tail_refusal r) (groups_from from r.content.groups) h)
+    (λ f. quiet (Some r) h)
+
+tail_bounded : (n : ℕ) (r : Replica) (p : Packet) (e from length : ℕ) (groups : List Group) → FewWait (Some r) → Bounded (tail_row n r p e from length groups)
+tail_bounded n r p e from length groups h =
+    if_elim Bounded (tail_fits r p.from from length groups) (tail_taken n r e from length groups) (silent (Some r))
+    (λ t. record { waits = closed _; few = (omega arith, omega arith) })
+    (λ f. quiet (Some r) h)
+
+missing_bounded : (n : ℕ) (p : Packet) → FewWait None → Bounded (missing n p)
+missing_bounded n p h = if_elim Bounded (is_manager p.from) _ _ (λ t. sent None _ h (omega arith)) (λ f. quiet None h)
+
 append_body_bounded : (n : ℕ) (s : Option Replica) (p : Packet) (body : AppendBody) → FewWait s → Bounded (append_body_row n s p body)
 append_body_bounded n (Some r) p (Append e generation blocks q) h = append_bounded n r p e generation blocks q _ h refl
 append_body_bounded n None p (Append e generation blocks q) h = sent None _ h (omega arith)
@@ -127,6 +195,14 @@ append_body_bounded n s p body h = quiet s h
 
 seal_body_bounded : (n : ℕ) (s : Option Replica) (p : Packet) (body : SealBody) → FewWait s → Bounded (seal_body_row n s p body)
 seal_body_bounded n None p (Make e fence target places) h = make_bounded n p e fence target places h
+seal_body_bounded n (Some r) p (Freeze e) h = freeze_bounded n r p e h
+seal_body_bounded n None p (Freeze e) h = missing_bounded n p h
+seal_body_bounded n (Some r) p (Seal e length) h = seal_bounded n r p e length h
+seal_body_bounded n None p (Seal e length) h = missing_bounded n p h
+seal_body_bounded n (Some r) p (SendTail e from to) h = send_tail_bounded n r p e from to h
+seal_body_bounded n None p (SendTail e from to) h = missing_bounded n p h
+seal_body_bounded n (Some r) p (Tail e from length groups) h = tail_bounded n r p e from length groups h
+seal_body_bounded n None p (Tail e from length groups) h = sent None _ h (omega arith)
 seal_body_bounded n s p body h = quiet s h
 
 read_body_bounded : (n : ℕ) (s : Option Replica) (p : Packet) (body : ReadBody) → FewWait s → Bounded (read_body_row n s p body)

@@ -1,13 +1,14 @@
 -- What a row leaves, volatile parts aside, is what its record makes of what was there.
-use Rattle.std.proofs.Common.{◌≡◌, ℕ, List, ap, true, false, ◌&&◌, ◌==◌, nat_lt, nat_le, Option, Some, None, refl, eq-eqb, arith}
+use Rattle.std.proofs.Common.{◌≡◌, ℕ, Bool, List, ap, sym, ◌∙◌, true, false, not, ◌&&◌, ◌==◌, nat_lt, nat_le, Option, Some, None, refl, eq-eqb, arith}
 use Rattle.blocks.specs.declared.record.Nodes.{Nodes}
 use Rattle.blocks.specs.declared.record.Record.{Record}
+use Rattle.blocks.specs.declared.record.Record.TheVariants as records
 use Rattle.blocks.specs.Reading.{is_within, are_nodes}
 use Rattle.wire.specs.declared.actor.ReqNo.{ReqNo}
 use Rattle.wire.specs.declared.body.AppendBody.{AppendBody}
 use Rattle.wire.specs.declared.body.AppendBody.TheVariants.{Append, Put, Have}
 use Rattle.wire.specs.declared.body.SealBody.{SealBody}
-use Rattle.wire.specs.declared.body.SealBody.TheVariants.{Make}
+use Rattle.wire.specs.declared.body.SealBody.TheVariants.{Make, Freeze, Frozen, Seal, IsSealed, Short, SendTail, Tail}
 use Rattle.wire.specs.declared.body.ReadBody.{ReadBody}
 use Rattle.wire.specs.declared.body.ReadBody.TheVariants as reads
 use Rattle.wire.specs.declared.actor.ReqNo.TheVariants.{NoRequest}
@@ -18,13 +19,16 @@ use Rattle.wire.specs.declared.refusal.Refusal.{Refusal}
 use Rattle.replica.specs.Groups.{Group, text_length}
 use Rattle.replica.specs.Content.{Content}
 use Rattle.replica.specs.Replay as replays
-use Rattle.replica.specs.Replay.{applied, fits, is_place}
-use Rattle.model.specs.Actors.{is_node}
+use Rattle.replica.specs.declared.phase.Phase.{Phase}
+use Rattle.replica.specs.declared.phase.Phase.TheVariants as phases
+use Rattle.replica.specs.Reading.{groups_to, groups_from}
+use Rattle.replica.specs.Replay.{applied, fits, is_place, is_tail, is_boundary}
+use Rattle.model.specs.Actors.{is_node, is_manager, is_one_of}
 use Rattle.model.specs.Outcome.{Outcome, all_met, silent, or_refused}
-use Rattle.model.specs.Node.{Replica, contents, node_row, append_body_row, seal_body_row, append_taken, append_refusal, append_tests, make_row, make_taken, make_tests, put_fits, put_added, put_passed, put_taken, put_refusal, put_row, answered_if, with_length, have_row, read_taken, groups_taken, read_body_row, extent_of, append_extent, seal_extent, read_extent, is_open}
+use Rattle.model.specs.Node.{Replica, contents, node_row, append_body_row, seal_body_row, append_taken, append_refusal, append_tests, make_row, make_taken, make_tests, put_fits, put_added, put_passed, put_taken, put_tests, put_refusal, put_row, answered_if, with_length, have_row, read_taken, groups_taken, read_body_row, extent_of, append_extent, seal_extent, read_extent, is_open, is_frozen, is_sealed, freezes, freeze_row, shorts, sealed_at, cuts, seals_again, seals, seal_row, tail_sent, send_tail_refusal, send_tail_row, tail_fits, tail_taken, tail_row, missing}
 use Rattle.std.proofs.lemmas.Bool.Decides.{nat_tests}
 use Rattle.wire.specs.declared.actor.ActorId.TheVariants.{Node}
-use Rattle.model.proofs.Tests.{if_elim, both_true, none_met, all_are, AllMet}
+use Rattle.model.proofs.Tests.{if_elim, both_parts, both_true, none_met, all_are, AllMet}
 
 abbrev pub applied_if : Option Content → Option Record → Option Content
 applied_if content None = content
@@ -45,14 +49,18 @@ eq_self n = eq-eqb n n refl
 below : (a b : ℕ) → nat_le b a ≡ false → nat_lt a b ≡ true
 below a b h = grind (arith, nat_tests)
 
-append_fits : (n : ℕ) (r : Replica) (p : Packet) (generation : ℕ) (blocks : Group) → append_refusal n r p generation blocks ≡ None → nat_lt (text_length r.content.groups) r.content.target ≡ true
-append_fits n r p generation blocks none =
+unmet_not : (b : Bool) → not b ≡ false → b ≡ true
+unmet_not true e = refl
+unmet_not false e = absurd cc
+
+append_fits : (n : ℕ) (r : Replica) (p : Packet) (e generation : ℕ) (blocks : Group) → append_refusal n r p generation blocks ≡ None → fits n (Some r.content) (records.Append e (text_length r.content.groups) blocks) ≡ true
+append_fits n r p e generation blocks none =
     let unmet = none_met (append_tests n r p generation blocks) none in
-    below (text_length r.content.groups) r.content.target unmet.1.1.1.1.1.0
+    both_true _ _ (unmet_not _ unmet.1.0) (both_true _ _ (eq_self (text_length r.content.groups)) (below (text_length r.content.groups) r.content.target unmet.1.1.1.1.1.0))
 
 append_replays : (n : ℕ) (r : Replica) (p : Packet) (e generation : ℕ) (blocks : Group) (q : ReqNo) (x : Option Refusal) → append_refusal n r p generation blocks ≡ x → Replays n e (Some r) (or_refused (Some r) (Node n) p q x (append_taken n r p e blocks q))
 append_replays n r p e generation blocks q (Some refusal) is = record { is = refl; written = tt }
-append_replays n r p e generation blocks q None is = record { is = refl; written = (refl, both_true _ _ (eq_self (text_length r.content.groups)) (append_fits n r p generation blocks is)) }
+append_replays n r p e generation blocks q None is = record { is = refl; written = (refl, append_fits n r p e generation blocks is) }
 
 made_fits : (n : ℕ) (p : Packet) (target : ℕ) (places : Nodes) → AllMet (make_tests n p target places) → (is_place n places && (are_nodes places && is_within 4096 16777216 target)) ≡ true
 made_fits n p target places met = both_true _ _ met.1.0 (both_true _ _ met.1.1.0 met.1.1.1.0)
@@ -67,20 +75,20 @@ make_replays n p e fence target places =
 kept_replays : (n e : ℕ) (s : Option Replica) (o : Outcome (Option Replica)) → contents o.after ≡ contents s → o.written ≡ None → Replays n e s o
 kept_replays n e s o same none = record { is = rw none same; written = rw none (tt {0}) }
 
-put_taken_replays : (n : ℕ) (r : Replica) (e offset : ℕ) (group : Group) → Replays n e (Some r) (put_taken n r e offset group)
-put_taken_replays n r e offset group =
+put_taken_replays : (n : ℕ) (r : Replica) (e offset : ℕ) (group : Group) → is_open r.content.phase ≡ true → Replays n e (Some r) (put_taken n r e offset group)
+put_taken_replays n r e offset group live =
     if_elim (Replays n e (Some r)) (put_fits r offset) (put_added n r e offset group) (put_passed n r e)
-    (λ t. record { is = refl; written = (refl, t) })
+    (λ t. record { is = refl; written = (refl, both_true _ _ live t) })
     (λ f. record { is = refl; written = tt {0} })
 
-put_refused_replays : (n : ℕ) (r : Replica) (p : Packet) (e offset : ℕ) (group : Group) (x : Option Refusal) → Replays n e (Some r) (or_refused (Some r) (Node n) p NoRequest x (put_taken n r e offset group))
-put_refused_replays n r p e offset group (Some refusal) = record { is = refl; written = tt }
-put_refused_replays n r p e offset group None = put_taken_replays n r e offset group
+put_refused_replays : (n : ℕ) (r : Replica) (p : Packet) (e offset : ℕ) (group : Group) (x : Option Refusal) → put_refusal r ≡ x → Replays n e (Some r) (or_refused (Some r) (Node n) p NoRequest x (put_taken n r e offset group))
+put_refused_replays n r p e offset group (Some refusal) is = record { is = refl; written = tt }
+put_refused_replays n r p e offset group None is = put_taken_replays n r e offset group (unmet_not _ (none_met (put_tests r) is).0)
 
 put_replays : (n : ℕ) (r : Replica) (p : Packet) (e offset : ℕ) (group : Group) → Replays n e (Some r) (put_row n r p e offset group)
 put_replays n r p e offset group =
     if_elim (Replays n e (Some r)) (is_node r.content.places.primary p.from) (or_refused (Some r) (Node n) p NoRequest (put_refusal r) (put_taken n r e offset group)) (silent (Some r))
-    (λ t. put_refused_replays n r p e offset group (put_refusal r))
+    (λ t. put_refused_replays n r p e offset group (put_refusal r) refl)
     (λ f. record { is = refl; written = tt {0} })
 
 -- with_length changes nothing that the records make
@@ -112,6 +120,73 @@ groups_replays : (n : ℕ) (r : Replica) (p : Packet) (e upto : ℕ) (q : ReqNo)
 groups_replays n r p e upto q (Some refusal) y = record { is = refl; written = tt }
 groups_replays n r p e upto q None y = groups_taken_replays n r p e upto q y
 
+freezes_replays : (n : ℕ) (r : Replica) (e : ℕ) (phase : Phase) → r.content.phase ≡ phase → Replays n e (Some r) (freezes n r e phase)
+freezes_replays n r e phases.Open is = record { is = refl; written = (refl, ap is_open is) }
+freezes_replays n r e phases.Frozen is = record { is = refl; written = tt }
+freezes_replays n r e phases.Sealed is = record { is = refl; written = tt }
+
+freeze_replays : (n : ℕ) (r : Replica) (p : Packet) (e : ℕ) → Replays n e (Some r) (freeze_row n r p e)
+freeze_replays n r p e =
+    if_elim (Replays n e (Some r)) (is_manager p.from) (freezes n r e r.content.phase) (silent (Some r))
+    (λ t. freezes_replays n r e r.content.phase refl)
+    (λ f. record { is = refl; written = tt {0} })
+
+shorts_replays : (n : ℕ) (r : Replica) (e : ℕ) (phase : Phase) → r.content.phase ≡ phase → Replays n e (Some r) (shorts n r e phase)
+shorts_replays n r e phases.Open is = record { is = refl; written = (refl, ap is_open is) }
+shorts_replays n r e phases.Frozen is = record { is = refl; written = tt }
+shorts_replays n r e phases.Sealed is = record { is = refl; written = tt }
+
+cuts_replays : (n : ℕ) (r : Replica) (p : Packet) (e length : ℕ) (x : Option (List Group)) → is_sealed r.content.phase ≡ false → groups_to length r.content.groups ≡ x → Replays n e (Some r) (cuts n r p e length x)
+cuts_replays n r p e length None unsealed is = record { is = refl; written = tt }
+cuts_replays n r p e length (Some groups) unsealed is =
+    record {
+      is = ap (λ (y : Option (List Group)). Some (replays.cut_to r.content y)) (sym is);
+      written = (refl, both_true _ _ (ap not unsealed) (ap is_boundary is));
+    }
+
+seals_again_replays : (n : ℕ) (r : Replica) (p : Packet) (e length : ℕ) → Replays n e (Some r) (seals_again n r p e length)
+seals_again_replays n r p e length =
+    if_elim (Replays n e (Some r)) (text_length r.content.groups == length) _ _
+    (λ t. record { is = refl; written = tt {0} })
+    (λ f. record { is = refl; written = tt {0} })
+
+seals_replays : (n : ℕ) (r : Replica) (p : Packet) (e length : ℕ) → Replays n e (Some r) (seals n r p e length)
+seals_replays n r p e length =
+    if_elim (Replays n e (Some r)) (is_sealed r.content.phase) (seals_again n r p e length) _
+    (λ t. seals_again_replays n r p e length)
+    (λ f. if_elim (Replays n e (Some r)) (nat_lt (text_length r.content.groups) length) (shorts n r e r.content.phase) (cuts n r p e length (groups_to length r.content.groups))
+    (λ x. shorts_replays n r e r.content.phase refl)
+    (λ x. cuts_replays n r p e length (groups_to length r.content.groups) f refl))
+
+seal_replays : (n : ℕ) (r : Replica) (p : Packet) (e length : ℕ) → Replays n e (Some r) (seal_row n r p e length)
+seal_replays n r p e length =
+    if_elim (Replays n e (Some r)) (is_manager p.from) (seals n r p e length) (silent (Some r))
+    (λ t. seals_replays n r p e length)
+    (λ f. record { is = refl; written = tt {0} })
+
+tail_sent_replays : (n : ℕ) (r : Replica) (p : Packet) (e from to : ℕ) (x : Option Refusal) (y : Option (List Group)) → Replays n e (Some r) (or_refused (Some r) (Node n) p NoRequest x (tail_sent n r p e from to y))
+tail_sent_replays n r p e from to (Some refusal) y = record { is = refl; written = tt }
+tail_sent_replays n r p e from to None None = record { is = refl; written = tt }
+tail_sent_replays n r p e from to None (Some groups) = record { is = refl; written = tt }
+
+send_tail_replays : (n : ℕ) (r : Replica) (p : Packet) (e from to : ℕ) → Replays n e (Some r) (send_tail_row n r p e from to)
+send_tail_replays n r p e from to =
+    if_elim (Replays n e (Some r)) (is_manager p.from) (or_refused (Some r) (Node n) p NoRequest (send_tail_refusal r) (tail_sent n r p e from to (groups_from from r.content.groups))) (silent (Some r))
+    (λ t. tail_sent_replays n r p e from to (send_tail_refusal r) (groups_from from r.content.groups))
+    (λ f. record { is = refl; written = tt {0} })
+
+tail_replays : (n : ℕ) (r : Replica) (p : Packet) (e from length : ℕ) (groups : List Group) → Replays n e (Some r) (tail_row n r p e from length groups)
+tail_replays n r p e from length groups =
+    if_elim (Replays n e (Some r)) (tail_fits r p.from from length groups) (tail_taken n r e from length groups) (silent (Some r))
+    (λ t. record { is = refl; written = (refl, (both_parts (is_one_of r.content.places p.from) _ t).1) })
+    (λ f. record { is = refl; written = tt {0} })
+
+missing_replays : (n : ℕ) (p : Packet) (e : ℕ) → Replays n e None (missing n p)
+missing_replays n p e =
+    if_elim (Replays n e None) (is_manager p.from) _ _
+    (λ t. record { is = refl; written = tt {0} })
+    (λ f. record { is = refl; written = tt {0} })
+
 append_body_replays : (n : ℕ) (s : Option Replica) (p : Packet) (body : AppendBody) → Replays n (append_extent body) s (append_body_row n s p body)
 append_body_replays n (Some r) p (Append e generation blocks q) = append_replays n r p e generation blocks q _ refl
 append_body_replays n None p (Append e generation blocks q) = record { is = refl; written = tt }
@@ -123,6 +198,14 @@ append_body_replays n s p body = record { is = refl; written = tt }
 
 seal_body_replays : (n : ℕ) (s : Option Replica) (p : Packet) (body : SealBody) → Replays n (seal_extent body) s (seal_body_row n s p body)
 seal_body_replays n None p (Make e fence target places) = make_replays n p e fence target places
+seal_body_replays n (Some r) p (Freeze e) = freeze_replays n r p e
+seal_body_replays n None p (Freeze e) = missing_replays n p e
+seal_body_replays n (Some r) p (Seal e length) = seal_replays n r p e length
+seal_body_replays n None p (Seal e length) = missing_replays n p e
+seal_body_replays n (Some r) p (SendTail e from to) = send_tail_replays n r p e from to
+seal_body_replays n None p (SendTail e from to) = missing_replays n p e
+seal_body_replays n (Some r) p (Tail e from length groups) = tail_replays n r p e from length groups
+seal_body_replays n None p (Tail e from length groups) = record { is = refl; written = tt }
 seal_body_replays n s p body = record { is = refl; written = tt }
 
 read_body_replays : (n : ℕ) (s : Option Replica) (p : Packet) (body : ReadBody) → Replays n (read_extent body) s (read_body_row n s p body)

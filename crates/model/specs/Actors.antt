@@ -1,5 +1,6 @@
 -- Who sends a packet.
-use Rattle.std.specs.Prelude.{ℕ, Bool, true, false, ◌==◌}
+use Rattle.std.specs.Prelude.{ℕ, Bool, true, false, ◌==◌, ◌||◌}
+use Rattle.blocks.specs.declared.record.Nodes.{Nodes}
 use Rattle.wire.specs.declared.actor.ActorId.{ActorId}
 use Rattle.wire.specs.declared.actor.ActorId.TheVariants.{Node, Manager, Map, Server, User}
 
@@ -9,6 +10,10 @@ is_node n Manager = false
 is_node n Map = false
 is_node n (Server s) = false
 is_node n (User u) = false
+
+-- one of an extent's places
+abbrev pub is_one_of : Nodes → ActorId → Bool
+is_one_of places from = is_node places.primary from || (is_node places.second from || is_node places.third from)
 
 abbrev pub is_manager : ActorId → Bool
 is_manager (Node n) = false

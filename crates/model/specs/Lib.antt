@@ -5,5 +5,7 @@ pub mod Maps
 pub mod Actors
 pub mod Node
 pub mod Bounds
+pub mod Ledger
 pub mod Manager
+pub mod Replay
 pub mod World

@@ -5,13 +5,13 @@ use Rattle.blocks.specs.declared.record.Record.TheVariants as records
 use Rattle.blocks.specs.Reading.{is_within, are_nodes}
 use Rattle.wire.specs.Blocks.{has_bad_block}
 use Rattle.wire.specs.declared.actor.ActorId.{ActorId}
-use Rattle.wire.specs.declared.actor.ActorId.TheVariants.{Node}
+use Rattle.wire.specs.declared.actor.ActorId.TheVariants.{Node, Manager}
 use Rattle.wire.specs.declared.actor.ReqNo.{ReqNo}
 use Rattle.wire.specs.declared.actor.ReqNo.TheVariants.{NoRequest}
 use Rattle.wire.specs.declared.body.AppendBody.{AppendBody}
 use Rattle.wire.specs.declared.body.AppendBody.TheVariants.{Append, Put, Have, Appended}
 use Rattle.wire.specs.declared.body.SealBody.{SealBody}
-use Rattle.wire.specs.declared.body.SealBody.TheVariants.{Make}
+use Rattle.wire.specs.declared.body.SealBody.TheVariants.{Make, Freeze, Frozen, Seal, IsSealed, Short, SendTail, Tail}
 use Rattle.wire.specs.declared.body.ReadBody.{ReadBody}
 use Rattle.wire.specs.declared.body.ReadBody.TheVariants as reads
 use Rattle.wire.specs.declared.body.Body.{Body}
@@ -24,11 +24,12 @@ use Rattle.wire.specs.declared.refusal.Refusal.TheVariants.{NoSuchExtent, NotPri
 use Rattle.replica.specs.declared.phase.Phase.{Phase}
 use Rattle.replica.specs.declared.phase.Phase.TheVariants as phases
 use Rattle.replica.specs.Groups.{Group, text, size, text_length}
-use Rattle.replica.specs.Content.{Content, new_content, appended}
-use Rattle.replica.specs.Reading.{bytes_at, groups_to}
-use Rattle.replica.specs.Replay.{is_place}
+use Rattle.replica.specs.Content.{Content, new_content, appended, frozen, sealed_with}
+use Rattle.replica.specs.Reading.{bytes_at, groups_to, groups_from}
+pub use Rattle.replica.specs.Replay.{is_open, is_frozen, is_sealed}
+use Rattle.replica.specs.Replay.{is_place, is_tail}
 use Rattle.model.specs.declared.waiting.Waiting.{Waiting}
-use Rattle.model.specs.Actors.{is_node, is_manager, generation_of}
+use Rattle.model.specs.Actors.{is_node, is_manager, is_one_of, generation_of}
 use Rattle.model.specs.Outcome.{Outcome, packet, first_met, all_met, silent, sends, refused, or_refused}
 
 -- a replica: what its records say, and what a stop drops. Its primary keeps how long the second and the third place
@@ -52,16 +53,6 @@ contents (Some r) = Some r.content
 abbrev pub stopped : Option Replica → Option Replica
 stopped None = None
 stopped (Some r) = Some (fresh r.content)
-
-abbrev pub is_open : Phase → Bool
-is_open phases.Open = true
-is_open phases.Frozen = false
-is_open phases.Sealed = false
-
-abbrev pub is_sealed : Phase → Bool
-is_sealed phases.Open = false
-is_sealed phases.Frozen = false
-is_sealed phases.Sealed = true
 
 -- ---- Make
 
@@ -258,6 +249,112 @@ abbrev pub groups_row : ℕ → Replica → Packet → ℕ → ℕ → Bool → 
 groups_row n r p e upto sealed q =
     or_refused (Some r) (Node n) p q (groups_refusal r sealed) (groups_taken n r p e upto q (groups_to upto r.content.groups))
 
+-- ---- Freeze
+
+abbrev pub to_manager : ℕ → SealBody → List Packet
+to_manager n body = packet (Node n) Manager (bodies.Seal body) ∷ []
+
+-- it takes no more groups, and drops what waits
+abbrev pub frozen_at : Replica → Replica
+frozen_at r = fresh (frozen r.content)
+
+abbrev pub freezes : ℕ → Replica → ℕ → Phase → Outcome (Option Replica)
+freezes n r e phases.Open =
+    record {
+      after = Some (frozen_at r);
+      written = Some (records.Freeze e);
+      packets = to_manager n (Frozen e (text_length r.content.groups));
+      notes = [];
+    }
+freezes n r e phases.Frozen = sends (Some r) (to_manager n (Frozen e (text_length r.content.groups)))
+freezes n r e phases.Sealed = sends (Some r) (to_manager n (IsSealed e))
+
+abbrev pub freeze_row : ℕ → Replica → Packet → ℕ → Outcome (Option Replica)
+freeze_row n r p e = if is_manager p.from then freezes n r e r.content.phase else silent (Some r)
+
+-- ---- Seal
+
+-- too short for the length: it freezes, if it is open, and says how long it is
+abbrev pub shorts : ℕ → Replica → ℕ → Phase → Outcome (Option Replica)
+shorts n r e phases.Open =
+    record {
+      after = Some (frozen_at r);
+      written = Some (records.Freeze e);
+      packets = to_manager n (Short e (text_length r.content.groups));
+      notes = [];
+    }
+shorts n r e phase = sends (Some r) (to_manager n (Short e (text_length r.content.groups)))
+
+-- just these groups, for good, and nothing waits
+abbrev pub sealed_at : Replica → List Group → Replica
+sealed_at r groups = fresh (sealed_with r.content groups)
+
+-- what is longer is cut
+abbrev pub cuts : ℕ → Replica → Packet → ℕ → ℕ → Option (List Group) → Outcome (Option Replica)
+cuts n r p e length None = refused (Some r) (Node n) p NoRequest PastEnd
+cuts n r p e length (Some groups) =
+    record {
+      after = Some (sealed_at r groups);
+      written = Some (records.Seal e length);
+      packets = to_manager n (IsSealed e);
+      notes = [];
+    }
+
+-- one that is sealed is so at that length, or refuses
+abbrev pub seals_again : ℕ → Replica → Packet → ℕ → ℕ → Outcome (Option Replica)
+seals_again n r p e length =
+    if text_length r.content.groups == length then sends (Some r) (to_manager n (IsSealed e))
+    else refused (Some r) (Node n) p NoRequest NotOpen
+
+abbrev pub seals : ℕ → Replica → Packet → ℕ → ℕ → Outcome (Option Replica)
+seals n r p e length =
+    if is_sealed r.content.phase then seals_again n r p e length
+    else if nat_lt (text_length r.content.groups) length then shorts n r e r.content.phase
+    else cuts n r p e length (groups_to length r.content.groups)
+
+abbrev pub seal_row : ℕ → Replica → Packet → ℕ → ℕ → Outcome (Option Replica)
+seal_row n r p e length = if is_manager p.from then seals n r p e length else silent (Some r)
+
+-- ---- SendTail
+
+-- the groups from a boundary on go to a node that lacks them
+abbrev pub tail_sent : ℕ → Replica → Packet → ℕ → ℕ → ℕ → Option (List Group) → Outcome (Option Replica)
+tail_sent n r p e from to None = refused (Some r) (Node n) p NoRequest PastEnd
+tail_sent n r p e from to (Some groups) =
+    sends (Some r) (packet (Node n) (Node to) (bodies.Seal (Tail e from (text_length r.content.groups) groups)) ∷ [])
+
+abbrev pub send_tail_tests : Replica → List (Refusal × Bool)
+send_tail_tests r = (NotSealed, not (is_sealed r.content.phase)) ∷ []
+
+abbrev pub send_tail_refusal : Replica → Option Refusal
+send_tail_refusal r = first_met (send_tail_tests r)
+
+abbrev pub send_tail_row : ℕ → Replica → Packet → ℕ → ℕ → ℕ → Outcome (Option Replica)
+send_tail_row n r p e from to =
+    if is_manager p.from
+    then or_refused (Some r) (Node n) p NoRequest (send_tail_refusal r) (tail_sent n r p e from to (groups_from from r.content.groups))
+    else silent (Some r)
+
+-- ---- Tail
+
+-- whether it comes from a place, and brings this frozen replica to its length
+abbrev pub tail_fits : Replica → ActorId → ℕ → ℕ → List Group → Bool
+tail_fits r sender from length groups =
+    is_one_of r.content.places sender && (is_frozen r.content.phase && is_tail r.content from length groups)
+
+abbrev pub tail_taken : ℕ → Replica → ℕ → ℕ → ℕ → List Group → Outcome (Option Replica)
+tail_taken n r e from length groups =
+    record {
+      after = Some (sealed_at r (r.content.groups ++ groups));
+      written = Some (records.Fill e from length groups);
+      packets = to_manager n (IsSealed e);
+      notes = [];
+    }
+
+abbrev pub tail_row : ℕ → Replica → Packet → ℕ → ℕ → ℕ → List Group → Outcome (Option Replica)
+tail_row n r p e from length groups =
+    if tail_fits r p.from from length groups then tail_taken n r e from length groups else silent (Some r)
+
 -- ---- the table
 
 abbrev pub append_body_row : ℕ → Option Replica → Packet → AppendBody → Outcome (Option Replica)
@@ -269,8 +366,20 @@ append_body_row n (Some r) p (Have e length) = have_row n r p e length
 append_body_row n None p (Have e length) = refused None (Node n) p NoRequest NoSuchExtent
 append_body_row n s p body = silent s
 
+-- the manager is told that there is no replica
+abbrev pub missing : ℕ → Packet → Outcome (Option Replica)
+missing n p = if is_manager p.from then refused None (Node n) p NoRequest NoSuchExtent else silent None
+
 abbrev pub seal_body_row : ℕ → Option Replica → Packet → SealBody → Outcome (Option Replica)
 seal_body_row n None p (Make e fence target places) = make_row n p e fence target places
+seal_body_row n (Some r) p (Freeze e) = freeze_row n r p e
+seal_body_row n None p (Freeze e) = missing n p
+seal_body_row n (Some r) p (Seal e length) = seal_row n r p e length
+seal_body_row n None p (Seal e length) = missing n p
+seal_body_row n (Some r) p (SendTail e from to) = send_tail_row n r p e from to
+seal_body_row n None p (SendTail e from to) = missing n p
+seal_body_row n (Some r) p (Tail e from length groups) = tail_row n r p e from length groups
+seal_body_row n None p (Tail e from length groups) = refused None (Node n) p NoRequest NoSuchExtent
 seal_body_row n s p body = silent s
 
 abbrev pub read_body_row : ℕ → Option Replica → Packet → ReadBody → Outcome (Option Replica)
@@ -295,6 +404,10 @@ append_extent _ = 0
 
 abbrev pub seal_extent : SealBody → ℕ
 seal_extent (Make e fence target places) = e
+seal_extent (Freeze e) = e
+seal_extent (Seal e length) = e
+seal_extent (SendTail e from to) = e
+seal_extent (Tail e from length groups) = e
 seal_extent _ = 0
 
 abbrev pub read_extent : ReadBody → ℕ

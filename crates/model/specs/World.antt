@@ -1,5 +1,5 @@
 -- Whole runs: the network is the list of all packets sent, and a delivery takes any of them, again and in any order.
-use Rattle.std.specs.Prelude.{ℕ, ◌-◌, Bool, true, false, ◌&&◌, List, [], ◌∷◌, ◌++◌, Option, Some, None, ◌==◌, nat_lt, nat_le, slice_get, if◌then◌else◌}
+use Rattle.std.specs.Prelude.{ℕ, ◌-◌, Bool, true, false, not, ◌&&◌, ◌||◌, List, [], ◌∷◌, ◌++◌, Option, Some, None, ◌==◌, nat_lt, nat_le, slice_get, if◌then◌else◌}
 use Rattle.blocks.specs.declared.record.Record.{Record}
 use Rattle.wire.specs.declared.actor.ActorId.{ActorId}
 use Rattle.wire.specs.declared.actor.ActorId.TheVariants.{Node, Manager, Map, Server, User}
@@ -20,11 +20,11 @@ use Rattle.wire.specs.declared.body.Body.TheVariants as bodies
 use Rattle.wire.specs.declared.note.Note.{Note}
 use Rattle.wire.specs.declared.packet.Packet.{Packet}
 use Rattle.model.specs.declared.event.Event.{Event}
-use Rattle.model.specs.declared.event.Event.TheVariants.{Submit, Deliver}
+use Rattle.model.specs.declared.event.Event.TheVariants.{Submit, Deliver, Stop, Restart, Decide}
 use Rattle.model.specs.Maps.{changed, changed_at}
 use Rattle.model.specs.Outcome.{Outcome, packet}
 use Rattle.model.specs.Node.{Replica, stopped, node_row, extent_of}
-use Rattle.model.specs.Manager.{Book, first_book, manager_row}
+use Rattle.model.specs.Manager.{Book, first_book, book_stopped, manager_row, decide_row}
 
 -- whether an actor runs, and in which of its next device calls it stops (0: in none)
 pub record Cell : Type 0 where
@@ -38,6 +38,7 @@ pub record World : Type 0 where
   pub replica : ℕ → ℕ → Option Replica  -- by node and extent
   pub book : Book
   pub cell : ℕ → Cell  -- of each node
+  pub desk : Cell  -- of the manager
   pub nodes : ℕ  -- how many nodes there are, numbered from 1
 
 abbrev pub running : Cell
@@ -92,11 +93,25 @@ node_takes w n p =
 
 -- ---- the manager
 
+-- the manager stops
+abbrev pub desk_halted : World → World
+desk_halted w = record w { book = book_stopped w.book; desk = down }
+
+abbrev pub after_ruling : World → Outcome Book → World
+after_ruling w o = record w { book = o.after; post = w.post ++ o.packets; notes = w.notes ++ o.notes }
+
+-- the manager goes through a row, or stops while it writes the row's record
 abbrev pub manager_does : World → Outcome Book → World
-manager_does w o = record w { book = o.after; post = w.post ++ o.packets; notes = w.notes ++ o.notes }
+manager_does w o =
+    if stops_in w.desk o.written
+    then (if stands_in w.desk then desk_halted (after_ruling w (unsent o)) else desk_halted w)
+    else after_ruling (record w { desk = burnt w.desk o.written }) o
 
 abbrev pub manager_takes : World → Packet → World
-manager_takes w p = manager_does w (manager_row w.book p p.body)
+manager_takes w p = if w.desk.up then manager_does w (manager_row w.book p p.body) else w
+
+abbrev pub decides : World → ℕ → World
+decides w e = if w.desk.up then manager_does w (decide_row w.book e (w.book.extent e)) else w
 
 -- ---- events
 
@@ -151,10 +166,41 @@ is_request (bodies.Stream body) = is_stream_call body
 is_request (bodies.Map body) = is_route body
 is_request (bodies.Table body) = is_table_call body
 
+-- ---- stops and restarts
+
+-- it runs, and stops in one of its next device calls
+abbrev pub armed : ℕ → Bool → Cell
+armed call keep = record { up = true; fuse = call; keep = keep }
+
+abbrev pub node_stops : World → ℕ → ℕ → Bool → World
+node_stops w n call keep = if call == 0 then halted w n else record w { cell = changed n (armed call keep) w.cell }
+
+abbrev pub manager_stops : World → ℕ → Bool → World
+manager_stops w call keep = if call == 0 then desk_halted w else record w { desk = armed call keep }
+
+-- a stop that is told again replaces one that has not come
+abbrev pub stop : World → ActorId → ℕ → Bool → World
+stop w (Node n) call keep = if (w.cell n).up then node_stops w n call keep else w
+stop w Manager call keep = if w.desk.up then manager_stops w call keep else w
+stop w actor call keep = w
+
+-- there is such a node
+abbrev pub is_present : World → ℕ → Bool
+is_present w n = nat_lt 0 n && nat_le n w.nodes
+
+-- what a stop dropped is empty, and the rest is as the records make it
+abbrev pub restart : World → ActorId → World
+restart w (Node n) = if (w.cell n).up || not (is_present w n) then w else record w { cell = changed n running w.cell }
+restart w Manager = if w.desk.up then w else record w { desk = running }
+restart w actor = w
+
 -- an event that does not fit changes nothing
 abbrev pub happens : World → Event → World
 happens w (Submit user to body) = if is_request body then sent_more w (packet (User user) to body ∷ []) else w
 happens w (Deliver number) = delivered_if w (slice_get w.post number)
+happens w (Stop actor call keep) = stop w actor call keep
+happens w (Restart actor) = restart w actor
+happens w (Decide e) = decides w e
 
 abbrev pub run : List Event → World → World
 run [] w = w
@@ -172,5 +218,6 @@ start nodes target =
       replica = λ n e. None;
       book = first_book nodes target;
       cell = cell_at nodes;
+      desk = running;
       nodes = nodes;
     }

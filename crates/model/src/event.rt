@@ -1,7 +1,8 @@
 //! Events: what may happen next in a run.
-use wire::{ActorId, Body};
+use wire::{ActorId, Body, ExtentId};
 
-/// What happens next. An event that does not fit (no such packet, a body that no user asks) changes nothing.
+/// What happens next. An event that does not fit (no such packet, a body that no user asks, a stopped actor) changes
+/// nothing.
 #[derive(Drop)]
 pub enum Event {
     /// A user sends a request: an append, a read, a call for a stream, an extent, a route or a table.
@@ -17,5 +18,21 @@ pub enum Event {
     Deliver {
         /// How many packets were sent before it.
         number: usize,
+    },
+    /// An actor stops: at once where `call` is 0, else in its `call`-th device call from now. It sends nothing for that
+    /// event, and the record that it writes stands only if that call is the third or the fourth of its append, and
+    /// `keep` is set. It replaces a stop that has not come yet.
+    Stop {
+        actor: ActorId,
+        call: u64,
+        keep: bool,
+    },
+    /// A stopped actor comes back with nothing but its records.
+    Restart {
+        actor: ActorId,
+    },
+    /// The operator has the manager seal an extent, at the least length that its places have told.
+    Decide {
+        extent: ExtentId,
     },
 }

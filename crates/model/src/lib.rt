@@ -6,7 +6,11 @@
 #![tactic(auto)]
 
 mod event;
+mod extent;
+mod manager_record;
 mod waiting;
 
 pub use event::Event;
+pub use extent::{Asker, Extent, PlaceReport};
+pub use manager_record::ManagerRecord;
 pub use waiting::Waiting;

@@ -8,6 +8,9 @@ pub text-append : (xs ys : List Group) → text (xs ++ ys) ≡ text xs ++ text y
 text-append [] ys = refl
 text-append (x ∷ xs) ys = rw (text-append xs ys, append_assoc)
 
+pub text_length-append : (xs ys : List Group) → text_length (xs ++ ys) ≡ text_length xs + text_length ys
+text_length-append xs ys = rw (text-append xs ys) (length-append (text xs) (text ys))
+
 pub text_length-push : (xs : List Group) (x : Group) → text_length (xs ++ x ∷ []) ≡ text_length xs + size x
 text_length-push xs x = rw (text-append xs (x ∷ [])) (omega (arith, length-append (text xs) (text (x ∷ [])), length-append (joined x) []))
 

@@ -15,7 +15,7 @@ pub ends-length : (s : ℕ) (gs : List Group) → length (ends_from s gs) ≡ le
 ends-length s [] = refl
 ends-length s (g ∷ gs) = ap (λ n. suc n) (ends-length (s + size g) gs)
 
-length-cons : (g : Group) (gs : List Group) → text_length (g ∷ gs) ≡ size g + text_length gs
+pub length-cons : (g : Group) (gs : List Group) → text_length (g ∷ gs) ≡ size g + text_length gs
 length-cons g gs = length-append (joined g) (text gs)
 
 pub ends-at : (s : ℕ) (gs : List Group) (i d : ℕ) → i < length gs → get_or (ends_from s gs) i d ≡ s + text_length (take (suc i) gs)
@@ -130,6 +130,29 @@ pushed gs more es ends l n end g is group size_is end_is more_is ends_is =
       length = rw more_is (omega (arith, at, text_length-push gs g));
       full = subst NoneEmpty (sym more_is) (full-push gs g is.full (has_size g group));
     }
+
+ends-take : (s : ℕ) (gs : List Group) (i : ℕ) → take i (ends_from s gs) ≡ ends_from s (take i gs)
+ends-take s gs zero = refl
+ends-take s [] (suc i) = refl
+ends-take s (g ∷ gs) (suc i) = ap (λ l. (s + size g) ∷ l) (ends-take (s + size g) gs i)
+
+full-take : (gs : List Group) (i : ℕ) → NoneEmpty gs → NoneEmpty (take i gs)
+full-take gs zero full = tt
+full-take [] (suc i) full = tt
+full-take (g ∷ gs) (suc i) full = (full.0, full-take gs i full.1)
+
+-- cut to the first ones
+pub cut : (gs : List Group) (es : List ℕ) (l i upto : ℕ) (left : List Group) (ends : List ℕ) → IsPlaced gs es l → text_length (take i gs) ≡ upto → left ≡ take i gs → ends ≡ take i es → IsPlaced left ends upto
+cut gs es l i upto left ends is start left_is ends_is = record {
+  ends = ends_is ∙ ap (take i) is.ends ∙ ends-take 0 gs i ∙ ap (ends_from 0) (sym left_is);
+  length = sym (ap text_length left_is ∙ start);
+  full = subst NoneEmpty (sym left_is) (full-take gs i is.full);
+}
+
+pub front_within : (gs : List Group) (i : ℕ) → text_length (take i gs) ≤ text_length gs
+front_within gs zero = omega arith
+front_within [] (suc i) = omega arith
+front_within (g ∷ gs) (suc i) = omega (arith, front_within gs i, length-cons g gs, length-cons g (take i gs))
 
 -- where a group starts that is not the first
 pub starts : (gs : List Group) (es : List ℕ) (l i last x : ℕ) → IsPlaced gs es l → i ≤ length gs → 1 ≤ i → last ≡ i - 1 → x ≡ get_or es last x → x ≡ text_length (take i gs)

@@ -2,7 +2,7 @@
 use Rattle.std.specs.Prelude.{ℕ, List, [], ◌∷◌, ◌++◌}
 use Rattle.blocks.specs.declared.record.Nodes.{Nodes}
 use Rattle.replica.specs.declared.phase.Phase.{Phase}
-use Rattle.replica.specs.declared.phase.Phase.TheVariants.{Open}
+use Rattle.replica.specs.declared.phase.Phase.TheVariants.{Open, Frozen, Sealed}
 use Rattle.replica.specs.Groups.{Group}
 
 pub record Content : Type 0 where
@@ -24,3 +24,15 @@ new_content places target fence = record { places = places; target = target; fen
 -- with one more group at the end
 abbrev pub appended : Content → Group → Content
 appended content group = record content { groups = content.groups ++ group ∷ [] }
+
+-- listens to no generation below this one
+abbrev pub fenced : Content → ℕ → Content
+fenced content fence = record content { fence = fence }
+
+-- takes no more groups
+abbrev pub frozen : Content → Content
+frozen content = record content { phase = Frozen }
+
+-- just these groups, for good
+abbrev pub sealed_with : Content → List Group → Content
+sealed_with content groups = record content { phase = Sealed; groups = groups }

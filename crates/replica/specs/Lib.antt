@@ -3,5 +3,6 @@ pub mod Content
 pub mod Placed
 pub mod Reading
 pub mod Put
+pub mod Kept
 pub mod State
 pub mod Replay

@@ -1,5 +1,5 @@
 -- Groups, and where each of them ends.
-use Rattle.std.specs.Prelude.{◌≡◌, ◌⊎◌, ℕ, suc, ◌+◌, ◌<◌, ◌≤◌, List, [], ◌∷◌, length, take}
+use Rattle.std.specs.Prelude.{◌≡◌, ◌⊎◌, ℕ, suc, ◌+◌, ◌<◌, ◌≤◌, List, [], ◌∷◌, length, take, Option, Some, None}
 use Rattle.replica.specs.Groups.{Group, size, text_length}
 
 -- and for how many more of them there is memory
@@ -27,3 +27,13 @@ pub record IsBefore (groups : List Group) (offset index : ℕ) : Type 0 where
   pub within : index ≤ length groups
   pub start : text_length (take index groups) ≤ offset
   pub next : (index ≡ length groups) ⊎ (offset < text_length (take (suc index) groups))
+
+-- so many of the first groups
+abbrev pub first : Option ℕ → List Group → Option (List Group)
+first None groups = None
+first (Some count) groups = Some (take count groups)
+
+-- the groups that were found, or else all
+abbrev pub found_or : Option (List Group) → List Group → List Group
+found_or None groups = groups
+found_or (Some found) groups = found

@@ -3,16 +3,27 @@
 //! This crate touches memory only: no disk, no packet. A replica is seen from above as its content: its three places,
 //! its target, its fence, its state and its groups in order. It offers one promise: what a replica holds is what the
 //! records of its extent make of it, one after another; a step that is refused hands the old state back.
+//!
+//! An [`OpenReplica`] takes groups at its end and higher fences. A [`FrozenReplica`] takes only what brings it to its
+//! last length, and a [`SealedReplica`] nothing. [`Replica`] is one of the three, and steps in place without a failure
+//! once there is room, so that a node can write the record first.
 #![tactic(auto)]
 
+mod fault;
+mod frozen;
+mod kept;
 mod open;
 mod phase;
 mod placed;
 mod replica;
+mod sealed;
 
-pub use open::{OpenReplica, PutFault};
+pub use fault::{FillFault, PastEnd, PutFault, Stale};
+pub use frozen::FrozenReplica;
+pub use open::OpenReplica;
 pub use phase::Phase;
 pub use replica::Replica;
+pub use sealed::SealedReplica;
 
 #[cfg(test)]
 mod tests;

@@ -1,43 +1,28 @@
 //! A replica that takes groups.
-ghost use Rattle.std.specs.Prelude.{◌≡◌, ◌⊎◌, ◌+◌, ◌<◌, None, Some, IfOk, IfErr, OnOk, MatchResult};
+ghost use Rattle.std.specs.Prelude.{◌≡◌, ◌⊎◌, ◌+◌, ◌<◌, ◌≤◌, true, false, None, Some, IfOk, IfErr, OnOk, MatchResult};
 ghost use Rattle.blocks.specs.Limits.{IsTarget};
 ghost use Rattle.replica.specs.Groups.{text_length};
-ghost use Rattle.replica.specs.Content.{new_content, appended};
+ghost use Rattle.replica.specs.Content.{new_content, appended, fenced, frozen};
+ghost use Rattle.replica.specs.Kept.{held_as};
 ghost use Rattle.replica.specs.Put.{put_fault};
 ghost use Rattle.replica.specs.Reading.{bytes_at, groups_to};
+ghost use Rattle.replica.specs.Replay.{is_boundary, cut_to};
 
+use crate::fault::{PastEnd, PutFault, Stale};
+use crate::frozen::FrozenReplica;
+use crate::kept::Kept;
 use crate::phase::Phase;
 use crate::placed::PlacedGroups;
-use blocks::{Group, Groups, Nodes};
+use crate::sealed::SealedReplica;
+use blocks::{Group, Nodes};
 use bytes::Bytes;
 use std::alloc::{AllocError, Global};
 use std::marker::Model;
-use thiserror::Error;
-
-/// Why a group was not taken.
-#[derive(Clone, Copy, Debug, PartialEq, Eq, Error)]
-pub enum PutFault {
-    /// 3: the generation is below the fence.
-    #[error("an older generation")]
-    Stale,
-    /// 8: the offset is not the replica's length.
-    #[error("not at the end")]
-    PastEnd,
-    /// 7: the length has reached the target.
-    #[error("the extent is full")]
-    ExtentFull,
-    /// 22: there was no memory for one more group.
-    #[error("no memory was left")]
-    Memory,
-}
 
 /// An open replica: it takes groups at its end, while its length is below its target.
 #[derive(Drop)]
 pub struct OpenReplica {
-    places: Nodes,
-    target: u32,
-    fence: u64,
-    held: PlacedGroups,
+    kept: Kept,
 }
 
 impl Model for OpenReplica {
@@ -49,12 +34,11 @@ impl Model for OpenReplica {
 
     ghost Value = { Held };
 
-    ghost view = { λ r. record {
-      content = record { places = r.places; target = r.target; fence = r.fence; phase = Open; groups = r.held.groups };
-      room = r.held.room;
-    } };
+    ghost use Rattle.replica.specs.Kept.{held_as};
 
-    ghost invariant = { λ r. IsTarget r.target × (text_length r.held.groups < r.target + 4194304) };
+    ghost view = { λ r. held_as Open r.kept };
+
+    ghost invariant = { λ r. IsTarget r.kept.target × (text_length r.kept.held.groups < r.kept.target + 4194304) };
 }
 
 impl OpenReplica {
@@ -64,18 +48,21 @@ impl OpenReplica {
         ensures { result.content ≡ new_content places target fence }
     {
         OpenReplica {
-            places,
-            target,
-            fence,
-            held: PlacedGroups::new(alloc),
+            kept: Kept {
+                places,
+                target,
+                fence,
+                held: PlacedGroups::new(alloc),
+            },
         }
     }
 
     /// That it is open.
     pub fn state(&self) -> Phase
-        ensures { result ≡ self.now.content.phase }
+        ensures content { result ≡ self.now.content.phase }
+        ensures value { result ≡ Phase.Open }
     {
-        let _target = self.target;
+        let _target = self.kept.target;
         Phase::Open
     }
 
@@ -85,61 +72,67 @@ impl OpenReplica {
         ensures bound { result < self.now.content.target + 4194304 }
         ensures target { IsTarget self.now.content.target }
     {
-        self.held.len()
+        self.kept.held.len()
     }
 
     /// The length at which no more groups are taken, in bytes.
     pub fn target(&self) -> u32
         ensures { result ≡ self.now.content.target }
     {
-        self.target
+        self.kept.target
     }
 
     /// The least generation that the replica listens to.
     pub fn fence(&self) -> u64
         ensures { result ≡ self.now.content.fence }
     {
-        self.fence
+        self.kept.fence
     }
 
     /// The three places of its extent, the primary first.
     pub fn places(&self) -> Nodes
         ensures { result ≡ self.now.content.places }
     {
-        self.places
-    }
-
-    /// Makes room for one more group. Without memory nothing has changed.
-    pub fn reserve(&mut self) -> Result<(), AllocError>
-        ensures same { self.new.content ≡ self.old.content }
-        ensures room { OnOk result (0 < self.new.room) }
-    {
-        self.held.reserve()
-    }
-
-    /// Adds a group at the end, into room that was made.
-    pub fn add(&mut self, group: Group)
-        requires room { 0 < self.old.room }
-        requires below { text_length self.old.content.groups < self.old.content.target }
-        ensures { self.new.content ≡ appended self.old.content group }
-    {
-        let _size = group.size();
-        self.held.push(group);
+        self.kept.places
     }
 
     /// A copy of so many bytes from an offset on, as far as there are any. An error is want of memory (22).
     pub fn bytes(&self, alloc: Global, offset: u32, length: u32) -> Result<Bytes, AllocError>
         ensures { IfOk result (λ bytes. bytes ≡ bytes_at offset length self.now.content.groups) }
     {
-        self.held.bytes(alloc, offset, length)
+        self.kept.held.bytes(alloc, offset, length)
     }
 
-    /// The first groups, of `upto` bytes together, which share their bytes; none where a group goes over that boundary,
-    /// or where there are not so many bytes. An error is want of memory (22).
-    pub fn groups_to(&self, alloc: Global, upto: u32) -> Result<Option<Groups>, AllocError>
-        ensures { IfOk result (λ groups. groups ≡ groups_to upto self.now.content.groups) }
+    /// What it keeps.
+    pub(crate) fn kept(&self) -> &Kept
+        ensures { held_as Phase.Open result.now ≡ self.now }
     {
-        self.held.groups_to(alloc, upto)
+        &self.kept
+    }
+
+    /// Makes room for so many more groups. Without memory nothing has changed.
+    pub(crate) fn reserve(&mut self, count: usize) -> Result<(), AllocError>
+        ensures same { self.new.content ≡ self.old.content }
+        ensures room { OnOk result (count ≤ self.new.room) }
+    {
+        self.kept.held.reserve(count)
+    }
+
+    /// Adds a group at the end, into room that was made.
+    pub(crate) fn add(&mut self, group: Group)
+        requires room { 0 < self.old.room }
+        requires below { text_length self.old.content.groups < self.old.content.target }
+        ensures { self.new.content ≡ appended self.old.content group }
+    {
+        let _size = group.size();
+        self.kept.held.push(group);
+    }
+
+    /// Listens to no generation below this one.
+    pub(crate) fn set_fence(&mut self, generation: u64)
+        ensures { self.new.content ≡ fenced self.old.content generation }
+    {
+        self.kept.fence = generation;
     }
 
     /// Adds a group of a generation at an offset, which is to be the replica's length. The first reason refuses it:
@@ -156,22 +149,59 @@ impl OpenReplica {
         ensures fault { MatchResult result (λ _. put_fault self.content generation offset ≡ None)
             (λ e. (e.0 ≡ PutFault.Memory) ⊎ (put_fault self.content generation offset ≡ Some e.0)) }
     {
-        if generation < self.fence {
+        if generation < self.kept.fence {
             return Err((PutFault::Stale, self, group));
         }
-        if offset != self.held.len() {
+        if offset != self.kept.held.len() {
             return Err((PutFault::PastEnd, self, group));
         }
-        if self.held.len() >= self.target {
+        if self.kept.held.len() >= self.kept.target {
             return Err((PutFault::ExtentFull, self, group));
         }
         let mut open = self;
-        match open.reserve() {
+        match open.reserve(1) {
             Ok(()) => {
                 open.add(group);
                 Ok(open)
             }
             Err(_refused) => Err((PutFault::Memory, open, group)),
+        }
+    }
+
+    /// Raises the fence to a generation. One below the fence is refused (3), which hands the replica back as it was.
+    pub fn raise(self, generation: u64) -> Result<OpenReplica, (Stale, OpenReplica)>
+        ensures ok { IfOk result (λ r. r.content ≡ fenced self.content generation) }
+        ensures refused { IfErr result (λ e. e.1.content ≡ self.content) }
+        ensures fault { MatchResult result (λ _. self.content.fence ≤ generation) (λ _. generation < self.content.fence) }
+    {
+        if generation < self.kept.fence {
+            return Err((Stale, self));
+        }
+        let mut open = self;
+        open.set_fence(generation);
+        Ok(open)
+    }
+
+    /// Takes no more groups.
+    pub fn freeze(self) -> FrozenReplica
+        ensures { result.content ≡ frozen self.content }
+    {
+        FrozenReplica::of(self.kept)
+    }
+
+    /// Keeps the groups up to a length, for good. Where no group ends there it is refused (8), which hands the replica
+    /// back as it was.
+    pub fn seal(self, length: u32) -> Result<SealedReplica, (PastEnd, OpenReplica)>
+        ensures ok { IfOk result (λ r. r.content ≡ cut_to self.content (groups_to length self.content.groups)) }
+        ensures refused { IfErr result (λ e. e.1.content ≡ self.content) }
+        ensures fault { MatchResult result (λ _. is_boundary (groups_to length self.content.groups) ≡ true)
+            (λ _. is_boundary (groups_to length self.content.groups) ≡ false) }
+    {
+        let mut kept = self.kept;
+        if kept.held.cut(length) {
+            Ok(SealedReplica::of(kept))
+        } else {
+            Err((PastEnd, OpenReplica { kept }))
         }
     }
 }

@@ -1,21 +1,36 @@
 //! A replica in any state.
-ghost use Rattle.std.specs.Prelude.{◌≡◌, ◌<◌, ◌+◌, ◌≤◌, IfOk, OnOk};
+ghost use Rattle.std.specs.Prelude.{◌≡◌, ◌<◌, ◌+◌, ◌≤◌, ◌++◌, true, false, length, IfOk, OnOk, OnErr, MatchResult};
 ghost use Rattle.blocks.specs.Limits.{IsTarget};
 ghost use Rattle.replica.specs.Groups.{text_length};
-ghost use Rattle.replica.specs.Content.{appended, new_content};
-ghost use Rattle.replica.specs.Reading.{bytes_at, groups_to};
+ghost use Rattle.replica.specs.Content.{appended, fenced, frozen, new_content, sealed_with};
+ghost use Rattle.replica.specs.Reading.{bytes_at, groups_from, groups_to};
+ghost use Rattle.replica.specs.Replay.{cut_to, is_boundary, is_frozen, is_open, is_sealed};
 ghost use Rattle.replica.specs.State.{content_of, room_of};
 
+use crate::fault::PastEnd;
+use crate::frozen::FrozenReplica;
+use crate::kept::Kept;
 use crate::open::OpenReplica;
 use crate::phase::Phase;
+use crate::sealed::SealedReplica;
 use blocks::{Group, Groups, Nodes};
 use bytes::Bytes;
 use std::alloc::{AllocError, Global};
+use std::mem;
+
+/// Takes the place of a replica while it goes from state to state.
+const NOWHERE: Nodes = Nodes {
+    primary: 1,
+    second: 2,
+    third: 3,
+};
 
 /// A replica in the state that it is in.
 #[derive(Drop)]
 pub enum Replica {
     Open(OpenReplica),
+    Frozen(FrozenReplica),
+    Sealed(SealedReplica),
 }
 
 impl Replica {
@@ -27,23 +42,45 @@ impl Replica {
         Replica::Open(OpenReplica::new(alloc, places, target, fence))
     }
 
-    /// How many payload bytes there are, at most 20,971,519.
+    /// What it keeps.
+    fn kept(&self) -> &Kept
+        ensures places { result.now.places ≡ (content_of self.now).places }
+        ensures target { result.now.target ≡ (content_of self.now).target }
+        ensures fence { result.now.fence ≡ (content_of self.now).fence }
+        ensures groups { result.now.held.groups ≡ (content_of self.now).groups }
+    {
+        match self {
+            Replica::Open(open) => open.kept(),
+            Replica::Frozen(frozen) => frozen.kept(),
+            Replica::Sealed(sealed) => sealed.kept(),
+        }
+    }
+
+    /// How many payload bytes there are, at most 20,971,519. An open replica has fewer than 4,194,304 above its target.
     pub fn len(&self) -> u32
         ensures value { result ≡ text_length (content_of self.now).groups }
-        ensures bound { result < (content_of self.now).target + 4194304 }
+        ensures bound { result ≤ 20971519 }
+        ensures while_open { is_open (content_of self.now).phase ≡ true → result < (content_of self.now).target + 4194304 }
         ensures target { IsTarget (content_of self.now).target }
     {
         match self {
             Replica::Open(open) => open.len(),
+            Replica::Frozen(frozen) => frozen.len(),
+            Replica::Sealed(sealed) => {
+                let _not_open = sealed.state();
+                sealed.len()
+            }
         }
     }
 
-    /// Its state.
+    /// The state that it is in.
     pub fn state(&self) -> Phase
         ensures { result ≡ (content_of self.now).phase }
     {
         match self {
             Replica::Open(open) => open.state(),
+            Replica::Frozen(frozen) => frozen.state(),
+            Replica::Sealed(sealed) => sealed.state(),
         }
     }
 
@@ -51,36 +88,46 @@ impl Replica {
     pub fn fence(&self) -> u64
         ensures { result ≡ (content_of self.now).fence }
     {
-        match self {
-            Replica::Open(open) => open.fence(),
-        }
+        self.kept().fence
     }
 
     /// The length at which no more groups are taken, in bytes.
     pub fn target(&self) -> u32
         ensures { result ≡ (content_of self.now).target }
     {
-        match self {
-            Replica::Open(open) => open.target(),
-        }
+        self.kept().target
     }
 
     /// The three places of its extent, the primary first.
     pub fn places(&self) -> Nodes
         ensures { result ≡ (content_of self.now).places }
     {
-        match self {
-            Replica::Open(open) => open.places(),
-        }
+        self.kept().places
     }
 
     /// A copy of so many bytes from an offset on, as far as there are any. An error is want of memory (22).
     pub fn bytes(&self, alloc: Global, offset: u32, length: u32) -> Result<Bytes, AllocError>
         ensures { IfOk result (λ bytes. bytes ≡ bytes_at offset length (content_of self.now).groups) }
     {
-        match self {
-            Replica::Open(open) => open.bytes(alloc, offset, length),
-        }
+        self.kept().held.bytes(alloc, offset, length)
+    }
+
+    /// Fills a slice with the bytes from an offset on. Where there are not so many it is refused (8), and the slice
+    /// is as it was. Takes no memory.
+    pub fn read_into(&self, offset: u32, out: &mut [u8]) -> Result<(), PastEnd>
+        ensures ok { OnOk result (out.new ≡ bytes_at offset (length out.old) (content_of self.now).groups) }
+        ensures refused { OnErr result (out.new ≡ out.old) }
+        ensures fault { MatchResult result (λ _. offset + length out.old ≤ text_length (content_of self.now).groups)
+            (λ _. text_length (content_of self.now).groups < offset + length out.old) }
+    {
+        self.kept().held.read_into(offset, out)
+    }
+
+    /// Whether a group ends at that length, or the first one begins. Takes no memory.
+    pub fn is_boundary(&self, length: u32) -> bool
+        ensures { result ≡ is_boundary (groups_to length (content_of self.now).groups) }
+    {
+        self.kept().held.is_boundary(length)
     }
 
     /// The first groups, of `upto` bytes together, which share their bytes; none where a group goes over that boundary,
@@ -88,29 +135,114 @@ impl Replica {
     pub fn groups_to(&self, alloc: Global, upto: u32) -> Result<Option<Groups>, AllocError>
         ensures { IfOk result (λ groups. groups ≡ groups_to upto (content_of self.now).groups) }
     {
-        match self {
-            Replica::Open(open) => open.groups_to(alloc, upto),
-        }
+        self.kept().held.groups_to(alloc, upto)
     }
 
-    /// Makes room for one more group. Without memory nothing has changed.
-    pub fn reserve(&mut self) -> Result<(), AllocError>
+    /// The groups from `from` on, which share their bytes; none where a group goes over that boundary, or where there
+    /// are not so many bytes. An error is want of memory (22).
+    pub fn groups_from(&self, alloc: Global, from: u32) -> Result<Option<Groups>, AllocError>
+        ensures { IfOk result (λ groups. groups ≡ groups_from from (content_of self.now).groups) }
+    {
+        self.kept().held.groups_from(alloc, from)
+    }
+
+    /// Makes room for so many more groups. Without memory nothing has changed.
+    pub fn reserve(&mut self, count: usize) -> Result<(), AllocError>
         ensures same { content_of self.new ≡ content_of self.old }
-        ensures room { OnOk result (0 < room_of self.new) }
+        ensures room { OnOk result (count ≤ room_of self.new) }
     {
         match self {
-            Replica::Open(open) => open.reserve(),
+            Replica::Open(open) => open.reserve(count),
+            Replica::Frozen(frozen) => frozen.reserve(count),
+            Replica::Sealed(sealed) => sealed.reserve(count),
         }
     }
 
     /// Adds a group at the end of an open replica, into room that was made.
     pub fn add(&mut self, group: Group)
+        requires open { is_open (content_of self.old).phase ≡ true }
         requires room { 0 < room_of self.old }
         requires below { text_length (content_of self.old).groups < (content_of self.old).target }
         ensures { content_of self.new ≡ appended (content_of self.old) group }
     {
         match self {
             Replica::Open(open) => open.add(group),
+            Replica::Frozen(frozen) => {
+                let _not_open = frozen.state();
+            }
+            Replica::Sealed(sealed) => {
+                let _not_open = sealed.state();
+            }
         }
+    }
+
+    /// Raises the fence of an open replica to a generation above it.
+    pub fn raise(&mut self, fence: u64)
+        requires open { is_open (content_of self.old).phase ≡ true }
+        requires below { (content_of self.old).fence < fence }
+        ensures { content_of self.new ≡ fenced (content_of self.old) fence }
+    {
+        match self {
+            Replica::Open(open) => open.set_fence(fence),
+            Replica::Frozen(frozen) => {
+                let _not_open = frozen.state();
+            }
+            Replica::Sealed(sealed) => {
+                let _not_open = sealed.state();
+            }
+        }
+    }
+
+    /// Hands the replica out, and leaves an empty one; takes no memory.
+    fn take(&mut self, alloc: Global) -> Replica
+        ensures { result ≡ self.old }
+    {
+        mem::replace(self, Replica::new(alloc, NOWHERE, 4096, 0))
+    }
+
+    /// Lets an open replica take no more groups; takes no memory.
+    pub fn freeze(&mut self, alloc: Global)
+        requires { is_open (content_of self.old).phase ≡ true }
+        ensures { content_of self.new ≡ frozen (content_of self.old) }
+    {
+        *self = match self.take(alloc) {
+            Replica::Open(open) => Replica::Frozen(open.freeze()),
+            Replica::Frozen(frozen) => Replica::Frozen(frozen),
+            Replica::Sealed(sealed) => Replica::Sealed(sealed),
+        };
+    }
+
+    /// Keeps the groups up to a length at which one ends, for good, of a replica that is not sealed; takes no memory.
+    pub fn seal(&mut self, alloc: Global, length: u32)
+        requires not_sealed { is_sealed (content_of self.old).phase ≡ false }
+        requires boundary { is_boundary (groups_to length (content_of self.old).groups) ≡ true }
+        ensures { content_of self.new ≡ cut_to (content_of self.old) (groups_to length (content_of self.old).groups) }
+    {
+        *self = match self.take(alloc) {
+            Replica::Open(open) => match open.seal(length) {
+                Ok(sealed) => Replica::Sealed(sealed),
+                Err((_fault, open)) => Replica::Open(open),
+            },
+            Replica::Frozen(frozen) => match frozen.seal(length) {
+                Ok(sealed) => Replica::Sealed(sealed),
+                Err((_fault, frozen)) => Replica::Frozen(frozen),
+            },
+            Replica::Sealed(sealed) => Replica::Sealed(sealed),
+        };
+    }
+
+    /// Adds groups at the end of a frozen replica, into room that was made, for good; takes no memory. Together there
+    /// are at most 20,971,519 bytes.
+    pub fn fill(&mut self, alloc: Global, groups: Groups)
+        requires frozen { is_frozen (content_of self.old).phase ≡ true }
+        requires room { length groups ≤ room_of self.old }
+        requires bound { text_length (content_of self.old).groups + text_length groups ≤ 20971519 }
+        ensures { content_of self.new ≡ sealed_with (content_of self.old) ((content_of self.old).groups ++ groups) }
+    {
+        *self = match self.take(alloc) {
+            Replica::Open(open) => Replica::Open(open),
+            Replica::Frozen(frozen) => Replica::Sealed(frozen.fill(groups)),
+            Replica::Sealed(sealed) => Replica::Sealed(sealed),
+        };
     }
 }

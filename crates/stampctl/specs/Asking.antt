@@ -3,10 +3,11 @@ use Rattle.std.specs.Prelude.{ℕ, true}
 use Rattle.wire.specs.declared.actor.ActorId.TheVariants as actors
 use Rattle.wire.specs.declared.actor.ReqNo.{ReqNo}
 use Rattle.wire.specs.declared.body.AppendBody.TheVariants as appends
+use Rattle.wire.specs.declared.body.Body.{Body}
 use Rattle.wire.specs.declared.body.Body.TheVariants as bodies
 use Rattle.wire.specs.declared.body.ReadBody.{ReadBody}
 use Rattle.wire.specs.declared.body.ReadBody.TheVariants as reads
-use Rattle.wire.specs.declared.body.StreamBody.{StreamBody}
+use Rattle.wire.specs.declared.body.SealBody.TheVariants as seals
 use Rattle.wire.specs.declared.body.StreamBody.TheVariants as streams
 use Rattle.wire.specs.declared.streams.StreamKind.{StreamKind}
 use Rattle.wire.specs.declared.streams.StreamName.{StreamName}
@@ -19,17 +20,18 @@ use Rattle.stampctl.specs.declared.line.Request.TheVariants as requests
 abbrev pub stream_of : StreamKind → StreamName
 stream_of kind = record { range = 0; kind = kind }
 
-abbrev pub call_by : ℕ → StreamBody → Event
-call_by user body = Submit user actors.Manager (bodies.Stream body)
+abbrev pub call_by : ℕ → Body → Event
+call_by user body = Submit user actors.Manager body
 
 abbrev pub read_by : ℕ → ℕ → ReadBody → Event
 read_by user node body = Submit user (actors.Node node) (bodies.Read body)
 
 -- what a user's request submits; the generation of a user is 0, and content is asked of sealed replicas alone
 abbrev pub asked : ℕ → ReqNo → Request → Event
-asked user number (requests.Create kind) = call_by user (streams.CreateStream (stream_of kind) 0 number)
-asked user number (requests.Extend kind last pick) = call_by user (streams.Extend (stream_of kind) 0 last pick number)
+asked user number (requests.Create kind) = call_by user (bodies.Stream (streams.CreateStream (stream_of kind) 0 number))
+asked user number (requests.Extend kind last pick) = call_by user (bodies.Stream (streams.Extend (stream_of kind) 0 last pick number))
 asked user number (requests.Append node extent blocks) =
     Submit user (actors.Node node) (bodies.Append (appends.Append extent 0 blocks.items number))
 asked user number (requests.Read node extent offset length) = read_by user node (reads.ReadAt extent offset length number)
 asked user number (requests.Content node extent upto) = read_by user node (reads.ReadGroups extent upto true number)
+asked user number (requests.Seal extent) = call_by user (bodies.Seal (seals.SealExtent extent number))

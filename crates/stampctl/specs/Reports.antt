@@ -20,6 +20,7 @@ answer_text (answers.Extended extent) = codes "extended " ++ decimal extent
 answer_text (answers.Appended offset) = codes "appended " ++ decimal offset
 answer_text (answers.Bytes text) = codes "bytes " ++ text
 answer_text (answers.Content size) = codes "content " ++ decimal size
+answer_text (answers.Sealed extent size) = codes "sealedis " ++ decimal extent ++ 32 ∷ decimal size
 answer_text (answers.Refused refusal) = codes "refused " ++ text_of refusal
 
 abbrev pub standing_text : Standing → List ℕ

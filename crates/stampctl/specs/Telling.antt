@@ -11,6 +11,8 @@ use Rattle.wire.specs.declared.body.Body.{Body}
 use Rattle.wire.specs.declared.body.Body.TheVariants as bodies
 use Rattle.wire.specs.declared.body.ReadBody.{ReadBody}
 use Rattle.wire.specs.declared.body.ReadBody.TheVariants as reads
+use Rattle.wire.specs.declared.body.SealBody.{SealBody}
+use Rattle.wire.specs.declared.body.SealBody.TheVariants as seals
 use Rattle.wire.specs.declared.body.StreamBody.{StreamBody}
 use Rattle.wire.specs.declared.body.StreamBody.TheVariants as streams
 use Rattle.wire.specs.declared.note.Note.{Note}
@@ -32,6 +34,10 @@ stream_answer (streams.Created number) = Some (number, answers.Created)
 stream_answer (streams.Extended number extent places) = Some (number, answers.Extended extent)
 stream_answer other = None
 
+abbrev pub seal_answer : SealBody → Option (ReqNo × Answer)
+seal_answer (seals.SealedIs number extent size) = Some (number, answers.Sealed extent size)
+seal_answer other = None
+
 -- the bytes in two digits each, and of groups how many bytes they have
 abbrev pub read_answer : ReadBody → Option (ReqNo × Answer)
 read_answer (reads.Bytes number extent offset bytes) = Some (number, answers.Bytes (shown_bytes bytes))
@@ -40,6 +46,7 @@ read_answer other = None
 
 abbrev pub answer_of : Body → Option (ReqNo × Answer)
 answer_of (bodies.Append body) = append_answer body
+answer_of (bodies.Seal body) = seal_answer body
 answer_of (bodies.Read body) = read_answer body
 answer_of (bodies.Stream body) = stream_answer body
 answer_of other = None

@@ -5,8 +5,8 @@ ghost use Rattle.stampctl.specs.Asking.{asked, call_by, read_by, stream_of};
 use crate::line::Request;
 use model::Event;
 use wire::{
-    ActorId, AppendBody, Blocks, Body, ExtentId, Fence, RangeId, ReadBody, ReqNo, StreamBody,
-    StreamKind, StreamName,
+    ActorId, AppendBody, Blocks, Body, ExtentId, Fence, RangeId, ReadBody, ReqNo, SealBody,
+    StreamBody, StreamKind, StreamName,
 };
 
 /// A stream that users work on.
@@ -20,13 +20,13 @@ fn stream_of(kind: StreamKind) -> StreamName
 }
 
 /// A user's call of the manager.
-fn call(user: u64, body: StreamBody) -> Event
+fn call(user: u64, body: Body) -> Event
     ensures { result ≡ call_by user body }
 {
     Event::Submit {
         user,
         to: ActorId::Manager,
-        body: Body::Stream(body),
+        body,
     }
 }
 
@@ -58,21 +58,21 @@ pub fn event_of(user: u64, number: ReqNo, task: Request) -> Event
     match task {
         Request::Create { kind } => call(
             user,
-            StreamBody::CreateStream {
+            Body::Stream(StreamBody::CreateStream {
                 stream: stream_of(kind),
                 fence: Fence::new(0),
                 request: number,
-            },
+            }),
         ),
         Request::Extend { kind, last, pick } => call(
             user,
-            StreamBody::Extend {
+            Body::Stream(StreamBody::Extend {
                 stream: stream_of(kind),
                 generation: Fence::new(0),
                 last: extent_of(last),
                 pick,
                 request: number,
-            },
+            }),
         ),
         Request::Append {
             node,
@@ -112,6 +112,13 @@ pub fn event_of(user: u64, number: ReqNo, task: Request) -> Event
                 sealed: true,
                 request: number,
             },
+        ),
+        Request::Seal { extent } => call(
+            user,
+            Body::Seal(SealBody::SealExtent {
+                extent: ExtentId::new(extent),
+                request: number,
+            }),
         ),
     }
 }

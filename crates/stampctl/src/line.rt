@@ -41,13 +41,20 @@ pub enum Request {
         extent: u64,
         upto: u32,
     },
+    /// That the manager seals an extent.
+    Seal {
+        extent: u64,
+    },
 }
 
 /// A line of a script.
 #[derive(Drop)]
 pub enum Line {
     /// A user sends a packet.
-    Submit { user: u64, request: Request },
+    Submit {
+        user: u64,
+        request: Request,
+    },
     /// Delivers the packet of this number.
     Deliver(u64),
     /// Delivers the packet that was sent last.
@@ -59,7 +66,20 @@ pub enum Line {
     /// And from here on it does not.
     Heal(ActorId),
     /// Shows the replica of an extent at a node.
-    Show { node: u8, extent: u64 },
+    Show {
+        node: u8,
+        extent: u64,
+    },
+    /// An actor stops, at once or in one of its next device calls.
+    Stop {
+        actor: ActorId,
+        call: u64,
+        keep: bool,
+    },
+    /// A stopped actor comes back.
+    Restart(ActorId),
+    /// The manager decides the length of an extent.
+    Decide(u64),
 }
 
 /// The most copies that a word may ask for.
@@ -181,6 +201,9 @@ pub fn parse(alloc: Global, words: &[&str]) -> Result<Option<Line>, AllocError> 
         ["cut", word] => actor(word).map(Line::Cut),
         ["heal", word] => actor(word).map(Line::Heal),
         ["show", node, extent] => show(node, extent),
+        ["stop", word, call, bytes] => stop(word, call, bytes),
+        ["restart", word] => actor(word).map(Line::Restart),
+        ["decide", extent] => number(extent).map(Line::Decide),
         _ => None,
     })
 }
@@ -203,6 +226,7 @@ fn submit(alloc: Global, user: &str, words: &[&str]) -> Result<Option<Line>, All
         ["append", node, extent, blocks @ ..] => append(alloc, node, extent, blocks)?,
         ["read", node, extent, offset, length] => read(node, extent, offset, length),
         ["content", node, extent, upto] => content(node, extent, upto),
+        ["seal", extent] => seal(extent),
         _ => None,
     };
     Ok(request.map(|request| Line::Submit { user, request }))
@@ -248,6 +272,26 @@ fn content(at: &str, extent: &str, upto: &str) -> Option<Request> {
         node: node(at)?,
         extent: number(extent)?,
         upto: place(upto)?,
+    })
+}
+
+fn seal(extent: &str) -> Option<Request> {
+    Some(Request::Seal {
+        extent: number(extent)?,
+    })
+}
+
+/// A stop: whose, in which device call, and whether the bytes of that call are kept.
+fn stop(word: &str, call: &str, bytes: &str) -> Option<Line> {
+    let keep = match bytes {
+        "keep" => true,
+        "drop" => false,
+        _ => return None,
+    };
+    Some(Line::Stop {
+        actor: actor(word)?,
+        call: number(call)?,
+        keep,
     })
 }
 

@@ -19,6 +19,7 @@ pub enum Answer {
     Bytes(HexText),
     /// How many bytes the groups have together.
     Content(u128),
+    Sealed { extent: u64, length: u32 },
     Refused(Refusal),
 }
 
@@ -97,6 +98,7 @@ impl fmt::Display for Answer {
             Answer::Appended(offset) => write!(f, "appended {offset}"),
             Answer::Bytes(bytes) => write!(f, "bytes {bytes}"),
             Answer::Content(size) => write!(f, "content {size}"),
+            Answer::Sealed { extent, length } => write!(f, "sealedis {extent} {length}"),
             Answer::Refused(refusal) => write!(f, "refused {refusal}"),
         }
     }

@@ -126,6 +126,28 @@ impl Session {
                 Ok(())
             }
             Line::Show { node, extent } => print(look(&self.run, node, extent), writer),
+            Line::Stop { actor, call, keep } => {
+                self.observe(&Event::Stop { actor, call, keep }, writer)
+            }
+            Line::Restart(actor) => self.observe(&Event::Restart { actor }, writer),
+            Line::Decide(extent) => self.observe(
+                &Event::Decide {
+                    extent: ExtentId::new(extent),
+                },
+                writer,
+            ),
+        }
+    }
+
+    /// An event happens, and what is observed of it is printed.
+    fn observe<W: Write>(&mut self, event: &Event, writer: &mut W) -> Result<(), Failure>
+        ensures { IfErr result IsRunFailure }
+    {
+        let shown = self.run.observations().len();
+        happen(&mut self.run, self.alloc, event, writer)?;
+        match self.run.observations().get(shown..) {
+            Some(more) => print_notes(more, writer),
+            None => Ok(()),
         }
     }
 
@@ -152,16 +174,7 @@ impl Session {
             return Ok(());
         }
         self.deliveries.note(number)?;
-        let shown = self.run.observations().len();
-        happen(
-            &mut self.run,
-            self.alloc,
-            &Event::Deliver { number },
-            writer,
-        )?;
-        if let Some(more) = self.run.observations().get(shown..) {
-            print_notes(more, writer)?;
-        }
+        self.observe(&Event::Deliver { number }, writer)?;
         match self.run.sent().get(number) {
             Some(packet) => print_answer(self.alloc, packet, writer),
             None => Ok(()),

@@ -1,13 +1,13 @@
 //! What deliveries and observations print.
 ghost use Rattle.std.specs.Prelude.{◌≡◌, Some, IfOk};
 ghost use Rattle.blocks.specs.Limits.{groups_size};
-ghost use Rattle.stampctl.specs.Telling.{answer_of, append_answer, observed, read_answer, stream_answer, told_to, told_with};
+ghost use Rattle.stampctl.specs.Telling.{answer_of, append_answer, observed, read_answer, seal_answer, stream_answer, told_to, told_with};
 
 use crate::hex_text::HexText;
 use crate::report::{Answer, Report};
 use blocks::Group;
 use std::alloc::{AllocError, Global};
-use wire::{ActorId, AppendBody, Body, Note, Packet, ReadBody, ReqNo, StreamBody};
+use wire::{ActorId, AppendBody, Body, Note, Packet, ReadBody, ReqNo, SealBody, StreamBody};
 
 fn append_answer(body: &AppendBody) -> Option<(ReqNo, Answer)>
     ensures { result ≡ append_answer body.now }
@@ -33,6 +33,25 @@ fn stream_answer(body: &StreamBody) -> Option<(ReqNo, Answer)>
             extent,
             places: _,
         } => Some((*request, Answer::Extended(extent.number()))),
+        _ => None,
+    }
+}
+
+fn seal_answer(body: &SealBody) -> Option<(ReqNo, Answer)>
+    ensures { result ≡ seal_answer body.now }
+{
+    match body {
+        SealBody::SealedIs {
+            request,
+            extent,
+            length,
+        } => Some((
+            *request,
+            Answer::Sealed {
+                extent: extent.number(),
+                length: *length,
+            },
+        )),
         _ => None,
     }
 }
@@ -76,6 +95,7 @@ fn answer_of(alloc: Global, body: &Body) -> Result<Option<(ReqNo, Answer)>, Allo
 {
     match body {
         Body::Append(body) => Ok(append_answer(body)),
+        Body::Seal(body) => Ok(seal_answer(body)),
         Body::Read(body) => read_answer(alloc, body),
         Body::Stream(body) => Ok(stream_answer(body)),
         _ => Ok(None),

@@ -1,7 +1,7 @@
 -- Choices by a test, and maps that are changed at one place.
 use Rattle.std.proofs.Common.{◌≡◌, ◌≢◌, ◌⊎◌, ℕ, Bool, true, false, if◌then◌else◌, refl, inl, inr}
 use Rattle.model.specs.Maps.{changed, changed_at}
-pub use Rattle.laws_streams.proofs.Tests.{neither, is_below, not_below, at_most, above, tested, untested, changed_at_elim, changed_elim}
+pub use Rattle.laws_streams.proofs.Tests.{either, neither, none_of, not_true, is_below, not_below, at_most, above, tested, untested, changed_at_elim, changed_elim}
 
 -- one test for two choices
 pub both_elim : {A B : Type 0} (P : A → B → Type 0) (b : Bool) (x y : A) (u v : B) → (b ≡ true → P x u) → (b ≡ false → P y v) → P (if b then x else y) (if b then u else v)

@@ -19,7 +19,8 @@ use Rattle.model.specs.World.{World, Cell, burnt, stops_in, stands_in, stopped_a
 use Rattle.model.proofs.Tests.{if_elim, both_parts}
 use Rattle.model.proofs.Replay.{Replays, IsWritten, applied_if, row_replays}
 use Rattle.enode.specs.Node.{NodeState, IsReplay, find, fresh_of}
-use Rattle.enode.specs.Took.{Took, listed}
+use Rattle.disk.specs.Appends.{listed}
+use Rattle.enode.specs.Took.{Took}
 use Rattle.world.specs.Nodes.{NodeSeen, seen_of, plan_of, NodeMirrors, Gave}
 use Rattle.world.proofs.Choices.{neither, is_below, not_below, at_most, above, tested, untested, changed_at_elim, changed_at-other, changed-same, changed-other}
 use Rattle.world.proofs.Seen.{sorted_same, shown_up, shown_down}
@@ -31,20 +32,20 @@ zero_or (suc k) = inr (omega arith)
 plan_zero : (c : Cell) → c.fuse ≡ 0 → plan_of c ≡ None
 plan_zero c z = ap (λ (k : ℕ). if k == 0 then None else Some (k, c.keep)) z
 
-plan_some : (c : Cell) → 0 < c.fuse → plan_of c ≡ Some (c.fuse, c.keep)
+pub plan_some : (c : Cell) → 0 < c.fuse → plan_of c ≡ Some (c.fuse, c.keep)
 plan_some c l = if_elim (λ z. z ≡ Some (c.fuse, c.keep)) (c.fuse == 0) None (Some (c.fuse, c.keep)) (λ t. absurd (let z = tested c.fuse 0 t in omega arith)) (λ f. refl)
 
-burnt_up : (c : Cell) (k : Option Record) → (burnt c k).up ≡ c.up
+pub burnt_up : (c : Cell) (k : Option Record) → (burnt c k).up ≡ c.up
 burnt_up c None = refl
 burnt_up c (Some r) = refl
 
 -- a row's record, where there is one: the file runs on
-up_ok : (old new : Filed MemDisk) (k : Option Record) (s : Step) → Records memory_state old new (listed k) (Ok s) → old.stopped ≡ false → new.stopped ≡ false
+pub up_ok : (old new : Filed MemDisk) (k : Option Record) (s : Step) → Records memory_state old new (listed k) (Ok s) → old.stopped ≡ false → new.stopped ≡ false
 up_ok old new None s h up = ap (λ (f : Filed MemDisk). f.stopped) h.0 ∙ up
 up_ok old new (Some r) s h up = h.ok.0
 
 -- and its disk is told what the world says
-plan_ok : (old new : Filed MemDisk) (k : Option Record) (s : Step) (c : Cell) → Records memory_state old new (listed k) (Ok s) → (memory_state old.disk).stop ≡ plan_of c → stops_in c k ≡ false →
+pub plan_ok : (old new : Filed MemDisk) (k : Option Record) (s : Step) (c : Cell) → Records memory_state old new (listed k) (Ok s) → (memory_state old.disk).stop ≡ plan_of c → stops_in c k ≡ false →
     (memory_state new.disk).stop ≡ plan_of (burnt c k)
 plan_ok old new None s c h told f = ap (λ (x : Filed MemDisk). (memory_state x.disk).stop) h.0 ∙ told
 plan_ok old new (Some r) s c h told f =
@@ -54,14 +55,14 @@ plan_ok old new (Some r) s c h told f =
     (h.later c.fuse c.keep (told ∙ plan_some c l) far).1 ∙ sym (plan_some (burnt c (Some r)) (omega arith)))
     (zero_or c.fuse)
 
-no_stop : (old new : Filed MemDisk) (k : Option Record) (s : Step) (c : Cell) → Records memory_state old new (listed k) (Ok s) → (memory_state old.disk).stop ≡ plan_of c → stops_in c k ≡ true → ⊥
+pub no_stop : (old new : Filed MemDisk) (k : Option Record) (s : Step) (c : Cell) → Records memory_state old new (listed k) (Ok s) → (memory_state old.disk).stop ≡ plan_of c → stops_in c k ≡ true → ⊥
 no_stop old new None s c h told t = absurd cc
 no_stop old new (Some r) s c h told t =
     let b = both_parts (nat_lt 0 c.fuse) (nat_le c.fuse 4) t in
     let l = is_below 0 c.fuse b.0 in
     (h.stop c.fuse c.keep (told ∙ plan_some c l) (omega arith) (at_most c.fuse 4 b.1)).0 refl
 
-broken_stops : (old new : Filed MemDisk) (k : Option Record) (c : Cell) → Records {T = Step} memory_state old new (listed k) (Err Failed) → (memory_state old.disk).stop ≡ plan_of c → stops_in c k ≡ false → ⊥
+pub broken_stops : (old new : Filed MemDisk) (k : Option Record) (c : Cell) → Records {T = Step} memory_state old new (listed k) (Err Failed) → (memory_state old.disk).stop ≡ plan_of c → stops_in c k ≡ false → ⊥
 broken_stops old new None c h told f = h.1 refl
 broken_stops old new (Some r) c h told f =
     ⊎_elim
@@ -76,11 +77,11 @@ swapped true false x y = refl
 swapped false true x y = refl
 swapped false false x y = refl
 
-broken_down : (old new : Filed MemDisk) (k : Option Record) → Records {T = Step} memory_state old new (listed k) (Err Failed) → new.stopped ≡ true
+pub broken_down : (old new : Filed MemDisk) (k : Option Record) → Records {T = Step} memory_state old new (listed k) (Err Failed) → new.stopped ≡ true
 broken_down old new None h = absurd (h.1 refl)
 broken_down old new (Some r) h = (h.failed refl).0
 
-broken_records : (old new : Filed MemDisk) (k : Option Record) (c : Cell) → Records {T = Step} memory_state old new (listed k) (Err Failed) → (memory_state old.disk).stop ≡ plan_of c → stops_in c k ≡ true →
+pub broken_records : (old new : Filed MemDisk) (k : Option Record) (c : Cell) → Records {T = Step} memory_state old new (listed k) (Err Failed) → (memory_state old.disk).stop ≡ plan_of c → stops_in c k ≡ true →
     new.records ≡ (if stands_in c then old.records ++ listed k else old.records)
 broken_records old new None c h told t = absurd (h.1 refl)
 broken_records old new (Some r) c h told t =
@@ -90,7 +91,7 @@ broken_records old new (Some r) c h told t =
     ∙ swapped c.keep (nat_le 3 c.fuse) (old.records ++ r ∷ []) old.records
 
 -- nothing of the file has changed where no memory was left
-short_same : (old new : Filed MemDisk) (k : Option Record) → Records {T = Step} memory_state old new (listed k) (Err Memory) →
+pub short_same : (old new : Filed MemDisk) (k : Option Record) → Records {T = Step} memory_state old new (listed k) (Err Memory) →
     (new.records ≡ old.records) × (new.stopped ≡ old.stopped) × ((memory_state new.disk).stop ≡ (memory_state old.disk).stop)
 short_same old new None h = (ap (λ (f : Filed MemDisk). f.records) h.0, ap (λ (f : Filed MemDisk). f.stopped) h.0, ap (λ (f : Filed MemDisk). (memory_state f.disk).stop) h.0)
 short_same old new (Some r) h = ((h.memory refl).records, (h.memory refl).stopped, (h.memory refl).disk.stop)
@@ -102,7 +103,7 @@ pub stopped_there : (n m : ℕ) (g : ℕ → ℕ → Option Replica) (f : ℕ) �
 stopped_there n m g f apart = if_elim (λ z. z ≡ g m f) (m == n) (stopped (g m f)) (g m f) (λ t. absurd (apart (tested m n t))) (λ u. refl)
 
 -- what a stop leaves is what its records make
-fresh-contents : (s : Option Replica) → fresh_of (contents s) ≡ stopped s
+pub fresh-contents : (s : Option Replica) → fresh_of (contents s) ≡ stopped s
 fresh-contents None = refl
 fresh-contents (Some r) = refl
 
@@ -140,6 +141,7 @@ gave_ok n e o x y w s up m num h =
       others = λ j apart. ((λ k. changed_at-other n e o.after w.replica j k (inl apart)), changed-other n (burnt (w.cell n) o.written) w.cell j apart);
       nodes = refl;
       book = refl;
+      desk = refl;
     })
   where
     yup : y.file.stopped ≡ false
@@ -154,9 +156,9 @@ gave_broken n e o x y w s up m num before row sent told h =
     if_elim2 (stands_in (w.cell n)) (λ c. y.file.records ≡ (if c then x.file.records ++ listed o.written else x.file.records))
     (λ c. Gave n (seen_of y) w (if c then halted (after_row w n e (unsent o)) n else halted w n) s) is
     (λ more. ended (after_row w n e (unsent o)) (nil_end w.post sent) (ap (λ l. w.notes ++ l) (h.shows refl ∙ sym told))
-    (λ j. ap (λ (rs : List Record). fresh_of (replay j rs)) more ∙ stood j) (λ j apart k. changed_at-other n e o.after w.replica j k (inl apart)) (λ j. refl) refl refl)
+    (λ j. ap (λ (rs : List Record). fresh_of (replay j rs)) more ∙ stood j) (λ j apart k. changed_at-other n e o.after w.replica j k (inl apart)) (λ j. refl) refl refl refl)
     (λ less. ended w (nil w.post sent) (nil w.notes told)
-    (λ j. ap (λ (rs : List Record). fresh_of (replay j rs)) less ∙ ap fresh_of (sym (before.each j)) ∙ fresh-contents (find x.replicas j) ∙ ap stopped (was j)) (λ j apart k. refl) (λ j. refl) refl refl))
+    (λ j. ap (λ (rs : List Record). fresh_of (replay j rs)) less ∙ ap fresh_of (sym (before.each j)) ∙ fresh-contents (find x.replicas j) ∙ ap stopped (was j)) (λ j apart k. refl) (λ j. refl) refl refl refl))
     (λ f. absurd (broken_stops x.file y.file o.written (w.cell n) h.file (m.plan up) f))
   where
     if_elim2 : (b : Bool) (Q P : Bool → Type 0) → Q b → (Q true → P true) → (Q false → P false) → P b
@@ -176,8 +178,8 @@ gave_broken n e o x y w s up m num before row sent told h =
         (λ b. ap fresh_of (made_there n e j x.file.records (contents (find x.replicas e)) b o.written row.written ∙ sym (before.each j)) ∙ fresh-contents (find x.replicas j) ∙ ap stopped (was j)) other)
 
     ended : (u : World) → u.post ≡ w.post ++ s.packets → u.notes ≡ w.notes ++ s.notes → ((j : ℕ) → fresh_of (replay j y.file.records) ≡ stopped (u.replica n j)) →
-        ((j : ℕ) → j ≢ n → (k : ℕ) → u.replica j k ≡ w.replica j k) → ((j : ℕ) → u.cell j ≡ w.cell j) → u.nodes ≡ w.nodes → u.book ≡ w.book → Gave n (seen_of y) w (halted u n) s
-    ended u p q r others cells count book = record {
+        ((j : ℕ) → j ≢ n → (k : ℕ) → u.replica j k ≡ w.replica j k) → ((j : ℕ) → u.cell j ≡ w.cell j) → u.nodes ≡ w.nodes → u.book ≡ w.book → u.desk ≡ w.desk → Gave n (seen_of y) w (halted u n) s
+    ended u p q r others cells count book desk = record {
       post = p;
       notes = q;
       node = record {
@@ -189,6 +191,7 @@ gave_broken n e o x y w s up m num before row sent told h =
       others = λ j apart. ((λ k. stopped_there n j u.replica k apart ∙ others j apart k), changed-other n down u.cell j apart ∙ cells j);
       nodes = count;
       book = book;
+      desk = desk;
     }
 
 -- a node that has stopped does nothing
@@ -203,6 +206,7 @@ gave_down n p x w s isdown m sent told =
       others = λ j apart. ((λ k. refl), refl);
       nodes = refl;
       book = refl;
+      desk = refl;
     })
 
 row_same : (n : ℕ) (p : Packet) (x : NodeState MemDisk) (w : World) → x.file.stopped ≡ false → NodeMirrors n (seen_of x) w →

@@ -9,7 +9,7 @@ use Rattle.replica.specs.Replay.{replay}
 use Rattle.model.specs.World.{World, Cell, node_takes, start, cell_at, running, down}
 use Rattle.model.proofs.Tests.{if_elim, both_parts}
 use Rattle.enode.specs.Node.{NodeState, fresh_of, IsRestart}
-use Rattle.world.specs.Book.{entry_at}
+use Rattle.model.specs.Maps.{entry_at}
 use Rattle.world.specs.Nodes.{NodeSeen, seen_of, all_seen, plan_of, NodeMirrors, NodesMirror, Gave, Went, IsNew, AreNew}
 use Rattle.world.proofs.Choices.{is_below, not_below, at_most, above, neither}
 use Rattle.world.proofs.Seen.{shown_up, entry-set_same, entry-set_other, entry-set_there, entry_here, entry_below, entry_none, entry_push, entry_beyond, push_seen, length-seen, length-set}
@@ -36,12 +36,14 @@ went n xs y w v s l m h = record {
     count = h.nodes ∙ m.count ∙ sym (length-seen (slice_set xs n y) ∙ length-set xs n y ∙ sym (length-seen xs));
   };
   book = h.book;
+  desk = h.desk;
 }
 
-pub went_from : (n : ℕ) (xs : List (NodeState MemDisk)) (d y : NodeState MemDisk) (p : Packet) (s : Step) → n < length xs → d ≡ slice_index_or xs n d →
-    ((k : ℕ) (w : World) → NodeMirrors k (seen_of d) w → Gave k (seen_of y) w (node_takes w k p) s) →
-    (w : World) → NodesMirror (all_seen xs) w → Went (all_seen (slice_set xs n y)) w (node_takes w (suc n) p) s
-went_from n xs d y p s l is f w m = went n xs y w (node_takes w (suc n) p) s l m
+-- one of the nodes goes on, as this says of each world
+pub went_from : (n : ℕ) (xs : List (NodeState MemDisk)) (d y : NodeState MemDisk) (goes : World → ℕ → World) (s : Step) → n < length xs → d ≡ slice_index_or xs n d →
+    ((k : ℕ) (w : World) → NodeMirrors k (seen_of d) w → Gave k (seen_of y) w (goes w k) s) →
+    (w : World) → NodesMirror (all_seen xs) w → Went (all_seen (slice_set xs n y)) w (goes w (suc n)) s
+went_from n xs d y goes s l is f w m = went n xs y w (goes w (suc n)) s l m
     (f (suc n) w (m.each (suc n) (seen_of d) (entry_here xs n d l ∙ ap (λ (x : NodeState MemDisk). Some (seen_of x)) (sym is))))
 
 -- nothing comes of a packet to an absent node
@@ -50,7 +52,7 @@ pub went_nowhere : (n : ℕ) (xs : List NodeSeen) (p : Packet) (s : Step) → en
 went_nowhere n xs p s none sent told w m =
     if_elim (λ v. Went xs w v s) (w.cell n).up _ w
     (λ t. absurd (let a = m.absent n none in cc))
-    (λ f. record { post = nil w.post sent; notes = nil w.notes told; nodes = m; book = refl })
+    (λ f. record { post = nil w.post sent; notes = nil w.notes told; nodes = m; book = refl; desk = refl })
   where
     nil : {A : Type 0} (zs : List A) {ys : List A} → ys ≡ [] → zs ≡ zs ++ ys
     nil zs is = sym (ap (λ l. zs ++ l) is ∙ append-nil zs)

@@ -1,5 +1,5 @@
 -- What each event does to a run, beside what it does to the world.
-use Rattle.std.proofs.Common.{◌≡◌, ◌≤◌, ◌<◌, ℕ, Bool, true, false, List, [], ◌∷◌, ◌++◌, Option, Some, None, Result, Ok, Err, IfOk, refl, sym, ap, ◌∙◌, subst, take, ◌+◌, slice_get, slice_index_or, length, zero, suc, if◌then◌else◌, arith, append-nil}
+use Rattle.std.proofs.Common.{◌≡◌, ◌≤◌, ◌<◌, ℕ, Bool, true, false, not, List, [], ◌∷◌, ◌++◌, Option, Some, None, Result, Ok, Err, IfOk, OnOk, refl, sym, ap, ◌∙◌, subst, take, ◌+◌, slice_get, slice_index_or, length, zero, suc, if◌then◌else◌, arith, append-nil}
 use Rattle.std.proofs.Math.Seq.{take-suc}
 use Rattle.std.proofs.lemmas.Option.{same_Some}
 use Rattle.wire.specs.declared.actor.ActorId.{ActorId}
@@ -9,19 +9,19 @@ use Rattle.wire.specs.declared.note.Note.{Note}
 use Rattle.wire.specs.declared.packet.Packet.{Packet}
 use Rattle.wire.specs.declared.packet.Step.{Step}
 use Rattle.model.specs.declared.event.Event.{Event}
-use Rattle.model.specs.declared.event.Event.TheVariants.{Submit, Deliver}
+use Rattle.model.specs.declared.event.Event.TheVariants.{Submit, Deliver, Stop, Restart, Decide}
 use Rattle.model.specs.Node.{Replica}
 use Rattle.model.specs.Outcome.{packet}
-use Rattle.model.specs.World.{World, Cell, happens, is_request, sent_more, delivered, delivered_if, node_takes, manager_takes, run, start}
+use Rattle.model.specs.World.{World, Cell, happens, is_request, sent_more, delivered, delivered_if, node_takes, manager_takes, decides, stop, restart, run, start}
 use Rattle.model.proofs.Tests.{if_elim}
 use Rattle.world.specs.declared.fault.WorldFault.{WorldFault}
-use Rattle.world.specs.declared.book.Listing.TheVariants.{Missing}
-use Rattle.world.specs.Book.{BookState, BookMirrors, handled}
-use Rattle.world.specs.Nodes.{NodeSeen, NodesMirror, Went, AreNew, plan_of}
+use Rattle.world.specs.Desk.{DeskSeen, DeskMirrors, IsNewDesk, Makes, Served}
+use Rattle.world.specs.Nodes.{NodeSeen, NodesMirror, Went, AreNew, nothing, plan_of}
 use Rattle.world.specs.Run.{RunState, IsFew, Mirrors, Moved}
 use Rattle.world.proofs.Seen.{entry_beyond}
 use Rattle.world.proofs.Going.{begun}
-use Rattle.world.proofs.Booking.{managed, managed_short, begun_book}
+use Rattle.manager.specs.Table.{Lists}
+use Rattle.model.specs.Manager.{Book}
 
 nil : {A : Type 0} (xs : List A) {ys : List A} → ys ≡ [] → xs ≡ xs ++ ys
 nil xs is = sym (ap (λ l. xs ++ l) is ∙ append-nil xs)
@@ -39,9 +39,35 @@ nodes_as xs w v m replicas cells count = record {
   count = count ∙ m.count;
 }
 
+-- and what is said of the manager says nothing of the packets, the observations and the nodes
+desk_as : (x : DeskSeen) (w v : World) → DeskMirrors x w → v.book ≡ w.book → v.desk ≡ w.desk → DeskMirrors x v
+desk_as x w v m book desk = record {
+  running = λ up. subst (λ (b : Book). Lists x.table b) (sym book) (m.running up);
+  stopped = λ isdown. subst (λ (b : Book). Makes x.records b) (sym book) (m.stopped isdown);
+  up = ap (λ (c : Cell). c.up) desk ∙ m.up;
+  plan = λ up. m.plan up ∙ ap plan_of (sym desk);
+}
+
 -- a run of these parts
-abbrev pub state : List NodeSeen → BookState → List Packet → List Note → RunState
-state nodes book post notes = record { nodes = nodes; book = book; post = post; notes = notes }
+abbrev pub state : List NodeSeen → DeskSeen → List Packet → List Note → RunState
+state nodes desk post notes = record { nodes = nodes; desk = desk; post = post; notes = notes }
+
+-- a step of the actors is one of the run
+pub stepped : (r x : RunState) (w v : World) (s : Step) → Mirrors r w → Moved x.nodes x.desk w v s → x.post ≡ r.post ++ s.packets → x.notes ≡ r.notes ++ s.notes → Mirrors x v
+stepped r x w v s m g sent told = record {
+  post = sent ∙ ap (λ l. l ++ s.packets) m.post ∙ sym g.post;
+  notes = told ∙ ap (λ l. l ++ s.notes) m.notes ∙ sym g.notes;
+  nodes = g.nodes;
+  desk = g.desk;
+}
+
+-- a node went on
+moved_nodes : (ys : List NodeSeen) (d : DeskSeen) (w v : World) (s : Step) → Went ys w v s → DeskMirrors d w → Moved ys d w v s
+moved_nodes ys d w v s g k = record { post = g.post; notes = g.notes; nodes = g.nodes; desk = desk_as d w v k g.book g.desk }
+
+-- the manager went on
+moved_desk : (xs : List NodeSeen) (y : DeskSeen) (w v : World) (s : Step) → Served y w v s → NodesMirror xs w → Moved xs y w v s
+moved_desk xs y w v s g m = record { post = g.post; notes = g.notes; nodes = nodes_as xs w v m g.replica g.cell g.nodes; desk = g.desk }
 
 -- ---- a submission
 
@@ -58,7 +84,7 @@ submitted r x user to body may is w m =
       post = ap (λ l. l ++ packet (User user) to body ∷ []) m.post;
       notes = m.notes;
       nodes = nodes_as r.nodes w (sent_more w (packet (User user) to body ∷ [])) m.nodes refl refl refl;
-      book = m.book;
+      desk = desk_as r.desk w (sent_more w (packet (User user) to body ∷ [])) m.desk refl refl;
     })
     (λ f. absurd cc))
 
@@ -78,34 +104,23 @@ is_unasked false body e = refl
 -- ---- a delivery
 
 -- a packet of a node
-pub moved_node : (xs ys : List NodeSeen) (b : BookState) (n : ℕ) (p : Packet) (s : Step) → p.to ≡ Node n →
+pub moved_node : (xs ys : List NodeSeen) (d : DeskSeen) (n : ℕ) (p : Packet) (s : Step) → p.to ≡ Node n →
     ((w : World) → NodesMirror xs w → Went ys w (node_takes w n p) s) →
-    (w : World) → NodesMirror xs w → BookMirrors b w.book → Moved ys b w (delivered w p p.to) s
-moved_node xs ys b n p s to h w m k =
-    let g = h w m in
-    subst (λ a. Moved ys b w (delivered w p a) s) (sym to)
-    (record { post = g.post; notes = g.notes; nodes = g.nodes; book = subst (BookMirrors b) (sym g.book) k })
+    (w : World) → NodesMirror xs w → DeskMirrors d w → Moved ys d w (delivered w p p.to) s
+moved_node xs ys d n p s to h w m k = subst (λ a. Moved ys d w (delivered w p a) s) (sym to) (moved_nodes ys d w (node_takes w n p) s (h w m) k)
 
 -- a packet of the manager
-pub moved_manager : (xs : List NodeSeen) (b c : BookState) (p : Packet) (s : Step) → p.to ≡ Manager →
-    s.packets ≡ (handled b p).1 → s.notes ≡ [] → c ≡ (handled b p).0 →
-    (w : World) → NodesMirror xs w → BookMirrors b w.book → Moved xs c w (delivered w p p.to) s
-moved_manager xs b c p s to sent told is w m k =
-    let g = managed b w.book p k in
-    subst (λ a. Moved xs c w (delivered w p a) s) (sym to)
-    (record {
-      post = ap (λ l. w.post ++ l) (sym (sent ∙ g.packets));
-      notes = ap (λ l. w.notes ++ l) (g.notes ∙ sym told);
-      nodes = nodes_as xs w (manager_takes w p) m refl refl refl;
-      book = subst (λ z. BookMirrors z (manager_takes w p).book) (sym is) g.after;
-    })
+pub moved_manager : (xs : List NodeSeen) (d y : DeskSeen) (p : Packet) (s : Step) → p.to ≡ Manager →
+    ((w : World) → DeskMirrors d w → Served y w (manager_takes w p) s) →
+    (w : World) → NodesMirror xs w → DeskMirrors d w → Moved xs y w (delivered w p p.to) s
+moved_manager xs d y p s to h w m k = subst (λ a. Moved xs y w (delivered w p a) s) (sym to) (moved_desk xs y w (manager_takes w p) s (h w k) m)
 
 -- a packet of somebody else
-pub moved_nowhere : (xs : List NodeSeen) (b : BookState) (p : Packet) (s : Step) → ((w : World) → delivered w p p.to ≡ w) → s.packets ≡ [] → s.notes ≡ [] →
-    (w : World) → NodesMirror xs w → BookMirrors b w.book → Moved xs b w (delivered w p p.to) s
-moved_nowhere xs b p s same sent told w m k =
-    subst (λ v. Moved xs b w v s) (sym (same w))
-    (record { post = nil w.post sent; notes = nil w.notes told; nodes = m; book = k })
+pub moved_nowhere : (xs : List NodeSeen) (d : DeskSeen) (p : Packet) (s : Step) → ((w : World) → delivered w p p.to ≡ w) → s.packets ≡ [] → s.notes ≡ [] →
+    (w : World) → NodesMirror xs w → DeskMirrors d w → Moved xs d w (delivered w p p.to) s
+moved_nowhere xs d p s same sent told w m k =
+    subst (λ v. Moved xs d w v s) (sym (same w))
+    (record { post = nil w.post sent; notes = nil w.notes told; nodes = m; desk = k })
 
 pub to_map : (p : Packet) → p.to ≡ Map → (w : World) → delivered w p p.to ≡ w
 to_map p to w = ap (λ a. delivered w p a) to
@@ -129,29 +144,55 @@ get_at (x ∷ xs) zero d l = refl
 get_at (x ∷ xs) (suc n) d l = get_at xs n d (omega arith)
 
 pub delivered_one : (r x : RunState) (k : ℕ) (p : Packet) (s : Step) → k < length r.post → p ≡ slice_index_or r.post k p →
-    ((w : World) → NodesMirror r.nodes w → BookMirrors r.book w.book → Moved x.nodes x.book w (delivered w p p.to) s) →
+    ((w : World) → NodesMirror r.nodes w → DeskMirrors r.desk w → Moved x.nodes x.desk w (delivered w p p.to) s) →
     x.post ≡ r.post ++ s.packets → x.notes ≡ r.notes ++ s.notes →
     (w : World) → Mirrors r w → Mirrors x (happens w (Deliver k))
 delivered_one r x k p s there is h sent told w m =
-    let g = h w m.nodes m.book in
     subst (λ v. Mirrors x v) (sym (delivers r k (Some p) w (get_at r.post k p there ∙ ap Some (sym is)) m))
-    (record {
-      post = sent ∙ ap (λ l. l ++ s.packets) m.post ∙ sym g.post;
-      notes = told ∙ ap (λ l. l ++ s.notes) m.notes ∙ sym g.notes;
-      nodes = g.nodes;
-      book = g.book;
-    })
+    (stepped r x w (delivered w p p.to) s m (h w m.nodes m.desk) sent told)
+
+-- ---- a stop, a restart, a decision
+
+pub same_post : (r : RunState) → (r.post ≡ r.post ++ nothing.packets) × (r.notes ≡ r.notes ++ nothing.notes)
+same_post r = (sym (append-nil r.post), sym (append-nil r.notes))
+
+-- the nodes of a run become these, and nothing is sent
+pub nodes_go : (r : RunState) (ys : List NodeSeen) (goes : World → World) → ((w : World) → NodesMirror r.nodes w → Went ys w (goes w) nothing) →
+    (w : World) → Mirrors r w → Mirrors (record r { nodes = ys }) (goes w)
+nodes_go r ys goes h w m = stepped r (record r { nodes = ys }) w (goes w) nothing m (moved_nodes ys r.desk w (goes w) nothing (h w m.nodes) m.desk) (same_post r).0 (same_post r).1
+
+-- the manager becomes this, and nothing is sent
+pub desk_goes : (r : RunState) (y : DeskSeen) (goes : World → World) → ((w : World) → DeskMirrors r.desk w → Served y w (goes w) nothing) →
+    (w : World) → Mirrors r w → Mirrors (record r { desk = y }) (goes w)
+desk_goes r y goes h w m = stepped r (record r { desk = y }) w (goes w) nothing m (moved_desk r.nodes y w (goes w) nothing (h w m.desk) m.nodes) (same_post r).0 (same_post r).1
+
+pub desk_came : (r : RunState) (y : DeskSeen) (actor : ActorId) (x : Result Unit WorldFault) → actor ≡ Manager → OnOk x ((w : World) → DeskMirrors r.desk w → Served y w (restart w Manager) nothing) →
+    OnOk x ((w : World) → Mirrors r w → Mirrors (record r { desk = y }) (restart w actor))
+desk_came r y actor (Ok x) is h = desk_goes r y (λ w. restart w actor) (subst (λ (a : ActorId). (w : World) → DeskMirrors r.desk w → Served y w (restart w a) nothing) (sym is) h)
+desk_came r y actor (Err x) is h = tt
+
+pub decided_one : (r x : RunState) (e : ℕ) (s : Step) → x.nodes ≡ r.nodes → ((w : World) → DeskMirrors r.desk w → Served x.desk w (decides w e) s) →
+    x.post ≡ r.post ++ s.packets → x.notes ≡ r.notes ++ s.notes →
+    (w : World) → Mirrors r w → Mirrors x (happens w (Decide e))
+decided_one r x e s nodes h sent told w m =
+    stepped r x w (decides w e) s m (moved_desk x.nodes x.desk w (decides w e) s (h w m.desk) (subst (λ xs. NodesMirror xs w) (sym nodes) m.nodes)) sent told
 
 -- ---- a whole run
 
-pub started : (xs : List NodeSeen) (b : BookState) (nodes target : ℕ) → AreNew xs → length xs ≡ nodes →
-    b ≡ record { nodes = nodes; target = target; metadata = Missing; log = Missing; row_data = Missing; blob_data = Missing; extents = [] } →
-    Mirrors (record { nodes = xs; book = b; post = []; notes = [] }) (start nodes target)
-started xs b nodes target h count is = record {
+begun_desk : (d : DeskSeen) (nodes target : ℕ) → IsNewDesk nodes target d → DeskMirrors d (start nodes target)
+begun_desk d nodes target h = record {
+  running = λ _. h.shows;
+  stopped = λ isdown. absurd (let u = h.running in cc);
+  up = ap not (sym h.running);
+  plan = λ _. h.untold;
+}
+
+pub started : (xs : List NodeSeen) (d : DeskSeen) (nodes target : ℕ) → AreNew xs → length xs ≡ nodes → IsNewDesk nodes target d → Mirrors (state xs d [] []) (start nodes target)
+started xs d nodes target h count new = record {
   post = refl;
   notes = refl;
   nodes = subst (λ n. NodesMirror xs (start n target)) count (begun xs target h);
-  book = subst (λ z. BookMirrors z (start nodes target).book) (sym is) (begun_book nodes target);
+  desk = begun_desk d nodes target new;
 }
 
 -- one event more
@@ -172,18 +213,14 @@ ran_next r events i event w is l m =
 
 -- ---- in the words of the answers
 
-pub node_moved : (xs ys : List NodeSeen) (b : BookState) (n : ℕ) (p : Packet) (r : Result Step WorldFault) → p.to ≡ Node n →
+pub node_moved : (xs ys : List NodeSeen) (d : DeskSeen) (n : ℕ) (p : Packet) (r : Result Step WorldFault) → p.to ≡ Node n →
     IfOk r (λ s. (w : World) → NodesMirror xs w → Went ys w (node_takes w n p) s) →
-    IfOk r (λ s. (w : World) → NodesMirror xs w → BookMirrors b w.book → Moved ys b w (delivered w p p.to) s)
-node_moved xs ys b n p (Ok s) to h = moved_node xs ys b n p s to h
-node_moved xs ys b n p (Err x) to h = tt
+    IfOk r (λ s. (w : World) → NodesMirror xs w → DeskMirrors d w → Moved ys d w (delivered w p p.to) s)
+node_moved xs ys d n p (Ok s) to h = moved_node xs ys d n p s to h
+node_moved xs ys d n p (Err x) to h = tt
 
-pub manager_moved : (xs : List NodeSeen) (b c : BookState) (p : Packet) (r : Result Step WorldFault) → p.to ≡ Manager →
-    IfOk r (λ s. (s.packets ≡ (handled b p).1) × (s.notes ≡ []) × (c ≡ (handled b p).0)) →
-    IfOk r (λ s. (w : World) → NodesMirror xs w → BookMirrors b w.book → Moved xs c w (delivered w p p.to) s)
-manager_moved xs b c p (Ok s) to h = moved_manager xs b c p s to h.0 h.1 h.2
-manager_moved xs b c p (Err x) to h = tt
-
-pub manager_few : (b c : BookState) (p : Packet) (r : Result Step WorldFault) → IfOk r (λ s. (s.packets ≡ (handled b p).1) × (s.notes ≡ []) × (c ≡ (handled b p).0)) → IfOk r IsFew
-manager_few b c p (Ok s) h = let l = managed_short b p in (omega (arith, l, ap length h.0), omega (arith, ap length h.1))
-manager_few b c p (Err x) h = tt
+pub manager_moved : (xs : List NodeSeen) (d y : DeskSeen) (p : Packet) (r : Result Step WorldFault) → p.to ≡ Manager →
+    IfOk r (λ s. (w : World) → DeskMirrors d w → Served y w (manager_takes w p) s) →
+    IfOk r (λ s. (w : World) → NodesMirror xs w → DeskMirrors d w → Moved xs y w (delivered w p p.to) s)
+manager_moved xs d y p (Ok s) to h = moved_manager xs d y p s to h
+manager_moved xs d y p (Err x) to h = tt

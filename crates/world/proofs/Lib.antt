@@ -2,6 +2,9 @@ pub mod Choices
 pub mod Seen
 pub mod Giving
 pub mod Going
-pub mod Booking
+pub mod Stopping
+pub mod Quiet
+pub mod Desking
+pub mod Ruling
 pub mod Happening
 pub mod Honest

@@ -9,7 +9,7 @@ use Rattle.disk.specs.declared.memory.MemDisk.{MemDisk}
 use Rattle.replica.specs.Replay.{replay}
 use Rattle.model.specs.Node.{Replica}
 use Rattle.enode.specs.Node.{NodeState, find, fresh_of}
-use Rattle.world.specs.Book.{entry_at}
+use Rattle.model.specs.Maps.{entry_at}
 use Rattle.world.specs.Nodes.{NodeSeen, sorted, seen_of, all_seen, shown}
 
 found : (es : List (ℕ × Replica)) (e : ℕ) → find es e ≡ maps.find nat_cmp e es

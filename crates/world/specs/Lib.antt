@@ -1,4 +1,5 @@
 pub mod Limits
-pub mod Book
 pub mod Nodes
+pub mod Desk
+pub mod Stopping
 pub mod Run

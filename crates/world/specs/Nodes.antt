@@ -1,5 +1,5 @@
 -- Real nodes beside the model's.
-use Rattle.std.specs.Prelude.{◌≡◌, ◌≢◌, ℕ, Bool, false, not, ◌==◌, List, ◌++◌, length, map, Option, Some, None, if◌then◌else◌}
+use Rattle.std.specs.Prelude.{◌≡◌, ◌≢◌, ℕ, Bool, false, not, ◌==◌, List, [], ◌++◌, length, map, Option, Some, None, if◌then◌else◌}
 use Rattle.std.specs.FinMap.{entries, from_entries}
 use Rattle.std.specs.Ordering.{nat_cmp}
 use Rattle.blocks.specs.declared.record.Record.{Record}
@@ -10,7 +10,7 @@ use Rattle.replica.specs.Replay.{replay}
 use Rattle.model.specs.Node.{Replica}
 use Rattle.model.specs.World.{World, Cell}
 use Rattle.enode.specs.Node.{NodeState, find, fresh_of}
-use Rattle.world.specs.Book.{entry_at}
+use Rattle.model.specs.Maps.{entry_at}
 
 -- what is seen of a node: its replicas in order of their extents, the records of its file, whether it has stopped, and
 -- what its disk was told
@@ -76,6 +76,7 @@ pub record Gave (n : ℕ) (y : NodeSeen) (w v : World) (s : Step) : Type 0 where
   pub others : (m : ℕ) → m ≢ n → ((e : ℕ) → v.replica m e ≡ w.replica m e) × (v.cell m ≡ w.cell m)
   pub nodes : v.nodes ≡ w.nodes
   pub book : v.book ≡ w.book
+  pub desk : v.desk ≡ w.desk
 
 -- from w to v the nodes became these
 pub record Went (xs : List NodeSeen) (w v : World) (s : Step) : Type 0 where
@@ -83,6 +84,7 @@ pub record Went (xs : List NodeSeen) (w v : World) (s : Step) : Type 0 where
   pub notes : v.notes ≡ w.notes ++ s.notes
   pub nodes : NodesMirror xs v
   pub book : v.book ≡ w.book
+  pub desk : v.desk ≡ w.desk
 
 -- a node with nothing on its disk
 pub record IsNew (n : ℕ) (x : NodeSeen) : Type 0 where
@@ -94,3 +96,7 @@ pub record IsNew (n : ℕ) (x : NodeSeen) : Type 0 where
 -- each has nothing on its disk
 abbrev pub AreNew : List NodeSeen → Type 0
 AreNew xs = (n : ℕ) (x : NodeSeen) → entry_at xs n ≡ Some x → IsNew n x
+
+-- nothing is sent, and nothing observed
+abbrev pub nothing : Step
+nothing = record { packets = []; notes = [] }

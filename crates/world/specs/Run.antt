@@ -1,16 +1,18 @@
 -- A run of real actors beside the model's world.
-use Rattle.std.specs.Prelude.{◌≡◌, ◌++◌, ◌≤◌, ℕ, List, length}
+use Rattle.std.specs.Prelude.{◌≡◌, ◌++◌, ◌≤◌, ℕ, List, Option, None, length}
 use Rattle.wire.specs.declared.note.Note.{Note}
 use Rattle.wire.specs.declared.packet.Packet.{Packet}
 use Rattle.wire.specs.declared.packet.Step.{Step}
 use Rattle.model.specs.declared.event.Event.{Event}
 use Rattle.model.specs.World.{World, run, start}
-use Rattle.world.specs.Book.{BookState, BookMirrors}
+use Rattle.wire.specs.declared.refusal.Refusal.{Refusal}
+use Rattle.model.specs.declared.event.Event.TheVariants.{Decide}
+use Rattle.world.specs.Desk.{DeskSeen, DeskMirrors, refusal_in}
 use Rattle.world.specs.Nodes.{NodeSeen, NodesMirror}
 
 pub record RunState : Type 0 where
   pub nodes : List NodeSeen
-  pub book : BookState
+  pub desk : DeskSeen
   pub post : List Packet
   pub notes : List Note
 
@@ -19,14 +21,14 @@ pub record Mirrors (r : RunState) (w : World) : Type 0 where
   pub post : r.post ≡ w.post
   pub notes : r.notes ≡ w.notes
   pub nodes : NodesMirror r.nodes w
-  pub book : BookMirrors r.book w.book
+  pub desk : DeskMirrors r.desk w
 
 -- from w to v the actors became these, and this step was sent and shown
-pub record Moved (xs : List NodeSeen) (b : BookState) (w v : World) (s : Step) : Type 0 where
+pub record Moved (xs : List NodeSeen) (d : DeskSeen) (w v : World) (s : Step) : Type 0 where
   pub post : v.post ≡ w.post ++ s.packets
   pub notes : v.notes ≡ w.notes ++ s.notes
   pub nodes : NodesMirror xs v
-  pub book : BookMirrors b v.book
+  pub desk : DeskMirrors d v
 
 -- no more than a run makes room for before it hands a packet out
 abbrev pub IsFew : Step → Type 0
@@ -38,3 +40,8 @@ pub record IsRun (r : RunState) : Type 0 where
   pub target : ℕ
   pub events : List Event
   pub mirrors : Mirrors r (run events (start nodes target))
+
+-- why an event is refused: a decision for the manager's reason, and nothing else
+abbrev pub refusal_of : RunState → Event → Option Refusal
+refusal_of r (Decide e) = refusal_in r.desk e
+refusal_of r event = None

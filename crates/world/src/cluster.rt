@@ -4,11 +4,11 @@ ghost use Rattle.model.specs.World.{World, happens, delivered, start};
 ghost use Rattle.model.specs.declared.event.Event.TheVariants as events;
 ghost use Rattle.model.specs.Outcome.{packet};
 ghost use Rattle.wire.specs.declared.actor.ActorId.TheVariants.{User};
-ghost use Rattle.world.specs.Book.{BookMirrors, handled};
+ghost use Rattle.world.specs.Desk.{DeskMirrors, refusal_in};
 ghost use Rattle.world.specs.Nodes.{NodesMirror, seen_of, running_at};
-ghost use Rattle.world.specs.Run.{IsFew, Mirrors, Moved};
+ghost use Rattle.world.specs.Run.{IsFew, Mirrors, Moved, refusal_of};
 
-use crate::book::Book;
+use crate::desk::{Decision, Desk};
 use crate::fault::WorldFault;
 use crate::nodes::NodeList;
 use crate::post::{make_room, move_in};
@@ -19,14 +19,14 @@ use enode::Node;
 use model::Event;
 use std::alloc::Global;
 use std::marker::Model;
-use wire::{ActorId, Body, Note, Notes, Packet, Refusal, Step};
+use wire::{ActorId, Body, ExtentId, Note, Packet, Refusal, Step};
 
-/// Real extent nodes on disks in memory, the manager's stand-in, all packets that were sent, numbered from 0, and all
+/// Real extent nodes and the stream manager on disks in memory, all packets that were sent, numbered from 0, and all
 /// observations. The packets stay, since each may be delivered any number of times.
 #[derive(Drop)]
 pub(crate) struct Cluster {
     nodes: NodeList,
-    book: Book,
+    desk: Desk,
     post: Vec<Packet>,
     notes: Vec<Note>,
 }
@@ -36,38 +36,24 @@ impl Model for Cluster {
 
     ghost Value = { RunState };
 
-    ghost view = { λ run. record { nodes = run.nodes; book = run.book; post = run.post.items; notes = run.notes.items } };
-}
-
-/// What the manager does with a packet.
-fn manage(book: &mut Book, alloc: Global, packet: &Packet) -> Result<Step, WorldFault>
-    ensures ok { IfOk result (λ step. (step.packets ≡ (handled book.old packet.now).1) × (step.notes ≡ []) × (book.new ≡ (handled book.old packet.now).0)) }
-    ensures err { OnErr result (book.new ≡ book.old) }
-{
-    match book.handle(alloc, packet) {
-        Ok(packets) => Ok(Step {
-            packets,
-            notes: Notes::new(alloc),
-        }),
-        Err(_full) => Err(WorldFault::Memory),
-    }
+    ghost view = { λ run. record { nodes = run.nodes; desk = run.desk; post = run.post.items; notes = run.notes.items } };
 }
 
 /// What the addressee does with a packet. Nothing comes of one to a stopped or absent actor, or to a user.
 fn take(
     nodes: &mut NodeList,
-    book: &mut Book,
+    desk: &mut Desk,
     alloc: Global,
     packet: &Packet,
 ) -> Result<Step, WorldFault>
-    ensures ok { IfOk result (λ step. (w : World) → NodesMirror nodes.old w → BookMirrors book.old w.book → Moved nodes.new book.new w (delivered w packet.now packet.now.to) step) }
+    ensures ok { IfOk result (λ step. (w : World) → NodesMirror nodes.old w → DeskMirrors desk.old w → Moved nodes.new desk.new w (delivered w packet.now packet.now.to) step) }
     ensures nodes { OnErr result (nodes.new ≡ nodes.old) }
-    ensures book { OnErr result (book.new ≡ book.old) }
+    ensures desk { OnErr result (desk.new ≡ desk.old) }
     ensures few { IfOk result IsFew }
 {
     match packet.to {
         ActorId::Node(number) => nodes.give(alloc, number, packet),
-        ActorId::Manager => manage(book, alloc, packet),
+        ActorId::Manager => desk.give(alloc, packet),
         ActorId::Map => Ok(Step::silent(alloc)),
         ActorId::Server(_) => Ok(Step::silent(alloc)),
         ActorId::User(_) => Ok(Step::silent(alloc)),
@@ -80,10 +66,14 @@ impl Cluster {
     pub(crate) fn start(alloc: Global, setup: &Setup) -> Result<Cluster, WorldFault>
         ensures mirrors { IfOk result (λ run. Mirrors run (start setup.now.nodes setup.now.target)) }
     {
-        match NodeList::start(alloc, setup.nodes) {
-            Ok(nodes) => Ok(Cluster {
+        let nodes = match NodeList::start(alloc, setup.nodes) {
+            Ok(nodes) => nodes,
+            Err(fault) => return Err(fault),
+        };
+        match Desk::start(alloc, setup.nodes, setup.target) {
+            Ok(desk) => Ok(Cluster {
                 nodes,
-                book: Book::new(alloc, setup.nodes, setup.target),
+                desk,
                 post: Vec::new(alloc),
                 notes: Vec::new(alloc),
             }),
@@ -142,7 +132,7 @@ impl Cluster {
         if let Err(_full) = make_room(&mut self.notes) {
             return Err(WorldFault::Memory);
         }
-        match take(&mut self.nodes, &mut self.book, alloc, &self.post[number]) {
+        match take(&mut self.nodes, &mut self.desk, alloc, &self.post[number]) {
             Ok(step) => {
                 let Step { packets, notes } = step;
                 move_in(&mut self.post, packets.into_vec());
@@ -153,8 +143,59 @@ impl Cluster {
         }
     }
 
-    /// The next event. What it refuses besides want of memory (22, which leaves all as it was) is answered; a submission
-    /// and a delivery are refused nothing.
+    fn stop(&mut self, actor: ActorId, call: u64, keep: bool)
+        ensures { (w : World) → Mirrors self.old w → Mirrors self.new (happens w (events.Stop actor call keep)) }
+    {
+        match actor {
+            ActorId::Node(number) => self.nodes.stop(number, call, keep),
+            ActorId::Manager => self.desk.stop(call, keep),
+            ActorId::Map => {}
+            ActorId::Server(_) => {}
+            ActorId::User(_) => {}
+        }
+    }
+
+    fn restart(&mut self, alloc: Global, actor: ActorId) -> Result<(), WorldFault>
+        ensures ok { OnOk result ((w : World) → Mirrors self.old w → Mirrors self.new (happens w (events.Restart actor))) }
+        ensures err { OnErr result (self.new ≡ self.old) }
+    {
+        match actor {
+            ActorId::Node(number) => self.nodes.restart(alloc, number),
+            ActorId::Manager => self.desk.restart(alloc),
+            ActorId::Map => Ok(()),
+            ActorId::Server(_) => Ok(()),
+            ActorId::User(_) => Ok(()),
+        }
+    }
+
+    fn decide(&mut self, alloc: Global, extent: ExtentId) -> Result<Option<Refusal>, WorldFault>
+        ensures refusal { IfOk result (λ refusal. refusal ≡ refusal_in self.old.desk extent) }
+        ensures ok { OnOk result ((w : World) → Mirrors self.old w → Mirrors self.new (happens w (events.Decide extent))) }
+        ensures err { OnErr result (self.new ≡ self.old) }
+    {
+        if let Err(_short) = make_room(&mut self.post) {
+            return Err(WorldFault::Memory);
+        }
+        if let Err(_short) = make_room(&mut self.notes) {
+            return Err(WorldFault::Memory);
+        }
+        match self.desk.decide(alloc, extent) {
+            Ok(decision) => {
+                let Decision { step, refusal } = decision;
+                let Step {
+                    packets: sent,
+                    notes: shown,
+                } = step;
+                move_in(&mut self.post, sent.into_vec());
+                move_in(&mut self.notes, shown.into_vec());
+                Ok(refusal)
+            }
+            Err(fault) => Err(fault),
+        }
+    }
+
+    /// The next event. What it refuses besides want of memory (22, which leaves all as it was) is answered: a decision is
+    /// refused 1 or 10, and nothing else is.
     pub(crate) fn step(
         &mut self,
         alloc: Global,
@@ -162,11 +203,20 @@ impl Cluster {
     ) -> Result<Option<Refusal>, WorldFault>
         ensures ok { OnOk result ((w : World) → Mirrors self.old w → Mirrors self.new (happens w event.now)) }
         ensures err { OnErr result (self.new ≡ self.old) }
-        ensures none { IfOk result (λ refusal. refusal ≡ None) }
+        ensures refusal { IfOk result (λ refusal. refusal ≡ refusal_of self.old event.now) }
     {
         match event {
             Event::Submit { user, to, body } => self.submit(alloc, *user, *to, body),
             Event::Deliver { number } => self.deliver(alloc, *number),
+            Event::Stop { actor, call, keep } => {
+                self.stop(*actor, *call, *keep);
+                Ok(None)
+            }
+            Event::Restart { actor } => match self.restart(alloc, *actor) {
+                Ok(()) => Ok(None),
+                Err(fault) => Err(fault),
+            },
+            Event::Decide { extent } => self.decide(alloc, *extent),
         }
     }
 

@@ -1,4 +1,5 @@
-//! Runs of events over real actors: extent nodes on disks in memory, and a stand-in for the stream manager.
+//! Runs of events over real actors: extent nodes and the stream manager, on disks in memory, which may stop inside any
+//! device call and come back.
 //!
 //! This crate touches memory only. The network of a run is the list of all packets that were sent, and an event has one
 //! of them delivered, or a user send one more. After each event the run is what the model makes of its world, exactly:
@@ -6,8 +7,8 @@
 //! nothing.
 #![tactic(auto)]
 
-mod book;
 mod cluster;
+mod desk;
 mod fault;
 mod nodes;
 mod post;

@@ -1,9 +1,9 @@
 //! A run: a cluster that events brought to where it is.
-ghost use Rattle.std.specs.Prelude.{◌≡◌, None, IfOk, OnOk, OnErr, option_map};
+ghost use Rattle.std.specs.Prelude.{◌≡◌, IfOk, OnOk, OnErr, option_map};
 ghost use Rattle.model.specs.Honest.{Agree, Kept};
 ghost use Rattle.model.specs.World.{World, happens, start};
 ghost use Rattle.world.specs.Nodes.{seen_of, running_at};
-ghost use Rattle.world.specs.Run.{Mirrors};
+ghost use Rattle.world.specs.Run.{Mirrors, refusal_of};
 
 use crate::cluster::Cluster;
 use crate::fault::WorldFault;
@@ -44,12 +44,13 @@ impl Run {
         }
     }
 
-    /// One event more. It answers the refusal of an event that is refused, and none of those that are built is. An error
-    /// is want of memory (22), and nothing has changed then.
+    /// One event more. It answers the refusal of an event that is refused: a decision, where there is no such extent (1)
+    /// or no place has told a length (10); and nothing has changed then. An error is want of memory (22), and nothing has
+    /// changed then either.
     pub fn step(&mut self, alloc: Global, event: &Event) -> Result<Option<Refusal>, WorldFault>
         ensures ok { OnOk result ((w : World) → Mirrors self.old w → Mirrors self.new (happens w event.now)) }
         ensures err { OnErr result (self.new ≡ self.old) }
-        ensures none { IfOk result (λ refusal. refusal ≡ None) }
+        ensures refusal { IfOk result (λ refusal. refusal ≡ refusal_of self.old event.now) }
     {
         self.cluster.step(alloc, event)
     }

@@ -1,4 +1,4 @@
-use crate::{Run, Setup, run};
+use crate::{Run, Setup, check, run};
 use blocks::Nodes;
 use bytes::Bytes;
 use disk::MemDisk;
@@ -7,8 +7,8 @@ use model::Event;
 use std::alloc::Global;
 use std::test::Fail;
 use wire::{
-    ActorId, AppendBody, Blocks, Body, ExtentId, Fence, Packet, RangeId, Refusal, ReqNo,
-    StreamBody, StreamKind, StreamName,
+    ActorId, AppendBody, Blocks, Body, ExtentId, Fence, Packet, RangeId, ReadBody, Refusal, ReqNo,
+    SealBody, StreamBody, StreamKind, StreamName,
 };
 
 const PLACES: Nodes = Nodes {
@@ -210,5 +210,285 @@ fn a_whole_run(rt: HostRuntime) -> Result<(), Fail> {
     assert_eq!(rt; count(&run), 7);
     assert_eq!(rt; length(&run, 1), Some(0));
     assert_eq!(rt; length(&run, 2), None);
+    Ok(())
+}
+
+/// What is done in a run of which one actor stops.
+#[derive(Clone, Copy, Debug, PartialEq, Eq)]
+enum Act {
+    Append,
+    /// Delivers all, but what is sent to the nodes of this mask, which is lost.
+    Settle(u8),
+    Seal,
+    Decide,
+    /// Asks node by node for the content of this length.
+    Show(u32),
+}
+
+/// The second append is cut off from the third place, and the extent is sealed.
+const SHORT: [Act; 8] = [
+    Act::Append,
+    Act::Settle(0),
+    Act::Append,
+    Act::Settle(0b1000),
+    Act::Seal,
+    Act::Settle(0),
+    Act::Decide,
+    Act::Settle(0),
+];
+
+/// The first place alone is heard, and the others are brought to its length later.
+const FILLED: [Act; 12] = [
+    Act::Append,
+    Act::Settle(0),
+    Act::Append,
+    Act::Settle(0b1000),
+    Act::Seal,
+    Act::Settle(0b1100),
+    Act::Decide,
+    Act::Settle(0b1100),
+    Act::Decide,
+    Act::Settle(0),
+    Act::Show(6),
+    Act::Settle(0),
+];
+
+/// The third place alone is heard, and the others are cut later.
+const LONGER: [Act; 13] = [
+    Act::Append,
+    Act::Append,
+    Act::Settle(0),
+    Act::Append,
+    Act::Settle(0b1000),
+    Act::Seal,
+    Act::Settle(0b0110),
+    Act::Decide,
+    Act::Settle(0b0110),
+    Act::Decide,
+    Act::Settle(0),
+    Act::Show(6),
+    Act::Settle(0),
+];
+
+/// What is done after the restart.
+const AGAIN: [Act; 9] = [
+    Act::Seal,
+    Act::Settle(0),
+    Act::Decide,
+    Act::Settle(0),
+    Act::Show(3),
+    Act::Show(6),
+    Act::Settle(0),
+    Act::Decide,
+    Act::Settle(0),
+];
+
+fn seal() -> Event {
+    Event::Submit {
+        user: 7,
+        to: ActorId::Manager,
+        body: Body::Seal(SealBody::SealExtent {
+            extent: ExtentId::new(1),
+            request: REQUEST,
+        }),
+    }
+}
+
+fn content(node: u8, upto: u32) -> Event {
+    Event::Submit {
+        user: 7,
+        to: ActorId::Node(node),
+        body: Body::Read(ReadBody::ReadGroups {
+            extent: ExtentId::new(1),
+            upto,
+            sealed: true,
+            request: REQUEST,
+        }),
+    }
+}
+
+fn is_cut(to: ActorId, mask: u8) -> bool {
+    match to {
+        ActorId::Node(1) => mask & 0b0010 != 0,
+        ActorId::Node(2) => mask & 0b0100 != 0,
+        ActorId::Node(3) => mask & 0b1000 != 0,
+        _ => false,
+    }
+}
+
+fn is_lost(run: &Run, number: usize, mask: u8) -> bool {
+    match run.sent().get(number) {
+        Some(packet) => is_cut(packet.to, mask),
+        None => true,
+    }
+}
+
+/// Delivers each packet from this one on, but those that are lost, and answers how many there are.
+fn settle(alloc: Global, run: &mut Run, from: usize, mask: u8) -> Result<usize, Fail> {
+    let mut number = from;
+    for _ in 0..1000 {
+        if number >= count(run) {
+            break;
+        }
+        if !is_lost(run, number, mask) {
+            deliver(alloc, run, number)?;
+        }
+        number += 1;
+    }
+    Ok(number)
+}
+
+fn show(alloc: Global, run: &mut Run, upto: u32) -> Result<(), Fail> {
+    for node in 1..4 {
+        step(alloc, run, &content(node, upto))?;
+    }
+    Ok(())
+}
+
+fn perform(alloc: Global, run: &mut Run, from: usize, one: Act) -> Result<usize, Fail> {
+    match one {
+        Act::Append => submit_append(alloc, run, ActorId::Node(1))?,
+        Act::Settle(mask) => return settle(alloc, run, from, mask),
+        Act::Seal => step(alloc, run, &seal())?,
+        Act::Decide => decide(alloc, run, 1)?,
+        Act::Show(upto) => {
+            show(alloc, run, upto)?;
+            None
+        }
+    };
+    Ok(from)
+}
+
+fn perform_all(alloc: Global, run: &mut Run, from: usize, acts: &[Act]) -> Result<usize, Fail> {
+    let mut number = from;
+    for one in acts {
+        number = perform(alloc, run, number, *one)?;
+    }
+    Ok(number)
+}
+
+/// The manager for 0, and else the node of a number.
+fn actor_of(number: u8) -> ActorId {
+    if number == 0 {
+        ActorId::Manager
+    } else {
+        ActorId::Node(number)
+    }
+}
+
+fn stop(alloc: Global, run: &mut Run, number: u8, call: u64, keep: bool) -> Result<(), Fail> {
+    let event = Event::Stop {
+        actor: actor_of(number),
+        call,
+        keep,
+    };
+    step(alloc, run, &event)?;
+    Ok(())
+}
+
+fn restart(alloc: Global, run: &mut Run, number: u8) -> Result<(), Fail> {
+    let event = Event::Restart {
+        actor: actor_of(number),
+    };
+    step(alloc, run, &event)?;
+    Ok(())
+}
+
+fn decide(alloc: Global, run: &mut Run, extent: u64) -> Result<Option<Refusal>, Fail> {
+    let event = Event::Decide {
+        extent: ExtentId::new(extent),
+    };
+    step(alloc, run, &event)
+}
+
+fn is_honest(alloc: Global, run: &Run) -> bool {
+    check(alloc, run.observations()).is_none()
+}
+
+/// Whether a run in which this actor stops, and comes back, shows nothing that does not agree.
+fn stays_honest(
+    alloc: Global,
+    acts: &[Act],
+    actor: u8,
+    call: u64,
+    keep: bool,
+) -> Result<bool, Fail> {
+    let mut run = extended(alloc)?;
+    stop(alloc, &mut run, actor, call, keep)?;
+    let sent = perform_all(alloc, &mut run, 6, acts)?;
+    restart(alloc, &mut run, actor)?;
+    let again = AGAIN;
+    perform_all(alloc, &mut run, sent, again.as_slice())?;
+    Ok(is_honest(alloc, &run))
+}
+
+/// How many runs are not honest, with a stop of this actor at each of eight device calls.
+fn broken(alloc: Global, acts: &[Act], actor: u8) -> Result<usize, Fail> {
+    let mut broken: usize = 0;
+    for call in 1..9 {
+        if !stays_honest(alloc, acts, actor, call, false)? {
+            broken = broken.saturating_add(1);
+        }
+        if !stays_honest(alloc, acts, actor, call, true)? {
+            broken = broken.saturating_add(1);
+        }
+    }
+    Ok(broken)
+}
+
+/// How many runs are not honest, of those of three nodes and the manager.
+fn broken_by_any(alloc: Global, acts: &[Act]) -> Result<usize, Fail> {
+    let mut runs: usize = 0;
+    for actor in 0..4 {
+        runs = runs.saturating_add(broken(alloc, acts, actor)?);
+    }
+    Ok(runs)
+}
+
+#[test]
+fn stops_leave_it_honest(rt: HostRuntime) -> Result<(), Fail> {
+    let (short, filled, longer) = (SHORT, FILLED, LONGER);
+    let short = broken_by_any(rt.alloc(), short.as_slice())?;
+    let filled = broken_by_any(rt.alloc(), filled.as_slice())?;
+    let longer = broken_by_any(rt.alloc(), longer.as_slice())?;
+    assert_eq!(rt; short, 0);
+    assert_eq!(rt; filled, 0);
+    assert_eq!(rt; longer, 0);
+    Ok(())
+}
+
+#[test]
+fn the_manager_decides_by_what_it_was_told(rt: HostRuntime) -> Result<(), Fail> {
+    let mut run = extended(rt.alloc())?;
+    let untold = decide(rt.alloc(), &mut run, 1)?;
+    let unknown = decide(rt.alloc(), &mut run, 2)?;
+    stop(rt.alloc(), &mut run, 0, 0, false)?;
+    let stopped = decide(rt.alloc(), &mut run, 2)?;
+    restart(rt.alloc(), &mut run, 0)?;
+    let again = decide(rt.alloc(), &mut run, 2)?;
+    assert_eq!(rt; untold, Some(Refusal::NoReply));
+    assert_eq!(rt; unknown, Some(Refusal::NoSuchExtent));
+    assert_eq!(rt; stopped, None);
+    assert_eq!(rt; again, Some(Refusal::NoSuchExtent));
+    assert_eq!(rt; observed(&run), 0);
+    Ok(())
+}
+
+/// A decision that the manager stops in at its third device call: how much is observed, and sent.
+fn decided_in_a_stop(alloc: Global, keep: bool) -> Result<(usize, usize), Fail> {
+    let mut run = extended(alloc)?;
+    step(alloc, &mut run, &seal())?;
+    let sent = settle(alloc, &mut run, 6, 0)?;
+    stop(alloc, &mut run, 0, 3, keep)?;
+    decide(alloc, &mut run, 1)?;
+    Ok((observed(&run), count(&run).saturating_sub(sent)))
+}
+
+#[test]
+fn a_decision_is_shown_where_its_record_stands(rt: HostRuntime) -> Result<(), Fail> {
+    let kept = decided_in_a_stop(rt.alloc(), true)?;
+    let lost = decided_in_a_stop(rt.alloc(), false)?;
+    assert_eq!(rt; kept, (1, 0));
+    assert_eq!(rt; lost, (0, 0));
     Ok(())
 }

@@ -48,7 +48,7 @@ const BEGUN: &str =
 const TOLD: &str = "user 1 0 created\nuser 1 1 extended 1\n";
 
 /// What is run below `BEGUN`, and what it prints below `TOLD`.
-const RUNS: [(&str, &str); 14] = [
+const RUNS: [(&str, &str); 24] = [
     (
         "user 1 append 1 1\nsettle\nuser 1 append 1 1 a a a a a a a a a a a a a a a a a a a a a a a a a a a a a a a a a a a a a a a a a a a a a a a a a a a a a a a a a a a a a a a a a\nsettle\nuser 1 append 1 1 -\nsettle\nuser 1 append 1 1 65537*a\nsettle\nshow 1 1\n",
         "user 1 2 refused 6 TooManyBlocks\nuser 1 3 refused 6 TooManyBlocks\nuser 1 4 refused 5 BadBlock\nuser 1 5 refused 5 BadBlock\nreplica 1 1 open 0 0\n",
@@ -106,6 +106,56 @@ const RUNS: [(&str, &str); 14] = [
         "user 1 2 refused 2 NotPrimary\nuser 1 3 refused 1 NoSuchExtent\n",
     ),
     ("settle\ndeliver last", "user 1 1 extended 1\n"),
+    // One place is cut off from the last append, and the extent is sealed at what it has.
+    (
+        "user 1 append 1 1 abc\nsettle\ncut n3\nuser 1 append 1 1 def\nsettle\nheal n3\nuser 1 seal 1\nsettle\ndecide 1\nsettle\n",
+        "acked 1 0 3\nuser 1 2 appended 0\nsealed 1 3\nuser 1 4 sealedis 1 3\n",
+    ),
+    // Two of three answer, and the one that lacks the end is filled.
+    (
+        "user 1 append 1 1 abc\nsettle\ncut n3\nuser 1 append 1 1 def\nsettle\nshow 1 1\nshow 2 1\nshow 3 1\ncut n2\nuser 1 seal 1\nsettle\ndecide 1\nsettle\nheal n2\nheal n3\ndecide 1\nsettle\nuser 1 content 3 1 6\nsettle\n",
+        "acked 1 0 3\nuser 1 2 appended 0\nreplica 1 1 open 6 0\nreplica 2 1 open 6 0\nreplica 3 1 open 3 0\nsealed 1 6\nuser 1 4 sealedis 1 6\ncontent 1 3 6 2\nuser 1 5 content 6\n",
+    ),
+    // Only the shortest answers, and the longer ones are cut.
+    (
+        "user 1 append 1 1 abc\nsettle\nuser 1 append 1 1 def\nsettle\ncut n3\nuser 1 append 1 1 ghi\nsettle\nshow 1 1\nshow 2 1\nshow 3 1\nheal n3\ncut n1\ncut n2\nuser 1 seal 1\nsettle\ndecide 1\nheal n1\nheal n2\ndecide 1\nsettle\nshow 1 1\nshow 2 1\nshow 3 1\nuser 1 content 1 1 6\nsettle\nuser 1 content 2 1 6\nsettle\nuser 1 content 3 1 6\nsettle\n",
+        "acked 1 0 3\nuser 1 2 appended 0\nacked 1 3 3\nuser 1 3 appended 3\nreplica 1 1 open 9 0\nreplica 2 1 open 9 0\nreplica 3 1 open 6 0\nsealed 1 6\nuser 1 5 sealedis 1 6\nreplica 1 1 sealed 6 0\nreplica 2 1 sealed 6 0\nreplica 3 1 sealed 6 0\ncontent 1 1 6 2\nuser 1 6 content 6\ncontent 1 2 6 2\nuser 1 7 content 6\ncontent 1 3 6 2\nuser 1 8 content 6\n",
+    ),
+    // Nobody has told a length.
+    (
+        "decide 1\nshow 1 1\n",
+        "refused 10 NoReply\nreplica 1 1 open 0 0\n",
+    ),
+    // A freeze stands over a stop.
+    (
+        "cut n1\ncut n3\nuser 1 seal 1\nsettle\nheal n1\nheal n3\nshow 2 1\nstop n2 0 drop\nshow 2 1\nrestart n2\nshow 2 1\nuser 1 append 1 1 abc\nsettle\nshow 1 1\nshow 2 1\nshow 3 1\n",
+        "replica 2 1 frozen 0 0\nreplica 2 1 stopped\nreplica 2 1 frozen 0 0\nreplica 1 1 open 3 0\nreplica 2 1 frozen 0 0\nreplica 3 1 open 3 0\n",
+    ),
+    // A stop in the second call of a record: it is gone.
+    (
+        "user 1 append 1 1 abc\nstop n1 2 keep\ndeliver 7\nshow 1 1\nrestart n1\nshow 1 1\n",
+        "replica 1 1 stopped\nreplica 1 1 open 0 0\n",
+    ),
+    // One in the third, whose bytes are lost.
+    (
+        "user 1 append 1 1 abc\nstop n1 3 drop\ndeliver 7\nshow 1 1\nrestart n1\nshow 1 1\n",
+        "replica 1 1 stopped\nreplica 1 1 open 0 0\n",
+    ),
+    // One in the third, whose bytes are kept: it stands. A stopped or fresh primary answers nothing of it.
+    (
+        "user 1 append 1 1 abc\nstop n1 3 keep\ndeliver 7\nshow 1 1\nrestart n1\nshow 1 1\nuser 1 append 1 1 d\nsettle\nuser 1 seal 1\nsettle\ndecide 1\nsettle\nuser 1 content 1 1 0\nsettle\n",
+        "replica 1 1 stopped\nreplica 1 1 open 3 0\nsealed 1 0\nuser 1 4 sealedis 1 0\ncontent 1 1 0 0\nuser 1 5 content 0\n",
+    ),
+    // Unknown extents, restarts of those that run, and a manager that is stopped.
+    (
+        "user 1 seal 9\nsettle\ndecide 9\nrestart n1\nrestart m\nstop m 0 drop\nuser 1 seal 1\nsettle\ndecide 1\nrestart m\nuser 1 seal 1\nsettle\ndecide 1\nsettle\n",
+        "user 1 2 refused 1 NoSuchExtent\nrefused 1 NoSuchExtent\nsealed 1 0\nuser 1 4 sealedis 1 0\n",
+    ),
+    // A later stop replaces one that has not come. Nobody is stopped who is not there.
+    (
+        "stop n2 9 keep\nstop n2 3 keep\nuser 1 append 1 1 abc\nsettle\nshow 2 1\nstop n9 0 drop\nrestart n9\nstop s1 0 drop\nrestart p\nrestart n2\nshow 2 1\nshow 1 1\n",
+        "replica 2 1 stopped\nreplica 2 1 open 3 0\nreplica 1 1 open 3 0\n",
+    ),
 ];
 
 /// Appends that all three replicas take, and reads of them.

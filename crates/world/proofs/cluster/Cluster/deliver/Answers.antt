@@ -8,12 +8,12 @@ use Rattle.world.proofs.cluster.Cluster.deliver.Goals as goal
 pub returns-then-number-len-clause-ok : goal.returns-then-number-len-clause-ok
 returns-then-number-len-clause-ok c =
     subst (λ (r : RunState). (w : World) → Mirrors r w → Mirrors r (happens w (Deliver c.args.number))) c.self.view_is
-    (undelivered (state c.self.inside.nodes c.self.inside.book c.self.inside.post.items c.self.inside.notes.items) c.args.number (omega (arith, c.self.inside.post.ok, c.len.ensures, c.if-number-len.true)))
+    (undelivered (state c.self.inside.nodes c.self.inside.desk c.self.inside.post.items c.self.inside.notes.items) c.args.number (omega (arith, c.self.inside.post.ok, c.len.ensures, c.if-number-len.true)))
 
 pub returns-in-Ok-clause-ok : goal.returns-in-Ok-clause-ok
 returns-in-Ok-clause-ok c =
-    subst (λ (r : RunState). (w : World) → Mirrors r w → Mirrors (state c.take.new.nodes c.take.new.book c.move_in.new.list.items c.move_in-in-Ok.new.list.items) (happens w (Deliver c.args.number))) c.self.view_is
-    (delivered_one (state c.self.inside.nodes c.self.inside.book c.self.inside.post.items c.self.inside.notes.items) (state c.take.new.nodes c.take.new.book c.move_in.new.list.items c.move_in-in-Ok.new.list.items)
+    subst (λ (r : RunState). (w : World) → Mirrors r w → Mirrors (state c.take.new.nodes c.take.new.desk c.move_in.new.list.items c.move_in-in-Ok.new.list.items) (happens w (Deliver c.args.number))) c.self.view_is
+    (delivered_one (state c.self.inside.nodes c.self.inside.desk c.self.inside.post.items c.self.inside.notes.items) (state c.take.new.nodes c.take.new.desk c.move_in.new.list.items c.move_in-in-Ok.new.list.items)
     c.args.number c.index.result.now c.in-Ok.step
     (omega (arith, c.self.inside.post.ok, c.len.ensures, c.if-number-len.false))
     (c.index.ensures ∙ ap (λ l. slice_index_or l c.args.number c.index.result.now) c.make_room.ensures.same)

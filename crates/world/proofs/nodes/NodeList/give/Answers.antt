@@ -1,6 +1,6 @@
 use Rattle.std.proofs.Common.{◌≡◌, ◌-◌, List, sym, refl, subst, arith, IfOk, None}
 use Rattle.model.specs.World.{World, node_takes}
-use Rattle.world.specs.Book.{entry_at}
+use Rattle.model.specs.Maps.{entry_at}
 use Rattle.world.specs.Nodes.{NodeSeen, NodesMirror, Went, all_seen}
 use Rattle.world.proofs.Going.{went_nowhere, is_absent, before_number}
 use Rattle.world.proofs.nodes.NodeList.give.Goals as goal

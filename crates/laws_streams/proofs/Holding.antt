@@ -1,0 +1,239 @@
+-- How a whole world rests on what is known, what a row of a table leaves, and what a stop leaves.
+use Rattle.std.proofs.Common.{◌≡◌, ◌≢◌, ◌⊎◌, ℕ, ◌<◌, true, List, [], ◌∷◌, ◌++◌, Option, Some, None, refl, ◌∙◌, arith, ap, ◌==◌}
+use Rattle.blocks.specs.declared.record.Nodes.{Nodes}
+use Rattle.wire.specs.declared.actor.ReqNo.{ReqNo}
+use Rattle.wire.specs.declared.body.AppendBody.TheVariants.{Append}
+use Rattle.wire.specs.declared.body.Body.TheVariants as bodies
+use Rattle.wire.specs.declared.note.Note.{Note}
+use Rattle.wire.specs.declared.packet.Packet.{Packet}
+use Rattle.replica.specs.Groups.{Group}
+use Rattle.model.specs.declared.extent.Extent.{Extent}
+use Rattle.model.specs.declared.extent.PlaceReport.{PlaceReport}
+use Rattle.model.specs.Actors.{generation_of}
+use Rattle.model.specs.Honest.{Apart}
+use Rattle.model.specs.Manager.{Book, forgotten_if, book_stopped}
+use Rattle.model.specs.Node.{Replica, stopped}
+use Rattle.model.specs.Outcome.{Outcome}
+use Rattle.model.specs.World.{World, after_row, after_ruling, unsent, halted, desk_halted}
+use Rattle.model.proofs.Tests.{if_elim}
+use Rattle.laws_streams.specs.Origins.{Origin}
+use Rattle.laws_streams.proofs.Tests.{Each, each-append, each-weaker, EachPair, pairs-append, changed_at_elim}
+use Rattle.laws_streams.proofs.Ground.{Ground, Sound, FinePacket, FineNote, FineReplica, Later, Still, packet_later, note_later, replica_later}
+
+-- ---- the world
+
+abbrev pub places_of : Option Extent → Option Nodes
+places_of None = None
+places_of (Some x) = Some x.places
+
+abbrev pub sealed_of : Option Extent → Option ℕ
+sealed_of None = None
+sealed_of (Some x) = x.sealed
+
+-- a place that told a length takes no more appends, and has that length
+abbrev pub FineReport : Ground → ℕ → ℕ → PlaceReport → Type 0
+FineReport g n e report = (l : ℕ) → report.frozen ≡ Some l → (g.closed n e ≡ true) × (g.last n e ≡ l)
+
+pub record FineReports (g : Ground) (e : ℕ) (x : Extent) : Type 0 where
+  pub primary : FineReport g x.places.primary e x.primary
+  pub second : FineReport g x.places.second e x.second
+  pub third : FineReport g x.places.third e x.third
+
+abbrev pub FineReportsOf : Ground → ℕ → Option Extent → Type 0
+FineReportsOf g e None = Unit {0}
+FineReportsOf g e (Some x) = FineReports g e x
+
+-- the manager's book
+pub record FineBook (g : Ground) (b : Book) : Type 0 where
+  pub places : (e : ℕ) → g.places e ≡ places_of (b.extent e)
+  pub sealed : (e : ℕ) → g.sealed e ≡ sealed_of (b.extent e)
+  pub fresh : (e : ℕ) → b.count < e → b.extent e ≡ None
+  pub reports : (e : ℕ) → FineReportsOf g e (b.extent e)
+
+-- the whole invariant
+pub record Holds (w : World) (g : Ground) : Type 0 where
+  pub sound : Sound g
+  pub packets : Each (FinePacket g) w.post
+  pub notes : Each (FineNote g) w.notes
+  pub apart : EachPair Apart w.notes
+  pub replicas : (n e : ℕ) → FineReplica g n e (w.replica n e)
+  pub book : FineBook g w.book
+
+-- an event: what was observed before it, its number, and the packet that is delivered
+pub record Moment : Type 0 where
+  pub told : List Note
+  pub number : ℕ
+  pub packet : Packet
+
+abbrev pub Unmoved : Ground → Ground → ℕ → Type 0
+Unmoved g h e = (h.script e ≡ g.script e) × (h.origin e ≡ g.origin e)
+
+-- where a group comes from that is appended now
+abbrev pub origin_of : Moment → ℕ → ReqNo → Origin
+origin_of now generation request =
+    record { generation = generation_of now.packet.from generation; request = request; event = now.number }
+
+-- the script gained the group of the append that was delivered
+pub record Added (now : Moment) (g h : Ground) (e : ℕ) : Type 0 where
+  pub group : Group
+  pub generation : ℕ
+  pub request : ReqNo
+  pub body : now.packet.body ≡ bodies.Append (Append e generation group request)
+  pub script : h.script e ≡ g.script e ++ group ∷ []
+  pub origin : h.origin e ≡ g.origin e ++ origin_of now generation request ∷ []
+
+-- what a row of a node's table leaves
+pub record FineRow (now : Moment) (g h : Ground) (n e : ℕ) (o : Outcome (Option Replica)) : Type 0 where
+  pub sound : Sound h
+  pub later : Later g h
+  pub still : (m k : ℕ) → (m ≢ n) ⊎ (k ≢ e) → Still g h m k
+  pub grown : (k : ℕ) → Unmoved g h k ⊎ Added now g h k
+  pub replica : FineReplica h n e o.after
+  pub packets : Each (FinePacket h) o.packets
+  pub notes : Each (FineNote h) o.notes
+  pub apart : EachPair Apart o.notes
+  pub cross : Each (λ x. Each (Apart x) o.notes) now.told
+  pub places : (k : ℕ) → h.places k ≡ g.places k
+  pub sealed : (k : ℕ) → h.sealed k ≡ g.sealed k
+
+report_later : (g h : Ground) → Later g h → (n e : ℕ) (report : PlaceReport) → FineReport g n e report → FineReport h n e report
+report_later g h later n e report f l is = let a = f l is in let c = later.closed n e a.0 in (c.0, c.1 ∙ a.1)
+
+pub reports_later : (g h : Ground) → Later g h → (e : ℕ) (o : Option Extent) → FineReportsOf g e o → FineReportsOf h e o
+reports_later g h later e None f = tt
+reports_later g h later e (Some x) f = record {
+  primary = report_later g h later x.places.primary e x.primary f.primary;
+  second = report_later g h later x.places.second e x.second f.second;
+  third = report_later g h later x.places.third e x.third f.third;
+}
+
+book_later : (g h : Ground) → Later g h → ((k : ℕ) → h.places k ≡ g.places k) → ((k : ℕ) → h.sealed k ≡ g.sealed k) → (b : Book) → FineBook g b → FineBook h b
+book_later g h later places sealed b f = record {
+  places = λ e. places e ∙ f.places e;
+  sealed = λ e. sealed e ∙ f.sealed e;
+  fresh = f.fresh;
+  reports = λ e. reports_later g h later e (b.extent e) (f.reports e);
+}
+
+pub row_holds : (w : World) (now : Moment) (g h : Ground) (n e : ℕ) (o : Outcome (Option Replica)) → now.told ≡ w.notes →
+    Holds w g → FineRow now g h n e o → Holds (after_row w n e o) h
+row_holds w now g h n e o before a r = record {
+  sound = r.sound;
+  packets = each-append (FinePacket h) w.post o.packets (each-weaker (FinePacket g) (FinePacket h) (packet_later g h r.later) w.post a.packets) r.packets;
+  notes = each-append (FineNote h) w.notes o.notes (each-weaker (FineNote g) (FineNote h) (note_later g h r.later) w.notes a.notes) r.notes;
+  apart = pairs-append Apart w.notes o.notes a.apart r.apart (rw (← before) r.cross);
+  replicas = λ m k. changed_at_elim (FineReplica h m k) n e o.after w.replica m k
+      (λ p q. rw (p, q) r.replica)
+      (λ other. replica_later g h a.sound r.later m k (r.still m k other) (w.replica m k) (a.replicas m k));
+  book = book_later g h r.later r.places r.sealed w.book a.book;
+}
+
+-- the same without its packets
+pub row_unsent : (now : Moment) (g h : Ground) (n e : ℕ) (o : Outcome (Option Replica)) → FineRow now g h n e o → FineRow now g h n e (unsent o)
+row_unsent now g h n e o r = record {
+  sound = r.sound;
+  later = r.later;
+  still = r.still;
+  grown = r.grown;
+  replica = r.replica;
+  packets = tt;
+  notes = r.notes;
+  apart = r.apart;
+  cross = r.cross;
+  places = r.places;
+  sealed = r.sealed;
+}
+
+-- what a row of the manager's table leaves; an extent that it seals at a length is one of its news
+pub record FineRuling (News : ℕ → ℕ → Type 0) (told : List Note) (g h : Ground) (o : Outcome Book) : Type 0 where
+  pub sound : Sound h
+  pub later : Later g h
+  pub still : (m k : ℕ) → Still g h m k
+  pub unmoved : (k : ℕ) → Unmoved g h k
+  pub sealed : (k l : ℕ) → h.sealed k ≡ Some l → (g.sealed k ≡ Some l) ⊎ News k l
+  pub book : FineBook h o.after
+  pub packets : Each (FinePacket h) o.packets
+  pub notes : Each (FineNote h) o.notes
+  pub apart : EachPair Apart o.notes
+  pub cross : Each (λ x. Each (Apart x) o.notes) told
+
+pub ruling_holds : (News : ℕ → ℕ → Type 0) (w : World) (g h : Ground) (o : Outcome Book) → Holds w g → FineRuling News w.notes g h o →
+    Holds (after_ruling w o) h
+ruling_holds News w g h o a r = record {
+  sound = r.sound;
+  packets = each-append (FinePacket h) w.post o.packets (each-weaker (FinePacket g) (FinePacket h) (packet_later g h r.later) w.post a.packets) r.packets;
+  notes = each-append (FineNote h) w.notes o.notes (each-weaker (FineNote g) (FineNote h) (note_later g h r.later) w.notes a.notes) r.notes;
+  apart = pairs-append Apart w.notes o.notes a.apart r.apart r.cross;
+  replicas = λ m k. replica_later g h a.sound r.later m k (r.still m k) (w.replica m k) (a.replicas m k);
+  book = r.book;
+}
+
+pub ruling_unsent : (News : ℕ → ℕ → Type 0) (told : List Note) (g h : Ground) (o : Outcome Book) → FineRuling News told g h o →
+    FineRuling News told g h (unsent o)
+ruling_unsent News told g h o r = record {
+  sound = r.sound;
+  later = r.later;
+  still = r.still;
+  unmoved = r.unmoved;
+  sealed = r.sealed;
+  book = r.book;
+  packets = tt;
+  notes = r.notes;
+  apart = r.apart;
+  cross = r.cross;
+}
+
+-- ---- stops
+
+stopped_fine : (g : Ground) (n e : ℕ) (s : Option Replica) → FineReplica g n e s → FineReplica g n e (stopped s)
+stopped_fine g n e None f = f
+stopped_fine g n e (Some r) f = record {
+  places = f.places;
+  begins = f.begins;
+  phase = f.phase;
+  second_has = omega arith;
+  third_has = omega arith;
+  waiting = λ i. tt;
+  fence = f.fence;
+}
+
+pub halted_holds : (w : World) (g : Ground) (n : ℕ) → Holds w g → Holds (halted w n) g
+halted_holds w g n a = record {
+  sound = a.sound;
+  packets = a.packets;
+  notes = a.notes;
+  apart = a.apart;
+  book = a.book;
+  replicas = λ m e. if_elim (FineReplica g m e) (m == n) _ _ (λ t. stopped_fine g m e (w.replica m e) (a.replicas m e)) (λ f. a.replicas m e);
+}
+
+-- what a stop leaves of an extent tells nothing
+forgotten_fine : (g : Ground) (b : Book) → FineBook g b → FineBook g (book_stopped b)
+forgotten_fine g b f = record {
+  places = λ e. f.places e ∙ same_places (b.extent e);
+  sealed = λ e. f.sealed e ∙ same_sealed (b.extent e);
+  fresh = λ e l. ap forgotten_if (f.fresh e l);
+  reports = λ e. no_reports e (b.extent e);
+}
+  where
+    same_places : (o : Option Extent) → places_of o ≡ places_of (forgotten_if o)
+    same_places None = refl
+    same_places (Some x) = refl
+
+    same_sealed : (o : Option Extent) → sealed_of o ≡ sealed_of (forgotten_if o)
+    same_sealed None = refl
+    same_sealed (Some x) = refl
+
+    no_reports : (e : ℕ) (o : Option Extent) → FineReportsOf g e (forgotten_if o)
+    no_reports e None = tt
+    no_reports e (Some x) = record { primary = λ l is. absurd cc; second = λ l is. absurd cc; third = λ l is. absurd cc }
+
+pub desk_halted_holds : (w : World) (g : Ground) → Holds w g → Holds (desk_halted w) g
+desk_halted_holds w g a = record {
+  sound = a.sound;
+  packets = a.packets;
+  notes = a.notes;
+  apart = a.apart;
+  replicas = a.replicas;
+  book = forgotten_fine g w.book a.book;
+}

@@ -1,0 +1,16 @@
+use Rattle.std.proofs.Common.{List, [], ◌∷◌, ◌++◌, sym, subst, ap, ◌∙◌}
+use Rattle.blocks.specs.declared.record.Record.{Record}
+use Rattle.blocks.specs.declared.record.Record.TheVariants.{Manage}
+use Rattle.model.specs.declared.manager_record.ManagerRecord.TheVariants.{First}
+use Rattle.model.specs.Ledger.{spelled}
+use Rattle.manager.specs.Table.{TableState, first_table}
+use Rattle.manager.specs.Manager.{Ledgered}
+use Rattle.manager.proofs.Recovering.{first_ledger}
+use Rattle.manager.proofs.manager.begin.Goals as goal
+
+pub invariant_of-result : goal.invariant_of-result
+invariant_of-result g c = λ up.
+    subst (λ (t : TableState). Ledgered t c.write.new.file.records) (sym c.new.ensures)
+    (subst (Ledgered (first_table c.args.nodes c.args.target))
+    (sym (c.in-Ok.ensures.ok.2 ∙ ap (λ (l : List Record). l ++ Manage (spelled (First c.args.nodes c.args.target)) ∷ []) c.requires.empty))
+    (first_ledger c.args.nodes c.args.target _ c.reads_back.ensures))

@@ -1,0 +1,8 @@
+pub mod Table
+pub mod Stream
+pub mod Ledger
+pub mod Plan
+pub mod Manager
+pub mod Ruled
+pub mod Done
+pub mod Recovery

@@ -1,0 +1,28 @@
+//! The stream manager: which streams there are, which extents they have on which nodes, and how extents are sealed, over
+//! a file of records.
+//!
+//! This crate touches memory and the disk that a manager is given, through its file of records, and nothing else. It
+//! offers the table of the manager exactly: after a packet or a decision the book, the record, the packets and the
+//! observations are the row's, the record is on the disk before a packet leaves, and while a manager runs its book, but
+//! for what a stop drops, is what its records make. A refusal for want of memory changes nothing.
+#![tactic(auto)]
+
+mod actors;
+mod fault;
+mod ledger;
+mod listed;
+mod manager;
+mod performing;
+mod plan;
+mod recovery;
+mod reports;
+mod sealing;
+mod sending;
+mod streams;
+mod table;
+
+pub use fault::ManagerFault;
+pub use manager::Manager;
+
+#[cfg(test)]
+mod tests;

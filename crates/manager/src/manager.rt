@@ -1,0 +1,304 @@
+//! The manager.
+ghost use Rattle.std.specs.Prelude.{◌≡◌, ◌≢◌, ◌<◌, ◌≤◌, List, [], ◌∷◌, Ok, Err, Some, None, false, true, IfOk, IfErr, MatchResult, option_map};
+ghost use Rattle.blocks.specs.Limits.{IsTarget};
+ghost use Rattle.blocks.specs.declared.record.Record.{Record};
+ghost use Rattle.blocks.specs.declared.record.Record.TheVariants as records;
+ghost use Rattle.blocks.specs.declared.record.Version.{Version};
+ghost use Rattle.disk.specs.Disk.{IsSteady, Only};
+ghost use Rattle.disk.specs.File.{IsFileOf};
+ghost use Rattle.disk.specs.Memory.{memory_state};
+ghost use Rattle.wire.specs.declared.refusal.Refusal.{Refusal};
+ghost use Rattle.model.specs.Bounds.{AreFew};
+ghost use Rattle.model.specs.Ledger.{spelled};
+ghost use Rattle.model.specs.Maps.{entry_at};
+ghost use Rattle.model.specs.Manager.{Book, first_book, manager_row, decide_row, decide_refusal};
+ghost use Rattle.model.specs.Replay.{book_fits};
+ghost use Rattle.model.specs.declared.manager_record.ManagerRecord.TheVariants as ledger;
+ghost use Rattle.manager.specs.Manager.{Shows, IsLedger, forgotten_state};
+ghost use Rattle.manager.specs.Ruled.{Ruled, as_row, fault_of, sealing_at};
+
+use crate::fault::ManagerFault;
+use crate::ledger::{reads_back, write};
+use crate::performing::{decide_on, handle_on};
+use crate::recovery::table_of;
+use crate::sealing::sealing_of;
+use crate::table::Table;
+use blocks::Version;
+use disk::{Disk, DiskFault, FileFault, MemDisk, RecordFile, Stop};
+use model::{Extent, ManagerRecord};
+use std::alloc::{AllocError, Global};
+use std::marker::Model;
+use wire::{ExtentId, Packet, Step};
+
+/// The stream manager: which nodes there are, the four streams of range 0, the extents in the order of their numbers from
+/// 1 on, and the file of records that they come from (after Calder et al., SOSP 2011, section 4).
+#[derive(Drop)]
+pub struct Manager<D: Disk> {
+    table: Table,
+    file: RecordFile<D>,
+}
+
+/// While it runs, its table is what its records make of it, but for what a stop drops.
+impl<D: Disk> Model for Manager<D> {
+    ghost use Rattle.std.specs.Prelude.{◌≡◌, false};
+    ghost use Rattle.manager.specs.Manager.{ManagerState, Ledgered, state_of};
+
+    ghost Value = { ManagerState D };
+
+    ghost view = { λ m. state_of m.table m.file };
+
+    ghost invariant = { λ m. m.file.stopped ≡ false → Ledgered m.table m.file.records };
+}
+
+/// The answer of a decision that was not refused.
+fn answer(done: Result<Step, DiskFault>) -> Result<Step, ManagerFault>
+    ensures row { as_row result ≡ done }
+    ensures taken { IfErr result (λ e. (e ≢ ManagerFault.NoSuchExtent) × (e ≢ ManagerFault.NoReply)) }
+{
+    match done {
+        Ok(step) => Ok(step),
+        Err(DiskFault::Failed) => Err(ManagerFault::DiskFailed),
+        Err(DiskFault::Memory) => Err(ManagerFault::Memory),
+    }
+}
+
+/// The manager of a file without a record: its first record is written.
+fn begin<D: Disk>(
+    alloc: Global,
+    nodes: u8,
+    target: u32,
+    file: RecordFile<D>,
+) -> Result<Manager<D>, (DiskFault, D)>
+    requires nodes { (3 ≤ nodes) × (nodes ≤ 12) }
+    requires target { IsTarget target }
+    requires running { file.stopped ≡ false }
+    requires empty { file.records ≡ [] }
+    ensures running { IfOk result (λ m. m.file.stopped ≡ false) }
+    ensures shows { IfOk result (λ m. Shows m (first_book nodes target)) }
+    ensures records { IfOk result (λ m. m.file.records ≡ records.Manage (spelled (ledger.First nodes target)) ∷ []) }
+    ensures failed { IfErr result (λ e. e.0 ≡ DiskFault.Failed → (D.state file.disk).failures < (D.state e.1).failures) }
+    ensures steady { IsSteady (D.state file.disk) → MatchResult result
+        (λ m. IsSteady (D.state m.file.disk))
+        (λ e. (e.0 ≢ DiskFault.Failed) × IsSteady (D.state e.1)) }
+{
+    let mut file = file;
+    let first = ManagerRecord::First { nodes, target };
+    reads_back(&first);
+    match write(alloc, &mut file, &first) {
+        Ok(()) => Ok(Manager {
+            table: Table::new(alloc, nodes, target),
+            file,
+        }),
+        Err(fault) => Err((fault, file.into_disk())),
+    }
+}
+
+/// The manager that the records of a file make.
+fn recovered<D: Disk>(alloc: Global, file: RecordFile<D>) -> Result<Manager<D>, (FileFault, D)>
+    requires { file.stopped ≡ false }
+    ensures same { IfOk result (λ m. (m.file.stopped ≡ false) × (m.file.version ≡ file.version) × (m.file.records ≡ file.records)) }
+    ensures replays { IfOk result (λ m. IsLedger m file.records) }
+    ensures fresh { IfOk result (λ m. m ≡ forgotten_state m) }
+    ensures damaged { file.records ≢ [] → book_fits file.records ≡ true → IfErr result (λ e. e.0 ≢ FileFault.Damaged) }
+    ensures failed { IfErr result (λ e. e.0 ≡ FileFault.Failed → (D.state file.disk).failures < (D.state e.1).failures) }
+    ensures steady { IsSteady (D.state file.disk) → IfOk result (λ m. IsSteady (D.state m.file.disk)) }
+{
+    let mut file = file;
+    match table_of(alloc, &mut file) {
+        Ok(table) => Ok(Manager { table, file }),
+        Err(fault) => Err((fault, file.into_disk())),
+    }
+}
+
+impl<D: Disk> Manager<D> {
+    /// A manager with no stream and no extent, on an empty disk. It knows the nodes from 1 to `nodes`, 3 to 12 of them, and
+    /// makes extents with this target, from 4,096 to 16,777,216 bytes. Both are in its first record. A refusal hands the disk
+    /// back: 20 (a device call failed), 22 (no memory).
+    pub fn create(
+        alloc: Global,
+        nodes: u8,
+        target: u32,
+        disk: D,
+    ) -> Result<Manager<D>, (DiskFault, D)>
+        requires nodes { (3 ≤ nodes) × (nodes ≤ 12) }
+        requires target { IsTarget target }
+        requires empty { (D.state disk).seen ≡ [] }
+        requires durable { Only (D.state disk).seen (D.state disk).may_leave }
+        ensures running { IfOk result (λ m. m.file.stopped ≡ false) }
+        ensures shows { IfOk result (λ m. Shows m (first_book nodes target)) }
+        ensures records { IfOk result (λ m. m.file.records ≡ records.Manage (spelled (ledger.First nodes target)) ∷ []) }
+        ensures steady { IsSteady (D.state disk) → MatchResult result
+            (λ m. IsSteady (D.state m.file.disk))
+            (λ e. (e.0 ≢ DiskFault.Failed) × IsSteady (D.state e.1)) }
+    {
+        match RecordFile::format(Version::V1, disk) {
+            Ok(file) => begin(alloc, nodes, target, file),
+            Err(refused) => Err(refused),
+        }
+    }
+
+    /// The manager that the records on a disk make, with nothing of what a stop drops. The file is synced, and then read.
+    /// A refusal hands the disk back: 20 (a device call failed), 21 (the bytes are no file of records, there is no first
+    /// record, or a record does not fit what those before it make), 22 (nothing has changed).
+    pub fn restart(alloc: Global, disk: D) -> Result<Manager<D>, (FileFault, D)>
+        ensures running { IfOk result (λ m. m.file.stopped ≡ false) }
+        ensures file { IfOk result (λ m. IsFileOf m.file.version m.file.records (D.state disk).seen) }
+        ensures replays { IfOk result (λ m. IsLedger m m.file.records) }
+        ensures fresh { IfOk result (λ m. m ≡ forgotten_state m) }
+
+        // 21 only where the bytes are no file of records that fit, the first of them among them.
+        ensures damaged { (v : Version) (rs : List Record) → IsFileOf v rs (D.state disk).seen → rs ≢ [] → book_fits rs ≡ true
+            → IfErr result (λ e. e.0 ≢ FileFault.Damaged) }
+        ensures failed { IfErr result (λ e. e.0 ≡ FileFault.Failed → (D.state disk).failures < (D.state e.1).failures) }
+
+        // No other records make the manager than those that the bytes are a file of.
+        ensures only { (v : Version) (rs : List Record) → IsFileOf v rs (D.state disk).seen
+            → IfOk result (λ m. (m.file.version ≡ v) × (m.file.records ≡ rs)) }
+
+        // The manager of a disk that cannot fail has one.
+        ensures steady { IsSteady (D.state disk) → IfOk result (λ m. IsSteady (D.state m.file.disk)) }
+    {
+        match RecordFile::open(alloc, disk) {
+            Ok(file) => recovered(alloc, file),
+            Err(refused) => Err(refused),
+        }
+    }
+
+    /// What the manager does with a packet: the row of its table, exactly. The record, if there is one, is on the disk
+    /// before the packets are handed out. A stopped manager does nothing. 20: the disk failed, and the manager is stopped
+    /// until it is restarted; its records are the old ones, with the new one or without. 22: nothing has changed.
+    pub fn handle(&mut self, alloc: Global, packet: &Packet) -> Result<Step, DiskFault>
+        ensures took { self.old.file.stopped ≡ false → (b : Book) → Shows self.old b
+            → Ruled D.state self.old self.new (manager_row b packet.now packet.now.body) result }
+        ensures stopped { self.old.file.stopped ≡ true → (self.new ≡ self.old) × (result ≡ Ok (record { packets = []; notes = [] })) }
+
+        // A step sends no more than a caller can make room for beforehand.
+        ensures few { IfOk result (λ step. AreFew step.packets step.notes) }
+
+        // While the manager runs, its state is what its records make of it.
+        ensures ledger { self.old.file.stopped ≡ false → IsLedger self.old self.old.file.records }
+    {
+        if self.file.is_stopped() {
+            return Ok(Step::silent(alloc));
+        }
+        handle_on(&mut self.table, &mut self.file, alloc, packet)
+    }
+
+    /// Has an extent sealed at the least length that a place has told, or has its places told again where it is sealed: the
+    /// row of the table, exactly. A stopped manager does nothing. 1: there is no such extent. 10: it is not sealed, and no
+    /// place has told a length. 20: the disk failed, and the manager is stopped until it is restarted; its records are the
+    /// old ones, with the new one or without. 22: no memory. After 1, 10 and 22 nothing has changed.
+    pub fn decide(&mut self, alloc: Global, extent: ExtentId) -> Result<Step, ManagerFault>
+        ensures refused { self.old.file.stopped ≡ false → (r : Refusal) → decide_refusal (entry_at self.old.extents extent) ≡ Some r
+            → (self.new ≡ self.old) × (result ≡ Err (fault_of r)) }
+        ensures ruled { self.old.file.stopped ≡ false → decide_refusal (entry_at self.old.extents extent) ≡ None
+            → (b : Book) → Shows self.old b → Ruled D.state self.old self.new (decide_row b extent (b.extent extent)) (as_row result) }
+        ensures taken { decide_refusal (entry_at self.old.extents extent) ≡ None
+            → IfErr result (λ e. (e ≢ ManagerFault.NoSuchExtent) × (e ≢ ManagerFault.NoReply)) }
+        ensures stopped { self.old.file.stopped ≡ true → (self.new ≡ self.old) × (result ≡ Ok (record { packets = []; notes = [] })) }
+        ensures few { IfOk result (λ step. AreFew step.packets step.notes) }
+        ensures ledger { self.old.file.stopped ≡ false → IsLedger self.old self.old.file.records }
+    {
+        if self.file.is_stopped() {
+            return Ok(Step::silent(alloc));
+        }
+        match self.table.refusal(extent.number()) {
+            Some(fault) => Err(fault),
+            None => {
+                let done = decide_on(&mut self.table, &mut self.file, alloc, extent.number());
+                answer(done)
+            }
+        }
+    }
+
+    /// The extent of a number, if there is one; takes no memory.
+    pub fn extent(&self, extent: ExtentId) -> Option<&Extent>
+        ensures { option_map (λ x. x.now) result ≡ entry_at self.now.extents extent }
+    {
+        self.table.entry_ref(extent.number())
+    }
+
+    /// The length at which `decide` would seal an extent now, in bytes; none where there is no such extent, where it is
+    /// sealed, or where no place has told a length.
+    pub fn sealing(&self, extent: ExtentId) -> Option<u32>
+        ensures { result ≡ sealing_at (entry_at self.now.extents extent) }
+    {
+        match self.table.entry(extent.number()) {
+            None => None,
+            Some(entry) => sealing_of(&entry),
+        }
+    }
+
+    /// How many nodes it knows: those from 1 to this number.
+    pub fn nodes(&self) -> u8
+        ensures { result ≡ self.now.nodes }
+    {
+        self.table.nodes()
+    }
+
+    /// The target of each extent that it makes, in bytes.
+    pub fn target(&self) -> u32
+        ensures { result ≡ self.now.target }
+    {
+        self.table.target()
+    }
+
+    /// Whether it has stopped. Then it does nothing until it is restarted from its disk.
+    pub fn is_stopped(&self) -> bool
+        ensures { result ≡ self.now.file.stopped }
+    {
+        self.file.is_stopped()
+    }
+
+    /// Its disk, whether it has stopped or not. Its bytes are a file of the records that the manager had.
+    pub fn into_disk(self) -> D
+        ensures disk { result ≡ self.file.disk }
+        ensures stands { IsFileOf self.file.version self.file.records (D.state result).seen }
+    {
+        let Manager { table: _, file } = self;
+        file.into_disk()
+    }
+}
+
+impl Manager<MemDisk> {
+    /// Another disk, as a restart finds it: with its records, all made sure of, and not told to stop. An error is want
+    /// of memory (22).
+    pub fn copy_disk(&self, alloc: Global) -> Result<MemDisk, AllocError>
+        ensures stands { IfOk result (λ disk. IsFileOf self.now.file.version self.now.file.records (memory_state disk).seen) }
+        ensures steady { IfOk result (λ disk. IsSteady (memory_state disk)) }
+    {
+        self.file.copy_disk(alloc)
+    }
+
+    /// Tells its disk to stop at the `calls`-th `write_at` or `sync` from now on, in place of what it was told before: a
+    /// record makes four of them. All else stays.
+    pub fn stop_at(&mut self, calls: u64, keep: bool)
+        ensures told { (memory_state self.new.file.disk).stop ≡ Some (calls, keep) }
+        ensures disk { self.new.file.disk ≡ record self.old.file.disk { stop = Some (record { calls = calls; keep = keep }) } }
+        ensures file { (self.new.file.stopped ≡ self.old.file.stopped) × (self.new.file.version ≡ self.old.file.version)
+            × (self.new.file.records ≡ self.old.file.records) }
+        ensures same { self.new ≡ record self.old { file = self.new.file } }
+    {
+        self.file.stop_at(calls, keep);
+    }
+
+    /// Stops it: it does nothing until it is restarted from its disk, which goes on. All else stays.
+    pub fn stop_now(&mut self)
+        ensures stopped { self.new.file.stopped ≡ true }
+        ensures steady { IsSteady (memory_state self.new.file.disk) }
+        ensures disk { self.new.file.disk ≡ record self.old.file.disk { stop = None } }
+        ensures file { (self.new.file.version ≡ self.old.file.version) × (self.new.file.records ≡ self.old.file.records) }
+        ensures same { self.new ≡ record self.old { file = self.new.file } }
+        ensures ledger { self.old.file.stopped ≡ false → IsLedger self.old self.old.file.records }
+    {
+        self.file.cancel_stop();
+        self.file.halt();
+    }
+
+    /// What its disk was told last and has not come to.
+    pub fn told(&self) -> Option<Stop>
+        ensures { option_map (λ s. (s.calls, s.keep)) result ≡ (memory_state self.now.file.disk).stop }
+    {
+        self.file.told()
+    }
+}

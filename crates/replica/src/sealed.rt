@@ -1,0 +1,109 @@
+//! A replica that never changes again.
+ghost use Rattle.std.specs.Prelude.{◌≡◌, ◌≤◌, IfOk, OnOk};
+ghost use Rattle.blocks.specs.Limits.{IsTarget};
+ghost use Rattle.replica.specs.Groups.{text_length};
+ghost use Rattle.replica.specs.Kept.{held_as};
+ghost use Rattle.replica.specs.Reading.{bytes_at};
+ghost use Rattle.replica.specs.Replay.{longest};
+
+use crate::kept::Kept;
+use crate::phase::Phase;
+use blocks::Nodes;
+use bytes::Bytes;
+use std::alloc::{AllocError, Global};
+use std::marker::Model;
+
+/// A sealed replica: its groups stay as they are.
+#[derive(Drop)]
+pub struct SealedReplica {
+    kept: Kept,
+}
+
+impl Model for SealedReplica {
+    ghost use Rattle.std.specs.Prelude.{◌≤◌};
+    ghost use Rattle.blocks.specs.Limits.{IsTarget};
+    ghost use Rattle.replica.specs.declared.phase.Phase.TheVariants.{Sealed};
+    ghost use Rattle.replica.specs.Groups.{text_length};
+    ghost use Rattle.replica.specs.Content.{Held};
+
+    ghost Value = { Held };
+
+    ghost use Rattle.replica.specs.Kept.{held_as};
+    ghost use Rattle.replica.specs.Replay.{longest};
+
+    ghost view = { λ r. held_as Sealed r.kept };
+
+    ghost invariant = { λ r. IsTarget r.kept.target × (text_length r.kept.held.groups ≤ longest) };
+}
+
+impl SealedReplica {
+    /// What it keeps, for good.
+    pub(crate) fn of(kept: Kept) -> SealedReplica
+        requires target { IsTarget kept.target }
+        requires bound { text_length kept.held.groups ≤ longest }
+        ensures { result ≡ held_as Phase.Sealed kept }
+    {
+        SealedReplica { kept }
+    }
+
+    /// That it is sealed.
+    pub fn state(&self) -> Phase
+        ensures content { result ≡ self.now.content.phase }
+        ensures value { result ≡ Phase.Sealed }
+    {
+        let _target = self.kept.target;
+        Phase::Sealed
+    }
+
+    /// How many payload bytes there are, at most 20,971,519.
+    pub fn len(&self) -> u32
+        ensures value { result ≡ text_length self.now.content.groups }
+        ensures bound { result ≤ longest }
+        ensures target { IsTarget self.now.content.target }
+    {
+        self.kept.held.len()
+    }
+
+    /// The length at which no more groups are taken, in bytes.
+    pub fn target(&self) -> u32
+        ensures { result ≡ self.now.content.target }
+    {
+        self.kept.target
+    }
+
+    /// The least generation that the replica listens to.
+    pub fn fence(&self) -> u64
+        ensures { result ≡ self.now.content.fence }
+    {
+        self.kept.fence
+    }
+
+    /// The three places of its extent, the primary first.
+    pub fn places(&self) -> Nodes
+        ensures { result ≡ self.now.content.places }
+    {
+        self.kept.places
+    }
+
+    /// A copy of so many bytes from an offset on, as far as there are any. An error is want of memory (22).
+    pub fn bytes(&self, alloc: Global, offset: u32, length: u32) -> Result<Bytes, AllocError>
+        ensures { IfOk result (λ bytes. bytes ≡ bytes_at offset length self.now.content.groups) }
+    {
+        self.kept.held.bytes(alloc, offset, length)
+    }
+
+    /// What it keeps.
+    pub(crate) fn kept(&self) -> &Kept
+        ensures { held_as Phase.Sealed result.now ≡ self.now }
+    {
+        &self.kept
+    }
+
+    /// Makes room for so many more groups. Without memory nothing has changed.
+    pub(crate) fn reserve(&mut self, count: usize) -> Result<(), AllocError>
+        ensures same { self.new.content ≡ self.old.content }
+        ensures room { OnOk result (count ≤ self.new.room) }
+    {
+        self.kept.held.reserve(count)
+    }
+}
