@@ -1,4 +1,4 @@
-"""Measures appends to a node, whole scripts, seals, restarts, checks of observations, and a record file over a real file, in ratios."""
+"""Measures appends to a node, whole scripts, seals, restarts, checks of observations, streams of many extents, and a record file over a real file, in ratios."""
 import os
 import subprocess
 import sys
@@ -124,6 +124,19 @@ def check_of_observations():
     print(f"check: 2N over N: {found[20_000] / found[10_000]:.2f} (at most 2.5)")
 
 
+def streams_of_extents():
+    found = {}
+    for count in (5_000, 10_000):
+        told = []
+        for _ in range(ROUNDS):
+            words = run([BENCH, "streams", str(count)])[2].split()
+            assert words[:3] == [b"found", str(100 * count).encode(), b"micros"], words
+            told.append(int(words[3]))
+        found[count] = min(told)
+        print(f"streams: 100 streams of {count} extents, each extended and located: {found[count] / 1e6:.4f} s")
+    print(f"streams: 2N over N: {found[10_000] / found[5_000]:.2f} (at most 2.3)")
+
+
 def record_file():
     with tempfile.TemporaryDirectory() as folder:
         ratios = []
@@ -142,4 +155,5 @@ appends_to_three_nodes()
 seals_of_extents()
 restarts_of_a_node()
 check_of_observations()
+streams_of_extents()
 record_file()

@@ -53,3 +53,9 @@ impl From<blocks::Memory> for Failure {
         Failure::Step
     }
 }
+
+impl From<streams::StreamFault> for Failure {
+    fn from(_refused: streams::StreamFault) -> Self {
+        Failure::Step
+    }
+}

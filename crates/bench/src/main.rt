@@ -3,13 +3,15 @@
 //! `bench node N` makes extents on one node over a disk in memory and appends N groups of 1 KiB to them, 256 to an
 //! extent. `bench restart N` does the same, and then starts the node again from its disk. `bench file N FILE` appends N records of 1 KiB to a record file over FILE, and writes and syncs as many bytes
 //! to FILE.plain, a write and two syncs each, by turns of a tenth of N. `bench check N` checks the observations that N
-//! acknowledged appends of 1 KiB give, 64 to an extent. Times are printed in microseconds. Without words it appends ten
+//! acknowledged appends of 1 KiB give, 64 to an extent. `bench streams N` makes streams of N extents and finds each extent
+//! in its stream. Times are printed in microseconds. Without words it appends ten
 //! groups and prints how many were taken.
 #![tactic(auto)]
 
 mod checking;
 mod device;
 mod error;
+mod extents;
 mod node;
 
 use crate::error::Failure;
@@ -17,7 +19,8 @@ use std::process::ExitCode;
 use std::rt::{Clock, Env, Files};
 use std::{env, fs, io};
 
-const USAGE: &str = "usage: bench node N | bench restart N | bench file N FILE | bench check N";
+const USAGE: &str =
+    "usage: bench node N | bench restart N | bench file N FILE | bench check N | bench streams N";
 
 fn run<R: AllocGlobal + Env + Files<File = fs::File> + Clock + Print>(
     rt: &R,
@@ -41,6 +44,9 @@ fn run<R: AllocGlobal + Env + Files<File = fs::File> + Clock + Print>(
         }
         [_, "check", count] => {
             checking::measure(rt, count.parse().map_err(|_| Failure::Words)?)?
+        }
+        [_, "streams", count] => {
+            extents::measure(rt, count.parse().map_err(|_| Failure::Words)?)?
         }
         _ => {
             rt.println(USAGE)?;

@@ -6,3 +6,4 @@ pub mod Recovering
 pub mod Putting
 pub mod Telling
 pub mod Ending
+pub mod Raising

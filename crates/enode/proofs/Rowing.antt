@@ -11,7 +11,7 @@ use Rattle.model.specs.Node.{Replica}
 use Rattle.enode.specs.Took.{Rowed}
 
 -- how a step ended, without what it gives
-abbrev bare : Result Step DiskFault → Result Unit DiskFault
+abbrev pub bare : Result Step DiskFault → Result Unit DiskFault
 bare (Ok s) = Ok tt
 bare (Err x) = Err x
 

@@ -18,20 +18,22 @@ ghost use Rattle.enode.specs.Took.{Rowed};
 use crate::sending::{puts_of, refuse};
 use blocks::{Group, Nodes, Record};
 use disk::{Disk, DiskFault, RecordFile};
-use model::Waiting;
+use model::{Checking, Waiting};
 use replica::{Phase, Replica};
 use std::alloc::Global;
 use std::collections::VecDeque;
 use std::marker::Model;
 use wire::{ActorId, Blocks, ExtentId, Fence, Packet, Refusal, ReqNo, Step};
 
-/// A replica, and at its primary how long each secondary is known to be, and the appends that wait for both.
+/// A replica, and at its primary how long each secondary is known to be, the appends that wait for both, and the check
+/// that is under way.
 #[derive(Drop)]
 pub(crate) struct Hosted {
     pub(crate) replica: Replica,
     pub(crate) second_has: u32,
     pub(crate) third_has: u32,
     pub(crate) waiting: VecDeque<Waiting>,
+    pub(crate) check: Option<Checking>,
 }
 
 impl Model for Hosted {
@@ -40,7 +42,7 @@ impl Model for Hosted {
 
     ghost Value = { State };
 
-    ghost view = { λ h. record { content = content_of h.replica; second_has = h.second_has; third_has = h.third_has; waiting = h.waiting.items } };
+    ghost view = { λ h. record { content = content_of h.replica; second_has = h.second_has; third_has = h.third_has; waiting = h.waiting.items; check = h.check } };
 }
 
 pub(crate) fn is_open(phase: Phase) -> bool
@@ -54,7 +56,7 @@ pub(crate) fn is_open(phase: Phase) -> bool
 }
 
 /// The generation that a packet counts with: a user's is 0.
-fn generation(from: ActorId, generation: Fence) -> u64
+pub(crate) fn generation_of(from: ActorId, generation: Fence) -> u64
     ensures { result ≡ generation_of from generation }
 {
     match from {
@@ -118,6 +120,7 @@ impl Hosted {
             second_has: 0,
             third_has: 0,
             waiting: VecDeque::new(alloc),
+            check: None,
         }
     }
 
@@ -146,7 +149,7 @@ impl Hosted {
         if !is_open(self.replica.state()) {
             return Some(Refusal::NotOpen);
         }
-        if generation(packet.from, fence) < self.replica.fence() {
+        if generation_of(packet.from, fence) < self.replica.fence() {
             return Some(Refusal::Stale);
         }
         let count = blocks.count();

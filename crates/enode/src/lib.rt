@@ -6,6 +6,7 @@
 //! stop drops, are what its records make of them. A refusal for want of memory changes nothing.
 #![tactic(auto)]
 
+mod checking;
 mod hosted;
 mod node;
 mod primary;

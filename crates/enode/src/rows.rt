@@ -7,16 +7,18 @@ ghost use Rattle.blocks.specs.declared.record.Record.TheVariants as records;
 ghost use Rattle.disk.specs.Appends.{Appends};
 ghost use Rattle.disk.specs.declared.device.DiskFault.TheVariants as faults;
 ghost use Rattle.wire.specs.declared.body.AppendBody.TheVariants.{Append, Put, Have};
+ghost use Rattle.wire.specs.declared.body.CheckBody.TheVariants.{Check, Probe, Probed};
 ghost use Rattle.wire.specs.declared.body.ReadBody.TheVariants.{ReadAt, ReadGroups};
 ghost use Rattle.wire.specs.declared.body.SealBody.TheVariants.{Make, Freeze, Seal, SendTail, Tail};
 ghost use Rattle.wire.specs.declared.body.Body.TheVariants as bodies;
 ghost use Rattle.replica.specs.Replay.{is_place as is_one_place};
 ghost use Rattle.model.specs.Outcome.{all_met};
 ghost use Rattle.model.specs.Actors.{is_manager as is_the_manager};
-ghost use Rattle.model.specs.Node.{node_row, extent_of, make_taken, make_tests, missing as missing_row, append_body_row, append_extent, seal_body_row, seal_extent, read_body_row, read_extent};
+ghost use Rattle.model.specs.Node.{node_row, extent_of, make_taken, make_tests, missing as missing_row, append_body_row, append_extent, check_body_row, check_extent, seal_body_row, seal_extent, read_body_row, read_extent};
 ghost use Rattle.enode.specs.Node.{find};
 ghost use Rattle.enode.specs.Took.{Took, Told};
 
+use crate::checking;
 use crate::hosted::{Hosted, write};
 use crate::sending::refuse;
 use blocks::{Group, Groups, Nodes, Record};
@@ -24,8 +26,8 @@ use disk::{Disk, DiskFault, RecordFile};
 use std::alloc::Global;
 use std::collections::BTreeMap;
 use wire::{
-    ActorId, AppendBody, Blocks, Body, ExtentId, Fence, Packet, ReadBody, Refusal, ReqNo, SealBody,
-    Step,
+    ActorId, AppendBody, Blocks, Body, CheckBody, ExtentId, Fence, Packet, ReadBody, Refusal,
+    ReqNo, SealBody, Step,
 };
 
 /// An append, where there is a replica or none.
@@ -100,6 +102,80 @@ fn have(
             Refusal::NoSuchExtent,
         ),
         Some(hosted) => hosted.have(alloc, number, packet, extent, length),
+    }
+}
+
+/// A check of the length, where there is a replica or none.
+fn check<D: Disk>(
+    replicas: &mut BTreeMap<u64, Hosted>,
+    file: &mut RecordFile<D>,
+    alloc: Global,
+    number: u8,
+    packet: &Packet,
+    extent: ExtentId,
+    generation: Fence,
+    request: ReqNo,
+) -> Result<Step, DiskFault>
+    requires running { file.old.stopped ≡ false }
+    ensures { Took D.state replicas.old.entries replicas.new.entries file.old file.new extent
+        (check_body_row number (find replicas.old.entries extent) packet.now (Check extent generation request)) result }
+{
+    match replicas.get_mut(&extent.number()) {
+        None => refuse(alloc, number, packet.from, request, Refusal::NoSuchExtent),
+        Some(hosted) => checking::check(
+            hosted, file, alloc, number, packet, extent, generation, request,
+        ),
+    }
+}
+
+/// A probe, where there is a replica or none.
+fn probe<D: Disk>(
+    replicas: &mut BTreeMap<u64, Hosted>,
+    file: &mut RecordFile<D>,
+    alloc: Global,
+    number: u8,
+    packet: &Packet,
+    extent: ExtentId,
+    generation: Fence,
+) -> Result<Step, DiskFault>
+    requires running { file.old.stopped ≡ false }
+    ensures { Took D.state replicas.old.entries replicas.new.entries file.old file.new extent
+        (check_body_row number (find replicas.old.entries extent) packet.now (Probe extent generation)) result }
+{
+    match replicas.get_mut(&extent.number()) {
+        None => refuse(
+            alloc,
+            number,
+            packet.from,
+            ReqNo::NoRequest,
+            Refusal::NoSuchExtent,
+        ),
+        Some(hosted) => checking::probe(hosted, file, alloc, number, packet, extent, generation),
+    }
+}
+
+/// What a secondary tells a check, where there is a replica or none.
+fn probed(
+    replicas: &mut BTreeMap<u64, Hosted>,
+    alloc: Global,
+    number: u8,
+    packet: &Packet,
+    extent: ExtentId,
+    generation: Fence,
+    length: u32,
+) -> Result<Step, DiskFault>
+    ensures { Told replicas.old.entries replicas.new.entries extent
+        (check_body_row number (find replicas.old.entries extent) packet.now (Probed extent generation length)) result }
+{
+    match replicas.get_mut(&extent.number()) {
+        None => refuse(
+            alloc,
+            number,
+            packet.from,
+            ReqNo::NoRequest,
+            Refusal::NoSuchExtent,
+        ),
+        Some(hosted) => checking::probed(hosted, alloc, number, packet, generation, length),
     }
 }
 
@@ -466,6 +542,38 @@ fn take_append<D: Disk>(
     }
 }
 
+fn take_check<D: Disk>(
+    replicas: &mut BTreeMap<u64, Hosted>,
+    file: &mut RecordFile<D>,
+    alloc: Global,
+    number: u8,
+    packet: &Packet,
+    body: &CheckBody,
+) -> Result<Step, DiskFault>
+    requires running { file.old.stopped ≡ false }
+    ensures { Took D.state replicas.old.entries replicas.new.entries file.old file.new (check_extent body.now)
+        (check_body_row number (find replicas.old.entries (check_extent body.now)) packet.now body.now) result }
+{
+    match body {
+        CheckBody::Check {
+            extent,
+            generation: fence,
+            request,
+        } => check(
+            replicas, file, alloc, number, packet, *extent, *fence, *request,
+        ),
+        CheckBody::Probe { extent, generation } => {
+            probe(replicas, file, alloc, number, packet, *extent, *generation)
+        }
+        CheckBody::Probed {
+            extent,
+            generation: fence,
+            length,
+        } => probed(replicas, alloc, number, packet, *extent, *fence, *length),
+        _ => Ok(Step::silent(alloc)),
+    }
+}
+
 fn take_seal<D: Disk>(
     replicas: &mut BTreeMap<u64, Hosted>,
     file: &mut RecordFile<D>,
@@ -520,6 +628,7 @@ pub(crate) fn take<D: Disk>(
 {
     match &packet.body {
         Body::Append(body) => take_append(replicas, file, alloc, number, packet, body),
+        Body::Check(body) => take_check(replicas, file, alloc, number, packet, body),
         Body::Seal(body) => take_seal(replicas, file, alloc, number, packet, body),
         Body::Read(body) => take_read(replicas, alloc, number, packet, body),
         _ => Ok(Step::silent(alloc)),

@@ -160,6 +160,7 @@ impl Hosted {
         self.second_has = 0;
         self.third_has = 0;
         self.waiting.clear();
+        self.check = None;
     }
 
     /// A higher fence that the node's records have.

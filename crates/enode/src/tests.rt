@@ -1,3 +1,5 @@
+mod checking;
+
 use super::*;
 use blocks::{Group, Groups, Nodes, Version};
 use bytes::Bytes;

@@ -22,26 +22,28 @@ use Rattle.model.specs.Outcome.{all_met, silent, or_refused}
 use Rattle.model.proofs.Tests.{if_elim, both_parts, none_met}
 use Rattle.laws_streams.specs.Origins.{Begins, Origin}
 use Rattle.laws_streams.proofs.Lists.{begins_refl, begins_push, NoneEmpty, none_empty-push, stands_on, stands_last, stands_end, same_beginning}
-use Rattle.laws_streams.proofs.Tests.{none_of, is_below, not_below, not_true, tested, changed_elim, changed_at-same, changed_at-other, changed-same, changed-other, untested, Each}
-use Rattle.laws_streams.proofs.Ground.{Ground, Sound, FineAppend, Chain, FinePhase, FineOne, FineNone, FineReplica, no_more, Later, Still}
+use Rattle.laws_streams.proofs.Tests.{none_of, is_below, not_below, not_true, tested, changed_elim, changed_at-same, changed_at-other, changed-same, changed-other, untested, Each, each-append}
+use Rattle.laws_streams.proofs.Ground.{Ground, Sound, FineAppend, Chain, FinePhase, FineOne, FineNone, FineReplica, check_later, no_more, Later, Still}
 use Rattle.laws_streams.proofs.Holding.{Moment, origin_of, Unmoved, Added, FineRow}
 use Rattle.laws_streams.proofs.Keeping.{Keeps, plain, sent, kept_silent, unless_refused, told_nothing, open_phase, phase_open, sound_later, grown_last, grown_closed}
 
 -- ---- Make
 
 pub make_keeps : (now : Moment) (g : Ground) (n : ℕ) (p : Packet) (e fence target : ℕ) (at : Nodes) →
-    Sound g → FineNone g n e → g.places e ≡ Some at → Keeps now g n e (make_row n p e fence target at)
+    Sound g → FineNone g n e → (g.places e ≡ Some at) × (g.born e ≡ fence) → Keeps now g n e (make_row n p e fence target at)
 make_keeps now g n p e fence target at sound none made =
     if_elim (Keeps now g n e) (all_met (make_tests n p target at)) (make_taken e fence target at) (silent None)
     (λ t. plain now g n e (make_taken e fence target at) sound
     (record {
-      places = made;
+      places = made.0;
       begins = record { rest = g.script e; is = refl };
-      phase = (none.closed, none.last, λ i. (none.script at made i).0);
+      phase = (none.closed, none.last, λ i. (none.script at made.0 i).0);
       second_has = omega arith;
       third_has = omega arith;
       waiting = λ i. tt;
-      fence = λ i. let f = (none.script at made i).1 in omega (arith, f);
+      born = omega (arith, made.1);
+      check = tt;
+      fence = λ i. let f = (none.script at made.0 i).1 in omega (arith, f);
     }) tt tt tt (told_nothing now.told))
     (λ f. kept_silent now g n e None sound none)
 
@@ -93,8 +95,10 @@ module _ (now : Moment) (g : Ground) (n e : ℕ) (r : Replica) (sound : Sound g)
         e (g.origin e ++ new ∷ []) g.origin k
         (λ q. (new ∷ [], rw q refl, (let f = fine.fence primary in let c = ap g.fence q in omega (arith, newer, f, c), tt))) (λ o. no_more (g.fence k) (g.origin k));
     fence = λ k. omega arith;
+    asked = λ p c. c;
     acked = λ k. omega arith;
     places = λ k at h. h;
+    born = λ k at h. refl;
     sealed = λ k l h. h;
     last = grown_last g n e _ live.0 longer;
     closed = λ m k c. (c, grown_closed g n e _ live.0 longer m k c);
@@ -112,6 +116,10 @@ module _ (now : Moment) (g : Ground) (n e : ℕ) (r : Replica) (sound : Sound g)
             omega (arith, length-append (g.origin e) (new ∷ []), length-append r.content.groups (blocks ∷ []), a, b)
         | false ↦ sound.aged k
       ])
+      (λ k. changed_elim (λ x. Each (λ y. g.born k ≤ y.generation) x) e (g.origin e ++ new ∷ []) g.origin k
+      (λ q. each-append (λ y. g.born k ≤ y.generation) (g.origin e) (new ∷ []) (rw (← q) (sound.born k))
+      (let f = fine.born in let c = ap g.born q in omega (arith, newer, f, c), tt))
+      (λ o. sound.born k))
       (λ k m. (
         changed_elim (λ x. x ≡ []) e (r.content.groups ++ blocks ∷ []) g.script k
             (λ q. let c : g.places k ≡ g.places e = cc in let d = fine.places in absurd (cc)) (λ o. (sound.unmade k m).0),
@@ -154,6 +162,8 @@ module _ (now : Moment) (g : Ground) (n e : ℕ) (r : Replica) (sound : Sound g)
             (let had = (sound.all_had e r.content.places fine.places).0 in let m = ap (λ k. g.last k e) primary in omega (arith, live.1))
             (subst (λ x. Chain x (g.acked e) r.waiting) (live.2 primary) (fine.waiting primary)) refl (stands_last r.content.groups blocks) some);
         fence = fine.fence;
+        born = fine.born;
+        check = check_later g next append_later n e r.content.places r.content.fence r.check fine.check;
       }
 
   append_grown : (k : ℕ) → Unmoved g next k
@@ -188,6 +198,7 @@ module _ (now : Moment) (g : Ground) (n e : ℕ) (r : Replica) (sound : Sound g)
         still = append_still;
         replica = append_replica t;
         packets = (put, (put, tt));
+        asked = λ p c. inl c;
         notes = tt;
         apart = tt;
         cross = told_nothing now.told;
@@ -232,16 +243,18 @@ module _ (now : Moment) (g : Ground) (n e : ℕ) (r : Replica) (sound : Sound g)
     script = λ k. begins_refl (g.script k);
     acked = λ k. omega arith;
     places = λ k at h. h;
+    born = λ k at h. refl;
     sealed = λ k l h. h;
     origin = λ k. no_more (g.fence k) (g.origin k);
     fence = λ k. omega arith;
+    asked = λ p c. c;
     last = grown_last g n e _ live.0 reaches;
     closed = λ m k c. (c, grown_closed g n e _ live.0 reaches m k c);
   }
 
   put_sound : Sound (lasting g n e (text_length (r.content.groups ++ group ∷ [])))
   unfolding lasting
-  put_sound = sound_later g _ sound put_later (λ k. refl) (λ k. refl) sound.none_empty sound.aged sound.unmade
+  put_sound = sound_later g _ sound put_later (λ k. refl) (λ k. refl) sound.none_empty sound.aged sound.born sound.unmade
       (λ k at m. let had = sound.all_had k at m in let l = grown_last g n e (text_length (r.content.groups ++ group ∷ [])) live.0 reaches in
       (omega (arith, had.0, l at.primary k), omega (arith, had.1, l at.second k), omega (arith, had.2, l at.third k)))
 
@@ -260,6 +273,8 @@ module _ (now : Moment) (g : Ground) (n e : ℕ) (r : Replica) (sound : Sound g)
     third_has = let l = grown_last g n e (text_length (r.content.groups ++ group ∷ [])) live.0 reaches r.content.places.third e in omega (arith, fine.third_has, l);
     waiting = fine.waiting;
     fence = fine.fence;
+    born = fine.born;
+    check = check_later g _ put_later n e r.content.places r.content.fence r.check fine.check;
   }
 
   put_fine : (offset : ℕ) → is_open r.content.phase ≡ true →
@@ -271,6 +286,7 @@ module _ (now : Moment) (g : Ground) (n e : ℕ) (r : Replica) (sound : Sound g)
     still = λ m k other. record { last = changed_at-other n e _ g.last m k other; closed = refl; primary = λ at made i. (refl, refl, refl) };
     grown = λ k. inl (refl, refl);
     replica = put_replica_fine t;
+    asked = λ p c. inl c;
     packets = (λ m i. let c : n ≡ m = tested n m i in let s = changed_at-same n e (text_length (r.content.groups ++ group ∷ [])) g.last in rw (← c) (rw s (omega arith)), tt);
     notes = tt;
     apart = tt;

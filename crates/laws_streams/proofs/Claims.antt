@@ -1,13 +1,12 @@
 -- Agree, Kept and Origins follow from what each observation rests on.
-use Rattle.std.proofs.Common.{◌≡◌, ℕ, ◌+◌, ◌<◌, ◌≤◌, List, [], ◌∷◌, Option, Some, Contains, sym, ◌∙◌, inl, inr, arith, ap, ◌==◌, ◌||◌}
+use Rattle.std.proofs.Common.{◌≡◌, ℕ, ◌+◌, ◌<◌, ◌≤◌, List, [], ◌∷◌, Option, Some, Contains, sym, ◌∙◌, inl, inr, arith, ap, subst, ◌==◌, ◌||◌}
 use Rattle.wire.specs.declared.note.Note.{Note}
 use Rattle.wire.specs.declared.note.Note.TheVariants.{Acked, SealedAt, Content, Seen}
 use Rattle.replica.specs.Groups.{Group, joined, text, size, text_length}
 use Rattle.replica.proofs.Lengths.{text-append}
 use Rattle.model.specs.Honest.{Stands, Apart, Agree, Kept}
-use Rattle.model.specs.declared.event.Event.{Event}
-use Rattle.model.specs.World.{World, run}
-use Rattle.laws_streams.specs.Origins.{Begins, Shows, Came, Decided, Origins}
+use Rattle.model.specs.World.{World}
+use Rattle.laws_streams.specs.Origins.{Begins, Shows, Origin, Course, Came, Decided, OriginsOf}
 use Rattle.laws_streams.proofs.Lists.{shows_both, shows_within, same_beginning, stands_back}
 use Rattle.laws_streams.proofs.Tests.{each-contains, all_pairs, either, tested}
 use Rattle.laws_streams.proofs.Ground.{Ground, FineAck, FineContent, FineNote}
@@ -71,16 +70,53 @@ module _ (w : World) (g : Ground) (holds : Holds w g) where
             ]
           ]
 
-module _ (k : ℕ) (events : List Event) (first : World) (g : Ground) (holds : Holds (run events first) g) (dated : Dated (Came events first) (Decided events first) k g) where
-  pub origins : Origins events first
+module _ (k : ℕ) (c : Course) (g : Ground) (holds : Holds c.last g) (dated : Dated (Came c) (Decided c) k g) where
+  abbrev pub origins : OriginsOf c
   origins = record {
     script = g.script;
     origin = g.origin;
     one_each = holds.sound.aged;
-    came = λ e i group o p q. each_of-get (Came events first e) (g.script e) (g.origin e) i group o (dated.came e) p q;
+    came = λ e i group o p q. each_of-get (Came c e) (g.script e) (g.origin e) i group o (dated.came e) p q;
     in_order = λ e i j o p l a b. pair-get (λ x y. x.event < y.event) (g.origin e) i j o p (dated.in_order e) l a b;
-    acked = λ e o group p. (told (run events first) g holds (Acked e o group) p).stands;
-    content = λ e n groups p. (told (run events first) g holds (Content e n groups) p).begins;
-    seen = λ e n o bytes p. told (run events first) g holds (Seen e n o bytes) p;
-    sealed = λ e l p. dated.decided e l (told (run events first) g holds (SealedAt e l) p);
+    acked = λ e o group p. (told c.last g holds (Acked e o group) p).stands;
+    content = λ e n groups p. (told c.last g holds (Content e n groups) p).begins;
+    seen = λ e n o bytes p. told c.last g holds (Seen e n o bytes) p;
+    sealed = λ e l p. dated.decided e l (told c.last g holds (SealedAt e l) p);
+  }
+
+-- ---- a course that is told in another way
+
+module _ (c d : Course) (event : (n : ℕ) → d.event n ≡ c.event n) (before : (n : ℕ) → d.before n ≡ c.before n) (last : d.last ≡ c.last) where
+  same_came : (e : ℕ) (group : Group) (o : Origin) → Came c e group o → Came d e group o
+  same_came e group o a = record {
+    number = a.number;
+    packet = a.packet;
+    generation = a.generation;
+    delivered = event o.event ∙ a.delivered;
+    sent = rw (before o.event) a.sent;
+    body = a.body;
+    counted = a.counted;
+  }
+
+  same_decided : (e l : ℕ) → Decided c e l → Decided d e l
+  same_decided e l a = record {
+    number = a.number;
+    extent = a.extent;
+    decided = event a.number ∙ a.decided;
+    there = rw (before a.number) a.there;
+    unsealed = a.unsealed;
+    least = a.least;
+  }
+
+  pub same_origins : OriginsOf c → OriginsOf d
+  same_origins a = record {
+    script = a.script;
+    origin = a.origin;
+    one_each = a.one_each;
+    came = λ e i group o p q. same_came e group o (a.came e i group o p q);
+    in_order = a.in_order;
+    acked = λ e o group p. a.acked e o group (subst (λ w. Contains w.notes (Acked e o group)) last p);
+    content = λ e n groups p. a.content e n groups (subst (λ w. Contains w.notes (Content e n groups)) last p);
+    seen = λ e n o bytes p. a.seen e n o bytes (subst (λ w. Contains w.notes (Seen e n o bytes)) last p);
+    sealed = λ e l p. same_decided e l (a.sealed e l (subst (λ w. Contains w.notes (SealedAt e l)) last p));
   }

@@ -32,8 +32,8 @@ closes_fine : (g : Ground) (e : ℕ) (o : Option ℕ) → g.sealed e ≡ o → F
 closes_fine g e None is = tt
 closes_fine g e (Some l) is = is
 
-reminders_fine : (g : Ground) (b : Book) (e : ℕ) (x : Extent) → g.places e ≡ Some x.places → g.sealed e ≡ x.sealed → Each (FinePacket g) (reminders b e x)
-reminders_fine g b e x places sealed = let c = closes_fine g e x.sealed sealed in (places, (places, (places, (c, (c, (c, tt))))))
+reminders_fine : (g : Ground) (b : Book) (e : ℕ) (x : Extent) → (g.places e ≡ Some x.places) × (g.born e ≡ x.fence) → g.sealed e ≡ x.sealed → Each (FinePacket g) (reminders b e x)
+reminders_fine g b e x made sealed = let c = closes_fine g e x.sealed sealed in (made, (made, (made, (c, (c, (c, tt))))))
 
 module _ (News : ℕ → ℕ → Type 0) (told : List Note) (g : Ground) (b : Book) (sound : Sound g) (book : FineBook g b) (e : ℕ) where
   places_here : (x : Extent) → b.extent e ≡ Some x → g.places e ≡ Some x.places
@@ -47,13 +47,15 @@ module _ (News : ℕ → ℕ → Type 0) (told : List Note) (g : Ground) (b : Bo
   reports_here (Some y) x f is = let c : y ≡ x = cc in rw (← c) f
 
   reminded : (x : Extent) → b.extent e ≡ Some x → Each (FinePacket g) (reminders b e x)
-  reminded x is = reminders_fine g b e x (places_here x is) (sealed_here x is)
+  reminded x is = reminders_fine g b e x (places_here x is, book.born e x is) (sealed_here x is)
 
   -- an extent with another asker, or with other reports
-  renewed : (x y : Extent) → b.extent e ≡ Some x → y.places ≡ x.places → y.sealed ≡ x.sealed → FineReports g e y → FineBook g (with_extent b e y)
-  renewed x y is places sealed reports = record {
+  renewed : (x y : Extent) → b.extent e ≡ Some x → y.places ≡ x.places → y.sealed ≡ x.sealed → y.fence ≡ x.fence → FineReports g e y → FineBook g (with_extent b e y)
+  renewed x y is places sealed fence reports = record {
     places = λ k. changed_elim (λ o. g.places k ≡ places_of o) e (Some y) b.extent k (λ q. rw (q, places) (places_here x is)) (λ o. book.places k);
     sealed = λ k. changed_elim (λ o. g.sealed k ≡ sealed_of o) e (Some y) b.extent k (λ q. rw (q, sealed) (sealed_here x is)) (λ o. book.sealed k);
+    born = λ k z. changed_elim (λ o. o ≡ Some z → g.born k ≡ z.fence) e (Some y) b.extent k
+        (λ q m. let c : y ≡ z = cc in rw (q, ← c, fence) (book.born e x is)) (λ o. book.born k z);
     fresh = λ k l. changed_elim (λ o. o ≡ None) e (Some y) b.extent k
         (λ q. absurd (let c : b.extent e ≡ None = ap b.extent (sym q) ∙ book.fresh k l in cc)) (λ o. book.fresh k l);
     reports = λ k. changed_elim (λ o. FineReportsOf g k o) e (Some y) b.extent k (λ q. rw q reports) (λ o. book.reports k);
@@ -68,7 +70,7 @@ module _ (News : ℕ → ℕ → Type 0) (told : List Note) (g : Ground) (b : Bo
       let r = reports_here (b.extent e) x (book.reports e) is in
       let y : Extent = record x { asker = Some (record { who = p.from; request = q }) } in
       plain_rule News told g (with_extent b e y) sound
-      (renewed x y is refl refl (record { primary = r.primary; second = r.second; third = r.third })) _ (reminded x is)
+      (renewed x y is refl refl refl (record { primary = r.primary; second = r.second; third = r.third })) _ (reminded x is)
 
   pub seal_extent_keeps : (p : Packet) (q : ReqNo) (o : Option Extent) → b.extent e ≡ o → Rules News told g (seal_extent_row b p e q o)
   seal_extent_keeps p q None is = refused_rule News told g b sound book p q NoSuchExtent
@@ -84,15 +86,15 @@ module _ (News : ℕ → ℕ → Type 0) (told : List Note) (g : Ground) (b : Bo
       let r = reports_here (b.extent e) x (book.reports e) is in
       if_elim (λ o. Rules News told g (noted b e o)) (is_node x.places.primary from) (Some (record x { primary = news x.primary })) _
       (λ t. silent_rule News told g (with_extent b e (record x { primary = news x.primary })) sound
-      (renewed x (record x { primary = news x.primary }) is refl refl
+      (renewed x (record x { primary = news x.primary }) is refl refl refl
       (record { primary = fine x.places.primary x.primary t r.primary; second = r.second; third = r.third })))
       (λ _. if_elim (λ o. Rules News told g (noted b e o)) (is_node x.places.second from) (Some (record x { second = news x.second })) _
       (λ t. silent_rule News told g (with_extent b e (record x { second = news x.second })) sound
-      (renewed x (record x { second = news x.second }) is refl refl
+      (renewed x (record x { second = news x.second }) is refl refl refl
       (record { primary = r.primary; second = fine x.places.second x.second t r.second; third = r.third })))
       (λ _. if_elim (λ o. Rules News told g (noted b e o)) (is_node x.places.third from) (Some (record x { third = news x.third })) None
       (λ t. silent_rule News told g (with_extent b e (record x { third = news x.third })) sound
-      (renewed x (record x { third = news x.third }) is refl refl
+      (renewed x (record x { third = news x.third }) is refl refl refl
       (record { primary = r.primary; second = r.second; third = fine x.places.third x.third t r.third })))
       (λ _. silent_rule News told g b sound book)))
 
@@ -222,10 +224,12 @@ module _ (told : List Note) (g : Ground) (b : Book) (sound : Sound g) (book : Fi
     script = λ k. begins_refl (g.script k);
     acked = λ k. omega arith;
     places = λ k at h. h;
+    born = λ k at h. refl;
     last = λ m k. omega arith;
     closed = λ m k c. (c, refl);
     origin = λ k. no_more (g.fence k) (g.origin k);
     fence = λ k. omega arith;
+    asked = λ p c. c;
     sealed = λ k j m. changed_elim (λ y. y ≡ Some j) e (Some l) g.sealed k (λ q. let c : g.sealed k ≡ None = ap g.sealed q ∙ not_yet in absurd (cc)) (λ o. m);
   }
 
@@ -234,6 +238,7 @@ module _ (told : List Note) (g : Ground) (b : Book) (sound : Sound g) (book : Fi
   sealing_sound = record {
     none_empty = sound.none_empty;
     aged = sound.aged;
+    born = sound.born;
     unmade = sound.unmade;
     all_had = sound.all_had;
     noted = λ k j. changed_elim (λ y. y ≡ Some j →
@@ -261,6 +266,8 @@ module _ (told : List Note) (g : Ground) (b : Book) (sound : Sound g) (book : Fi
         (λ q. ap g.places q ∙ made) (λ o. book.places j);
     sealed = λ j. elim (j == e) as (λ t. (if t then Some l else g.sealed j) ≡ sealed_of (if t then Some (sealed_to x l) else b.extent j))
         [ true ↦ refl | false ↦ book.sealed j ];
+    born = λ j z. changed_elim (λ o. o ≡ Some z → g.born j ≡ z.fence) e (Some (sealed_to x l)) b.extent j
+        (λ q m. let c : x.fence ≡ z.fence = (let d : sealed_to x l ≡ z = cc in ap (λ (v : Extent). v.fence) d) in rw (q, ← c) (book.born e x is)) (λ o. book.born j z);
     fresh = λ j k. changed_elim (λ y. y ≡ None) e (Some (sealed_to x l)) b.extent j
         (λ q. absurd (let c : b.extent e ≡ None = ap b.extent (sym q) ∙ book.fresh j k in cc)) (λ o. book.fresh j k);
     reports = λ j. reports_later g (sealing g e l) sealing_later j _
@@ -280,8 +287,9 @@ module _ (told : List Note) (g : Ground) (b : Book) (sound : Sound g) (book : Fi
           sealed = λ k j. changed_elim (λ y. y ≡ Some j → (g.sealed k ≡ Some j) ⊎ SealsNow e (b.extent e) k j) e (Some l) g.sealed k
               (λ q m. let c : l ≡ j = cc in inr (x, q, is, unsealed, rw (← c) (least_is x l found))) (λ o m. inl m);
           book = decided_book;
+          asked = λ p c. c;
           packets = each-append (FinePacket (sealing g e l)) (reminders b e (sealed_to x l)) (tells_asker e l x.asker)
-              (reminders_fine (sealing g e l) b e (sealed_to x l) made here) (asker_fine x.asker);
+              (reminders_fine (sealing g e l) b e (sealed_to x l) (made, book.born e x is) here) (asker_fine x.asker);
           notes = (here, tt);
           apart = (tt, tt);
           cross = each_all _ (apart_sealed e l) told;

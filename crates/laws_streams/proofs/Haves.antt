@@ -15,7 +15,7 @@ use Rattle.model.specs.Node.{Replica, is_open, covered, lesser, greater, acked, 
 use Rattle.model.proofs.Tests.{if_elim, both_parts}
 use Rattle.laws_streams.proofs.Lists.{begins_refl, stands_end}
 use Rattle.laws_streams.proofs.Tests.{at_most, above, tested, changed_elim, changed-same, Each, each-weaker, EachPair}
-use Rattle.laws_streams.proofs.Ground.{Ground, Sound, FineAppend, FinePacket, FineNote, Chain, FinePhase, FineOne, no_more, Later, Still}
+use Rattle.laws_streams.proofs.Ground.{Ground, Sound, FineAppend, FinePacket, FineNote, Chain, FinePhase, FineOne, check_later, no_more, Later, Still}
 use Rattle.laws_streams.proofs.Holding.{Moment, FineRow}
 use Rattle.laws_streams.proofs.Keeping.{Keeps, each_all, kept_silent, open_phase, sound_later}
 
@@ -140,16 +140,18 @@ module _ (now : Moment) (g : Ground) (n e : ℕ) (r : Replica) (sound : Sound g)
     acked = λ k. changed_elim (λ x. g.acked k ≤ x) e up_to g.acked k
         (λ q. let c = ap g.acked q in omega (arith, at_least)) (λ o. omega arith);
     places = λ k at h. h;
+    born = λ k at h. refl;
     sealed = λ k l h. h;
     last = λ m k. omega arith;
     closed = λ m k c. (c, refl);
     origin = λ k. no_more (g.fence k) (g.origin k);
     fence = λ k. omega arith;
+    asked = λ p c. c;
   }
 
   acking_sound : Sound (acking g e up_to)
   unfolding acking
-  acking_sound = sound_later g _ sound acking_later (λ k. refl) (λ k. refl) sound.none_empty sound.aged
+  acking_sound = sound_later g _ sound acking_later (λ k. refl) (λ k. refl) sound.none_empty sound.aged sound.born
       (λ k m. (
         (sound.unmade k m).0,
         changed_elim (λ x. x ≡ 0) e up_to g.acked k
@@ -196,9 +198,12 @@ module _ (now : Moment) (g : Ground) (n e : ℕ) (r : Replica) (sound : Sound g)
           second_has = fine.second_has;
           third_has = fine.third_has;
           fence = fine.fence;
+          born = fine.born;
+          check = check_later g (acking g e up_to) acking_later n e r.content.places r.content.fence r.check fine.check;
           waiting = λ i. rw s (chain_drop (g.script e) (g.acked e) (count_of r) r.waiting chain);
         };
         packets = answers_fine (acking g e up_to) n e (leaving r);
+        asked = λ p c. inl c;
         notes = chain_notes (acking g e up_to) e (g.acked e) _ leaving_chain (rw s (omega arith));
         apart = chain_apart (g.script e) e (g.acked e) _ leaving_chain;
         cross = each-weaker (FineNote g) _ (λ x f. chain_cross g e _ leaving_chain x f) now.told notes;
@@ -228,6 +233,8 @@ have_keeps now g n e l r p sound notes fine told_have =
       third_has = fine.third_has;
       waiting = fine.waiting;
       fence = fine.fence;
+      born = fine.born;
+      check = fine.check;
       second_has = greater_fine r.second_has l _ fine.second_has (told_have r.content.places.second i);
     } in
     (_, answered_fine now g n e (record r { second_has = greater r.second_has l }) sound notes more primary live))
@@ -240,6 +247,8 @@ have_keeps now g n e l r p sound notes fine told_have =
       second_has = fine.second_has;
       waiting = fine.waiting;
       fence = fine.fence;
+      born = fine.born;
+      check = fine.check;
       third_has = greater_fine r.third_has l _ fine.third_has (told_have r.content.places.third i);
     } in
     (_, answered_fine now g n e (record r { third_has = greater r.third_has l }) sound notes more primary live))

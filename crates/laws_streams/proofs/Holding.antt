@@ -1,5 +1,5 @@
 -- How a whole world rests on what is known, what a row of a table leaves, and what a stop leaves.
-use Rattle.std.proofs.Common.{◌≡◌, ◌≢◌, ◌⊎◌, ℕ, ◌<◌, true, List, [], ◌∷◌, ◌++◌, Option, Some, None, refl, ◌∙◌, arith, ap, ◌==◌}
+use Rattle.std.proofs.Common.{◌≡◌, ◌≢◌, ◌⊎◌, ℕ, ◌<◌, true, List, [], ◌∷◌, ◌++◌, Option, Some, None, Contains, refl, ◌∙◌, inl, inr, arith, ap, subst, sym, ◌==◌}
 use Rattle.blocks.specs.declared.record.Nodes.{Nodes}
 use Rattle.wire.specs.declared.actor.ReqNo.{ReqNo}
 use Rattle.wire.specs.declared.body.AppendBody.TheVariants.{Append}
@@ -17,7 +17,7 @@ use Rattle.model.specs.Outcome.{Outcome}
 use Rattle.model.specs.World.{World, after_row, after_ruling, unsent, halted, desk_halted}
 use Rattle.model.proofs.Tests.{if_elim}
 use Rattle.laws_streams.specs.Origins.{Origin}
-use Rattle.laws_streams.proofs.Tests.{Each, each-append, each-weaker, EachPair, pairs-append, changed_at_elim}
+use Rattle.laws_streams.proofs.Tests.{Each, each-append, each-weaker, contains_left, EachPair, pairs-append, changed_at_elim}
 use Rattle.laws_streams.proofs.Ground.{Ground, Sound, FinePacket, FineNote, FineReplica, Later, Still, packet_later, note_later, replica_later}
 
 -- ---- the world
@@ -47,6 +47,7 @@ FineReportsOf g e (Some x) = FineReports g e x
 pub record FineBook (g : Ground) (b : Book) : Type 0 where
   pub places : (e : ℕ) → g.places e ≡ places_of (b.extent e)
   pub sealed : (e : ℕ) → g.sealed e ≡ sealed_of (b.extent e)
+  pub born : (e : ℕ) (x : Extent) → b.extent e ≡ Some x → g.born e ≡ x.fence
   pub fresh : (e : ℕ) → b.count < e → b.extent e ≡ None
   pub reports : (e : ℕ) → FineReportsOf g e (b.extent e)
 
@@ -54,6 +55,7 @@ pub record FineBook (g : Ground) (b : Book) : Type 0 where
 pub record Holds (w : World) (g : Ground) : Type 0 where
   pub sound : Sound g
   pub packets : Each (FinePacket g) w.post
+  pub asked : (p : Packet) → Contains g.asked p → Contains w.post p
   pub notes : Each (FineNote g) w.notes
   pub apart : EachPair Apart w.notes
   pub replicas : (n e : ℕ) → FineReplica g n e (w.replica n e)
@@ -90,6 +92,7 @@ pub record FineRow (now : Moment) (g h : Ground) (n e : ℕ) (o : Outcome (Optio
   pub grown : (k : ℕ) → Unmoved g h k ⊎ Added now g h k
   pub replica : FineReplica h n e o.after
   pub packets : Each (FinePacket h) o.packets
+  pub asked : (p : Packet) → Contains h.asked p → Contains g.asked p ⊎ (p ≡ now.packet)
   pub notes : Each (FineNote h) o.notes
   pub apart : EachPair Apart o.notes
   pub cross : Each (λ x. Each (Apart x) o.notes) now.told
@@ -111,15 +114,17 @@ book_later : (g h : Ground) → Later g h → ((k : ℕ) → h.places k ≡ g.pl
 book_later g h later places sealed b f = record {
   places = λ e. places e ∙ f.places e;
   sealed = λ e. sealed e ∙ f.sealed e;
+  born = λ e x is. later.born e x.places (f.places e ∙ ap places_of is) ∙ f.born e x is;
   fresh = f.fresh;
   reports = λ e. reports_later g h later e (b.extent e) (f.reports e);
 }
 
-pub row_holds : (w : World) (now : Moment) (g h : Ground) (n e : ℕ) (o : Outcome (Option Replica)) → now.told ≡ w.notes →
+pub row_holds : (w : World) (now : Moment) (g h : Ground) (n e : ℕ) (o : Outcome (Option Replica)) → now.told ≡ w.notes → Contains w.post now.packet →
     Holds w g → FineRow now g h n e o → Holds (after_row w n e o) h
-row_holds w now g h n e o before a r = record {
+row_holds w now g h n e o before stands a r = record {
   sound = r.sound;
   packets = each-append (FinePacket h) w.post o.packets (each-weaker (FinePacket g) (FinePacket h) (packet_later g h r.later) w.post a.packets) r.packets;
+  asked = λ p c. contains_left w.post o.packets p (elim (r.asked p c) [ inl x ↦ a.asked p x | inr x ↦ subst (Contains w.post) (sym x) stands ]);
   notes = each-append (FineNote h) w.notes o.notes (each-weaker (FineNote g) (FineNote h) (note_later g h r.later) w.notes a.notes) r.notes;
   apart = pairs-append Apart w.notes o.notes a.apart r.apart (rw (← before) r.cross);
   replicas = λ m k. changed_at_elim (FineReplica h m k) n e o.after w.replica m k
@@ -137,6 +142,7 @@ row_unsent now g h n e o r = record {
   grown = r.grown;
   replica = r.replica;
   packets = tt;
+  asked = r.asked;
   notes = r.notes;
   apart = r.apart;
   cross = r.cross;
@@ -153,6 +159,7 @@ pub record FineRuling (News : ℕ → ℕ → Type 0) (told : List Note) (g h : 
   pub sealed : (k l : ℕ) → h.sealed k ≡ Some l → (g.sealed k ≡ Some l) ⊎ News k l
   pub book : FineBook h o.after
   pub packets : Each (FinePacket h) o.packets
+  pub asked : (p : Packet) → Contains h.asked p → Contains g.asked p
   pub notes : Each (FineNote h) o.notes
   pub apart : EachPair Apart o.notes
   pub cross : Each (λ x. Each (Apart x) o.notes) told
@@ -162,6 +169,7 @@ pub ruling_holds : (News : ℕ → ℕ → Type 0) (w : World) (g h : Ground) (o
 ruling_holds News w g h o a r = record {
   sound = r.sound;
   packets = each-append (FinePacket h) w.post o.packets (each-weaker (FinePacket g) (FinePacket h) (packet_later g h r.later) w.post a.packets) r.packets;
+  asked = λ p c. contains_left w.post o.packets p (a.asked p (r.asked p c));
   notes = each-append (FineNote h) w.notes o.notes (each-weaker (FineNote g) (FineNote h) (note_later g h r.later) w.notes a.notes) r.notes;
   apart = pairs-append Apart w.notes o.notes a.apart r.apart r.cross;
   replicas = λ m k. replica_later g h a.sound r.later m k (r.still m k) (w.replica m k) (a.replicas m k);
@@ -178,6 +186,7 @@ ruling_unsent News told g h o r = record {
   sealed = r.sealed;
   book = r.book;
   packets = tt;
+  asked = r.asked;
   notes = r.notes;
   apart = r.apart;
   cross = r.cross;
@@ -195,12 +204,15 @@ stopped_fine g n e (Some r) f = record {
   third_has = omega arith;
   waiting = λ i. tt;
   fence = f.fence;
+  born = f.born;
+  check = tt;
 }
 
 pub halted_holds : (w : World) (g : Ground) (n : ℕ) → Holds w g → Holds (halted w n) g
 halted_holds w g n a = record {
   sound = a.sound;
   packets = a.packets;
+  asked = a.asked;
   notes = a.notes;
   apart = a.apart;
   book = a.book;
@@ -212,6 +224,7 @@ forgotten_fine : (g : Ground) (b : Book) → FineBook g b → FineBook g (book_s
 forgotten_fine g b f = record {
   places = λ e. f.places e ∙ same_places (b.extent e);
   sealed = λ e. f.sealed e ∙ same_sealed (b.extent e);
+  born = λ e x is. same_born e (b.extent e) (f.born e) x is;
   fresh = λ e l. ap forgotten_if (f.fresh e l);
   reports = λ e. no_reports e (b.extent e);
 }
@@ -224,6 +237,10 @@ forgotten_fine g b f = record {
     same_sealed None = refl
     same_sealed (Some x) = refl
 
+    same_born : (e : ℕ) (o : Option Extent) → ((y : Extent) → o ≡ Some y → g.born e ≡ y.fence) → (x : Extent) → forgotten_if o ≡ Some x → g.born e ≡ x.fence
+    same_born e None old x is = absurd cc
+    same_born e (Some y) old x is = let c : y.fence ≡ x.fence = cc in old y refl ∙ c
+
     no_reports : (e : ℕ) (o : Option Extent) → FineReportsOf g e (forgotten_if o)
     no_reports e None = tt
     no_reports e (Some x) = record { primary = λ l is. absurd cc; second = λ l is. absurd cc; third = λ l is. absurd cc }
@@ -232,6 +249,7 @@ pub desk_halted_holds : (w : World) (g : Ground) → Holds w g → Holds (desk_h
 desk_halted_holds w g a = record {
   sound = a.sound;
   packets = a.packets;
+  asked = a.asked;
   notes = a.notes;
   apart = a.apart;
   replicas = a.replicas;

@@ -41,6 +41,7 @@ plain now g n e o sound replica packets notes apart cross = (
     still = λ m k other. still_refl g m k;
     replica = replica;
     packets = packets;
+    asked = λ p c. inl c;
     notes = notes;
     apart = apart;
     cross = cross;
@@ -84,12 +85,14 @@ phase_open g n e at groups phase t f = subst (λ x. FinePhase g n e at groups x)
 -- the sum of facts that hold when the ground grows and no append is acknowledged
 pub sound_later : (g h : Ground) → Sound g → Later g h → ((k : ℕ) → h.places k ≡ g.places k) → ((k : ℕ) → h.sealed k ≡ g.sealed k) →
     ((k : ℕ) → NoneEmpty (h.script k)) → ((k : ℕ) → length (h.origin k) ≡ length (h.script k)) →
+    ((k : ℕ) → Each (λ x. h.born k ≤ x.generation) (h.origin k)) →
     ((k : ℕ) → g.places k ≡ None → (h.script k ≡ []) × (h.acked k ≡ 0) × (h.fence k ≡ 0)) →
     ((k : ℕ) (at : Nodes) → g.places k ≡ Some at → (h.acked k ≤ h.last at.primary k) × (h.acked k ≤ h.last at.second k) × (h.acked k ≤ h.last at.third k)) →
     Sound h
-sound_later g h sound later places sealed none_empty aged unmade all_had = record {
+sound_later g h sound later places sealed none_empty aged born unmade all_had = record {
   none_empty = none_empty;
   aged = aged;
+  born = born;
   unmade = λ k m. unmade k (sym (places k) ∙ m);
   all_had = λ k at m. all_had k at (sym (places k) ∙ m);
   noted = λ k l m.
@@ -127,6 +130,7 @@ module _ (News : ℕ → ℕ → Type 0) (told : List Note) (g : Ground) (b : Bo
       sealed = λ k l is. inl is;
       book = book;
       packets = fine;
+      asked = λ p c. c;
       notes = tt;
       apart = tt;
       cross = told_nothing told;

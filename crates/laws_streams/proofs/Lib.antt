@@ -5,6 +5,7 @@ pub mod Holding
 pub mod Keeping
 pub mod Appends
 pub mod Haves
+pub mod Checks
 pub mod Readings
 pub mod Sealing
 pub mod Rows
@@ -12,6 +13,11 @@ pub mod Deciding
 pub mod Rulings
 pub mod Claims
 pub mod Dates
+pub mod Steps
 pub mod Law
+pub mod Rising
+pub mod Confirming
+pub mod Covering
 pub mod Examples
 pub mod SealedExamples
+pub mod CheckExamples

@@ -36,16 +36,18 @@ module _ (g : Ground) (n e : ℕ) (sound : Sound g) where
     script = λ k. begins_refl (g.script k);
     acked = λ k. omega arith;
     places = λ k at h. h;
+    born = λ k at h. refl;
     sealed = λ k l h. h;
     last = λ m k. omega arith;
     origin = λ k. no_more (g.fence k) (g.origin k);
     fence = λ k. omega arith;
+    asked = λ p c. c;
     closed = λ m k c. (changed_at_elim (λ x. x ≡ true) n e true g.closed m k (λ p q. refl) (λ o. c), refl);
   }
 
   closing_sound : Sound (closing g n e)
   unfolding closing
-  closing_sound = sound_later g _ sound closing_later (λ k. refl) (λ k. refl) sound.none_empty sound.aged sound.unmade sound.all_had
+  closing_sound = sound_later g _ sound closing_later (λ k. refl) (λ k. refl) sound.none_empty sound.aged sound.born sound.unmade sound.all_had
 
   -- a row that closes the replica and observes nothing
   closes_keep : (now : Moment) (s : Option Replica) (written : Option Record) (packets : List Packet) →
@@ -59,6 +61,7 @@ module _ (g : Ground) (n e : ℕ) (sound : Sound g) where
     grown = λ k. inl (refl, refl);
     replica = fine;
     packets = sends;
+    asked = λ p c. inl c;
     notes = tt;
     apart = tt;
     cross = told_nothing now.told;
@@ -81,6 +84,8 @@ module _ (g : Ground) (n e : ℕ) (sound : Sound g) where
     third_has = omega arith;
     waiting = λ i. tt;
     fence = f.fence;
+    born = f.born;
+    check = tt;
   }
 
   -- a replica is sealed with these groups
@@ -95,6 +100,8 @@ module _ (g : Ground) (n e : ℕ) (sound : Sound g) where
     third_has = omega arith;
     waiting = λ i. tt;
     fence = f.fence;
+    born = f.born;
+    check = tt;
   }
 
   -- what a node that froze tells

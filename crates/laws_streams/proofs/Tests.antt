@@ -1,5 +1,5 @@
 -- Choices by a test, and functions that are changed at one place.
-use Rattle.std.proofs.Common.{◌≡◌, ◌≢◌, ◌⊎◌, ℕ, zero, suc, ◌<◌, Bool, true, false, not, ◌&&◌, ◌||◌, ◌==◌, ◌≤◌, nat_lt, nat_le, List, [], ◌∷◌, ◌++◌, Some, slice_get, Contains, AllPairs, length, slice_index_or, refl, inl, inr, arith, eqb-true, subst}
+use Rattle.std.proofs.Common.{◌≡◌, ◌≢◌, ◌⊎◌, ℕ, zero, suc, ◌<◌, Bool, true, false, not, ◌&&◌, ◌||◌, ◌==◌, ◌≤◌, nat_lt, nat_le, List, [], ◌∷◌, ◌++◌, Some, slice_get, Contains, AllPairs, length, slice_index_or, refl, sym, inl, inr, arith, eqb-true, subst}
 use Rattle.std.proofs.lemmas.Bool.Decides.{nat_tests}
 use Rattle.model.specs.Maps.{changed, changed_at}
 use Rattle.model.proofs.Tests.{if_elim, both_parts}
@@ -99,6 +99,27 @@ pub each-at : {A : Type 0} (P : A → Type 0) (xs : List A) (k : ℕ) (d : A) �
 each-at P [] k d h a = absurd (omega arith)
 each-at P (x ∷ xs) zero d h a = a.0
 each-at P (x ∷ xs) (suc k) d h a = each-at P xs k d (omega arith) a.1
+
+pub contains_get : {A : Type 0} (xs : List A) (k : ℕ) (x : A) → slice_get xs k ≡ Some x → Contains xs x
+contains_get [] k x e = absurd cc
+contains_get (y ∷ ys) zero x e = let s : y ≡ x = cc in (0, omega arith, s)
+contains_get (y ∷ ys) (suc k) x e = let m = contains_get ys k x e in (suc m.0, omega (arith, m.1), m.2)
+
+pub contains_left : {A : Type 0} (xs ys : List A) (x : A) → Contains xs x → Contains (xs ++ ys) x
+contains_left [] ys x (k, l, e) = absurd (omega arith)
+contains_left (z ∷ zs) ys x (zero, l, e) = (0, omega arith, e)
+contains_left (z ∷ zs) ys x (suc k, l, e) = let m = contains_left zs ys x (k, omega arith, e) in (suc m.0, omega (arith, m.1), m.2)
+
+pub contains_last : {A : Type 0} (xs : List A) (x : A) → Contains (xs ++ x ∷ []) x
+contains_last [] x = (0, omega arith, refl)
+contains_last (y ∷ ys) x = let m = contains_last ys x in (suc m.0, omega (arith, m.1), m.2)
+
+pub contains_pushed : {A : Type 0} (xs : List A) (y x : A) → Contains (xs ++ y ∷ []) x → Contains xs x ⊎ (x ≡ y)
+contains_pushed [] y x (zero, l, e) = inr (sym e)
+contains_pushed [] y x (suc k, l, e) = absurd (omega arith)
+contains_pushed (z ∷ zs) y x (zero, l, e) = inl (0, omega arith, e)
+contains_pushed (z ∷ zs) y x (suc k, l, e) =
+    elim (contains_pushed zs y x (k, omega arith, e)) [ inl m ↦ inl (suc m.0, omega (arith, m.1), m.2) | inr s ↦ inr s ]
 
 -- R holds of each element and each later one
 abbrev pub EachPair : {A : Type 0} → (A → A → Type 0) → List A → Type 0

@@ -1,6 +1,6 @@
 -- Where the groups of an extent come from: each was appended by one delivery of an append. And where its length comes
 -- from: it is the least that a place had told when it was decided.
-use Rattle.std.specs.Prelude.{◌≡◌, ◌⊎◌, ℕ, ◌+◌, ◌<◌, ◌≤◌, List, ◌++◌, length, get_or, take, Some, None, slice_get, Contains}
+use Rattle.std.specs.Prelude.{◌≡◌, ◌⊎◌, ℕ, ◌+◌, ◌<◌, ◌≤◌, List, ◌++◌, length, get_or, take, Option, Some, None, slice_get, Contains}
 use Rattle.wire.specs.declared.actor.ReqNo.{ReqNo}
 use Rattle.wire.specs.declared.body.AppendBody.TheVariants.{Append}
 use Rattle.wire.specs.declared.body.Body.TheVariants as bodies
@@ -12,9 +12,11 @@ use Rattle.model.specs.declared.event.Event.TheVariants.{Deliver, Decide}
 use Rattle.model.specs.declared.extent.Extent.{Extent}
 use Rattle.model.specs.Actors.{generation_of}
 use Rattle.model.specs.Honest.{Stands}
-use Rattle.model.specs.World.{World, run}
+use Rattle.model.specs.World.{World, run, Move, run_moves}
+use Rattle.model.specs.World.Move.{Happens, Asks}
 
--- for which generation and with which request a group was appended, and by which event of the run, counted from 0
+-- for which generation and with which request a group was appended, and by which event of the run, or which move, counted
+-- from 0
 pub record Origin : Type 0 where
   pub generation : ℕ
   pub request : ReqNo
@@ -30,14 +32,32 @@ pub record Shows (o : ℕ) (bytes whole : List ℕ) : Type 0 where
   pub fits : o + length bytes ≤ length whole
   pub reads : (i : ℕ) → i < length bytes → get_or bytes i 0 ≡ get_or whole (o + i) 0
 
--- in the run of these events from w on, the event of this number delivered an append of the group to the extent, which
--- had been sent before
-pub record Came (events : List Event) (w : World) (e : ℕ) (group : Group) (origin : Origin) : Type 0 where
+-- a whole run: its events by number, the world before each, and the last world
+pub record Course : Type 0 where
+  pub event : ℕ → Option Event
+  pub before : ℕ → World
+  pub last : World
+
+abbrev pub course : List Event → World → Course
+course events w = record { event = slice_get events; before = λ n. run (take n events) w; last = run events w }
+
+-- what a server asks is no event
+abbrev pub event_of : Option Move → Option Event
+event_of None = None
+event_of (Some (Happens event)) = Some event
+event_of (Some (Asks server to body)) = None
+
+abbrev pub course_of_moves : List Move → World → Course
+course_of_moves moves w =
+    record { event = λ n. event_of (slice_get moves n); before = λ n. run_moves (take n moves) w; last = run_moves moves w }
+
+-- the event of this number delivered an append of the group to the extent, which had been sent before
+pub record Came (c : Course) (e : ℕ) (group : Group) (origin : Origin) : Type 0 where
   pub number : ℕ
   pub packet : Packet
   pub generation : ℕ
-  pub delivered : slice_get events origin.event ≡ Some (Deliver number)
-  pub sent : slice_get (run (take origin.event events) w).post number ≡ Some packet
+  pub delivered : c.event origin.event ≡ Some (Deliver number)
+  pub sent : slice_get (c.before origin.event).post number ≡ Some packet
   pub body : packet.body ≡ bodies.Append (Append e generation group origin.request)
   pub counted : origin.generation ≡ generation_of packet.from generation
 
@@ -50,30 +70,37 @@ pub record LeastTold (x : Extent) (length : ℕ) : Type 0 where
   pub told : Tells x length
   pub least : (other : ℕ) → Tells x other → length ≤ other
 
--- in the run of these events from w on, the event of this number was the decision on the extent, which was unsealed then,
--- and this was the least length that its places had told
-pub record Decided (events : List Event) (w : World) (e length : ℕ) : Type 0 where
+-- the event of this number was the decision on the extent, which was unsealed then, and this was the least length that its
+-- places had told
+pub record Decided (c : Course) (e length : ℕ) : Type 0 where
   pub number : ℕ
   pub extent : Extent
-  pub decided : slice_get events number ≡ Some (Decide e)
-  pub there : (run (take number events) w).book.extent e ≡ Some extent
+  pub decided : c.event number ≡ Some (Decide e)
+  pub there : (c.before number).book.extent e ≡ Some extent
   pub unsealed : extent.sealed ≡ None
   pub least : LeastTold extent length
 
 -- each extent has a script: groups that were appended one after the other, each by a delivery of its own; and all that
 -- is acknowledged or shown of the extent stands in its script; and a length at which it is sealed was decided
-pub record Origins (events : List Event) (w : World) : Type 0 where
+pub record OriginsOf (c : Course) : Type 0 where
   pub script : ℕ → List Group
   pub origin : ℕ → List Origin
   pub one_each : (e : ℕ) → length (origin e) ≡ length (script e)
   pub came : (e i : ℕ) (group : Group) (o : Origin) →
-      slice_get (script e) i ≡ Some group → slice_get (origin e) i ≡ Some o → Came events w e group o
+      slice_get (script e) i ≡ Some group → slice_get (origin e) i ≡ Some o → Came c e group o
   pub in_order : (e i j : ℕ) (o p : Origin) → i < j →
       slice_get (origin e) i ≡ Some o → slice_get (origin e) j ≡ Some p → o.event < p.event
   pub acked : (e o : ℕ) (group : Group) →
-      Contains (run events w).notes (Acked e o group) → Stands group o (script e)
+      Contains c.last.notes (Acked e o group) → Stands group o (script e)
   pub content : (e n : ℕ) (groups : List Group) →
-      Contains (run events w).notes (Content e n groups) → Begins groups (script e)
+      Contains c.last.notes (Content e n groups) → Begins groups (script e)
   pub seen : (e n o : ℕ) (bytes : List ℕ) →
-      Contains (run events w).notes (Seen e n o bytes) → Shows o bytes (text (script e))
-  pub sealed : (e length : ℕ) → Contains (run events w).notes (SealedAt e length) → Decided events w e length
+      Contains c.last.notes (Seen e n o bytes) → Shows o bytes (text (script e))
+  pub sealed : (e length : ℕ) → Contains c.last.notes (SealedAt e length) → Decided c e length
+
+abbrev pub Origins : List Event → World → Type 0
+Origins events w = OriginsOf (course events w)
+
+-- the same of moves, each of which has a number
+abbrev pub OriginsOfMoves : List Move → World → Type 0
+OriginsOfMoves moves w = OriginsOf (course_of_moves moves w)

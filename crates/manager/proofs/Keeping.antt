@@ -9,69 +9,68 @@ use Rattle.disk.specs.Disk.{DiskState}
 use Rattle.disk.specs.Filed.{Filed}
 use Rattle.disk.specs.Appends.{Records}
 use Rattle.wire.specs.declared.packet.Step.{Step}
-use Rattle.wire.specs.declared.streams.StreamKind.{StreamKind}
-use Rattle.wire.specs.declared.streams.StreamKind.TheVariants.{Metadata, Log, RowData, BlobData}
+use Rattle.streams.specs.Streams.{Stream, Streams, stream_of, created, opened, extended as extended_streams, last_of}
 use Rattle.model.specs.declared.extent.Extent.{Extent}
 use Rattle.model.specs.declared.manager_record.ManagerRecord.{ManagerRecord}
-use Rattle.model.specs.declared.manager_record.ManagerRecord.TheVariants.{First, CreateStream, Extend, Seal}
+use Rattle.model.specs.declared.manager_record.ManagerRecord.TheVariants.{First, CreateStream, OpenStreams, Extend, Seal}
 use Rattle.model.specs.Bounds.{AreFew}
-use Rattle.model.specs.Ledger.{kind_number, spelled}
+use Rattle.model.specs.Ledger.{spelled}
 use Rattle.model.specs.Maps.{entry_at}
 use Rattle.model.specs.Outcome.{Outcome}
-use Rattle.model.specs.Manager.{Book, Stream, forgotten, forgotten_if, new_extent, sealed_to, is_there, is_pick, last_of}
+use Rattle.model.specs.Manager.{Book, forgotten, forgotten_if, new_extent, sealed_to, is_pick}
 use Rattle.model.specs.Replay.{after_record, sealed_if, extended_if, book_after, ruling_of, replay_from, is_closed, may_extend, extend_fits, seal_fits, ruling_fits, fit_from}
 use Rattle.model.proofs.Tests.{both_parts, both_true}
 use Rattle.manager.specs.declared.plan.Change.{Change}
 use Rattle.manager.specs.declared.plan.Change.TheVariants.{Nothing, Write, Replace}
 use Rattle.manager.specs.declared.plan.Plan.{Plan}
-use Rattle.manager.specs.Table.{TableState, Lists, listing_in, with_listing, with_entry, longer, longer_stream, longer_extents, closed_if, forgotten_table, table_after, table_fits, tail_of, may_lengthen, lengthens}
+use Rattle.manager.specs.Table.{TableState, TableValue, plain, Lists, with_entry, longer, longer_extents, closed_if, forgotten_table, table_after, table_fits, may_lengthen, lengthens}
 use Rattle.manager.specs.Plan.{changed_by, written_by, CanChange, IsReadAgain}
 use Rattle.manager.specs.Manager.{Ledgered, MakesBook, state_of}
 use Rattle.manager.specs.Ruled.{listed, Ruled}
 use Rattle.manager.specs.Done.{Done}
-use Rattle.manager.proofs.Tables.{listed_shows, lengthened_shows, replaced_shows, listing_same}
-use Rattle.manager.proofs.Planning.{Follows}
+use Rattle.manager.proofs.Tables.{book_of, book_shows, is_book, lengthened_shows, replaced_shows}
+use Rattle.manager.proofs.Planning.{Follows, lengthens_there}
 
 -- ---- a record fits the table where it fits the book
 
-same_may : (t : TableState) (b : Book) → Lists t b → (l : Option ℕ) → may_lengthen t l ≡ may_extend b l
-same_may t b h None = refl
-same_may t b h (Some e) = ap is_closed (sym (h.extent e))
+same_may : (t : TableState) (l : Option ℕ) → may_lengthen t.extents l ≡ may_extend (book_of t) l
+same_may t None = refl
+same_may t (Some e) = refl
 
-same_lengthens : (t : TableState) (b : Book) → Lists t b → (g : ℕ) (o : Option Stream) → lengthens t g (tail_of o) ≡ extend_fits b g o
-same_lengthens t b h g None = refl
-same_lengthens t b h g (Some x) = ap (λ (c : Bool). (g == x.fence) && c) (same_may t b h (last_of x.extents))
+same_lengthens : (t : TableState) (g : ℕ) (o : Option Stream) → lengthens t.extents g o ≡ extend_fits (book_of t) g o
+same_lengthens t g None = refl
+same_lengthens t g (Some x) = ap (λ (c : Bool). (g == x.fence) && c) (same_may t (last_of x.extents))
+
+fits_book : (t : TableState) (r : ManagerRecord) → table_fits t r ≡ ruling_fits (Some (book_of t)) (Some r)
+fits_book t (First nodes target) = refl
+fits_book t (CreateStream s fence) = refl
+fits_book t (OpenStreams range g) = refl
+fits_book t (Extend s g pick) = ap (λ (c : Bool). is_pick t.nodes pick && c) (same_lengthens t g (stream_of t.streams s))
+fits_book t (Seal e l) = refl
 
 pub same_fits : (t : TableState) (b : Book) → Lists t b → (r : ManagerRecord) → table_fits t r ≡ ruling_fits (Some b) (Some r)
-same_fits t b h (First nodes target) = refl
-same_fits t b h (CreateStream s fence) = ap (λ (o : Option Stream). (s.range == 0) && ((fence == 0) && not (is_there o))) (sym (h.stream s.kind))
-same_fits t b h (Extend s g pick) =
-    ap (λ (n : ℕ). (s.range == 0) && (is_pick n pick && lengthens t g (tail_of (listing_in t s.kind)))) (sym h.nodes)
-    ∙ ap (λ (c : Bool). (s.range == 0) && (is_pick b.nodes pick && c)) (same_lengthens t b h g (listing_in t s.kind) ∙ ap (extend_fits b g) (sym (h.stream s.kind)))
-same_fits t b h (Seal e l) = ap seal_fits (sym (h.extent e))
+same_fits t b h r = fits_book t r ∙ ap (λ (c : Book). ruling_fits (Some c) (Some r)) (is_book t b h)
 
 -- ---- and makes the same of both
-
-lengthens_there : (t : TableState) (g : ℕ) (o : Option Stream) → lengthens t g (tail_of o) ≡ true → (x : Stream) × (o ≡ Some x)
-lengthens_there t g None e = absurd cc
-lengthens_there t g (Some x) e = (x, refl)
 
 seals_there : (o : Option Extent) → seal_fits o ≡ true → (x : Extent) × (o ≡ Some x)
 seals_there None e = absurd cc
 seals_there (Some x) e = (x, refl)
 
-pub same_after : (t : TableState) (b : Book) → Lists t b → (r : ManagerRecord) → table_fits t r ≡ true → Lists (table_after t r) (after_record b r)
-same_after t b h (First nodes target) fits = h
-same_after t b h (CreateStream s fence) fits = listed_shows t b h s.kind (Some (record { fence = fence; extents = [] }))
-same_after t b h (Extend s g pick) fits =
-    let x = lengthens_there t g (listing_in t s.kind) (both_parts (is_pick t.nodes pick) _ (both_parts (s.range == 0) _ fits).1).1 in
-    subst (λ (o : Option Stream). Lists (longer t s.kind pick) (extended_if b (kind_number s.kind) o pick)) (sym (h.stream s.kind ∙ x.1))
-    (lengthened_shows t b h s.kind x.0 pick x.1)
-same_after t b h (Seal e l) fits =
+after_book : (t : TableState) (r : ManagerRecord) → table_fits t r ≡ true → Lists (table_after t r) (after_record (book_of t) r)
+after_book t (First nodes target) fits = book_shows t
+after_book t (CreateStream s fence) fits = book_shows (record t { streams = created t.streams s fence })
+after_book t (OpenStreams range g) fits = book_shows (record t { streams = opened t.streams range g })
+after_book t (Extend s g pick) fits =
+    let x = lengthens_there t.extents g (stream_of t.streams s) (both_parts (is_pick t.nodes pick) _ fits).1 in
+    subst (λ (o : Option Stream). Lists (longer t s pick) (extended_if (book_of t) s o pick)) (sym x.1) (lengthened_shows t s x.0 pick x.1)
+after_book t (Seal e l) fits =
     let x = seals_there (entry_at t.extents e) fits in
-    subst (λ (o : Option Extent). Lists (closed_if t e o l) (sealed_if b e (b.extent e) l)) (sym x.1)
-    (subst (λ (o : Option Extent). Lists (with_entry t e (sealed_to x.0 l)) (sealed_if b e o l)) (sym (h.extent e ∙ x.1))
-    (replaced_shows t b h e (sealed_to x.0 l) x.0 x.1))
+    subst (λ (o : Option Extent). Lists (closed_if t e o l) (sealed_if (book_of t) e o l)) (sym x.1)
+    (replaced_shows t (book_of t) (book_shows t) e (sealed_to x.0 l) x.0 x.1)
+
+pub same_after : (t : TableState) (b : Book) → Lists t b → (r : ManagerRecord) → table_fits t r ≡ true → Lists (table_after t r) (after_record b r)
+same_after t b h r fits = subst (λ (c : Book). Lists (table_after t r) (after_record c r)) (is_book t b h) (after_book t r fits)
 
 -- ---- what a stop drops is in no record
 
@@ -89,30 +88,20 @@ seal_forgotten : (o : Option Extent) → seal_fits (forgotten_if o) ≡ seal_fit
 seal_forgotten None = refl
 seal_forgotten (Some x) = refl
 
-may_forgotten : (t : TableState) (l : Option ℕ) → may_lengthen (forgotten_table t) l ≡ may_lengthen t l
-may_forgotten t None = refl
-may_forgotten t (Some e) = ap is_closed (entry_forgotten t.extents e) ∙ closed_forgotten (entry_at t.extents e)
+may_forgotten : (xs : List Extent) (l : Option ℕ) → may_lengthen (map forgotten xs) l ≡ may_lengthen xs l
+may_forgotten xs None = refl
+may_forgotten xs (Some e) = ap is_closed (entry_forgotten xs e) ∙ closed_forgotten (entry_at xs e)
 
-lengthens_forgotten : (t : TableState) (g : ℕ) (o : Option (ℕ × Option ℕ)) → lengthens (forgotten_table t) g o ≡ lengthens t g o
-lengthens_forgotten t g None = refl
-lengthens_forgotten t g (Some x) = ap (λ (c : Bool). (g == x.0) && c) (may_forgotten t x.1)
-
-listing_forgotten : (t : TableState) (k : StreamKind) → listing_in (forgotten_table t) k ≡ listing_in t k
-listing_forgotten t k = listing_same t (map forgotten t.extents) k
+lengthens_forgotten : (xs : List Extent) (g : ℕ) (o : Option Stream) → lengthens (map forgotten xs) g o ≡ lengthens xs g o
+lengthens_forgotten xs g None = refl
+lengthens_forgotten xs g (Some x) = ap (λ (c : Bool). (g == x.fence) && c) (may_forgotten xs (last_of x.extents))
 
 pub fits_forgotten : (t : TableState) (r : ManagerRecord) → table_fits (forgotten_table t) r ≡ table_fits t r
 fits_forgotten t (First nodes target) = refl
-fits_forgotten t (CreateStream s fence) = ap (λ (o : Option Stream). (s.range == 0) && ((fence == 0) && not (is_there o))) (listing_forgotten t s.kind)
-fits_forgotten t (Extend s g pick) =
-    ap (λ (c : Bool). (s.range == 0) && (is_pick t.nodes pick && c))
-    (ap (λ (o : Option Stream). lengthens (forgotten_table t) g (tail_of o)) (listing_forgotten t s.kind) ∙ lengthens_forgotten t g (tail_of (listing_in t s.kind)))
+fits_forgotten t (CreateStream s fence) = refl
+fits_forgotten t (OpenStreams range g) = refl
+fits_forgotten t (Extend s g pick) = ap (λ (c : Bool). is_pick t.nodes pick && c) (lengthens_forgotten t.extents g (stream_of t.streams s))
 fits_forgotten t (Seal e l) = ap seal_fits (entry_forgotten t.extents e) ∙ seal_forgotten (entry_at t.extents e)
-
-forget_listing : (t : TableState) (k : StreamKind) (x : Option Stream) → forgotten_table (with_listing t k x) ≡ with_listing (forgotten_table t) k x
-forget_listing t Metadata x = refl
-forget_listing t Log x = refl
-forget_listing t RowData x = refl
-forget_listing t BlobData x = refl
 
 map_push : (xs : List Extent) (y : Extent) → map forgotten (xs ++ y ∷ []) ≡ map forgotten xs ++ forgotten y ∷ []
 map_push [] y = refl
@@ -141,12 +130,11 @@ forget_closed t e (Some x) l = forget_entry t e (sealed_to x l)
 
 pub forget_after : (t : TableState) (r : ManagerRecord) → forgotten_table (table_after t r) ≡ table_after (forgotten_table t) r
 forget_after t (First nodes target) = refl
-forget_after t (CreateStream s fence) = forget_listing t s.kind (Some (record { fence = fence; extents = [] }))
+forget_after t (CreateStream s fence) = refl
+forget_after t (OpenStreams range g) = refl
 forget_after t (Extend s g pick) =
-    forget_listing (record t { extents = longer_extents t.extents (listing_in t s.kind) pick }) s.kind (longer_stream (listing_in t s.kind) (suc (length t.extents)))
-    ∙ ap (λ (l : List Extent). with_listing (record t { extents = l }) s.kind (longer_stream (listing_in t s.kind) (suc (length t.extents)))) (forget_longer t.extents (listing_in t s.kind) pick)
-    ∙ ap (λ (n : ℕ). with_listing (record t { extents = longer_extents (map forgotten t.extents) (listing_in t s.kind) pick }) s.kind (longer_stream (listing_in t s.kind) (suc n))) (sym (length-forgotten t.extents))
-    ∙ ap (λ (o : Option Stream). with_listing (record t { extents = longer_extents (map forgotten t.extents) o pick }) s.kind (longer_stream o (suc (length (map forgotten t.extents))))) (sym (listing_forgotten t s.kind))
+    ap (λ (l : List Extent). record t { streams = extended_streams t.streams s (suc (length t.extents)); extents = l }) (forget_longer t.extents (stream_of t.streams s) pick)
+    ∙ ap (λ (n : ℕ). record t { streams = extended_streams t.streams s (suc n); extents = longer_extents (map forgotten t.extents) (stream_of t.streams s) pick }) (sym (length-forgotten t.extents))
 forget_after t (Seal e l) =
     forget_closed t e (entry_at t.extents e) l
     ∙ ap (λ (o : Option Extent). closed_if (forgotten_table t) e o l) (sym (entry_forgotten t.extents e))
@@ -206,26 +194,26 @@ ledger_makes t rs b h shows = record {
   nodes = h.shows.nodes ∙ sym shows.nodes;
   target = h.shows.target ∙ sym shows.target;
   count = h.shows.count ∙ length-forgotten t.extents ∙ sym shows.count;
-  stream = λ k. h.shows.stream k ∙ listing_forgotten t k ∙ sym (shows.stream k);
+  stream = λ range kind. h.shows.stream range kind ∙ sym (shows.stream range kind);
   extent = λ e. h.shows.extent e ∙ entry_forgotten t.extents e ∙ ap forgotten_if (sym (shows.extent e));
   fits = h.fits;
 }
 
 -- ---- a row
 
-pub ruled : {D : Type 0} (state : D → DiskState) (t u : TableState) (old new : Filed D) (plan : Plan) (o : Outcome Book) (w : Result Step DiskFault) →
-    Done state t u old new plan w → IsReadAgain plan.change → Follows t plan o → Ledgered t old.records → Ruled state (state_of t old) (state_of u new) o w
+pub ruled : {D : Type 0} (state : D → DiskState) (t u : TableValue) (old new : Filed D) (plan : Plan) (o : Outcome Book) (w : Result Step DiskFault) →
+    Done state (plain t) (plain u) old new plan w → IsReadAgain plan.change → Follows (plain t) plan o → Ledgered (plain t) old.records → Ruled state (state_of t old) (state_of u new) o w
 ruled state t u old new plan o w done again row ledger = record {
   after = after w done.after;
   packets = packets w done.step;
   notes = notes w done.step;
-  same = same w done.same;
+  same = done.same;
   file = subst (λ (r : Option Record). Records state old new (listed r) w) (sym row.written) done.file;
   stands = subst (λ (r : Option Record). MakesBook (old.records ++ listed r) o.after) (sym row.written)
-      (ledger_makes (changed_by t plan.change) _ o.after (ledger_after t old.records ledger plan.change row.can again) row.after);
+      (ledger_makes (changed_by (plain t) plan.change) _ o.after (ledger_after (plain t) old.records ledger plan.change row.can again) row.after);
 }
   where
-    after : (v : Result Step DiskFault) → OnOk v (u ≡ changed_by t plan.change) → OnOk v (Lists u o.after)
+    after : (v : Result Step DiskFault) → OnOk v (plain u ≡ changed_by (plain t) plan.change) → OnOk v (Lists (plain u) o.after)
     after (Ok s) e = subst (λ (x : TableState). Lists x o.after) (sym e) row.after
     after (Err x) e = tt
 
@@ -236,10 +224,6 @@ ruled state t u old new plan o w done again row ledger = record {
     notes : (v : Result Step DiskFault) → IfOk v (λ s. s ≡ plan.step) → IfOk v (λ s. s.notes ≡ o.notes)
     notes (Ok s) e = ap (λ (x : Step). x.notes) e ∙ row.notes
     notes (Err x) e = tt
-
-    same : (v : Result Step DiskFault) → OnErr v (u ≡ t) → OnErr v (state_of u new ≡ state_of t new)
-    same (Ok s) e = tt
-    same (Err x) e = ap (λ (y : TableState). state_of y new) e
 
 -- the records after a step that was done
 records_ok : {D : Type 0} (state : D → DiskState) (old new : Filed D) (written : Option Record) (s : Step) →

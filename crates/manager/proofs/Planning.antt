@@ -1,5 +1,6 @@
 -- What the manager is about to do is what the row of its table does.
-use Rattle.std.proofs.Common.{◌≡◌, ℕ, ◌≤◌, Bool, true, false, not, ◌==◌, if◌then◌else◌, List, [], ◌∷◌, ◌++◌, length, Option, Some, None, refl, sym, ap, ◌∙◌, subst, arith, eq-eqb, suc}
+use Rattle.std.proofs.Common.{◌≡◌, ℕ, ◌≤◌, Bool, true, false, not, ◌&&◌, ◌==◌, if◌then◌else◌, List, [], ◌∷◌, ◌++◌, length, Option, Some, None, Result, Ok, Err, nat_lt, refl, sym, ap, ◌∙◌, subst, arith, suc}
+use Rattle.std.proofs.lemmas.Bool.{eqb-true}
 use Rattle.blocks.specs.declared.record.Nodes.{Nodes}
 use Rattle.blocks.specs.Reading.{are_nodes}
 use Rattle.wire.specs.declared.actor.ActorId.{ActorId}
@@ -8,29 +9,31 @@ use Rattle.wire.specs.declared.actor.ReqNo.{ReqNo}
 use Rattle.wire.specs.declared.body.SealBody.{SealBody}
 use Rattle.wire.specs.declared.body.SealBody.TheVariants.{Make, SealExtent, Frozen, IsSealed, Short, SendTail}
 use Rattle.wire.specs.declared.body.StreamBody.{StreamBody}
-use Rattle.wire.specs.declared.body.StreamBody.TheVariants.{CreateStream, Extend, Extended}
+use Rattle.wire.specs.declared.body.StreamBody.TheVariants.{CreateStream, OpenStreams, Confirm, Confirmed, Extend, Trim, MultiModify}
 use Rattle.wire.specs.declared.body.Body.{Body}
 use Rattle.wire.specs.declared.body.Body.TheVariants as bodies
 use Rattle.wire.specs.declared.packet.Packet.{Packet}
+use Rattle.wire.specs.declared.refusal.Refusal.{Refusal}
 use Rattle.wire.specs.declared.refusal.Refusal.TheVariants.{NoSuchExtent, Stale, NoSuchStream, NameTaken, LastOpen, BadPick}
 use Rattle.wire.specs.declared.streams.StreamName.{StreamName}
+use Rattle.streams.specs.Streams.{Stream, stream_of, has_four, all_pass, created, opened, last_of, is_number, behind, extending}
 use Rattle.model.specs.declared.extent.Asker.{Asker}
 use Rattle.model.specs.declared.extent.Extent.{Extent}
 use Rattle.model.specs.declared.extent.PlaceReport.{PlaceReport}
-use Rattle.model.specs.Actors.{is_user, is_node}
+use Rattle.model.specs.Actors.{is_user, is_node, generation_of}
 use Rattle.model.specs.Bounds.{AreFew}
 use Rattle.model.specs.Maps.{entry_at}
 use Rattle.model.specs.Outcome.{Outcome, packet, first_met, silent, sends, refused, or_refused}
 use Rattle.model.specs.Replay.{is_closed, seal_fits}
 use Rattle.model.specs.Manager as manager
-use Rattle.model.specs.Manager.{Book, Stream, each_place, is_there, is_pick, is_number, last_of, create_taken, create_row, extend_made, extend_picked, extend_behind, extend_after, extend_stream, extend_row, reminders, told_sealed, tells_asker, with_report, frozen_to, known_sealed, place_of, first_sealed, least_told, sealed_to, forgotten, forgotten_if, seal_extent_row, frozen_row, is_sealed_row, short_row, decide_row, stream_body_row, seal_body_row, manager_row}
+use Rattle.model.specs.Manager.{Book, extended, is_there, is_pick, is_foreign, sealed_in, answer, create_taken, open_taken, extend_made, extend_picked, extend_answered, reminders, told_sealed, tells_asker, with_report, frozen_to, known_sealed, place_of, first_sealed, least_told, sealed_to, forgotten, forgotten_if, seal_extent_row, frozen_row, is_sealed_row, short_row, decide_row, stream_body_row, seal_body_row, manager_row}
 use Rattle.model.proofs.Tests.{if_elim, both_parts, both_true}
 use Rattle.manager.specs.declared.plan.Change.TheVariants.{Nothing}
 use Rattle.manager.specs.declared.plan.Plan.{Plan}
-use Rattle.manager.specs.Table.{TableState, Lists, listing_in, closed_if, tail_of, may_lengthen, lengthens}
+use Rattle.manager.specs.Table.{TableState, Lists, longer, closed_if, sealed_at, may_lengthen, lengthens}
 use Rattle.manager.specs.Plan as plans
 use Rattle.manager.specs.Plan.{changed_by, written_by, CanChange, still, told, denied, plan_of, reminding, asked_by, planned, decide}
-use Rattle.manager.proofs.Tables.{listed_shows, lengthened_shows, replaced_shows}
+use Rattle.manager.proofs.Tables.{book_of, book_shows, is_book, lengthened_shows, replaced_shows}
 
 pub record Follows (t : TableState) (plan : Plan) (o : Outcome Book) : Type 0 where
   pub after : Lists (changed_by t plan.change) o.after
@@ -45,6 +48,134 @@ both_elim : {A B : Type 0} (P : A → B → Type 0) (b : Bool) (x y : A) (u v : 
 both_elim P true x y u v t f = t refl
 both_elim P false x y u v t f = f refl
 
+-- ---- an end that one more extent may follow
+
+closed_there : (o : Option Extent) → is_closed o ≡ is_there (sealed_in o)
+closed_there None = refl
+closed_there (Some x) = refl
+
+last_test : (extents : List Extent) (e : ℕ) (known closed : Bool) → is_there (sealed_at extents e) ≡ closed →
+    (if known then (if closed then Ok None else Err LastOpen) else Ok (Some e)) ≡ Ok None → is_closed (entry_at extents e) ≡ true
+last_test extents e true true is end = closed_there (entry_at extents e) ∙ is
+last_test extents e true false is end = absurd cc
+last_test extents e false closed is end = absurd cc
+
+behind_test : (extents : List Extent) (l last : Option ℕ) → behind (sealed_at extents) l last ≡ Ok None → may_lengthen extents l ≡ true
+behind_test extents None last end = refl
+behind_test extents (Some e) last end = last_test extents e (is_number e last) (is_there (sealed_at extents e)) refl end
+
+fence_test : (extents : List Extent) (l last : Option ℕ) (same : Bool) → (if same then behind (sealed_at extents) l last else Err Stale) ≡ Ok None → (same && may_lengthen extents l) ≡ true
+fence_test extents l last true end = behind_test extents l last end
+fence_test extents l last false end = absurd cc
+
+may_follow : (extents : List Extent) (o : Option Stream) (g : ℕ) (last : Option ℕ) → extending (sealed_at extents) o g last ≡ Ok None → lengthens extents g o ≡ true
+may_follow extents None g last end = absurd cc
+may_follow extents (Some x) g last end = fence_test extents (last_of x.extents) last (g == x.fence) end
+
+pub lengthens_there : (extents : List Extent) (g : ℕ) (o : Option Stream) → lengthens extents g o ≡ true → (x : Stream) × (o ≡ Some x)
+lengthens_there extents g None e = absurd cc
+lengthens_there extents g (Some x) e = (x, refl)
+
+-- nothing changes, and one packet is sent at most
+module _ (t : TableState) where
+  quiet : Follows t still (silent (book_of t))
+  quiet = record { after = book_shows t; packets = refl; notes = refl; written = refl; can = tt; few = (omega arith, omega arith) }
+
+  telling : (to : ActorId) (body : Body) → Follows t (told to body) (sends (book_of t) (packet Manager to body ∷ []))
+  telling to body = record { after = book_shows t; packets = refl; notes = refl; written = refl; can = tt; few = (omega arith, omega arith) }
+
+  denying : (p : Packet) (q : ReqNo) (refusal : Refusal) → Follows t (denied p q refusal) (refused (book_of t) Manager p q refusal)
+  denying p q refusal = telling p.from (plans.refusal_of q refusal)
+
+  -- ---- CreateStream
+
+  create_rows : (p : Packet) (s : StreamName) (fence : ℕ) (q : ReqNo) (foreign taken : Bool) → is_there (stream_of t.streams s) ≡ taken →
+      Follows t (if foreign then denied p q Stale else plans.create_in p s fence q (if taken then Some NameTaken else None))
+      (or_refused (book_of t) Manager p q (first_met ((Stale, foreign) ∷ (NameTaken, is_there (if taken then Some NameTaken else None)) ∷ [])) (create_taken (book_of t) p s fence q))
+  create_rows p s fence q true taken is = denying p q Stale
+  create_rows p s fence q false true is = denying p q NameTaken
+  create_rows p s fence q false false is = record {
+    after = book_shows (record t { streams = created t.streams s fence });
+    packets = refl;
+    notes = refl;
+    written = refl;
+    can = (tt, ap (λ (b : Bool). not (is_there (if b then Some NameTaken else None))) is);
+    few = (omega arith, omega arith);
+  }
+
+  -- ---- OpenStreams and Confirm
+
+  open_rows : (p : Packet) (range g : ℕ) (q : ReqNo) (user four higher : Bool) → has_four t.streams range ≡ four → all_pass (λ x. nat_lt x.fence g) t.streams range ≡ higher →
+      Follows t (if user then denied p q Stale else plans.open_in t p range g q (if four then (if higher then None else Some Stale) else Some NoSuchStream))
+      (or_refused (book_of t) Manager p q (first_met ((Stale, user) ∷ (NoSuchStream, not four) ∷ (Stale, not higher) ∷ [])) (open_taken (book_of t) p range g q))
+  open_rows p range g q true four higher is_four is_higher = denying p q Stale
+  open_rows p range g q false false higher is_four is_higher = denying p q NoSuchStream
+  open_rows p range g q false true false is_four is_higher = denying p q Stale
+  open_rows p range g q false true true is_four is_higher = record {
+    after = book_shows (record t { streams = opened t.streams range g });
+    packets = refl;
+    notes = refl;
+    written = refl;
+    can = (
+      tt,
+      ap (λ (b : Bool). not (is_there (if b then (if all_pass (λ x. nat_lt x.fence g) t.streams range then None else Some Stale) else Some NoSuchStream))) is_four
+          ∙ ap (λ (b : Bool). not (is_there (if b then None else Some Stale))) is_higher,
+    );
+    few = (omega arith, omega arith);
+  }
+
+  confirm_rows : (p : Packet) (q : ReqNo) (user four same : Bool) →
+      Follows t (if user then denied p q Stale else plans.confirm_in p q (if four then (if same then None else Some Stale) else Some NoSuchStream))
+      (or_refused (book_of t) Manager p q (first_met ((Stale, user) ∷ (NoSuchStream, not four) ∷ (Stale, not same) ∷ [])) (answer (book_of t) p (Confirmed q)))
+  confirm_rows p q true four same = denying p q Stale
+  confirm_rows p q false false same = denying p q NoSuchStream
+  confirm_rows p q false true false = denying p q Stale
+  confirm_rows p q false true true = telling p.from (plans.confirmed_of q)
+
+  -- ---- Extend
+
+  module _ (p : Packet) (s : StreamName) (g : ℕ) (pick : Nodes) (q : ReqNo) where
+    made_row : is_pick t.nodes pick ≡ true → (x : Stream) → stream_of t.streams s ≡ Some x → lengthens t.extents g (stream_of t.streams s) ≡ true → Follows t (plans.made t p s g pick q) (extend_made (book_of t) p s g pick q)
+    made_row picks x is fits = record {
+      after =
+          let fence : g ≡ x.fence = eqb-true g x.fence (both_parts (g == x.fence) _ (ap (lengthens t.extents g) (sym is) ∙ fits)).0 in
+          subst (λ (n : ℕ). Lists (longer t s pick) (extended (book_of t) s n pick)) (sym fence) (lengthened_shows t s x pick is);
+      packets = refl;
+      notes = refl;
+      written = refl;
+      can = ((both_parts (are_nodes pick) _ picks).0, both_true (is_pick t.nodes pick) _ picks fits);
+      few = (omega arith, omega arith);
+    }
+
+    picked_row : lengthens t.extents g (stream_of t.streams s) ≡ true → Follows t (plans.picked t p s g pick q) (extend_picked (book_of t) p s g pick q)
+    picked_row fits =
+        let x = lengthens_there t.extents g (stream_of t.streams s) fits in
+        both_elim (Follows t) (is_pick t.nodes pick) _ _ _ _ (λ picks. made_row picks x.0 x.1 fits) (λ no. denying p q BadPick)
+
+    last_row : (e : ℕ) (x : Option Extent) → Follows t (plans.last_told p e x q) (manager.last_told (book_of t) p e x q)
+    last_row e None = quiet
+    last_row e (Some x) = telling p.from (plans.extended_of q e x.places)
+
+    answered_row : (last : Option ℕ) (r : Result (Option ℕ) Refusal) → extending (sealed_at t.extents) (stream_of t.streams s) g last ≡ r →
+        Follows t (plans.extend_answered t p s g pick q r) (extend_answered (book_of t) p s g pick q r)
+    answered_row last (Err refusal) is = denying p q refusal
+    answered_row last (Ok None) is = picked_row (may_follow t.extents (stream_of t.streams s) g last is)
+    answered_row last (Ok (Some e)) is = last_row e (entry_at t.extents e)
+
+  unheard_row : (p : Packet) (q : ReqNo) → Follows t (plans.no_users p q) (manager.no_users (book_of t) p q)
+  unheard_row p q = both_elim (Follows t) (is_user p.from) _ _ _ _ (λ user. denying p q Stale) (λ other. quiet)
+
+  stream_rows : (p : Packet) (body : StreamBody) → Follows t (plans.stream_body t p body) (stream_body_row (book_of t) p body)
+  stream_rows p (CreateStream s fence q) = create_rows p s (generation_of p.from fence) q (is_foreign p.from s.range) (is_there (stream_of t.streams s)) refl
+  stream_rows p (OpenStreams range g q) = open_rows p range g q (is_user p.from) (has_four t.streams range) (all_pass (λ x. nat_lt x.fence g) t.streams range) refl refl
+  stream_rows p (Confirm range g q) = confirm_rows p q (is_user p.from) (has_four t.streams range) (all_pass (λ x. x.fence == g) t.streams range)
+  stream_rows p (Extend s g last pick q) =
+      both_elim (Follows t) (is_foreign p.from s.range) _ _ _ _ (λ foreign. denying p q Stale)
+      (λ own. answered_row p s (generation_of p.from g) pick q last (extending (sealed_at t.extents) (stream_of t.streams s) (generation_of p.from g) last) refl)
+  stream_rows p (Trim range g before to_blob q) = unheard_row p q
+  stream_rows p (MultiModify list q) = unheard_row p q
+  stream_rows p body = quiet
+
 module _ (t : TableState) (b : Book) (h : Lists t b) where
   still_row : Follows t still (silent b)
   still_row = record { after = h; packets = refl; notes = refl; written = refl; can = tt; few = (omega arith, omega arith) }
@@ -54,82 +185,6 @@ module _ (t : TableState) (b : Book) (h : Lists t b) where
 
   sent_row : (ps qs : List Packet) → ps ≡ qs → length ps ≤ 2048 → Follows t (plan_of ps Nothing) (sends b qs)
   sent_row ps qs same short = record { after = h; packets = same; notes = refl; written = refl; can = tt; few = (short, omega arith) }
-
-  -- ---- CreateStream
-
-  create_in_row : (p : Packet) (s : StreamName) (q : ReqNo) (o : Option Stream) → listing_in t s.kind ≡ o → (s.range == 0) ≡ true →
-      Follows t (plans.create_in p s q (tail_of o)) (or_refused b Manager p q (first_met ((NameTaken, is_there o) ∷ [])) (create_taken b p s q))
-  create_in_row p s q None is range = record {
-    after = listed_shows t b h s.kind (Some (record { fence = 0; extents = [] }));
-    packets = refl;
-    notes = refl;
-    written = refl;
-    can = (tt, both_true (s.range == 0) _ range (ap (λ (o : Option Stream). not (is_there o)) is));
-    few = (omega arith, omega arith);
-  }
-  create_in_row p s q (Some x) is range = told_row p.from (plans.refusal_of q NameTaken)
-
-  create_rows : (p : Packet) (s : StreamName) (q : ReqNo) (zero_range : Bool) → (s.range == 0) ≡ zero_range →
-      Follows t (if zero_range then plans.create_in p s q (tail_of (listing_in t s.kind)) else denied p q Stale)
-      (or_refused b Manager p q (first_met ((Stale, not zero_range) ∷ (NameTaken, is_there (listing_in t s.kind)) ∷ [])) (create_taken b p s q))
-  create_rows p s q true is = create_in_row p s q (listing_in t s.kind) refl is
-  create_rows p s q false is = told_row p.from (plans.refusal_of q Stale)
-
-  created_row : (p : Packet) (s : StreamName) (q : ReqNo) → Follows t (plans.create t p s q) (create_row b p s q)
-  created_row p s q =
-      subst (λ (o : Option Stream). Follows t (plans.create t p s q) (or_refused b Manager p q (first_met ((Stale, not (s.range == 0)) ∷ (NameTaken, is_there o) ∷ [])) (create_taken b p s q)))
-      (sym (h.stream s.kind)) (create_rows p s q (s.range == 0) refl)
-
-  -- ---- Extend
-
-  module _ (p : Packet) (s : StreamName) (last : Option ℕ) (pick : Nodes) (q : ReqNo) (range : (s.range == 0) ≡ true) where
-    module _ (x : Stream) (is : listing_in t s.kind ≡ Some x) where
-      made_row : is_pick t.nodes pick ≡ true → may_lengthen t (last_of x.extents) ≡ true → Follows t (plans.made t p s x.fence pick q) (extend_made b p s x pick q)
-      made_row picks may = record {
-        after = lengthened_shows t b h s.kind x pick is;
-        packets =
-            sym (ap (λ (n : ℕ). each_place pick (bodies.Seal (Make (suc n) x.fence b.target pick)) ++ packet Manager p.from (bodies.Stream (Extended q (suc n) pick)) ∷ []) h.count
-            ∙ ap (λ (g : ℕ). each_place pick (bodies.Seal (Make (suc (length t.extents)) x.fence g pick)) ++ packet Manager p.from (bodies.Stream (Extended q (suc (length t.extents)) pick)) ∷ []) h.target);
-        notes = refl;
-        written = refl;
-        can = (
-          (both_parts (are_nodes pick) _ picks).0,
-          both_true (s.range == 0) _ range (both_true (is_pick t.nodes pick) _ picks
-              (ap (λ (o : Option Stream). lengthens t x.fence (tail_of o)) is ∙ both_true (x.fence == x.fence) _ (eq-eqb x.fence x.fence refl) may)),
-        );
-        few = (omega arith, omega arith);
-      }
-
-      picked_row : may_lengthen t (last_of x.extents) ≡ true → Follows t (plans.picked t p s x.fence pick q) (extend_picked b p s x pick q)
-      picked_row may =
-          subst (λ (n : ℕ). Follows t (plans.picked t p s x.fence pick q) (if is_pick n pick then extend_made b p s x pick q else refused b Manager p q BadPick)) (sym h.nodes)
-          (both_elim (Follows t) (is_pick t.nodes pick) _ _ _ _ (λ picks. made_row picks may) (λ no. told_row p.from (plans.refusal_of q BadPick)))
-
-      behind_row : (e : ℕ) (y : Option Extent) → last_of x.extents ≡ Some e → entry_at t.extents e ≡ y → Follows t (plans.behind t p s x.fence e y last pick q) (extend_behind b p s x e y last pick q)
-      behind_row e None ends at = still_row
-      behind_row e (Some y) ends at =
-          both_elim (Follows t) (is_number e last) _ _ _ _
-          (λ yes. both_elim (Follows t) (is_there y.sealed) _ _ _ _
-          (λ closed. picked_row (ap (may_lengthen t) ends ∙ ap is_closed at ∙ closed))
-          (λ live. told_row p.from (plans.refusal_of q LastOpen)))
-          (λ no. told_row p.from (plans.extended_of q e y.places))
-
-      after_row : (l : Option ℕ) → last_of x.extents ≡ l → Follows t (plans.extend_after t p s x.fence l last pick q) (extend_after b p s x l last pick q)
-      after_row None ends = picked_row (ap (may_lengthen t) ends)
-      after_row (Some e) ends =
-          subst (λ (y : Option Extent). Follows t (plans.behind t p s x.fence e (entry_at t.extents e) last pick q) (extend_behind b p s x e y last pick q))
-          (sym (h.extent e)) (behind_row e (entry_at t.extents e) ends refl)
-
-    extend_in_row : (o : Option Stream) → listing_in t s.kind ≡ o → Follows t (plans.extend_in t p s (tail_of o) last pick q) (extend_stream b p s o last pick q)
-    extend_in_row None is = told_row p.from (plans.refusal_of q NoSuchStream)
-    extend_in_row (Some x) is = after_row x is (last_of x.extents) refl
-
-  extended_row : (p : Packet) (s : StreamName) (last : Option ℕ) (pick : Nodes) (q : ReqNo) → Follows t (plans.extend t p s last pick q) (extend_row b p s last pick q)
-  extended_row p s last pick q =
-      both_elim (Follows t) (s.range == 0) _ _ _ _
-      (λ range. subst (λ (o : Option Stream). Follows t (plans.extend_in t p s (tail_of (listing_in t s.kind)) last pick q) (extend_stream b p s o last pick q)) (sym (h.stream s.kind))
-      (extend_in_row p s last pick q range (listing_in t s.kind) refl))
-      (λ no. told_row p.from (plans.refusal_of q Stale))
 
   -- ---- seals
 
@@ -217,9 +272,7 @@ module _ (t : TableState) (b : Book) (h : Lists t b) where
   -- ---- the table
 
   stream_follows : (p : Packet) (body : StreamBody) → Follows t (plans.stream_body t p body) (stream_body_row b p body)
-  stream_follows p (CreateStream s fence q) = created_row p s q
-  stream_follows p (Extend s generation last pick q) = extended_row p s last pick q
-  stream_follows p body = still_row
+  stream_follows p body = subst (λ (c : Book). Follows t (plans.stream_body t p body) (stream_body_row c p body)) (is_book t b h) (stream_rows t p body)
 
   -- the extent that the book has is the table's
   module _ (e : ℕ) (plan : Option Extent → Plan) (row : Option Extent → Outcome Book) (rows : (y : Option Extent) → entry_at t.extents e ≡ y → Follows t (plan y) (row y)) where
@@ -234,7 +287,7 @@ module _ (t : TableState) (b : Book) (h : Lists t b) where
   seal_follows p body = still_row
 
   pub plan_follows : (p : Packet) (body : Body) → Follows t (planned t p body) (manager_row b p body)
-  plan_follows p (bodies.Stream body) = both_elim (Follows t) (is_user p.from) _ _ _ _ (λ y. stream_follows p body) (λ n. still_row)
+  plan_follows p (bodies.Stream body) = stream_follows p body
   plan_follows p (bodies.Seal body) = seal_follows p body
   plan_follows p body = still_row
 

@@ -3,31 +3,22 @@ use Rattle.std.proofs.Common.{◌≡◌, ℕ, zero, suc, true, List, [], ◌∷�
 use Rattle.blocks.specs.declared.record.Record.{Record}
 use Rattle.disk.specs.declared.fault.FileFault.{FileFault}
 use Rattle.disk.specs.declared.fault.FileFault.TheVariants.{Damaged}
-use Rattle.wire.specs.declared.streams.StreamKind.{StreamKind}
-use Rattle.wire.specs.declared.streams.StreamKind.TheVariants.{Metadata, Log, RowData, BlobData}
 use Rattle.model.specs.declared.manager_record.ManagerRecord.{ManagerRecord}
-use Rattle.model.specs.declared.manager_record.ManagerRecord.TheVariants.{First, CreateStream, Extend, Seal}
-use Rattle.model.specs.Ledger.{kind_number}
+use Rattle.model.specs.declared.manager_record.ManagerRecord.TheVariants.{First, CreateStream, OpenStreams, Extend, Seal}
 use Rattle.model.specs.Maps.{entry_at}
 use Rattle.model.specs.Manager.{Book, first_book}
 use Rattle.model.specs.Replay.{book_after, ruling_of, replay_from, ruling_fits, book_fits}
-use Rattle.manager.specs.Table.{TableState, Lists, first_table, listing_in, forgotten_table, table_after}
+use Rattle.manager.specs.Table.{TableState, TableValue, plain, Lists, first_table, forgotten_table, table_after}
 use Rattle.manager.specs.Manager.{Ledgered}
-use Rattle.manager.specs.Recovery.{fits_on, table_on, Recovers, IsMade}
+use Rattle.manager.specs.Recovery.{fits_on, table_on, RecoversWith, IsMade}
 use Rattle.manager.proofs.Keeping.{same_fits, fits_forgotten, forget_after, ledger-push, fit-at}
-
-first_streams : (nodes target : ℕ) (k : StreamKind) → (first_book nodes target).stream (kind_number k) ≡ listing_in (forgotten_table (first_table nodes target)) k
-first_streams nodes target Metadata = refl
-first_streams nodes target Log = refl
-first_streams nodes target RowData = refl
-first_streams nodes target BlobData = refl
 
 first_extents : (nodes target e : ℕ) → (first_book nodes target).extent e ≡ entry_at (forgotten_table (first_table nodes target)).extents e
 first_extents nodes target zero = refl
 first_extents nodes target (suc e) = refl
 
-first_shows : (nodes target : ℕ) → Lists (forgotten_table (first_table nodes target)) (first_book nodes target)
-first_shows nodes target = record { nodes = refl; target = refl; count = refl; stream = first_streams nodes target; extent = first_extents nodes target }
+pub first_shows : (nodes target : ℕ) → Lists (forgotten_table (first_table nodes target)) (first_book nodes target)
+first_shows nodes target = record { nodes = refl; target = refl; count = refl; stream = λ range kind. refl; extent = first_extents nodes target }
 
 -- the first record alone
 pub first_ledger : (nodes target : ℕ) (r : Record) → ruling_of r ≡ Some (First nodes target) → Ledgered (first_table nodes target) (r ∷ [])
@@ -52,6 +43,7 @@ first_made rs r t (Some (First n g)) none is fits table =
     let same = same_table (first_table n g) t table in
     subst (λ (l : List Record). IsMade t (l ++ r ∷ [])) (sym none) (subst (λ (u : TableState). IsMade u (r ∷ [])) same (record { ledger = first_ledger n g r is; fresh = refl }))
 first_made rs r t (Some (CreateStream s f)) none is fits table = absurd cc
+first_made rs r t (Some (OpenStreams x g)) none is fits table = absurd cc
 first_made rs r t (Some (Extend s g p)) none is fits table = absurd cc
 first_made rs r t (Some (Seal e l)) none is fits table = absurd cc
 
@@ -64,14 +56,15 @@ next_made u rs r t (Some x) made is fits table =
       fresh = ap (λ (v : TableState). table_after v x) made.fresh ∙ sym (forget_after u x);
     })
 
-pub made_more : (was : Option TableState) (rs : List Record) (r : Record) (t : TableState) → SoFar was rs → Recovers was r (Ok t) → IsMade t (rs ++ r ∷ [])
-made_more None rs r t made h = first_made rs r t (ruling_of r) made refl h.fits h.table
-made_more (Some u) rs r t made h = next_made u rs r t (ruling_of r) made refl h.fits h.table
+pub made_more : (was : Option TableState) (rs : List Record) (r : Record) (t : TableValue) → SoFar was rs → RecoversWith was (ruling_of r) (Ok t) → IsMade (plain t) (rs ++ r ∷ [])
+made_more None rs r t made h = first_made rs r (plain t) (ruling_of r) made refl h.fits h.table
+made_more (Some u) rs r t made h = next_made u rs r (plain t) (ruling_of r) made refl h.fits h.table
 
 fits_first : (o : Option ManagerRecord) → fits_on None o ≡ ruling_fits None o
 fits_first None = refl
 fits_first (Some (First n g)) = refl
 fits_first (Some (CreateStream s f)) = refl
+fits_first (Some (OpenStreams x g)) = refl
 fits_first (Some (Extend s g p)) = refl
 fits_first (Some (Seal e l)) = refl
 
@@ -84,7 +77,7 @@ fits_so None rs o made = fits_first o ∙ ap (λ (l : List Record). ruling_fits 
 fits_so (Some u) rs o made = fits_next u made.ledger.book made.ledger.shows o ∙ ap (λ (b : Option Book). ruling_fits b o) (sym made.ledger.replays)
 
 -- a record that fits is not refused as damaged
-pub not_damaged : (was : Option TableState) (rs : List Record) (r : Record) (others whole : List Record) (x : FileFault) → SoFar was rs → whole ≡ rs ++ r ∷ others → book_fits whole ≡ true → Recovers was r (Err x) → x ≡ Damaged → ⊥
+pub not_damaged : (was : Option TableState) (rs : List Record) (r : Record) (others whole : List Record) (x : FileFault) → SoFar was rs → whole ≡ rs ++ r ∷ others → book_fits whole ≡ true → RecoversWith was (ruling_of r) (Err x) → x ≡ Damaged → ⊥
 not_damaged was rs r others whole x made is fit h damaged =
     let fits_here = fit-at None rs others r (ap book_fits (sym is) ∙ fit) in
     let no = sym (h.damaged (ap (λ (y : FileFault). Err y) damaged)) ∙ fits_so was rs (ruling_of r) made ∙ fits_here in

@@ -1,7 +1,8 @@
 -- What an append to the file says of a step that ends as the append does.
-use Rattle.std.proofs.Common.{◌≡◌, Result, Ok, Err, refl, ap, sym, subst, ◌∙◌}
+use Rattle.std.proofs.Common.{rules, ◌≡◌, Option, Some, None, Result, Ok, Err, refl, ap, sym, subst, ◌∙◌}
 use Rattle.disk.specs.declared.device.DiskFault.{DiskFault}
-use Rattle.disk.specs.Disk.{DiskState}
+use Rattle.disk.specs.declared.device.DiskFault.TheVariants.{Memory}
+use Rattle.disk.specs.Disk.{DiskState, IsUntouched}
 use Rattle.disk.specs.Filed.{Filed}
 use Rattle.disk.specs.Appends.{Appends}
 use Rattle.blocks.specs.declared.record.Record.{Record}
@@ -75,3 +76,31 @@ rule_err state was is old new plan r w x change bad same h = record {
   same = same;
   file = subst (λ (c : Change). Records {T = Step} state old new (listed (written_by c)) (Err x)) (sym change) (appends_with state old new (Manage (spelled r)) (Err x) (rw (← bad) h));
 }
+
+-- ---- without memory nothing is written
+
+short_record : {D : Type 0} (state : D → DiskState) (f : Filed D) (r : Record) → Appends {T = Step} state f f r (Err Memory)
+short_record state f r = record {
+  ok = tt;
+  durable = tt;
+  any_moment = λ no. absurd (no refl);
+  stands = λ no. absurd (no refl);
+  memory = λ p. record { disk = untouched (state f.disk); stopped = refl; version = refl; records = refl };
+  failed = λ p. absurd cc;
+  either = λ p. absurd cc;
+  version = refl;
+  stop = λ n keep told one four. ((λ p. absurd cc), (λ p. absurd cc));
+  later = λ n keep told four. ((λ p. absurd cc), tt);
+  steady = λ told. ((λ p. absurd cc), told);
+  sure = refl;
+}
+  where
+    untouched : (d : DiskState) → IsUntouched d d
+    untouched d = search rules
+
+short_records : {D : Type 0} (state : D → DiskState) (f : Filed D) (o : Option Record) → Records {T = Step} state f f (listed o) (Err Memory)
+short_records state f None = (refl, (λ p. absurd cc))
+short_records state f (Some r) = short_record state f r
+
+pub short : {D : Type 0} (state : D → DiskState) (t : TableState) (f : Filed D) (plan : Plan) → Done state t t f f plan (Err Memory)
+short state t f plan = record { after = tt; step = tt; same = refl; file = short_records state f (written_by plan.change) }

@@ -9,8 +9,8 @@ use Rattle.wire.specs.declared.streams.StreamKind.{StreamKind}
 use Rattle.wire.specs.declared.streams.StreamKind.TheVariants.{Metadata, Log, RowData, BlobData}
 use Rattle.wire.specs.declared.streams.StreamName.{StreamName}
 use Rattle.model.specs.declared.manager_record.ManagerRecord.{ManagerRecord}
-use Rattle.model.specs.declared.manager_record.ManagerRecord.TheVariants.{First, CreateStream, Extend, Seal}
-use Rattle.model.specs.Ledger.{spelled, stream_name, kind_number, kind_at, stream_at, first_at, create_at, extend_at, seal_at, fields_at, record_of}
+use Rattle.model.specs.declared.manager_record.ManagerRecord.TheVariants.{First, CreateStream, OpenStreams, Extend, Seal}
+use Rattle.model.specs.Ledger.{spelled, stream_name, kind_number, kind_at, stream_at, first_at, create_at, open_at, extend_at, seal_at, fields_at, record_of}
 use Rattle.manager.specs.Ledger.{CanSpell}
 
 length-stream_name : (s : StreamName) → length (stream_name s) ≡ 9
@@ -19,6 +19,7 @@ length-stream_name s = omega (arith, length-append (number 8 s.range) (kind_numb
 pub spelled_few : (r : ManagerRecord) → length (spelled r) ≤ 32
 spelled_few (First count target) = omega (arith, length-number 4 target)
 spelled_few (CreateStream s fence) = omega (arith, length-append (stream_name s) (number 8 fence), length-stream_name s, length-number 8 fence)
+spelled_few (OpenStreams range generation) = omega (arith, length-append (number 8 range) (number 8 generation), length-number 8 range, length-number 8 generation)
 spelled_few (Extend s generation pick) = omega (arith, length-append (stream_name s) (number 8 generation ++ nodes pick), length-append (number 8 generation) (nodes pick), length-stream_name s, length-number 8 generation)
 spelled_few (Seal e length) = omega (arith, length-append (number 8 e) (number 4 length), length-number 8 e, length-number 4 length)
 
@@ -55,6 +56,10 @@ first_again count target fits =
 pub create_again : (s : StreamName) (fence : ℕ) → s.range < 2 ^ 64 → fence < 2 ^ 64 → record_of (spelled (CreateStream s fence)) ≡ Some (CreateStream s fence)
 unfolding record_of fields_at create_at
 create_again s fence a b = rw (stream_again s (number 8 fence) a, last8 fence b) refl
+
+pub open_again : (range generation : ℕ) → range < 2 ^ 64 → generation < 2 ^ 64 → record_of (spelled (OpenStreams range generation)) ≡ Some (OpenStreams range generation)
+unfolding record_of fields_at open_at
+open_again range generation a b = rw (number8.again range (number 8 generation) a, last8 generation b) refl
 
 pub extend_again : (s : StreamName) (generation : ℕ) (pick : Nodes) → s.range < 2 ^ 64 → generation < 2 ^ 64 → are_nodes pick ≡ true → record_of (spelled (Extend s generation pick)) ≡ Some (Extend s generation pick)
 unfolding record_of fields_at extend_at

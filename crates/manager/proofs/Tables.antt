@@ -1,15 +1,19 @@
 -- The table and the model's book say the same, before and after a change.
-use Rattle.std.proofs.Common.{◌≡◌, ◌≢◌, ℕ, zero, suc, ◌==◌, List, [], ◌∷◌, ◌++◌, length, Option, Some, None, slice_get, slice_set, refl, sym, ap, ◌∙◌, subst}
+use Rattle.std.proofs.Common.{◌≡◌, ◌≢◌, ℕ, zero, suc, ◌≤◌, nat_le, Bool, true, false, ◌&&◌, if◌then◌else◌, arith, ◌==◌, List, [], ◌∷◌, ◌++◌, length, Option, Some, None, slice_get, slice_set, refl, sym, ap, ◌∙◌, subst}
+use Rattle.std.proofs.Math.Path.{fun_ext}
 use Rattle.std.proofs.lemmas.Bool.{eqb-true, eqb-false}
+use Rattle.std.proofs.lemmas.Bool.Decides.{nat_tests}
 use Rattle.blocks.specs.declared.record.Nodes.{Nodes}
 use Rattle.wire.specs.declared.streams.StreamKind.{StreamKind}
 use Rattle.wire.specs.declared.streams.StreamKind.TheVariants.{Metadata, Log, RowData, BlobData}
+use Rattle.wire.specs.declared.streams.StreamName.{StreamName}
+use Rattle.streams.specs.Streams.{Stream, Streams, stream_of, empty_stream, created}
+use Rattle.streams.specs.Table.{no_streams}
 use Rattle.model.specs.declared.extent.Extent.{Extent}
-use Rattle.model.specs.Ledger.{kind_number, kind_of}
 use Rattle.model.specs.Maps.{changed, entry_at}
-use Rattle.model.specs.Manager.{Book, Stream, new_extent, with_extent, extended}
+use Rattle.model.specs.Manager.{Book, first_streams, new_extent, with_extent, extended}
 use Rattle.model.proofs.Tests.{if_elim}
-use Rattle.manager.specs.Table.{TableState, Lists, listing_in, with_listing, with_entry, longer, longer_extents, longer_stream}
+use Rattle.manager.specs.Table.{TableState, Lists, with_entry, longer, longer_extents}
 
 pub changed_elim : {A : Type 0} (P : A → Type 0) (e : ℕ) (v : A) (f : ℕ → A) (k : ℕ) → (k ≡ e → P v) → (k ≢ e → P (f k)) → P (changed e v f k)
 changed_elim P e v f k p q = if_elim P (k == e) v (f k) (λ t. p (eqb-true k e t)) (λ u. q (eqb-false k e u))
@@ -48,87 +52,39 @@ push_len : {A : Type 0} (xs : List A) (y : A) → length (xs ++ y ∷ []) ≡ su
 push_len [] y = refl
 push_len (x ∷ xs) y = ap suc (push_len xs y)
 
--- ---- a stream
+-- ---- the book of a table
 
-stream_at : (t : TableState) (b : Book) → Lists t b → (k j : StreamKind) (x : Option Stream) → changed (kind_number k) x b.stream (kind_number j) ≡ listing_in (with_listing t k x) j
-stream_at t b h Metadata Metadata x = refl
-stream_at t b h Metadata Log x = h.stream Log
-stream_at t b h Metadata RowData x = h.stream RowData
-stream_at t b h Metadata BlobData x = h.stream BlobData
-stream_at t b h Log Metadata x = h.stream Metadata
-stream_at t b h Log Log x = refl
-stream_at t b h Log RowData x = h.stream RowData
-stream_at t b h Log BlobData x = h.stream BlobData
-stream_at t b h RowData Metadata x = h.stream Metadata
-stream_at t b h RowData Log x = h.stream Log
-stream_at t b h RowData RowData x = refl
-stream_at t b h RowData BlobData x = h.stream BlobData
-stream_at t b h BlobData Metadata x = h.stream Metadata
-stream_at t b h BlobData Log x = h.stream Log
-stream_at t b h BlobData RowData x = h.stream RowData
-stream_at t b h BlobData BlobData x = refl
+abbrev pub book_of : TableState → Book
+book_of t = record { nodes = t.nodes; target = t.target; count = length t.extents; stream = t.streams; extent = λ e. entry_at t.extents e }
 
-pub listing_same : (t : TableState) (extents : List Extent) (k : StreamKind) → listing_in (record t { extents = extents }) k ≡ listing_in t k
-listing_same t extents Metadata = refl
-listing_same t extents Log = refl
-listing_same t extents RowData = refl
-listing_same t extents BlobData = refl
+pub book_shows : (t : TableState) → Lists t (book_of t)
+book_shows t = record { nodes = refl; target = refl; count = refl; stream = λ range kind. refl; extent = λ e. refl }
 
-listed_nodes : (t : TableState) (k : StreamKind) (x : Option Stream) → (with_listing t k x).nodes ≡ t.nodes
-listed_nodes t Metadata x = refl
-listed_nodes t Log x = refl
-listed_nodes t RowData x = refl
-listed_nodes t BlobData x = refl
-
-listed_target : (t : TableState) (k : StreamKind) (x : Option Stream) → (with_listing t k x).target ≡ t.target
-listed_target t Metadata x = refl
-listed_target t Log x = refl
-listed_target t RowData x = refl
-listed_target t BlobData x = refl
-
-listed_extents : (t : TableState) (k : StreamKind) (x : Option Stream) → (with_listing t k x).extents ≡ t.extents
-listed_extents t Metadata x = refl
-listed_extents t Log x = refl
-listed_extents t RowData x = refl
-listed_extents t BlobData x = refl
-
-pub listed_shows : (t : TableState) (b : Book) → Lists t b → (k : StreamKind) (x : Option Stream) → Lists (with_listing t k x) (record b { stream = changed (kind_number k) x b.stream })
-listed_shows t b h k x = record {
-  nodes = h.nodes ∙ sym (listed_nodes t k x);
-  target = h.target ∙ sym (listed_target t k x);
-  count = h.count ∙ ap length (sym (listed_extents t k x));
-  stream = λ j. stream_at t b h k j x;
-  extent = λ e. h.extent e ∙ ap (λ (xs : List Extent). entry_at xs e) (sym (listed_extents t k x));
-}
+-- a book that says what a table says is the table's
+pub is_book : (t : TableState) (b : Book) → Lists t b → book_of t ≡ b
+is_book t b h = sym (
+    ap (λ (n : ℕ). record b { nodes = n }) h.nodes
+    ∙ ap (λ (n : ℕ). record b { nodes = t.nodes; target = n }) h.target
+    ∙ ap (λ (n : ℕ). record b { nodes = t.nodes; target = t.target; count = n }) h.count
+    ∙ ap (λ (s : Streams). record b { nodes = t.nodes; target = t.target; count = length t.extents; stream = s }) (fun_ext (λ range. fun_ext (λ kind. h.stream range kind)))
+    ∙ ap (λ (f : ℕ → Option Extent). record b { nodes = t.nodes; target = t.target; count = length t.extents; stream = t.streams; extent = f }) (fun_ext h.extent))
 
 -- ---- one more extent
 
-pushed : (t : TableState) (b : Book) (y : Extent) → Lists t b →
-    Lists (record t { extents = t.extents ++ y ∷ [] }) (record b { count = suc (length t.extents); extent = changed (suc (length t.extents)) (Some y) b.extent })
-pushed t b y h = record {
-  nodes = h.nodes;
-  target = h.target;
-  count = sym (push_len t.extents y);
-  stream = λ k. h.stream k ∙ sym (listing_same t (t.extents ++ y ∷ []) k);
-  extent = λ e. changed_elim (λ (x : Option Extent). x ≡ entry_at (t.extents ++ y ∷ []) e) (suc (length t.extents)) (Some y) b.extent e
-      (λ is. sym (ap (λ (k : ℕ). entry_at (t.extents ++ y ∷ []) k) is ∙ entry_last t.extents y))
-      (λ apart. h.extent e ∙ sym (entry_before t.extents y e apart));
+-- what a table with one more extent shows, where its streams are these
+pub lengthened_shows : (t : TableState) (s : StreamName) (x : Stream) (pick : Nodes) → stream_of t.streams s ≡ Some x →
+    Lists (longer t s pick) (extended (book_of t) s x.fence pick)
+lengthened_shows t s x pick is = record {
+  nodes = refl;
+  target = refl;
+  count = sym (ap length (ap (λ (o : Option Stream). longer_extents t.extents o pick) is) ∙ push_len t.extents (new_extent pick x.fence));
+  stream = λ range kind. refl;
+  extent = λ e.
+      changed_elim (λ (y : Option Extent). y ≡ entry_at (t.extents ++ new_extent pick x.fence ∷ []) e) (suc (length t.extents)) (Some (new_extent pick x.fence)) (entry_at t.extents) e
+      (λ here. sym (ap (λ (k : ℕ). entry_at (t.extents ++ new_extent pick x.fence ∷ []) k) here ∙ entry_last t.extents (new_extent pick x.fence)))
+      (λ apart. sym (entry_before t.extents (new_extent pick x.fence) e apart))
+      ∙ ap (λ (o : Option Stream). entry_at (longer_extents t.extents o pick) e) (sym is);
 }
-
--- with the number of extents told
-abbrev extended_at : Book → StreamKind → Stream → Nodes → ℕ → Book
-extended_at b k x pick n =
-    record b {
-      count = suc n;
-      stream = changed (kind_number k) (Some (record x { extents = x.extents ++ suc n ∷ [] })) b.stream;
-      extent = changed (suc n) (Some (new_extent pick x.fence)) b.extent;
-    }
-
-pub lengthened_shows : (t : TableState) (b : Book) → Lists t b → (k : StreamKind) (x : Stream) (pick : Nodes) → listing_in t k ≡ Some x → Lists (longer t k pick) (extended b (kind_number k) x pick)
-lengthened_shows t b h k x pick is =
-    subst (λ (o : Option Stream). Lists (with_listing (record t { extents = longer_extents t.extents o pick }) k (longer_stream o (suc (length t.extents)))) (extended b (kind_number k) x pick)) (sym is)
-    (subst (λ (n : ℕ). Lists (with_listing (record t { extents = t.extents ++ new_extent pick x.fence ∷ [] }) k (Some (record x { extents = x.extents ++ suc (length t.extents) ∷ [] }))) (extended_at b k x pick n)) (sym h.count)
-    (listed_shows (record t { extents = t.extents ++ new_extent pick x.fence ∷ [] }) (record b { count = suc (length t.extents); extent = changed (suc (length t.extents)) (Some (new_extent pick x.fence)) b.extent }) (pushed t b (new_extent pick x.fence) h) k (Some (record x { extents = x.extents ++ suc (length t.extents) ∷ [] }))))
 
 -- ---- another extent of a number
 
@@ -138,7 +94,7 @@ replaced_shows t b h (suc n) x y is = record {
   nodes = h.nodes;
   target = h.target;
   count = h.count ∙ sym (length-set t.extents n x);
-  stream = λ k. h.stream k ∙ sym (listing_same t (slice_set t.extents n x) k);
+  stream = h.stream;
   extent = λ f. changed_elim (λ (z : Option Extent). z ≡ entry_at (slice_set t.extents n x) f) (suc n) (Some x) b.extent f
       (λ same. sym (ap (λ (k : ℕ). entry_at (slice_set t.extents n x) k) same ∙ set_here t.extents n x y is))
       (λ apart. h.extent f ∙ sym (elsewhere f apart));
@@ -148,21 +104,33 @@ replaced_shows t b h (suc n) x y is = record {
     elsewhere zero a = refl
     elsewhere (suc m) a = set_elsewhere t.extents n m x (λ e. a (ap suc e))
 
--- ---- the book of a table
+-- ---- the first streams
 
-numbered : TableState → Option StreamKind → Option Stream
-numbered t None = None
-numbered t (Some k) = listing_in t k
+abbrev pub name_in : ℕ → StreamKind → StreamName
+name_in range kind = record { range = range; kind = kind }
 
-pub book_of : TableState → Book
-book_of t = record { nodes = t.nodes; target = t.target; count = length t.extents; stream = λ k. numbered t (kind_of k); extent = λ e. entry_at t.extents e }
+abbrev four_of : Bool → ℕ → Option Stream
+four_of b k =
+    if b && (k == 3) then Some (empty_stream 0)
+    else if b && (k == 2) then Some (empty_stream 0)
+    else if b && (k == 1) then Some (empty_stream 0)
+    else if b && (k == 0) then Some (empty_stream 0)
+    else None
 
-pub book_shows : (t : TableState) → Lists t (book_of t)
-unfolding book_of numbered
-book_shows t = record { nodes = refl; target = refl; count = refl; stream = stream; extent = λ e. refl }
-  where
-    stream : (k : StreamKind) → numbered t (kind_of (kind_number k)) ≡ listing_in t k
-    stream Metadata = refl
-    stream Log = refl
-    stream RowData = refl
-    stream BlobData = refl
+apart : (k n : ℕ) → n ≤ 3 → (suc (suc (suc (suc k))) == n) ≡ false
+apart k n small = grind (arith, nat_tests)
+
+above : (k : ℕ) → nat_le (suc (suc (suc (suc k)))) 3 ≡ false
+above k = grind (arith, nat_tests)
+
+four_are : (b : Bool) (k : ℕ) → four_of b k ≡ (if b && nat_le k 3 then Some (empty_stream 0) else None)
+four_are false k = refl
+four_are true zero = refl
+four_are true (suc zero) = refl
+four_are true (suc (suc zero)) = refl
+four_are true (suc (suc (suc zero))) = refl
+four_are true (suc (suc (suc (suc k)))) = rw (apart k 0 (omega arith), apart k 1 (omega arith), apart k 2 (omega arith), apart k 3 (omega arith), above k) refl
+
+pub first_four :
+    created (created (created (created no_streams (name_in 1 Metadata) 0) (name_in 1 Log) 0) (name_in 1 RowData) 0) (name_in 1 BlobData) 0 ≡ first_streams
+first_four = fun_ext (λ range. fun_ext (λ kind. four_are (range == 1) kind))

@@ -1,5 +1,4 @@
 pub mod Table
-pub mod Stream
 pub mod Ledger
 pub mod Plan
 pub mod Manager

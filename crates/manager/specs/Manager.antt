@@ -2,52 +2,25 @@
 use Rattle.std.specs.Prelude.{◌≡◌, ℕ, true, List, map, Option, Some}
 use Rattle.blocks.specs.declared.record.Record.{Record}
 use Rattle.disk.specs.Filed.{Filed}
-use Rattle.wire.specs.declared.streams.StreamKind.{StreamKind}
+use Rattle.streams.specs.Table.{StreamTableState, streams_of}
 use Rattle.model.specs.declared.extent.Extent.{Extent}
-use Rattle.model.specs.Ledger.{kind_number}
-use Rattle.model.specs.Manager.{Book, Stream, forgotten, book_stopped}
+use Rattle.model.specs.Manager.{Book, forgotten, book_stopped}
 use Rattle.model.specs.Replay.{book_replay, book_fits}
-use Rattle.manager.specs.Table.{TableState, Lists, listing_in, forgotten_table}
+use Rattle.manager.specs.Table.{TableState, TableValue, Lists, forgotten_table}
 
 pub record ManagerState (D : Type 0) : Type 0 where
   pub nodes : ℕ
   pub target : ℕ
-  pub metadata : Option Stream
-  pub log : Option Stream
-  pub row_data : Option Stream
-  pub blob_data : Option Stream
+  pub streams : StreamTableState
   pub extents : List Extent
   pub file : Filed D
 
-abbrev pub state_of : {D : Type 0} → TableState → Filed D → ManagerState D
-state_of t file =
-    record {
-      nodes = t.nodes;
-      target = t.target;
-      metadata = t.metadata;
-      log = t.log;
-      row_data = t.row_data;
-      blob_data = t.blob_data;
-      extents = t.extents;
-      file = file;
-    }
+abbrev pub state_of : {D : Type 0} → TableValue → Filed D → ManagerState D
+state_of t file = record { nodes = t.nodes; target = t.target; streams = t.streams; extents = t.extents; file = file }
 
 -- all but the file
 abbrev pub table_of : {D : Type 0} → ManagerState D → TableState
-table_of s =
-    record {
-      nodes = s.nodes;
-      target = s.target;
-      metadata = s.metadata;
-      log = s.log;
-      row_data = s.row_data;
-      blob_data = s.blob_data;
-      extents = s.extents;
-    }
-
--- the stream of a kind, if there is one
-abbrev pub listing : {D : Type 0} → ManagerState D → StreamKind → Option Stream
-listing s k = listing_in (table_of s) k
+table_of s = record { nodes = s.nodes; target = s.target; streams = streams_of s.streams; extents = s.extents }
 
 -- the model's book says what the manager's state says
 abbrev pub Shows : {D : Type 0} → ManagerState D → Book → Type 0
@@ -74,6 +47,6 @@ pub record MakesBook (rs : List Record) (b : Book) : Type 0 where
   pub nodes : book.nodes ≡ b.nodes
   pub target : book.target ≡ b.target
   pub count : book.count ≡ b.count
-  pub stream : (k : StreamKind) → book.stream (kind_number k) ≡ (book_stopped b).stream (kind_number k)
+  pub stream : (range kind : ℕ) → book.stream range kind ≡ (book_stopped b).stream range kind
   pub extent : (e : ℕ) → book.extent e ≡ (book_stopped b).extent e
   pub fits : book_fits rs ≡ true

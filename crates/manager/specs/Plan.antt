@@ -1,5 +1,5 @@
 -- What the manager is about to do with a packet or a call, as a function of its table.
-use Rattle.std.specs.Prelude.{◌≡◌, ℕ, suc, true, List, [], ◌∷◌, ◌++◌, length, Option, Some, None, ◌==◌, if◌then◌else◌, Result, IfOk}
+use Rattle.std.specs.Prelude.{◌≡◌, ℕ, suc, true, List, [], ◌∷◌, ◌++◌, length, Option, Some, None, if◌then◌else◌, Result, Ok, Err, IfOk}
 use Rattle.std.specs.declared.alloc.AllocError.{AllocError}
 use Rattle.blocks.specs.declared.record.Nodes.{Nodes}
 use Rattle.blocks.specs.declared.record.Record.{Record}
@@ -10,26 +10,28 @@ use Rattle.wire.specs.declared.body.AppendBody.TheVariants.{Refused}
 use Rattle.wire.specs.declared.body.SealBody.{SealBody}
 use Rattle.wire.specs.declared.body.SealBody.TheVariants.{Make, SealExtent, Frozen, IsSealed, Short, SendTail}
 use Rattle.wire.specs.declared.body.StreamBody.{StreamBody}
-use Rattle.wire.specs.declared.body.StreamBody.TheVariants.{CreateStream, Created, Extend, Extended}
+use Rattle.wire.specs.declared.body.StreamBody.TheVariants.{CreateStream, Created, OpenStreams, Opened, Confirm, Confirmed, Extend, Extended, Trim, MultiModify}
 use Rattle.wire.specs.declared.body.Body.{Body}
 use Rattle.wire.specs.declared.body.Body.TheVariants as bodies
 use Rattle.wire.specs.declared.note.Note.TheVariants.{SealedAt}
 use Rattle.wire.specs.declared.packet.Packet.{Packet}
 use Rattle.wire.specs.declared.refusal.Refusal.{Refusal}
-use Rattle.wire.specs.declared.refusal.Refusal.TheVariants.{NoSuchExtent, Stale, NoSuchStream, NameTaken, LastOpen, BadPick}
+use Rattle.wire.specs.declared.refusal.Refusal.TheVariants.{NoSuchExtent, Stale, BadPick}
+use Rattle.wire.specs.declared.streams.StreamLists.{StreamLists}
 use Rattle.wire.specs.declared.streams.StreamName.{StreamName}
+use Rattle.streams.specs.Streams.{stream_of, create_fault, open_fault, confirm_fault, extending}
 use Rattle.model.specs.declared.extent.Extent.{Extent}
 use Rattle.model.specs.declared.manager_record.ManagerRecord.TheVariants as ledger
-use Rattle.model.specs.Actors.{is_user}
+use Rattle.model.specs.Actors.{is_user, generation_of}
 use Rattle.model.specs.Ledger.{spelled, record_of}
 use Rattle.model.specs.Maps.{entry_at}
 use Rattle.model.specs.Outcome.{packet}
-use Rattle.model.specs.Manager.{each_place, is_there, is_pick, is_number, closes, told_sealed, with_report, frozen_to, known_sealed, place_of, first_sealed, least_told, tells_asker, sealed_to, forgotten, forgotten_if, writes}
+use Rattle.model.specs.Manager.{each_place, is_there, is_pick, is_foreign, told_stream, closes, told_sealed, with_report, frozen_to, known_sealed, place_of, first_sealed, least_told, tells_asker, sealed_to, forgotten, forgotten_if, writes}
 use Rattle.manager.specs.declared.plan.Change.{Change}
 use Rattle.manager.specs.declared.plan.Change.TheVariants.{Nothing, Write, Replace}
 use Rattle.manager.specs.declared.plan.Plan.{Plan}
 use Rattle.manager.specs.Ledger.{CanSpell}
-use Rattle.manager.specs.Table.{TableState, listing_in, with_entry, table_after, table_fits, tail_of}
+use Rattle.manager.specs.Table.{TableState, with_entry, sealed_at, table_after, table_fits}
 
 -- what a change makes of the table
 abbrev pub changed_by : TableState → Change → TableState
@@ -81,12 +83,47 @@ denied p q refusal = told p.from (refusal_of q refusal)
 abbrev pub created_of : ReqNo → Body
 created_of q = bodies.Stream (Created q)
 
-abbrev pub create_in : Packet → StreamName → ReqNo → Option (ℕ × Option ℕ) → Plan
-create_in p s q None = plan_of (packet Manager p.from (created_of q) ∷ []) (Write (ledger.CreateStream s 0))
-create_in p s q (Some x) = denied p q NameTaken
+abbrev pub create_in : Packet → StreamName → ℕ → ReqNo → Option Refusal → Plan
+create_in p s fence q None = plan_of (packet Manager p.from (created_of q) ∷ []) (Write (ledger.CreateStream s fence))
+create_in p s fence q (Some refusal) = denied p q refusal
 
-abbrev pub create : TableState → Packet → StreamName → ReqNo → Plan
-create t p s q = if s.range == 0 then create_in p s q (tail_of (listing_in t s.kind)) else denied p q Stale
+abbrev pub create : TableState → Packet → StreamName → ℕ → ReqNo → Plan
+create t p s fence q = if is_foreign p.from s.range then denied p q Stale else create_in p s fence q (create_fault t.streams s)
+
+-- ---- OpenStreams and Confirm
+
+-- the extents of the four streams of a range
+abbrev pub told_lists : TableState → ℕ → StreamLists
+told_lists t range =
+    record {
+      metadata = told_stream (entry_at t.extents) (t.streams range 0);
+      log = told_stream (entry_at t.extents) (t.streams range 1);
+      row_data = told_stream (entry_at t.extents) (t.streams range 2);
+      blob_data = told_stream (entry_at t.extents) (t.streams range 3);
+    }
+
+abbrev pub opened_of : ReqNo → StreamLists → Body
+opened_of q lists = bodies.Stream (Opened q lists)
+
+abbrev pub open_in : TableState → Packet → ℕ → ℕ → ReqNo → Option Refusal → Plan
+open_in t p range generation q None =
+    plan_of (packet Manager p.from (opened_of q (told_lists t range)) ∷ []) (Write (ledger.OpenStreams range generation))
+open_in t p range generation q (Some refusal) = denied p q refusal
+
+abbrev pub open_streams : TableState → Packet → ℕ → ℕ → ReqNo → Plan
+open_streams t p range generation q =
+    if is_user p.from then denied p q Stale else open_in t p range generation q (open_fault t.streams range generation)
+
+abbrev pub confirmed_of : ReqNo → Body
+confirmed_of q = bodies.Stream (Confirmed q)
+
+abbrev pub confirm_in : Packet → ReqNo → Option Refusal → Plan
+confirm_in p q None = told p.from (confirmed_of q)
+confirm_in p q (Some refusal) = denied p q refusal
+
+abbrev pub confirm : TableState → Packet → ℕ → ℕ → ReqNo → Plan
+confirm t p range generation q =
+    if is_user p.from then denied p q Stale else confirm_in p q (confirm_fault t.streams range generation)
 
 -- ---- Extend
 
@@ -106,24 +143,25 @@ made t p s fence pick q =
 abbrev pub picked : TableState → Packet → StreamName → ℕ → Nodes → ReqNo → Plan
 picked t p s fence pick q = if is_pick t.nodes pick then made t p s fence pick q else denied p q BadPick
 
-abbrev pub behind : TableState → Packet → StreamName → ℕ → ℕ → Option Extent → Option ℕ → Nodes → ReqNo → Plan
-behind t p s fence e None last pick q = still
-behind t p s fence e (Some x) last pick q =
-    if is_number e last
-    then (if is_there x.sealed then picked t p s fence pick q else denied p q LastOpen)
-    else told p.from (extended_of q e x.places)
+-- the last extent is named to those who took another for it
+abbrev pub last_told : Packet → ℕ → Option Extent → ReqNo → Plan
+last_told p e None q = still
+last_told p e (Some x) q = told p.from (extended_of q e x.places)
 
-abbrev pub extend_after : TableState → Packet → StreamName → ℕ → Option ℕ → Option ℕ → Nodes → ReqNo → Plan
-extend_after t p s fence None last pick q = picked t p s fence pick q
-extend_after t p s fence (Some e) last pick q = behind t p s fence e (entry_at t.extents e) last pick q
+abbrev pub extend_answered : TableState → Packet → StreamName → ℕ → Nodes → ReqNo → Result (Option ℕ) Refusal → Plan
+extend_answered t p s generation pick q (Err refusal) = denied p q refusal
+extend_answered t p s generation pick q (Ok None) = picked t p s generation pick q
+extend_answered t p s generation pick q (Ok (Some e)) = last_told p e (entry_at t.extents e) q
 
-abbrev pub extend_in : TableState → Packet → StreamName → Option (ℕ × Option ℕ) → Option ℕ → Nodes → ReqNo → Plan
-extend_in t p s None last pick q = denied p q NoSuchStream
-extend_in t p s (Some x) last pick q = extend_after t p s x.0 x.1 last pick q
+abbrev pub extend : TableState → Packet → StreamName → ℕ → Option ℕ → Nodes → ReqNo → Plan
+extend t p s generation last pick q =
+    if is_foreign p.from s.range then denied p q Stale
+    else extend_answered t p s generation pick q (extending (sealed_at t.extents) (stream_of t.streams s) generation last)
 
-abbrev pub extend : TableState → Packet → StreamName → Option ℕ → Nodes → ReqNo → Plan
-extend t p s last pick q =
-    if s.range == 0 then extend_in t p s (tail_of (listing_in t s.kind)) last pick q else denied p q Stale
+-- ---- calls that no user makes
+
+abbrev pub no_users : Packet → ReqNo → Plan
+no_users p q = if is_user p.from then denied p q Stale else still
 
 -- ---- seals
 
@@ -183,9 +221,14 @@ decide target e (Some x) = if is_there x.sealed then plan_of (reminding target e
 
 -- ---- the table
 
+-- a user counts with generation 0
 abbrev pub stream_body : TableState → Packet → StreamBody → Plan
-stream_body t p (CreateStream s fence q) = create t p s q
-stream_body t p (Extend s generation last pick q) = extend t p s last pick q
+stream_body t p (CreateStream s fence q) = create t p s (generation_of p.from fence) q
+stream_body t p (OpenStreams range generation q) = open_streams t p range generation q
+stream_body t p (Confirm range generation q) = confirm t p range generation q
+stream_body t p (Extend s generation last pick q) = extend t p s (generation_of p.from generation) last pick q
+stream_body t p (Trim range generation before to_blob q) = no_users p q
+stream_body t p (MultiModify list q) = no_users p q
 stream_body t p body = still
 
 abbrev pub seal_body : TableState → Packet → SealBody → Plan
@@ -196,6 +239,6 @@ seal_body t p (Short e length) = short p e length (entry_at t.extents e)
 seal_body t p body = still
 
 abbrev pub planned : TableState → Packet → Body → Plan
-planned t p (bodies.Stream body) = if is_user p.from then stream_body t p body else still
+planned t p (bodies.Stream body) = stream_body t p body
 planned t p (bodies.Seal body) = seal_body t p body
 planned t p body = still

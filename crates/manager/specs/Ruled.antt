@@ -17,14 +17,14 @@ use Rattle.model.specs.Outcome.{Outcome}
 use Rattle.model.specs.Manager.{Book, is_there, least_told, writes}
 use Rattle.manager.specs.declared.fault.ManagerFault.{ManagerFault}
 use Rattle.manager.specs.declared.fault.ManagerFault.TheVariants as faults
-use Rattle.manager.specs.Manager.{ManagerState, Shows, MakesBook}
+use Rattle.manager.specs.Manager.{ManagerState, table_of, Shows, MakesBook}
 
 pub record Ruled {D : Type 0} (state : D → DiskState) (old new : ManagerState D) (o : Outcome Book) (result : Result Step DiskFault) : Type 0 where
   pub after : OnOk result (Shows new o.after)
   pub packets : IfOk result (λ step. step.packets ≡ o.packets)
   pub notes : IfOk result (λ step. step.notes ≡ o.notes)
   -- everything but the file is as it was
-  pub same : OnErr result (new ≡ record old { file = new.file })
+  pub same : OnErr result (table_of new ≡ table_of old)
   pub file : Records state old.file new.file (listed o.written) result
   -- what a restart makes of the records where the new one stands
   pub stands : MakesBook (old.file.records ++ listed o.written) o.after

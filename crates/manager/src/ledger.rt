@@ -5,7 +5,7 @@ ghost use Rattle.blocks.specs.Reading.{nodes_at};
 ghost use Rattle.blocks.specs.Record.{number, nodes};
 ghost use Rattle.blocks.specs.declared.record.Record.TheVariants as records;
 ghost use Rattle.disk.specs.Appends.{Appends};
-ghost use Rattle.model.specs.Ledger.{spelled, stream_name, record_of, kind_number, kind_at, first_at, create_at, extend_at, seal_at, fields_at};
+ghost use Rattle.model.specs.Ledger.{spelled, stream_name, record_of, kind_number, kind_at, first_at, create_at, open_at, extend_at, seal_at, fields_at};
 ghost use Rattle.manager.specs.Ledger.{CanSpell};
 
 use blocks::reader::{ended, u8_at, u32_at, u64_at};
@@ -61,6 +61,14 @@ fn put_create(out: &mut Vec<u8>, stream: &StreamName, fence: u64) -> Result<(), 
     put_u64(out, fence)
 }
 
+fn put_open(out: &mut Vec<u8>, range: u64, generation: u64) -> Result<(), AllocError>
+    ensures { OnOk result (out.new.items ≡ out.old.items ++ 3 ∷ (number 8 range ++ number 8 generation)) }
+{
+    put_u8(out, 3)?;
+    put_u64(out, range)?;
+    put_u64(out, generation)
+}
+
 fn put_extend(
     out: &mut Vec<u8>,
     stream: &StreamName,
@@ -93,6 +101,9 @@ fn encode(alloc: Global, ruling: &ManagerRecord) -> Result<Bytes, AllocError>
         ManagerRecord::CreateStream { stream, fence } => {
             put_create(&mut out, stream, fence.number())?
         }
+        ManagerRecord::OpenStreams { range, generation } => {
+            put_open(&mut out, range.number(), generation.number())?
+        }
         ManagerRecord::Extend {
             stream,
             generation,
@@ -116,6 +127,10 @@ pub(crate) fn reads_back(ruling: &ManagerRecord)
         ManagerRecord::CreateStream { stream, fence } => {
             let _range = stream.range.number();
             let _fence = fence.number();
+        }
+        ManagerRecord::OpenStreams { range, generation } => {
+            let _range = range.number();
+            let _generation = generation.number();
         }
         ManagerRecord::Extend {
             stream,
@@ -222,6 +237,19 @@ fn create_at(fields: &[u8]) -> Result<ManagerRecord, BlockFault>
     ended(read, rest)
 }
 
+#[tactic(auto, unfolding(model::specs::Ledger::open_at))]
+fn open_at(fields: &[u8]) -> Result<ManagerRecord, BlockFault>
+    ensures { Gives (λ r. r) result (open_at fields.now) }
+{
+    let (range, rest) = u64_at(fields)?;
+    let (generation, rest) = u64_at(rest)?;
+    let read = ManagerRecord::OpenStreams {
+        range: RangeId::new(range),
+        generation: Fence::new(generation),
+    };
+    ended(read, rest)
+}
+
 #[tactic(auto, unfolding(model::specs::Ledger::extend_at, model::specs::Ledger::stream_at))]
 fn extend_at(fields: &[u8]) -> Result<ManagerRecord, BlockFault>
     ensures { Gives (λ r. r) result (extend_at fields.now) }
@@ -258,6 +286,7 @@ fn fields_at(kind: u8, fields: &[u8]) -> Result<ManagerRecord, BlockFault>
     match kind {
         1 => first_at(fields),
         2 => create_at(fields),
+        3 => open_at(fields),
         4 => extend_at(fields),
         5 => seal_at(fields),
         _ => Err(BlockFault::Damaged),

@@ -8,9 +8,10 @@
 #![tactic(auto)]
 
 mod actors;
+mod calls;
 mod fault;
 mod ledger;
-mod listed;
+mod lengthening;
 mod manager;
 mod performing;
 mod plan;
@@ -18,8 +19,8 @@ mod recovery;
 mod reports;
 mod sealing;
 mod sending;
-mod streams;
 mod table;
+mod telling;
 
 pub use fault::ManagerFault;
 pub use manager::Manager;

@@ -15,6 +15,7 @@ ghost use Rattle.model.specs.Manager.{Book, first_book, manager_row, decide_row,
 ghost use Rattle.model.specs.Replay.{book_fits};
 ghost use Rattle.model.specs.declared.manager_record.ManagerRecord.TheVariants as ledger;
 ghost use Rattle.manager.specs.Manager.{Shows, IsLedger, forgotten_state};
+ghost use Rattle.manager.specs.Table.{plain, first_table};
 ghost use Rattle.manager.specs.Ruled.{Ruled, as_row, fault_of, sealing_at};
 
 use crate::fault::ManagerFault;
@@ -30,8 +31,8 @@ use std::alloc::{AllocError, Global};
 use std::marker::Model;
 use wire::{ExtentId, Packet, Step};
 
-/// The stream manager: which nodes there are, the four streams of range 0, the extents in the order of their numbers from
-/// 1 on, and the file of records that they come from (after Calder et al., SOSP 2011, section 4).
+/// The stream manager: which nodes there are, the streams of all ranges, the extents in the order of their numbers from 1
+/// on, and the file of records that they come from (after Calder et al., SOSP 2011, section 4).
 #[derive(Drop)]
 pub struct Manager<D: Disk> {
     table: Table,
@@ -42,12 +43,13 @@ pub struct Manager<D: Disk> {
 impl<D: Disk> Model for Manager<D> {
     ghost use Rattle.std.specs.Prelude.{◌≡◌, false};
     ghost use Rattle.manager.specs.Manager.{ManagerState, Ledgered, state_of};
+    ghost use Rattle.manager.specs.Table.{plain};
 
     ghost Value = { ManagerState D };
 
     ghost view = { λ m. state_of m.table m.file };
 
-    ghost invariant = { λ m. m.file.stopped ≡ false → Ledgered m.table m.file.records };
+    ghost invariant = { λ m. m.file.stopped ≡ false → Ledgered (plain m.table) m.file.records };
 }
 
 /// The answer of a decision that was not refused.
@@ -62,20 +64,23 @@ fn answer(done: Result<Step, DiskFault>) -> Result<Step, ManagerFault>
     }
 }
 
-/// The manager of a file without a record: its first record is written.
+/// The manager of a file without a record and of the first table: its first record is written.
 fn begin<D: Disk>(
     alloc: Global,
     nodes: u8,
     target: u32,
+    table: Table,
     file: RecordFile<D>,
 ) -> Result<Manager<D>, (DiskFault, D)>
     requires nodes { (3 ≤ nodes) × (nodes ≤ 12) }
     requires target { IsTarget target }
+    requires table { plain table ≡ first_table nodes target }
     requires running { file.stopped ≡ false }
     requires empty { file.records ≡ [] }
     ensures running { IfOk result (λ m. m.file.stopped ≡ false) }
     ensures shows { IfOk result (λ m. Shows m (first_book nodes target)) }
     ensures records { IfOk result (λ m. m.file.records ≡ records.Manage (spelled (ledger.First nodes target)) ∷ []) }
+    ensures replays { IfOk result (λ m. IsLedger m m.file.records) }
     ensures failed { IfErr result (λ e. e.0 ≡ DiskFault.Failed → (D.state file.disk).failures < (D.state e.1).failures) }
     ensures steady { IsSteady (D.state file.disk) → MatchResult result
         (λ m. IsSteady (D.state m.file.disk))
@@ -85,10 +90,7 @@ fn begin<D: Disk>(
     let first = ManagerRecord::First { nodes, target };
     reads_back(&first);
     match write(alloc, &mut file, &first) {
-        Ok(()) => Ok(Manager {
-            table: Table::new(alloc, nodes, target),
-            file,
-        }),
+        Ok(()) => Ok(Manager { table, file }),
         Err(fault) => Err((fault, file.into_disk())),
     }
 }
@@ -111,9 +113,9 @@ fn recovered<D: Disk>(alloc: Global, file: RecordFile<D>) -> Result<Manager<D>, 
 }
 
 impl<D: Disk> Manager<D> {
-    /// A manager with no stream and no extent, on an empty disk. It knows the nodes from 1 to `nodes`, 3 to 12 of them, and
-    /// makes extents with this target, from 4,096 to 16,777,216 bytes. Both are in its first record. A refusal hands the disk
-    /// back: 20 (a device call failed), 22 (no memory).
+    /// A manager on an empty disk, with no extent, and with the four streams of range 1. It knows the nodes from 1 to
+    /// `nodes`, 3 to 12 of them, and makes extents with this target, from 4,096 to 16,777,216 bytes. Both are in its first
+    /// record. A refusal hands the disk back: 20 (a device call failed), 22 (no memory).
     pub fn create(
         alloc: Global,
         nodes: u8,
@@ -127,12 +129,16 @@ impl<D: Disk> Manager<D> {
         ensures running { IfOk result (λ m. m.file.stopped ≡ false) }
         ensures shows { IfOk result (λ m. Shows m (first_book nodes target)) }
         ensures records { IfOk result (λ m. m.file.records ≡ records.Manage (spelled (ledger.First nodes target)) ∷ []) }
+        ensures replays { IfOk result (λ m. IsLedger m m.file.records) }
         ensures steady { IsSteady (D.state disk) → MatchResult result
             (λ m. IsSteady (D.state m.file.disk))
             (λ e. (e.0 ≢ DiskFault.Failed) × IsSteady (D.state e.1)) }
     {
+        let Ok(table) = Table::new(alloc, nodes, target) else {
+            return Err((DiskFault::Memory, disk));
+        };
         match RecordFile::format(Version::V1, disk) {
-            Ok(file) => begin(alloc, nodes, target, file),
+            Ok(file) => begin(alloc, nodes, target, table, file),
             Err(refused) => Err(refused),
         }
     }

@@ -3,8 +3,8 @@ ghost use Rattle.std.specs.Prelude.{◌≡◌, false};
 ghost use Rattle.model.specs.Maps.{entry_at};
 ghost use Rattle.manager.specs.Plan.{Plans, IsReadAgain, planned, decide};
 ghost use Rattle.manager.specs.Done.{Done};
+ghost use Rattle.manager.specs.Table.{plain};
 
-use crate::actors::is_user;
 use crate::plan::{Change, Plan};
 use crate::sending::silent;
 use crate::table::Table;
@@ -14,16 +14,10 @@ use wire::{Body, Packet, Step};
 
 /// What the manager is about to do with a packet.
 pub(crate) fn plan_for(table: &Table, alloc: Global, packet: &Packet) -> Result<Plan, AllocError>
-    ensures { Plans (planned table.now packet.now packet.now.body) result }
+    ensures { Plans (planned (plain table.now) packet.now packet.now.body) result }
 {
     match &packet.body {
-        Body::Stream(body) => {
-            if is_user(packet.from) {
-                table.stream_body(alloc, packet, body)
-            } else {
-                Ok(silent(alloc))
-            }
-        }
+        Body::Stream(body) => table.stream_body(alloc, packet, body),
         Body::Seal(body) => table.seal_body(alloc, packet, body),
         _ => Ok(silent(alloc)),
     }
@@ -37,7 +31,7 @@ pub(crate) fn perform<D: Disk>(
     plan: Plan,
 ) -> Result<Step, DiskFault>
     requires running { file.old.stopped ≡ false }
-    ensures { Done D.state table.old table.new file.old file.new plan result }
+    ensures { Done D.state (plain table.old) (plain table.new) file.old file.new plan result }
 {
     let Plan { step, change } = plan;
     match change {
@@ -61,8 +55,8 @@ pub(crate) fn handle_on<D: Disk>(
     packet: &Packet,
 ) -> Result<Step, DiskFault>
     requires running { file.old.stopped ≡ false }
-    ensures done { Done D.state table.old table.new file.old file.new (planned table.old packet.now packet.now.body) result }
-    ensures again { IsReadAgain (planned table.old packet.now packet.now.body).change }
+    ensures done { Done D.state (plain table.old) (plain table.new) file.old file.new (planned (plain table.old) packet.now packet.now.body) result }
+    ensures again { IsReadAgain (planned (plain table.old) packet.now packet.now.body).change }
 {
     match plan_for(table, alloc, packet) {
         Ok(plan) => perform(table, file, alloc, plan),
@@ -78,7 +72,7 @@ pub(crate) fn decide_on<D: Disk>(
     extent: u64,
 ) -> Result<Step, DiskFault>
     requires running { file.old.stopped ≡ false }
-    ensures done { Done D.state table.old table.new file.old file.new (decide table.old.target extent (entry_at table.old.extents extent)) result }
+    ensures done { Done D.state (plain table.old) (plain table.new) file.old file.new (decide table.old.target extent (entry_at table.old.extents extent)) result }
     ensures again { IsReadAgain (decide table.old.target extent (entry_at table.old.extents extent)).change }
 {
     match table.decide(alloc, extent) {

@@ -4,6 +4,7 @@ ghost use Rattle.blocks.specs.declared.record.Record.TheVariants as records;
 ghost use Rattle.disk.specs.Disk.{IsSteady};
 ghost use Rattle.model.specs.Replay.{book_fits};
 ghost use Rattle.manager.specs.Recovery.{Recovers, RecoversRuling, IsMade};
+ghost use Rattle.manager.specs.Table.{plain};
 
 use crate::ledger::decode;
 use crate::table::Table;
@@ -49,7 +50,7 @@ fn recover_ruling(
                 return Err(FileFault::Damaged);
             }
             let mut table = table;
-            match table.replay(alloc, ruling) {
+            match table.replay(ruling) {
                 Ok(()) => Ok(table),
                 Err(_full) => Err(FileFault::Memory),
             }
@@ -62,7 +63,10 @@ fn first_table(alloc: Global, ruling: &ManagerRecord) -> Result<Table, FileFault
     ensures { RecoversRuling None ruling.now result }
 {
     match ruling {
-        ManagerRecord::First { nodes, target } => Ok(Table::new(alloc, *nodes, *target)),
+        ManagerRecord::First { nodes, target } => match Table::new(alloc, *nodes, *target) {
+            Ok(table) => Ok(table),
+            Err(_full) => Err(FileFault::Memory),
+        },
         _ => Err(FileFault::Damaged),
     }
 }
@@ -70,7 +74,7 @@ fn first_table(alloc: Global, ruling: &ManagerRecord) -> Result<Table, FileFault
 /// The table that the records of a file make.
 pub(crate) fn table_of<D: Disk>(alloc: Global, file: &mut RecordFile<D>) -> Result<Table, FileFault>
     requires { file.old.stopped ≡ false }
-    ensures ok { IfOk result (λ table. IsMade table file.old.records) }
+    ensures ok { IfOk result (λ table. IsMade (plain table) file.old.records) }
     ensures same { (file.new.stopped ≡ false) × (file.new.version ≡ file.old.version) × (file.new.records ≡ file.old.records) }
     ensures damaged { book_fits file.old.records ≡ true → file.old.records ≢ [] → IsErrOf result FileFault.Damaged → ⊥ }
     ensures failed { IsErrOf result FileFault.Failed → (D.state file.old.disk).failures < (D.state file.new.disk).failures }

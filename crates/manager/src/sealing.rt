@@ -4,6 +4,7 @@ ghost use Rattle.model.specs.Manager.{decide_refusal};
 ghost use Rattle.model.specs.Maps.{entry_at};
 ghost use Rattle.manager.specs.Plan.{Plans, seal_body, seal_extent, seal_asked, frozen, is_sealed, short, asks_tail, decide, decided, noted};
 ghost use Rattle.manager.specs.Ruled.{sealing_at, fault_of};
+ghost use Rattle.manager.specs.Table.{plain};
 
 use crate::actors::place_of;
 use crate::fault::ManagerFault;
@@ -68,7 +69,7 @@ impl Table {
         packet: &Packet,
         body: &SealBody,
     ) -> Result<Plan, AllocError>
-        ensures { Plans (seal_body self.now packet.now body.now) result }
+        ensures { Plans (seal_body (plain self.now) packet.now body.now) result }
     {
         match body {
             SealBody::SealExtent { extent, request } => {

@@ -4,7 +4,7 @@ ghost use Rattle.wire.specs.declared.actor.ActorId.TheVariants.{Manager};
 ghost use Rattle.wire.specs.declared.body.Body.TheVariants as bodies;
 ghost use Rattle.model.specs.Manager.{each_place, closes, told_sealed, tells_asker};
 ghost use Rattle.model.specs.Outcome.{packet};
-ghost use Rattle.manager.specs.Plan.{Plans, still, told, denied, refusal_of, make_of, reminding, plan_of, created_of, extended_of};
+ghost use Rattle.manager.specs.Plan.{Plans, still, told, denied, refusal_of, make_of, reminding, plan_of, created_of, opened_of, confirmed_of, extended_of};
 ghost use Rattle.manager.specs.declared.plan.Change.TheVariants as changes;
 
 use crate::plan::{Change, Plan};
@@ -13,7 +13,7 @@ use model::{Asker, Extent};
 use std::alloc::{AllocError, Global};
 use wire::{
     ActorId, AppendBody, Body, ExtentId, Fence, Notes, Packet, Packets, Refusal, ReqNo, SealBody,
-    Step, StreamBody,
+    Step, StreamBody, StreamLists,
 };
 
 /// A packet of the manager.
@@ -31,6 +31,18 @@ pub(crate) fn created(request: ReqNo) -> Body
     ensures { result ≡ created_of request }
 {
     Body::Stream(StreamBody::Created { request })
+}
+
+pub(crate) fn opened(request: ReqNo, streams: StreamLists) -> Body
+    ensures { result ≡ opened_of request streams }
+{
+    Body::Stream(StreamBody::Opened { request, streams })
+}
+
+pub(crate) fn confirmed(request: ReqNo) -> Body
+    ensures { result ≡ confirmed_of request }
+{
+    Body::Stream(StreamBody::Confirmed { request })
 }
 
 pub(crate) fn extended(request: ReqNo, extent: u64, places: Nodes) -> Body

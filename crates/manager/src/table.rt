@@ -1,57 +1,66 @@
 //! The manager's table: streams and extents, without the file that they come from.
-ghost use Rattle.std.specs.Prelude.{◌≡◌, [], Some, false, suc, length, option_map, OnOk, OnErr};
+ghost use Rattle.std.specs.Prelude.{◌≡◌, Some, false, suc, length, option_map, IfOk, OnOk, OnErr};
 ghost use Rattle.blocks.specs.declared.record.Record.TheVariants as records;
 ghost use Rattle.disk.specs.Appends.{Appends};
+ghost use Rattle.streams.specs.Streams.{stream_of};
 ghost use Rattle.model.specs.Ledger.{spelled};
-ghost use Rattle.model.specs.Manager.{is_pick};
+ghost use Rattle.model.specs.Manager.{is_pick, sealed_in};
 ghost use Rattle.model.specs.Maps.{entry_at};
-ghost use Rattle.manager.specs.Table.{first_table, listing_in, with_listing, with_entry, tail_of, table_after, table_fits, closed_if, longer, may_lengthen, lengthens};
+ghost use Rattle.manager.specs.Table.{plain, first_table, with_entry, table_after, table_fits, closed_if, longer, may_lengthen, lengthens};
 
 use crate::ledger::write;
-use crate::listed::{Listed, lengthen, tail, write_lengthened};
+use crate::lengthening::{
+    add, first_streams, lengthen, write_created, write_lengthened, write_opened,
+};
 use blocks::Nodes;
 use disk::{Disk, DiskFault, RecordFile};
 use model::{Extent, ManagerRecord};
 use std::alloc::{AllocError, Global};
 use std::marker::Model;
-use wire::{Fence, StreamKind, StreamName};
+use streams::{SealedLengths, StreamTable};
+use wire::{ExtentId, Fence, StreamName};
 
-/// The streams of range 0 by kind, and the extents, numbered from 1 over all streams.
+/// The streams by name, and the extents, numbered from 1 over all streams.
 #[derive(Drop)]
 pub(crate) struct Table {
     pub(crate) nodes: u8,
     pub(crate) target: u32,
-    pub(crate) metadata: Option<Listed>,
-    pub(crate) log: Option<Listed>,
-    pub(crate) row_data: Option<Listed>,
-    pub(crate) blob_data: Option<Listed>,
+    pub(crate) streams: StreamTable,
     pub(crate) extents: Vec<Extent>,
 }
 
 impl Model for Table {
-    ghost use Rattle.manager.specs.Table.{TableState};
+    ghost use Rattle.manager.specs.Table.{TableValue};
 
-    ghost Value = { TableState };
+    ghost Value = { TableValue };
 
-    ghost use Rattle.manager.specs.Stream.{stream_of};
+    ghost view = { λ t. record { nodes = t.nodes; target = t.target; streams = t.streams; extents = t.extents.items } };
+}
 
-    ghost view = { λ t. record { nodes = t.nodes; target = t.target; metadata = stream_of t.metadata; log = stream_of t.log; row_data = stream_of t.row_data; blob_data = stream_of t.blob_data; extents = t.extents.items } };
+impl SealedLengths for Table {
+    ghost lengths = { λ t e. sealed_in (entry_at t.extents e) };
+
+    fn length_of(&self, extent: ExtentId) -> Option<u32> {
+        match self.entry(extent.number()) {
+            None => None,
+            Some(entry) => entry.sealed,
+        }
+    }
 }
 
 impl Table {
-    /// It knows the nodes from 1 to this one, and makes extents with this target. There is no stream yet.
-    pub(crate) fn new(alloc: Global, nodes: u8, target: u32) -> Table
-        ensures { result ≡ first_table nodes target }
+    /// It knows the nodes from 1 to this one, and makes extents with this target. Range 1 has four streams without an
+    /// extent. An error is want of memory.
+    pub(crate) fn new(alloc: Global, nodes: u8, target: u32) -> Result<Table, AllocError>
+        ensures { IfOk result (λ table. plain table ≡ first_table nodes target) }
     {
-        Table {
+        let streams = first_streams(alloc)?;
+        Ok(Table {
             nodes,
             target,
-            metadata: None,
-            log: None,
-            row_data: None,
-            blob_data: None,
+            streams,
             extents: Vec::new(alloc),
-        }
+        })
     }
 
     pub(crate) fn nodes(&self) -> u8
@@ -71,18 +80,6 @@ impl Table {
         ensures { result ≡ suc (length self.now.extents) }
     {
         self.extents.len() as u64 + 1
-    }
-
-    /// What is known of the end of a stream: its fence, and its last extent.
-    pub(crate) fn tail(&self, kind: StreamKind) -> Option<(Fence, Option<u64>)>
-        ensures { result ≡ tail_of (listing_in self.now kind) }
-    {
-        match kind {
-            StreamKind::Metadata => tail(&self.metadata),
-            StreamKind::Log => tail(&self.log),
-            StreamKind::RowData => tail(&self.row_data),
-            StreamKind::BlobData => tail(&self.blob_data),
-        }
     }
 
     /// The extent of a number, where it lies.
@@ -119,52 +116,49 @@ impl Table {
     }
 
     /// Whether an extent has its length, where there is one to test.
-    fn may_lengthen(&self, last: Option<u64>) -> bool
-        ensures { result ≡ may_lengthen self.now last }
+    fn may_lengthen(&self, last: Option<ExtentId>) -> bool
+        ensures { result ≡ may_lengthen self.now.extents last }
     {
         match last {
             None => true,
-            Some(extent) => match self.entry(extent) {
+            Some(extent) => match self.entry(extent.number()) {
                 None => false,
                 Some(entry) => entry.sealed.is_some(),
             },
         }
     }
 
-    fn lengthens(&self, kind: StreamKind, generation: Fence) -> bool
-        ensures { result ≡ lengthens self.now generation (tail_of (listing_in self.now kind)) }
+    fn lengthens(&self, stream: &StreamName, generation: Fence) -> bool
+        ensures { result ≡ lengthens self.now.extents generation (stream_of (plain self.now).streams stream.now) }
     {
-        match self.tail(kind) {
+        match self.streams.stream(stream) {
             None => false,
-            Some((fence, last)) => {
-                generation.number() == fence.number() && self.may_lengthen(last)
+            Some(listed) => {
+                generation.number() == listed.fence().number() && self.may_lengthen(listed.last())
             }
         }
     }
 
     /// Whether a record may be written where the table is this.
     pub(crate) fn fits(&self, ruling: &ManagerRecord) -> bool
-        ensures { result ≡ table_fits self.now ruling.now }
+        ensures { result ≡ table_fits (plain self.now) ruling.now }
     {
         match ruling {
             ManagerRecord::First {
                 nodes: _,
                 target: _,
             } => false,
-            ManagerRecord::CreateStream { stream, fence } => {
-                stream.range.number() == 0
-                    && fence.number() == 0
-                    && self.tail(stream.kind).is_none()
+            ManagerRecord::CreateStream { stream, fence: _ } => {
+                self.streams.stream(stream).is_none()
+            }
+            ManagerRecord::OpenStreams { range, generation } => {
+                self.streams.opening(*range, *generation).is_ok()
             }
             ManagerRecord::Extend {
                 stream,
                 generation,
                 pick,
-            } => {
-                stream.range.number() == 0
-                    && self.is_pick(pick)
-                    && self.lengthens(stream.kind, *generation)
-            }
+            } => self.is_pick(pick) && self.lengthens(stream, *generation),
             ManagerRecord::Seal { extent, length: _ } => match self.entry(extent.number()) {
                 None => false,
                 Some(entry) => entry.sealed.is_none(),
@@ -172,25 +166,9 @@ impl Table {
         }
     }
 
-    /// Lists a new stream, which takes no memory.
-    fn list(&mut self, alloc: Global, stream: &StreamName, fence: Fence)
-        ensures { self.new ≡ with_listing self.old stream.now.kind (Some (record { fence = fence; extents = [] })) }
-    {
-        let listed = Listed {
-            fence,
-            extents: Vec::new(alloc),
-        };
-        match stream.kind {
-            StreamKind::Metadata => self.metadata = Some(listed),
-            StreamKind::Log => self.log = Some(listed),
-            StreamKind::RowData => self.row_data = Some(listed),
-            StreamKind::BlobData => self.blob_data = Some(listed),
-        }
-    }
-
     /// Puts another extent in place of the one of this number, where there is one.
     pub(crate) fn replace(&mut self, extent: u64, entry: Extent)
-        ensures { self.new ≡ with_entry self.old extent entry }
+        ensures { plain self.new ≡ with_entry (plain self.old) extent entry }
     {
         if extent == 0 {
             return;
@@ -203,7 +181,7 @@ impl Table {
 
     /// Seals an extent, where there is one. Who asked is told in the step that seals it.
     fn seal(&mut self, extent: u64, length: u32)
-        ensures { self.new ≡ closed_if self.old extent (entry_at self.old.extents extent) length }
+        ensures { plain self.new ≡ closed_if (plain self.old) extent (entry_at self.old.extents extent) length }
     {
         match self.entry(extent) {
             None => {}
@@ -216,50 +194,17 @@ impl Table {
         }
     }
 
-    fn lengthen(&mut self, kind: StreamKind, pick: Nodes) -> Result<(), AllocError>
-        ensures ok { OnOk result (self.new ≡ longer self.old kind pick) }
-        ensures err { OnErr result (self.new ≡ self.old) }
+    fn lengthen(&mut self, stream: &StreamName, pick: Nodes) -> Result<(), AllocError>
+        ensures ok { OnOk result (plain self.new ≡ longer (plain self.old) stream.now pick) }
+        ensures err { OnErr result (plain self.new ≡ plain self.old) }
     {
-        match kind {
-            StreamKind::Metadata => lengthen(&mut self.extents, &mut self.metadata, pick),
-            StreamKind::Log => lengthen(&mut self.extents, &mut self.log, pick),
-            StreamKind::RowData => lengthen(&mut self.extents, &mut self.row_data, pick),
-            StreamKind::BlobData => lengthen(&mut self.extents, &mut self.blob_data, pick),
-        }
-    }
-
-    fn write_lengthened<D: Disk>(
-        &mut self,
-        alloc: Global,
-        file: &mut RecordFile<D>,
-        ruling: &ManagerRecord,
-        kind: StreamKind,
-        pick: Nodes,
-    ) -> Result<(), DiskFault>
-        requires running { file.old.stopped ≡ false }
-        ensures ok { OnOk result (self.new ≡ longer self.old kind pick) }
-        ensures err { OnErr result (self.new ≡ self.old) }
-        ensures file { Appends D.state file.old file.new (records.Manage (spelled ruling.now)) result }
-    {
-        let extents = &mut self.extents;
-        match kind {
-            StreamKind::Metadata => {
-                write_lengthened(extents, &mut self.metadata, alloc, file, ruling, pick)
-            }
-            StreamKind::Log => write_lengthened(extents, &mut self.log, alloc, file, ruling, pick),
-            StreamKind::RowData => {
-                write_lengthened(extents, &mut self.row_data, alloc, file, ruling, pick)
-            }
-            StreamKind::BlobData => {
-                write_lengthened(extents, &mut self.blob_data, alloc, file, ruling, pick)
-            }
-        }
+        lengthen(&mut self.extents, &mut self.streams, stream, pick)
     }
 
     /// What a record that stands makes of it. Without memory nothing has changed.
-    pub(crate) fn replay(&mut self, alloc: Global, ruling: &ManagerRecord) -> Result<(), AllocError>
-        ensures ok { OnOk result (self.new ≡ table_after self.old ruling.now) }
-        ensures err { OnErr result (self.new ≡ self.old) }
+    pub(crate) fn replay(&mut self, ruling: &ManagerRecord) -> Result<(), AllocError>
+        ensures ok { OnOk result (plain self.new ≡ table_after (plain self.old) ruling.now) }
+        ensures err { OnErr result (plain self.new ≡ plain self.old) }
     {
         match ruling {
             ManagerRecord::First {
@@ -267,14 +212,17 @@ impl Table {
                 target: _,
             } => Ok(()),
             ManagerRecord::CreateStream { stream, fence } => {
-                self.list(alloc, stream, *fence);
+                add(&mut self.streams, stream, *fence)
+            }
+            ManagerRecord::OpenStreams { range, generation } => {
+                self.streams.raise(*range, *generation);
                 Ok(())
             }
             ManagerRecord::Extend {
                 stream,
                 generation: _,
                 pick,
-            } => self.lengthen(stream.kind, *pick),
+            } => self.lengthen(stream, *pick),
             ManagerRecord::Seal { extent, length } => {
                 self.seal(extent.number(), *length);
                 Ok(())
@@ -290,27 +238,23 @@ impl Table {
         ruling: &ManagerRecord,
     ) -> Result<(), DiskFault>
         requires running { file.old.stopped ≡ false }
-        ensures ok { OnOk result (self.new ≡ table_after self.old ruling.now) }
-        ensures err { OnErr result (self.new ≡ self.old) }
+        ensures ok { OnOk result (plain self.new ≡ table_after (plain self.old) ruling.now) }
+        ensures err { OnErr result (plain self.new ≡ plain self.old) }
         ensures file { Appends D.state file.old file.new (records.Manage (spelled ruling.now)) result }
     {
         match ruling {
-            ManagerRecord::First {
-                nodes: _,
-                target: _,
-            } => write(alloc, file, ruling),
-            ManagerRecord::CreateStream { stream, fence } => match write(alloc, file, ruling) {
-                Ok(()) => {
-                    self.list(alloc, stream, *fence);
-                    Ok(())
-                }
-                Err(fault) => Err(fault),
-            },
-            ManagerRecord::Extend {
-                stream,
-                generation: _,
-                pick,
-            } => self.write_lengthened(alloc, file, ruling, stream.kind, *pick),
+            ManagerRecord::First { .. } => write(alloc, file, ruling),
+            ManagerRecord::CreateStream { stream, fence } => {
+                write_created(&mut self.streams, alloc, file, ruling, stream, *fence)
+            }
+            ManagerRecord::OpenStreams { range, generation } => {
+                write_opened(&mut self.streams, alloc, file, ruling, *range, *generation)
+            }
+            ManagerRecord::Extend { stream, pick, .. } => {
+                let extents = &mut self.extents;
+                let streams = &mut self.streams;
+                write_lengthened(extents, streams, alloc, file, ruling, stream, *pick)
+            }
             ManagerRecord::Seal { extent, length } => match write(alloc, file, ruling) {
                 Ok(()) => {
                     self.seal(extent.number(), *length);

@@ -5,8 +5,8 @@ use disk::{Disk, DiskFault, FileFault, MemDisk, RecordFile};
 use std::alloc::Global;
 use std::test::Fail;
 use wire::{
-    ActorId, AppendBody, Body, ExtentId, Fence, Packet, RangeId, Refusal, ReqNo, SealBody, Step,
-    StreamBody, StreamKind, StreamName,
+    ActorId, AppendBody, Body, ExtentId, Fence, Modifies, Packet, RangeId, Refusal, ReqNo,
+    SealBody, ServerNo, Step, StreamBody, StreamKind, StreamList, StreamName,
 };
 
 // These calls pass no contract on, so that a test is proved from what it reads alone.
@@ -486,5 +486,250 @@ fn damaged(rt: HostRuntime) -> Result<(), Fail> {
     assert!(rt; two_nodes.is_some());
     let first = refused_start(alloc, disk_with(alloc, Some(&[1, 3, 0, 0, 16, 0]))?);
     assert!(rt; first.is_none());
+    Ok(())
+}
+
+// ---- servers, and the streams of ranges
+
+fn server_request() -> ReqNo {
+    ReqNo::Server {
+        server: ServerNo::new(2),
+        session: 1,
+        count: 1,
+    }
+}
+
+fn server(alloc: Global, manager: &mut Manager<MemDisk>, body: Body) -> Result<Step, DiskFault> {
+    let packet = Packet {
+        from: ActorId::Server(ServerNo::new(2)),
+        to: ActorId::Manager,
+        body,
+    };
+    take(manager, alloc, &packet)
+}
+
+fn open_body(range: u64, generation: u64) -> Body {
+    Body::Stream(StreamBody::OpenStreams {
+        range: RangeId::new(range),
+        generation: Fence::new(generation),
+        request: server_request(),
+    })
+}
+
+fn confirm_body(range: u64, generation: u64) -> Body {
+    Body::Stream(StreamBody::Confirm {
+        range: RangeId::new(range),
+        generation: Fence::new(generation),
+        request: server_request(),
+    })
+}
+
+fn trim_body() -> Body {
+    Body::Stream(StreamBody::Trim {
+        range: RangeId::new(1),
+        generation: Fence::new(1),
+        before: 1,
+        to_blob: false,
+        request: server_request(),
+    })
+}
+
+fn modify_body(alloc: Global) -> Body {
+    Body::Stream(StreamBody::MultiModify {
+        list: Modifies::of(Vec::new(alloc)),
+        request: server_request(),
+    })
+}
+
+/// A call for one more extent at the end of the row data of range 1.
+fn longer_body(generation: u64, last: Option<u64>, third: u8) -> Body {
+    let last = match last {
+        None => None,
+        Some(last) => Some(ExtentId::new(last)),
+    };
+    Body::Stream(StreamBody::Extend {
+        stream: stream(1),
+        generation: Fence::new(generation),
+        last,
+        pick: Nodes {
+            primary: 1,
+            second: 2,
+            third,
+        },
+        request: server_request(),
+    })
+}
+
+fn lengthen(
+    alloc: Global,
+    manager: &mut Manager<MemDisk>,
+    generation: u64,
+    last: Option<u64>,
+) -> Result<Step, DiskFault> {
+    server(alloc, manager, longer_body(generation, last, 3))
+}
+
+/// How many extents a list tells, and the length of the first of them.
+fn told_of(list: &StreamList) -> (usize, Option<u32>) {
+    match list.extents.as_slice() {
+        [] => (0, None),
+        [first, rest @ ..] => (rest.len() + 1, first.length),
+    }
+}
+
+/// What a step tells of the row data of the range that it opens, and of its log.
+fn told_lists(
+    taken: Result<Step, DiskFault>,
+) -> Option<((usize, Option<u32>), (usize, Option<u32>))> {
+    let Ok(step) = taken else {
+        return None;
+    };
+    match step.packets.as_slice() {
+        [only] => match &only.body {
+            Body::Stream(StreamBody::Opened { streams, .. }) => {
+                Some((told_of(&streams.row_data), told_of(&streams.log)))
+            }
+            _ => None,
+        },
+        _ => None,
+    }
+}
+
+fn is_confirmed(taken: Result<Step, DiskFault>) -> bool {
+    let Ok(step) = taken else {
+        return false;
+    };
+    match step.packets.as_slice() {
+        [only] => match &only.body {
+            Body::Stream(StreamBody::Confirmed { .. }) => true,
+            _ => false,
+        },
+        _ => false,
+    }
+}
+
+fn open(alloc: Global, manager: &mut Manager<MemDisk>, generation: u64) -> Result<Step, DiskFault> {
+    server(alloc, manager, open_body(1, generation))
+}
+
+fn confirm(
+    alloc: Global,
+    manager: &mut Manager<MemDisk>,
+    generation: u64,
+) -> Result<Step, DiskFault> {
+    server(alloc, manager, confirm_body(1, generation))
+}
+
+/// A manager whose range 1 is opened for generation 4, with one open extent.
+fn served(alloc: Global) -> Result<Manager<MemDisk>, Fail> {
+    let mut manager = begun(alloc)?;
+    sends(open(alloc, &mut manager, 4))?;
+    sends(lengthen(alloc, &mut manager, 4, None))?;
+    Ok(manager)
+}
+
+/// The extent of that manager is sealed.
+fn sealed_served(alloc: Global) -> Result<Manager<MemDisk>, Fail> {
+    let mut manager = served(alloc)?;
+    freeze(alloc, &mut manager)?;
+    if undecided(alloc, &mut manager, 1).is_some() {
+        return Err(Fail::from("not decided"));
+    }
+    Ok(manager)
+}
+
+#[test]
+fn opens_ranges(rt: HostRuntime) -> Result<(), Fail> {
+    let alloc = rt.alloc();
+    let mut manager = begun(alloc)?;
+    let first = open(alloc, &mut manager, 4);
+    assert!(rt; told_lists(first) == Some(((0, None), (0, None))));
+    let again = open(alloc, &mut manager, 4);
+    assert!(rt; refuses(again, Refusal::Stale));
+    let other = server(alloc, &mut manager, open_body(2, 4));
+    assert!(rt; refuses(other, Refusal::NoSuchStream));
+    let by_user = user(alloc, &mut manager, open_body(1, 9));
+    assert!(rt; refuses(by_user, Refusal::Stale));
+    Ok(())
+}
+
+#[test]
+fn tells_lists(rt: HostRuntime) -> Result<(), Fail> {
+    let alloc = rt.alloc();
+    let mut manager = sealed_served(alloc)?;
+    sends(lengthen(alloc, &mut manager, 4, Some(1)))?;
+    let next = open(alloc, &mut manager, 6);
+    assert!(rt; told_lists(next) == Some(((2, Some(20)), (0, None))));
+    Ok(())
+}
+
+#[test]
+fn confirms(rt: HostRuntime) -> Result<(), Fail> {
+    let alloc = rt.alloc();
+    let mut manager = served(alloc)?;
+    let own = confirm(alloc, &mut manager, 4);
+    assert!(rt; is_confirmed(own));
+    let older = confirm(alloc, &mut manager, 3);
+    assert!(rt; refuses(older, Refusal::Stale));
+    let other = server(alloc, &mut manager, confirm_body(2, 4));
+    assert!(rt; refuses(other, Refusal::NoSuchStream));
+    let by_user = user(alloc, &mut manager, confirm_body(1, 4));
+    assert!(rt; refuses(by_user, Refusal::Stale));
+    Ok(())
+}
+
+#[test]
+fn extends_for_a_generation(rt: HostRuntime) -> Result<(), Fail> {
+    let alloc = rt.alloc();
+    let mut manager = served(alloc)?;
+    let older = lengthen(alloc, &mut manager, 3, Some(1));
+    assert!(rt; refuses(older, Refusal::Stale));
+    let open_last = lengthen(alloc, &mut manager, 4, Some(1));
+    assert!(rt; refuses(open_last, Refusal::LastOpen));
+    let another = lengthen(alloc, &mut manager, 4, None);
+    assert!(rt; names(another, 1, 1));
+    let by_user = user(alloc, &mut manager, longer_body(4, Some(1), 3));
+    assert!(rt; refuses(by_user, Refusal::Stale));
+    let same_open = lengthen(alloc, &mut manager, 4, Some(1));
+    assert!(rt; refuses(same_open, Refusal::LastOpen));
+    Ok(())
+}
+
+#[test]
+fn picks(rt: HostRuntime) -> Result<(), Fail> {
+    let alloc = rt.alloc();
+    let mut manager = begun(alloc)?;
+    let unknown = server(alloc, &mut manager, longer_body(0, None, 5));
+    assert!(rt; refuses(unknown, Refusal::BadPick));
+    let repeated = server(alloc, &mut manager, longer_body(0, None, 2));
+    assert!(rt; refuses(repeated, Refusal::BadPick));
+    let first = server(alloc, &mut manager, longer_body(0, None, 4));
+    assert!(rt; names(first, 4, 1));
+    Ok(())
+}
+
+#[test]
+fn silent_calls(rt: HostRuntime) -> Result<(), Fail> {
+    let alloc = rt.alloc();
+    let mut manager = begun(alloc)?;
+    assert!(rt; sends(server(alloc, &mut manager, trim_body())) == Ok((0, 0)));
+    assert!(rt; sends(server(alloc, &mut manager, modify_body(alloc))) == Ok((0, 0)));
+    let trim = user(alloc, &mut manager, trim_body());
+    assert!(rt; refuses(trim, Refusal::Stale));
+    let modify = user(alloc, &mut manager, modify_body(alloc));
+    assert!(rt; refuses(modify, Refusal::Stale));
+    Ok(())
+}
+
+#[test]
+fn restart_keeps_fences(rt: HostRuntime) -> Result<(), Fail> {
+    let alloc = rt.alloc();
+    let mut manager = restarted(alloc, sealed_served(alloc)?)?;
+    let again = open(alloc, &mut manager, 4);
+    assert!(rt; refuses(again, Refusal::Stale));
+    let own = confirm(alloc, &mut manager, 4);
+    assert!(rt; is_confirmed(own));
+    let next = lengthen(alloc, &mut manager, 4, Some(1));
+    assert!(rt; names(next, 4, 2));
     Ok(())
 }

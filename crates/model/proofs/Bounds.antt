@@ -11,6 +11,8 @@ use Rattle.wire.specs.declared.body.AppendBody.{AppendBody}
 use Rattle.wire.specs.declared.body.AppendBody.TheVariants.{Append, Put, Have}
 use Rattle.wire.specs.declared.body.SealBody.{SealBody}
 use Rattle.wire.specs.declared.body.SealBody.TheVariants.{Make, Freeze, Seal, SendTail, Tail}
+use Rattle.wire.specs.declared.body.CheckBody.{CheckBody}
+use Rattle.wire.specs.declared.body.CheckBody.TheVariants.{Check, Probe, Probed}
 use Rattle.wire.specs.declared.body.ReadBody.{ReadBody}
 use Rattle.wire.specs.declared.body.ReadBody.TheVariants as reads
 use Rattle.wire.specs.declared.body.Body.{Body}
@@ -22,10 +24,11 @@ use Rattle.replica.specs.declared.phase.Phase.TheVariants as phases
 use Rattle.replica.specs.Groups.{Group, text_length}
 use Rattle.replica.specs.Reading.{groups_to, groups_from}
 use Rattle.replica.specs.Content.{Content}
+use Rattle.model.specs.declared.checking.Checking.{Checking}
 use Rattle.model.specs.declared.waiting.Waiting.{Waiting}
 use Rattle.model.specs.Actors.{is_node, is_manager}
 use Rattle.model.specs.Outcome.{Outcome, all_met, silent, sends, or_refused}
-use Rattle.model.specs.Node.{Replica, fresh, is_open, node_row, append_body_row, seal_body_row, read_body_row, append_taken, append_refusal, append_tests, make_row, make_taken, make_tests, put_fits, put_added, put_passed, put_taken, put_refusal, put_row, answered, answered_if, covered, lesser, with_length, have_row, read_taken, groups_taken, is_sealed, freezes, freeze_row, shorts, cuts, seals_again, seals, seal_row, tail_sent, send_tail_refusal, send_tail_row, tail_fits, tail_taken, tail_row, missing}
+use Rattle.model.specs.Node.{Replica, fresh, is_open, node_row, append_body_row, seal_body_row, read_body_row, append_taken, append_refusal, append_tests, make_row, make_taken, make_tests, put_fits, put_added, put_passed, put_taken, put_refusal, put_row, answered, answered_if, covered, lesser, with_length, have_row, read_taken, groups_taken, is_sealed, freezes, freeze_row, shorts, cuts, seals_again, seals, seal_row, tail_sent, send_tail_refusal, send_tail_row, tail_fits, tail_taken, tail_row, missing, check_body_row, check_refusal, check_begun, check_taken, check_row, probe_refusal, probe_taken, probe_row, with_probed, common_length, settled, probed_by, probed_for, probed_row}
 use Rattle.model.specs.Bounds.{FewWait, AreFew}
 use Rattle.model.proofs.Tests.{if_elim, none_met}
 
@@ -193,6 +196,51 @@ append_body_bounded n (Some r) p (Have e length) h = have_bounded n r p e length
 append_body_bounded n None p (Have e length) h = sent None _ h (omega arith)
 append_body_bounded n s p body h = quiet s h
 
+check_taken_bounded : (n : ℕ) (r : Replica) (p : Packet) (e generation : ℕ) (q : ReqNo) → FewWait (Some r) → Bounded (check_taken n r p e generation q)
+check_taken_bounded n r p e generation q h =
+    if_elim Bounded (is_open r.content.phase) (check_begun n r p e generation q) _
+    (λ t. record { waits = here _ (h r refl); few = (omega arith, omega arith) })
+    (λ f. sent (Some r) _ h (omega arith))
+
+check_bounded : (n : ℕ) (r : Replica) (p : Packet) (e generation : ℕ) (q : ReqNo) (x : Option Refusal) → FewWait (Some r) → Bounded (or_refused (Some r) (Node n) p q x (check_taken n r p e generation q))
+check_bounded n r p e generation q (Some refusal) h = sent (Some r) _ h (omega arith)
+check_bounded n r p e generation q None h = check_taken_bounded n r p e generation q h
+
+probe_refused_bounded : (n : ℕ) (r : Replica) (p : Packet) (e generation : ℕ) (x : Option Refusal) → FewWait (Some r) → Bounded (or_refused (Some r) (Node n) p NoRequest x (probe_taken n r e generation))
+probe_refused_bounded n r p e generation (Some refusal) h = sent (Some r) _ h (omega arith)
+probe_refused_bounded n r p e generation None h = record { waits = here _ (h r refl); few = (omega arith, omega arith) }
+
+probe_bounded : (n : ℕ) (r : Replica) (p : Packet) (e generation : ℕ) → FewWait (Some r) → Bounded (probe_row n r p e generation)
+probe_bounded n r p e generation h =
+    if_elim Bounded (is_node r.content.places.primary p.from) (or_refused (Some r) (Node n) p NoRequest (probe_refusal r generation) (probe_taken n r e generation)) (silent (Some r))
+    (λ t. probe_refused_bounded n r p e generation (probe_refusal r generation) h)
+    (λ f. quiet (Some r) h)
+
+settled_bounded : (n : ℕ) (r : Replica) (c : Checking) (second third : Option ℕ) → FewWait (Some r) → Bounded (settled n r c second third)
+settled_bounded n r c (Some second) (Some third) h = sent _ _ (here _ (h r refl)) (omega arith)
+settled_bounded n r c None third h = quiet _ (here _ (h r refl))
+settled_bounded n r c (Some second) None h = quiet _ (here _ (h r refl))
+
+probed_by_bounded : (n : ℕ) (r : Replica) (x : Option Checking) → FewWait (Some r) → Bounded (probed_by n r x)
+probed_by_bounded n r None h = quiet (Some r) h
+probed_by_bounded n r (Some c) h = settled_bounded n r c c.second c.third h
+
+probed_for_bounded : (n : ℕ) (r : Replica) (p : Packet) (generation length : ℕ) (x : Option Checking) → FewWait (Some r) → Bounded (probed_for n r p generation length x)
+probed_for_bounded n r p generation length None h = quiet (Some r) h
+probed_for_bounded n r p generation length (Some c) h =
+    if_elim Bounded (c.generation == generation) (probed_by n r (with_probed c r.content.places p.from length)) (silent (Some r))
+    (λ t. probed_by_bounded n r (with_probed c r.content.places p.from length) h)
+    (λ f. quiet (Some r) h)
+
+check_body_bounded : (n : ℕ) (s : Option Replica) (p : Packet) (body : CheckBody) → FewWait s → Bounded (check_body_row n s p body)
+check_body_bounded n (Some r) p (Check e generation q) h = check_bounded n r p e _ q _ h
+check_body_bounded n None p (Check e generation q) h = sent None _ h (omega arith)
+check_body_bounded n (Some r) p (Probe e generation) h = probe_bounded n r p e generation h
+check_body_bounded n None p (Probe e generation) h = sent None _ h (omega arith)
+check_body_bounded n (Some r) p (Probed e generation length) h = probed_for_bounded n r p generation length r.check h
+check_body_bounded n None p (Probed e generation length) h = sent None _ h (omega arith)
+check_body_bounded n s p body h = quiet s h
+
 seal_body_bounded : (n : ℕ) (s : Option Replica) (p : Packet) (body : SealBody) → FewWait s → Bounded (seal_body_row n s p body)
 seal_body_bounded n None p (Make e fence target places) h = make_bounded n p e fence target places h
 seal_body_bounded n (Some r) p (Freeze e) h = freeze_bounded n r p e h
@@ -214,6 +262,7 @@ read_body_bounded n s p body h = quiet s h
 
 pub row_bounded : (n : ℕ) (s : Option Replica) (p : Packet) (body : Body) → FewWait s → Bounded (node_row n s p body)
 row_bounded n s p (bodies.Append body) h = append_body_bounded n s p body h
+row_bounded n s p (bodies.Check body) h = check_body_bounded n s p body h
 row_bounded n s p (bodies.Seal body) h = seal_body_bounded n s p body h
 row_bounded n s p (bodies.Read body) h = read_body_bounded n s p body h
 row_bounded n s p body h = quiet s h

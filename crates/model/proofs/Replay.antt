@@ -9,6 +9,8 @@ use Rattle.wire.specs.declared.body.AppendBody.{AppendBody}
 use Rattle.wire.specs.declared.body.AppendBody.TheVariants.{Append, Put, Have}
 use Rattle.wire.specs.declared.body.SealBody.{SealBody}
 use Rattle.wire.specs.declared.body.SealBody.TheVariants.{Make, Freeze, Frozen, Seal, IsSealed, Short, SendTail, Tail}
+use Rattle.wire.specs.declared.body.CheckBody.{CheckBody}
+use Rattle.wire.specs.declared.body.CheckBody.TheVariants.{Check, Probe, Probed}
 use Rattle.wire.specs.declared.body.ReadBody.{ReadBody}
 use Rattle.wire.specs.declared.body.ReadBody.TheVariants as reads
 use Rattle.wire.specs.declared.actor.ReqNo.TheVariants.{NoRequest}
@@ -17,15 +19,16 @@ use Rattle.wire.specs.declared.body.Body.TheVariants as bodies
 use Rattle.wire.specs.declared.packet.Packet.{Packet}
 use Rattle.wire.specs.declared.refusal.Refusal.{Refusal}
 use Rattle.replica.specs.Groups.{Group, text_length}
-use Rattle.replica.specs.Content.{Content}
+use Rattle.replica.specs.Content.{Content, fenced}
 use Rattle.replica.specs.Replay as replays
 use Rattle.replica.specs.declared.phase.Phase.{Phase}
 use Rattle.replica.specs.declared.phase.Phase.TheVariants as phases
 use Rattle.replica.specs.Reading.{groups_to, groups_from}
 use Rattle.replica.specs.Replay.{applied, fits, is_place, is_tail, is_boundary}
+use Rattle.model.specs.declared.checking.Checking.{Checking}
 use Rattle.model.specs.Actors.{is_node, is_manager, is_one_of}
 use Rattle.model.specs.Outcome.{Outcome, all_met, silent, or_refused}
-use Rattle.model.specs.Node.{Replica, contents, node_row, append_body_row, seal_body_row, append_taken, append_refusal, append_tests, make_row, make_taken, make_tests, put_fits, put_added, put_passed, put_taken, put_tests, put_refusal, put_row, answered_if, with_length, have_row, read_taken, groups_taken, read_body_row, extent_of, append_extent, seal_extent, read_extent, is_open, is_frozen, is_sealed, freezes, freeze_row, shorts, sealed_at, cuts, seals_again, seals, seal_row, tail_sent, send_tail_refusal, send_tail_row, tail_fits, tail_taken, tail_row, missing}
+use Rattle.model.specs.Node.{Replica, contents, node_row, append_body_row, seal_body_row, append_taken, append_refusal, append_tests, make_row, make_taken, make_tests, put_fits, put_added, put_passed, put_taken, put_tests, put_refusal, put_row, answered_if, with_length, have_row, read_taken, groups_taken, read_body_row, extent_of, append_extent, seal_extent, read_extent, is_open, is_frozen, is_sealed, freezes, freeze_row, shorts, sealed_at, cuts, seals_again, seals, seal_row, tail_sent, send_tail_refusal, send_tail_row, tail_fits, tail_taken, tail_row, missing, check_body_row, check_extent, check_refusal, check_begun, check_taken, check_row, raised, raise_written, probe_refusal, probe_tests, probe_taken, probe_row, with_probed, settled, probed_by, probed_for, probed_row}
 use Rattle.std.proofs.lemmas.Bool.Decides.{nat_tests}
 use Rattle.wire.specs.declared.actor.ActorId.TheVariants.{Node}
 use Rattle.model.proofs.Tests.{if_elim, both_parts, both_true, none_met, all_are, AllMet}
@@ -187,6 +190,69 @@ missing_replays n p e =
     (λ t. record { is = refl; written = tt {0} })
     (λ f. record { is = refl; written = tt {0} })
 
+raise_cases : (n e : ℕ) (r : Replica) (generation : ℕ) (o : Outcome (Option Replica)) → is_open r.content.phase ≡ true → (b : Bool) → nat_lt r.content.fence generation ≡ b →
+    contents o.after ≡ Some (raised r.content generation) → o.written ≡ raise_written e r.content generation → Replays n e (Some r) o
+raise_cases n e r generation o live true higher made written =
+    let w : o.written ≡ Some (records.Fence e generation) = written ∙ rw higher refl in
+    let m : contents o.after ≡ Some (fenced r.content generation) = made ∙ rw higher refl in
+    record { is = rw (m, w) refl; written = rw w (refl, both_true _ _ live higher) }
+raise_cases n e r generation o live false higher made written =
+    let w : o.written ≡ None = written ∙ rw higher refl in
+    let m : contents o.after ≡ Some r.content = made ∙ rw higher refl in
+    record { is = rw (m, w) refl; written = rw w tt }
+
+-- a fence that rises is in the record, and another is as it was
+raise_replays : (n e : ℕ) (r : Replica) (generation : ℕ) (after : Replica) (o : Outcome (Option Replica)) → is_open r.content.phase ≡ true →
+    o.after ≡ Some after → after.content ≡ raised r.content generation → o.written ≡ raise_written e r.content generation → Replays n e (Some r) o
+raise_replays n e r generation after o live is content written =
+    raise_cases n e r generation o live (nat_lt r.content.fence generation) refl (rw is (ap Some content)) written
+
+check_taken_replays : (n : ℕ) (r : Replica) (p : Packet) (e generation : ℕ) (q : ReqNo) → Replays n e (Some r) (check_taken n r p e generation q)
+check_taken_replays n r p e generation q =
+    if_elim (Replays n e (Some r)) (is_open r.content.phase) (check_begun n r p e generation q) _
+    (λ t. raise_replays n e r generation _ (check_begun n r p e generation q) t refl refl refl)
+    (λ f. record { is = refl; written = tt {0} })
+
+check_replays : (n : ℕ) (r : Replica) (p : Packet) (e generation : ℕ) (q : ReqNo) (x : Option Refusal) → Replays n e (Some r) (or_refused (Some r) (Node n) p q x (check_taken n r p e generation q))
+check_replays n r p e generation q (Some refusal) = record { is = refl; written = tt }
+check_replays n r p e generation q None = check_taken_replays n r p e generation q
+
+probe_refused_replays : (n : ℕ) (r : Replica) (p : Packet) (e generation : ℕ) (x : Option Refusal) → probe_refusal r generation ≡ x → Replays n e (Some r) (or_refused (Some r) (Node n) p NoRequest x (probe_taken n r e generation))
+probe_refused_replays n r p e generation (Some refusal) is = record { is = refl; written = tt }
+probe_refused_replays n r p e generation None is =
+    raise_replays n e r generation _ (probe_taken n r e generation) (unmet_not _ (none_met (probe_tests r generation) is).0) refl refl refl
+
+probe_replays : (n : ℕ) (r : Replica) (p : Packet) (e generation : ℕ) → Replays n e (Some r) (probe_row n r p e generation)
+probe_replays n r p e generation =
+    if_elim (Replays n e (Some r)) (is_node r.content.places.primary p.from) (or_refused (Some r) (Node n) p NoRequest (probe_refusal r generation) (probe_taken n r e generation)) (silent (Some r))
+    (λ t. probe_refused_replays n r p e generation (probe_refusal r generation) refl)
+    (λ f. record { is = refl; written = tt {0} })
+
+settled_replays : (n e : ℕ) (r : Replica) (c : Checking) (second third : Option ℕ) → Replays n e (Some r) (settled n r c second third)
+settled_replays n e r c (Some second) (Some third) = record { is = refl; written = tt }
+settled_replays n e r c None third = record { is = refl; written = tt }
+settled_replays n e r c (Some second) None = record { is = refl; written = tt }
+
+probed_by_replays : (n e : ℕ) (r : Replica) (x : Option Checking) → Replays n e (Some r) (probed_by n r x)
+probed_by_replays n e r None = record { is = refl; written = tt }
+probed_by_replays n e r (Some c) = settled_replays n e r c c.second c.third
+
+probed_for_replays : (n e : ℕ) (r : Replica) (p : Packet) (generation length : ℕ) (x : Option Checking) → Replays n e (Some r) (probed_for n r p generation length x)
+probed_for_replays n e r p generation length None = record { is = refl; written = tt }
+probed_for_replays n e r p generation length (Some c) =
+    if_elim (Replays n e (Some r)) (c.generation == generation) (probed_by n r (with_probed c r.content.places p.from length)) (silent (Some r))
+    (λ t. probed_by_replays n e r (with_probed c r.content.places p.from length))
+    (λ f. record { is = refl; written = tt {0} })
+
+check_body_replays : (n : ℕ) (s : Option Replica) (p : Packet) (body : CheckBody) → Replays n (check_extent body) s (check_body_row n s p body)
+check_body_replays n (Some r) p (Check e generation q) = check_replays n r p e _ q _
+check_body_replays n None p (Check e generation q) = record { is = refl; written = tt }
+check_body_replays n (Some r) p (Probe e generation) = probe_replays n r p e generation
+check_body_replays n None p (Probe e generation) = record { is = refl; written = tt }
+check_body_replays n (Some r) p (Probed e generation length) = probed_for_replays n e r p generation length r.check
+check_body_replays n None p (Probed e generation length) = record { is = refl; written = tt }
+check_body_replays n s p body = record { is = refl; written = tt }
+
 append_body_replays : (n : ℕ) (s : Option Replica) (p : Packet) (body : AppendBody) → Replays n (append_extent body) s (append_body_row n s p body)
 append_body_replays n (Some r) p (Append e generation blocks q) = append_replays n r p e generation blocks q _ refl
 append_body_replays n None p (Append e generation blocks q) = record { is = refl; written = tt }
@@ -217,6 +283,7 @@ read_body_replays n s p body = record { is = refl; written = tt }
 
 pub row_replays : (n : ℕ) (s : Option Replica) (p : Packet) (body : Body) → Replays n (extent_of body) s (node_row n s p body)
 row_replays n s p (bodies.Append body) = append_body_replays n s p body
+row_replays n s p (bodies.Check body) = check_body_replays n s p body
 row_replays n s p (bodies.Seal body) = seal_body_replays n s p body
 row_replays n s p (bodies.Read body) = read_body_replays n s p body
 row_replays n s p body = record { is = refl; written = tt }

@@ -7,14 +7,9 @@ use Rattle.blocks.specs.Record.{number, nodes}
 use Rattle.wire.specs.declared.streams.StreamKind.{StreamKind}
 use Rattle.wire.specs.declared.streams.StreamKind.TheVariants.{Metadata, Log, RowData, BlobData}
 use Rattle.wire.specs.declared.streams.StreamName.{StreamName}
+pub use Rattle.streams.specs.Streams.{kind_number}
 use Rattle.model.specs.declared.manager_record.ManagerRecord.{ManagerRecord}
-use Rattle.model.specs.declared.manager_record.ManagerRecord.TheVariants.{First, CreateStream, Extend, Seal}
-
-abbrev pub kind_number : StreamKind → ℕ
-kind_number Metadata = 0
-kind_number Log = 1
-kind_number RowData = 2
-kind_number BlobData = 3
+use Rattle.model.specs.declared.manager_record.ManagerRecord.TheVariants.{First, CreateStream, OpenStreams, Extend, Seal}
 
 abbrev pub stream_name : StreamName → List ℕ
 stream_name s = number 8 s.range ++ kind_number s.kind ∷ []
@@ -23,6 +18,7 @@ stream_name s = number 8 s.range ++ kind_number s.kind ∷ []
 abbrev pub spelled : ManagerRecord → List ℕ
 spelled (First count target) = 1 ∷ count ∷ number 4 target
 spelled (CreateStream s fence) = 2 ∷ (stream_name s ++ number 8 fence)
+spelled (OpenStreams range generation) = 3 ∷ (number 8 range ++ number 8 generation)
 spelled (Extend s generation pick) = 4 ∷ (stream_name s ++ (number 8 generation ++ nodes pick))
 spelled (Seal e length) = 5 ∷ (number 8 e ++ number 4 length)
 
@@ -55,6 +51,11 @@ create_at fields = do
   x ← pair_at stream_at (number_at 8) fields
   whole (Some (CreateStream x.0.0 x.0.1, x.1))
 
+unfoldable pub open_at : List ℕ → Option ManagerRecord
+open_at fields = do
+  x ← pair_at (number_at 8) (number_at 8) fields
+  whole (Some (OpenStreams x.0.0 x.0.1, x.1))
+
 unfoldable pub extend_at : List ℕ → Option ManagerRecord
 extend_at fields = do
   x ← pair_at stream_at (pair_at (number_at 8) nodes_at) fields
@@ -69,6 +70,7 @@ seal_at fields = do
 unfoldable pub fields_at : ℕ → List ℕ → Option ManagerRecord
 fields_at (suc zero) fields = first_at fields
 fields_at (suc (suc zero)) fields = create_at fields
+fields_at (suc (suc (suc zero))) fields = open_at fields
 fields_at (suc (suc (suc (suc zero)))) fields = extend_at fields
 fields_at (suc (suc (suc (suc (suc zero))))) fields = seal_at fields
 fields_at kind fields = None

@@ -1,5 +1,5 @@
 -- The table of the stream manager: what it does with a packet or a call, as a function of its book.
-use Rattle.std.specs.Prelude.{ℕ, suc, Bool, true, false, not, ◌&&◌, List, [], ◌∷◌, ◌++◌, Option, Some, None, ◌==◌, nat_le, if◌then◌else◌}
+use Rattle.std.specs.Prelude.{ℕ, suc, Bool, true, false, not, ◌&&◌, List, [], ◌∷◌, ◌++◌, Option, Some, None, Result, Ok, Err, ◌==◌, nat_lt, nat_le, if◌then◌else◌}
 use Rattle.blocks.specs.declared.record.Nodes.{Nodes}
 use Rattle.blocks.specs.declared.record.Record.{Record}
 use Rattle.blocks.specs.declared.record.Record.TheVariants.{Manage}
@@ -10,21 +10,26 @@ use Rattle.wire.specs.declared.actor.ReqNo.{ReqNo}
 use Rattle.wire.specs.declared.body.SealBody.{SealBody}
 use Rattle.wire.specs.declared.body.SealBody.TheVariants.{Make, SealExtent, SealedIs, Freeze, Frozen, Seal, IsSealed, Short, SendTail}
 use Rattle.wire.specs.declared.body.StreamBody.{StreamBody}
-use Rattle.wire.specs.declared.body.StreamBody.TheVariants.{CreateStream, Created, Extend, Extended}
+use Rattle.wire.specs.declared.body.StreamBody.TheVariants.{CreateStream, Created, OpenStreams, Opened, Confirm, Confirmed, Extend, Extended, Trim, MultiModify}
 use Rattle.wire.specs.declared.body.Body.{Body}
 use Rattle.wire.specs.declared.body.Body.TheVariants as bodies
 use Rattle.wire.specs.declared.note.Note.TheVariants as notes
 use Rattle.wire.specs.declared.packet.Packet.{Packet}
 use Rattle.wire.specs.declared.refusal.Refusal.{Refusal}
-use Rattle.wire.specs.declared.refusal.Refusal.TheVariants.{NoSuchExtent, Stale, NoReply, NoSuchStream, NameTaken, LastOpen, BadPick}
+use Rattle.wire.specs.declared.refusal.Refusal.TheVariants.{NoSuchExtent, Stale, NoReply, NoSuchStream, NameTaken, BadPick}
+use Rattle.wire.specs.declared.streams.StreamExtent.{StreamExtent}
+use Rattle.wire.specs.declared.streams.StreamList.{StreamList}
+use Rattle.wire.specs.declared.streams.StreamLists.{StreamLists}
 use Rattle.wire.specs.declared.streams.StreamName.{StreamName}
+use Rattle.streams.specs.Streams.{Stream, Streams, stream_of, empty_stream, has_four, all_pass, create_fault, created, opened, extended as extended_streams, extending}
+pub use Rattle.streams.specs.Streams.{is_there}
 use Rattle.model.specs.declared.extent.Asker.{Asker}
 use Rattle.model.specs.declared.extent.Extent.{Extent}
 use Rattle.model.specs.declared.extent.PlaceReport.{PlaceReport}
 use Rattle.model.specs.declared.manager_record.ManagerRecord.{ManagerRecord}
 use Rattle.model.specs.declared.manager_record.ManagerRecord.TheVariants as ledger
-use Rattle.model.specs.Actors.{is_node, is_user}
-use Rattle.model.specs.Ledger.{spelled, kind_number}
+use Rattle.model.specs.Actors.{is_node, is_user, generation_of}
+use Rattle.model.specs.Ledger.{spelled}
 use Rattle.model.specs.Maps.{changed}
 use Rattle.model.specs.Outcome.{Outcome, packet, first_met, silent, sends, refused, or_refused}
 
@@ -45,22 +50,21 @@ abbrev pub forgotten_if : Option Extent → Option Extent
 forgotten_if None = None
 forgotten_if (Some x) = Some (forgotten x)
 
--- a stream of users: what its calls have to name, and its extents in order
-pub record Stream : Type 0 where
-  pub fence : ℕ
-  pub extents : List ℕ
-
 -- the nodes are numbered from 1, and so are the extents
 pub record Book : Type 0 where
   pub nodes : ℕ
   pub target : ℕ
   pub count : ℕ
-  pub stream : ℕ → Option Stream  -- of range 0, by the number of its kind
+  pub stream : Streams
   pub extent : ℕ → Option Extent
+
+-- range 1 has four empty streams
+abbrev pub first_streams : Streams
+first_streams range kind = if (range == 1) && nat_le kind 3 then Some (empty_stream 0) else None
 
 abbrev pub first_book : ℕ → ℕ → Book
 first_book nodes target =
-    record { nodes = nodes; target = target; count = 0; stream = λ k. None; extent = λ e. None }
+    record { nodes = nodes; target = target; count = 0; stream = first_streams; extent = λ e. None }
 
 -- what a stop leaves of the book
 abbrev pub book_stopped : Book → Book
@@ -75,48 +79,114 @@ abbrev pub each_place : Nodes → Body → List Packet
 each_place places body =
     packet Manager (Node places.primary) body ∷ packet Manager (Node places.second) body ∷ packet Manager (Node places.third) body ∷ []
 
-abbrev pub is_there : {A : Type 0} → Option A → Bool
-is_there None = false
-is_there (Some x) = true
-
 abbrev pub answer : Book → Packet → StreamBody → Outcome Book
 answer b p body = sends b (packet Manager p.from (bodies.Stream body) ∷ [])
 
-abbrev pub with_stream : Book → ℕ → Stream → Book
-with_stream b k x = record b { stream = changed k (Some x) b.stream }
+abbrev pub with_streams : Book → Streams → Book
+with_streams b streams = record b { stream = streams }
 
 abbrev pub with_extent : Book → ℕ → Extent → Book
 with_extent b e x = record b { extent = changed e (Some x) b.extent }
 
--- with one more extent, at the end of a stream
-abbrev pub extended : Book → ℕ → Stream → Nodes → Book
-extended b k x pick =
+-- with one more extent, at the end of a stream, and made with this fence
+abbrev pub extended : Book → StreamName → ℕ → Nodes → Book
+extended b s fence pick =
     record b {
       count = suc b.count;
-      stream = changed k (Some (record x { extents = x.extents ++ suc b.count ∷ [] })) b.stream;
-      extent = changed (suc b.count) (Some (new_extent pick x.fence)) b.extent;
+      stream = extended_streams b.stream s (suc b.count);
+      extent = changed (suc b.count) (Some (new_extent pick fence)) b.extent;
     }
+
+-- users have the streams of range 0, and no others
+abbrev pub is_foreign : ActorId → ℕ → Bool
+is_foreign from range = is_user from && not (range == 0)
 
 -- ---- CreateStream
 
-abbrev pub create_tests : Book → StreamName → List (Refusal × Bool)
-create_tests b s = (Stale, not (s.range == 0)) ∷ (NameTaken, is_there (b.stream (kind_number s.kind))) ∷ []
+abbrev pub create_tests : Book → Packet → StreamName → List (Refusal × Bool)
+create_tests b p s = (Stale, is_foreign p.from s.range) ∷ (NameTaken, is_there (create_fault b.stream s)) ∷ []
 
-abbrev pub create_refusal : Book → StreamName → Option Refusal
-create_refusal b s = first_met (create_tests b s)
+abbrev pub create_refusal : Book → Packet → StreamName → Option Refusal
+create_refusal b p s = first_met (create_tests b p s)
 
--- a new stream of a user has fence 0 and no extent
-abbrev pub create_taken : Book → Packet → StreamName → ReqNo → Outcome Book
-create_taken b p s q =
+-- a new stream has no extent
+abbrev pub create_taken : Book → Packet → StreamName → ℕ → ReqNo → Outcome Book
+create_taken b p s fence q =
     record {
-      after = with_stream b (kind_number s.kind) (record { fence = 0; extents = [] });
-      written = writes (ledger.CreateStream s 0);
+      after = with_streams b (created b.stream s fence);
+      written = writes (ledger.CreateStream s fence);
       packets = packet Manager p.from (bodies.Stream (Created q)) ∷ [];
       notes = [];
     }
 
-abbrev pub create_row : Book → Packet → StreamName → ReqNo → Outcome Book
-create_row b p s q = or_refused b Manager p q (create_refusal b s) (create_taken b p s q)
+abbrev pub create_row : Book → Packet → StreamName → ℕ → ReqNo → Outcome Book
+create_row b p s fence q = or_refused b Manager p q (create_refusal b p s) (create_taken b p s fence q)
+
+-- ---- OpenStreams
+
+abbrev pub open_tests : Book → Packet → ℕ → ℕ → List (Refusal × Bool)
+open_tests b p range generation =
+    (Stale, is_user p.from)
+    ∷ (NoSuchStream, not (has_four b.stream range))
+    ∷ (Stale, not (all_pass (λ x. nat_lt x.fence generation) b.stream range))
+    ∷ []
+
+abbrev pub open_refusal : Book → Packet → ℕ → ℕ → Option Refusal
+open_refusal b p range generation = first_met (open_tests b p range generation)
+
+-- what is told of an extent
+abbrev pub told_of : ℕ → Extent → StreamExtent
+told_of e x = record { extent = e; places = x.places; length = x.sealed }
+
+abbrev pub told_before : ℕ → Option Extent → List StreamExtent → List StreamExtent
+told_before e None rest = rest
+told_before e (Some x) rest = told_of e x ∷ rest
+
+abbrev pub told_extents : (ℕ → Option Extent) → List ℕ → List StreamExtent
+told_extents extent [] = []
+told_extents extent (e ∷ es) = told_before e (extent e) (told_extents extent es)
+
+abbrev pub told_stream : (ℕ → Option Extent) → Option Stream → StreamList
+told_stream extent None = record { base = 0; extents = [] }
+told_stream extent (Some x) = record { base = x.base; extents = told_extents extent x.extents }
+
+abbrev pub told_streams : Book → ℕ → StreamLists
+told_streams b range =
+    record {
+      metadata = told_stream b.extent (b.stream range 0);
+      log = told_stream b.extent (b.stream range 1);
+      row_data = told_stream b.extent (b.stream range 2);
+      blob_data = told_stream b.extent (b.stream range 3);
+    }
+
+-- the fences of the four rise to the generation, and their extents are told
+abbrev pub open_taken : Book → Packet → ℕ → ℕ → ReqNo → Outcome Book
+open_taken b p range generation q =
+    record {
+      after = with_streams b (opened b.stream range generation);
+      written = writes (ledger.OpenStreams range generation);
+      packets = packet Manager p.from (bodies.Stream (Opened q (told_streams b range))) ∷ [];
+      notes = [];
+    }
+
+abbrev pub open_row : Book → Packet → ℕ → ℕ → ReqNo → Outcome Book
+open_row b p range generation q = or_refused b Manager p q (open_refusal b p range generation) (open_taken b p range generation q)
+
+-- ---- Confirm
+
+abbrev pub confirm_tests : Book → Packet → ℕ → ℕ → List (Refusal × Bool)
+confirm_tests b p range generation =
+    (Stale, is_user p.from)
+    ∷ (NoSuchStream, not (has_four b.stream range))
+    ∷ (Stale, not (all_pass (λ x. x.fence == generation) b.stream range))
+    ∷ []
+
+abbrev pub confirm_refusal : Book → Packet → ℕ → ℕ → Option Refusal
+confirm_refusal b p range generation = first_met (confirm_tests b p range generation)
+
+abbrev pub confirm_row : Book → Packet → ℕ → ℕ → ReqNo → Outcome Book
+confirm_row b p range generation q =
+    or_refused b Manager p q (confirm_refusal b p range generation) (answer b p (Confirmed q))
 
 -- ---- Extend
 
@@ -124,49 +194,49 @@ create_row b p s q = or_refused b Manager p q (create_refusal b s) (create_taken
 abbrev pub is_pick : ℕ → Nodes → Bool
 is_pick nodes pick = are_nodes pick && (nat_le pick.primary nodes && (nat_le pick.second nodes && nat_le pick.third nodes))
 
-abbrev pub last_of : List ℕ → Option ℕ
-last_of [] = None
-last_of (e ∷ []) = Some e
-last_of (e ∷ f ∷ es) = last_of (f ∷ es)
+-- the length of an extent, where it is sealed
+abbrev pub sealed_in : Option Extent → Option ℕ
+sealed_in None = None
+sealed_in (Some x) = x.sealed
 
-abbrev pub is_number : ℕ → Option ℕ → Bool
-is_number e None = false
-is_number e (Some f) = f == e
+abbrev pub sealed_lengths : Book → ℕ → Option ℕ
+sealed_lengths b e = sealed_in (b.extent e)
 
 -- one more extent at the end of a stream, and a replica of it at each place
-abbrev pub extend_made : Book → Packet → StreamName → Stream → Nodes → ReqNo → Outcome Book
-extend_made b p s x pick q =
+abbrev pub extend_made : Book → Packet → StreamName → ℕ → Nodes → ReqNo → Outcome Book
+extend_made b p s fence pick q =
     record {
-      after = extended b (kind_number s.kind) x pick;
-      written = writes (ledger.Extend s x.fence pick);
-      packets = each_place pick (bodies.Seal (Make (suc b.count) x.fence b.target pick))
+      after = extended b s fence pick;
+      written = writes (ledger.Extend s fence pick);
+      packets = each_place pick (bodies.Seal (Make (suc b.count) fence b.target pick))
           ++ packet Manager p.from (bodies.Stream (Extended q (suc b.count) pick)) ∷ [];
       notes = [];
     }
 
-abbrev pub extend_picked : Book → Packet → StreamName → Stream → Nodes → ReqNo → Outcome Book
-extend_picked b p s x pick q =
-    if is_pick b.nodes pick then extend_made b p s x pick q else refused b Manager p q BadPick
+abbrev pub extend_picked : Book → Packet → StreamName → ℕ → Nodes → ReqNo → Outcome Book
+extend_picked b p s generation pick q =
+    if is_pick b.nodes pick then extend_made b p s generation pick q else refused b Manager p q BadPick
 
--- behind an extent: another than the caller takes for the last is named to it, and nothing is made behind an open one
-abbrev pub extend_behind : Book → Packet → StreamName → Stream → ℕ → Option Extent → Option ℕ → Nodes → ReqNo → Outcome Book
-extend_behind b p s x e None last pick q = silent b
-extend_behind b p s x e (Some extent) last pick q =
-    if is_number e last
-    then (if is_there extent.sealed then extend_picked b p s x pick q else refused b Manager p q LastOpen)
-    else answer b p (Extended q e extent.places)
+-- an extent is named to those who took another for the last
+abbrev pub last_told : Book → Packet → ℕ → Option Extent → ReqNo → Outcome Book
+last_told b p e None q = silent b
+last_told b p e (Some x) q = answer b p (Extended q e x.places)
 
-abbrev pub extend_after : Book → Packet → StreamName → Stream → Option ℕ → Option ℕ → Nodes → ReqNo → Outcome Book
-extend_after b p s x None last pick q = extend_picked b p s x pick q
-extend_after b p s x (Some e) last pick q = extend_behind b p s x e (b.extent e) last pick q
+-- the generation has to be the fence of the stream, so its new extents are made with it
+abbrev pub extend_answered : Book → Packet → StreamName → ℕ → Nodes → ReqNo → Result (Option ℕ) Refusal → Outcome Book
+extend_answered b p s generation pick q (Err refusal) = refused b Manager p q refusal
+extend_answered b p s generation pick q (Ok None) = extend_picked b p s generation pick q
+extend_answered b p s generation pick q (Ok (Some e)) = last_told b p e (b.extent e) q
 
-abbrev pub extend_stream : Book → Packet → StreamName → Option Stream → Option ℕ → Nodes → ReqNo → Outcome Book
-extend_stream b p s None last pick q = refused b Manager p q NoSuchStream
-extend_stream b p s (Some x) last pick q = extend_after b p s x (last_of x.extents) last pick q
+abbrev pub extend_row : Book → Packet → StreamName → ℕ → Option ℕ → Nodes → ReqNo → Outcome Book
+extend_row b p s generation last pick q =
+    if is_foreign p.from s.range then refused b Manager p q Stale
+    else extend_answered b p s generation pick q (extending (sealed_lengths b) (stream_of b.stream s) generation last)
 
-abbrev pub extend_row : Book → Packet → StreamName → Option ℕ → Nodes → ReqNo → Outcome Book
-extend_row b p s last pick q =
-    if s.range == 0 then extend_stream b p s (b.stream (kind_number s.kind)) last pick q else refused b Manager p q Stale
+-- ---- calls that no user makes
+
+abbrev pub no_users : Book → Packet → ReqNo → Outcome Book
+no_users b p q = if is_user p.from then refused b Manager p q Stale else silent b
 
 -- ---- SealExtent
 
@@ -291,9 +361,14 @@ decide_refusal (Some x) = first_met ((NoReply, not (is_there x.sealed) && not (i
 
 -- ---- the table
 
+-- a user counts with generation 0
 abbrev pub stream_body_row : Book → Packet → StreamBody → Outcome Book
-stream_body_row b p (CreateStream s fence q) = create_row b p s q
-stream_body_row b p (Extend s generation last pick q) = extend_row b p s last pick q
+stream_body_row b p (CreateStream s fence q) = create_row b p s (generation_of p.from fence) q
+stream_body_row b p (OpenStreams range generation q) = open_row b p range generation q
+stream_body_row b p (Confirm range generation q) = confirm_row b p range generation q
+stream_body_row b p (Extend s generation last pick q) = extend_row b p s (generation_of p.from generation) last pick q
+stream_body_row b p (Trim range generation before to_blob q) = no_users b p q
+stream_body_row b p (MultiModify list q) = no_users b p q
 stream_body_row b p body = silent b
 
 abbrev pub seal_body_row : Book → Packet → SealBody → Outcome Book
@@ -303,8 +378,8 @@ seal_body_row b p (IsSealed e) = is_sealed_row b p e (b.extent e)
 seal_body_row b p (Short e length) = short_row b p e length (b.extent e)
 seal_body_row b p body = silent b
 
--- what the manager does with a packet; a user counts with generation 0, which is the fence of such a stream
+-- what the manager does with a packet
 abbrev pub manager_row : Book → Packet → Body → Outcome Book
-manager_row b p (bodies.Stream body) = if is_user p.from then stream_body_row b p body else silent b
+manager_row b p (bodies.Stream body) = stream_body_row b p body
 manager_row b p (bodies.Seal body) = seal_body_row b p body
 manager_row b p body = silent b

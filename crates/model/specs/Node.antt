@@ -1,6 +1,7 @@
 -- The table of an extent node: what it does with a packet about an extent, as a function of its replica.
 use Rattle.std.specs.Prelude.{ℕ, suc, ◌+◌, Bool, true, false, not, ◌&&◌, ◌||◌, List, [], ◌∷◌, ◌++◌, length, map, take, drop, Option, Some, None, ◌==◌, nat_lt, nat_le, if◌then◌else◌}
 use Rattle.blocks.specs.declared.record.Nodes.{Nodes}
+use Rattle.blocks.specs.declared.record.Record.{Record}
 use Rattle.blocks.specs.declared.record.Record.TheVariants as records
 use Rattle.blocks.specs.Reading.{is_within, are_nodes}
 use Rattle.wire.specs.Blocks.{has_bad_block}
@@ -12,6 +13,8 @@ use Rattle.wire.specs.declared.body.AppendBody.{AppendBody}
 use Rattle.wire.specs.declared.body.AppendBody.TheVariants.{Append, Put, Have, Appended}
 use Rattle.wire.specs.declared.body.SealBody.{SealBody}
 use Rattle.wire.specs.declared.body.SealBody.TheVariants.{Make, Freeze, Frozen, Seal, IsSealed, Short, SendTail, Tail}
+use Rattle.wire.specs.declared.body.CheckBody.{CheckBody}
+use Rattle.wire.specs.declared.body.CheckBody.TheVariants.{Check, Probe, Probed, Checked}
 use Rattle.wire.specs.declared.body.ReadBody.{ReadBody}
 use Rattle.wire.specs.declared.body.ReadBody.TheVariants as reads
 use Rattle.wire.specs.declared.body.Body.{Body}
@@ -24,25 +27,27 @@ use Rattle.wire.specs.declared.refusal.Refusal.TheVariants.{NoSuchExtent, NotPri
 use Rattle.replica.specs.declared.phase.Phase.{Phase}
 use Rattle.replica.specs.declared.phase.Phase.TheVariants as phases
 use Rattle.replica.specs.Groups.{Group, text, size, text_length}
-use Rattle.replica.specs.Content.{Content, new_content, appended, frozen, sealed_with}
+use Rattle.replica.specs.Content.{Content, new_content, appended, fenced, frozen, sealed_with}
 use Rattle.replica.specs.Reading.{bytes_at, groups_to, groups_from}
 pub use Rattle.replica.specs.Replay.{is_open, is_frozen, is_sealed}
 use Rattle.replica.specs.Replay.{is_place, is_tail}
+use Rattle.model.specs.declared.checking.Checking.{Checking}
 use Rattle.model.specs.declared.waiting.Waiting.{Waiting}
 use Rattle.model.specs.Actors.{is_node, is_manager, is_one_of, generation_of}
 use Rattle.model.specs.Outcome.{Outcome, packet, first_met, all_met, silent, sends, refused, or_refused}
 
 -- a replica: what its records say, and what a stop drops. Its primary keeps how long the second and the third place
--- are known to be, and the appends that wait for them
+-- are known to be, the appends that wait for them, and the check that is under way
 pub record Replica : Type 0 where
   pub content : Content
   pub second_has : ℕ
   pub third_has : ℕ
   pub waiting : List Waiting
+  pub check : Option Checking
 
 -- with what a stop drops empty
 abbrev pub fresh : Content → Replica
-fresh content = record { content = content; second_has = 0; third_has = 0; waiting = [] }
+fresh content = record { content = content; second_has = 0; third_has = 0; waiting = []; check = None }
 
 -- without what a stop drops
 abbrev pub contents : Option Replica → Option Content
@@ -195,6 +200,111 @@ have_row n r p e length =
     if (n == r.content.places.primary) && is_open r.content.phase
     then answered_if n r e (with_length r p.from length)
     else silent (Some r)
+
+-- ---- Check
+
+abbrev pub check_tests : ℕ → Replica → ℕ → List (Refusal × Bool)
+check_tests n r generation =
+    (NotPrimary, not (n == r.content.places.primary)) ∷ (Stale, nat_lt generation r.content.fence) ∷ []
+
+abbrev pub check_refusal : ℕ → Replica → ℕ → Option Refusal
+check_refusal n r generation = first_met (check_tests n r generation)
+
+-- listens to no generation below this one
+abbrev pub raised : Content → ℕ → Content
+raised content generation = if nat_lt content.fence generation then fenced content generation else content
+
+-- a fence that rises is written down
+abbrev pub raise_written : ℕ → Content → ℕ → Option Record
+raise_written e content generation = if nat_lt content.fence generation then Some (records.Fence e generation) else None
+
+-- each secondary is asked for its length
+abbrev pub probes : ℕ → Nodes → ℕ → ℕ → List Packet
+probes n places e generation =
+    packet (Node n) (Node places.second) (bodies.Check (Probe e generation))
+    ∷ packet (Node n) (Node places.third) (bodies.Check (Probe e generation)) ∷ []
+
+-- a check that is under way already is dropped without an answer
+abbrev pub check_begun : ℕ → Replica → Packet → ℕ → ℕ → ReqNo → Outcome (Option Replica)
+check_begun n r p e generation q =
+    record {
+      after = Some (record r {
+        content = raised r.content generation;
+        check = Some (record { generation = generation; asker = p.from; request = q; second = None; third = None });
+      });
+      written = raise_written e r.content generation;
+      packets = probes n r.content.places e generation;
+      notes = [];
+    }
+
+abbrev pub checked_as : ℕ → ActorId → ReqNo → Option ℕ → List Packet
+checked_as n asker q length = packet (Node n) asker (bodies.Check (Checked q length)) ∷ []
+
+-- what takes no more groups has no length to check
+abbrev pub check_taken : ℕ → Replica → Packet → ℕ → ℕ → ReqNo → Outcome (Option Replica)
+check_taken n r p e generation q =
+    if is_open r.content.phase then check_begun n r p e generation q else sends (Some r) (checked_as n p.from q None)
+
+abbrev pub check_row : ℕ → Replica → Packet → ℕ → ℕ → ReqNo → Outcome (Option Replica)
+check_row n r p e generation q =
+    or_refused (Some r) (Node n) p q (check_refusal n r generation) (check_taken n r p e generation q)
+
+-- ---- Probe
+
+abbrev pub probe_tests : Replica → ℕ → List (Refusal × Bool)
+probe_tests r generation = (NotOpen, not (is_open r.content.phase)) ∷ (Stale, nat_lt generation r.content.fence) ∷ []
+
+abbrev pub probe_refusal : Replica → ℕ → Option Refusal
+probe_refusal r generation = first_met (probe_tests r generation)
+
+abbrev pub probe_taken : ℕ → Replica → ℕ → ℕ → Outcome (Option Replica)
+probe_taken n r e generation =
+    record {
+      after = Some (record r { content = raised r.content generation });
+      written = raise_written e r.content generation;
+      packets = packet (Node n) (Node r.content.places.primary) (bodies.Check (Probed e generation (text_length r.content.groups))) ∷ [];
+      notes = [];
+    }
+
+abbrev pub probe_row : ℕ → Replica → Packet → ℕ → ℕ → Outcome (Option Replica)
+probe_row n r p e generation =
+    if is_node r.content.places.primary p.from
+    then or_refused (Some r) (Node n) p NoRequest (probe_refusal r generation) (probe_taken n r e generation)
+    else silent (Some r)
+
+-- ---- Probed
+
+-- with what a secondary tells of its length; none where the sender is no secondary
+abbrev pub with_probed : Checking → Nodes → ActorId → ℕ → Option Checking
+with_probed c places from length =
+    if is_node places.second from then Some (record c { second = Some length })
+    else if is_node places.third from then Some (record c { third = Some length })
+    else None
+
+-- the length that all three have, while the replica is open
+abbrev pub common_length : Replica → ℕ → ℕ → Option ℕ
+common_length r second third =
+    if is_open r.content.phase && ((second == text_length r.content.groups) && (third == text_length r.content.groups))
+    then Some (text_length r.content.groups) else None
+
+-- the check is answered once both secondaries have told
+abbrev pub settled : ℕ → Replica → Checking → Option ℕ → Option ℕ → Outcome (Option Replica)
+settled n r c (Some second) (Some third) =
+    sends (Some (record r { check = None })) (checked_as n c.asker c.request (common_length r second third))
+settled n r c None third = silent (Some (record r { check = Some c }))
+settled n r c (Some second) None = silent (Some (record r { check = Some c }))
+
+abbrev pub probed_by : ℕ → Replica → Option Checking → Outcome (Option Replica)
+probed_by n r None = silent (Some r)
+probed_by n r (Some c) = settled n r c c.second c.third
+
+abbrev pub probed_for : ℕ → Replica → Packet → ℕ → ℕ → Option Checking → Outcome (Option Replica)
+probed_for n r p generation length None = silent (Some r)
+probed_for n r p generation length (Some c) =
+    if c.generation == generation then probed_by n r (with_probed c r.content.places p.from length) else silent (Some r)
+
+abbrev pub probed_row : ℕ → Replica → Packet → ℕ → ℕ → Outcome (Option Replica)
+probed_row n r p generation length = probed_for n r p generation length r.check
 
 -- ---- ReadAt
 
@@ -366,6 +476,15 @@ append_body_row n (Some r) p (Have e length) = have_row n r p e length
 append_body_row n None p (Have e length) = refused None (Node n) p NoRequest NoSuchExtent
 append_body_row n s p body = silent s
 
+abbrev pub check_body_row : ℕ → Option Replica → Packet → CheckBody → Outcome (Option Replica)
+check_body_row n (Some r) p (Check e generation q) = check_row n r p e (generation_of p.from generation) q
+check_body_row n None p (Check e generation q) = refused None (Node n) p q NoSuchExtent
+check_body_row n (Some r) p (Probe e generation) = probe_row n r p e generation
+check_body_row n None p (Probe e generation) = refused None (Node n) p NoRequest NoSuchExtent
+check_body_row n (Some r) p (Probed e generation length) = probed_row n r p generation length
+check_body_row n None p (Probed e generation length) = refused None (Node n) p NoRequest NoSuchExtent
+check_body_row n s p body = silent s
+
 -- the manager is told that there is no replica
 abbrev pub missing : ℕ → Packet → Outcome (Option Replica)
 missing n p = if is_manager p.from then refused None (Node n) p NoRequest NoSuchExtent else silent None
@@ -392,6 +511,7 @@ read_body_row n s p body = silent s
 -- what node n does with a packet about an extent of which it has this replica
 abbrev pub node_row : ℕ → Option Replica → Packet → Body → Outcome (Option Replica)
 node_row n s p (bodies.Append body) = append_body_row n s p body
+node_row n s p (bodies.Check body) = check_body_row n s p body
 node_row n s p (bodies.Seal body) = seal_body_row n s p body
 node_row n s p (bodies.Read body) = read_body_row n s p body
 node_row n s p body = silent s
@@ -401,6 +521,12 @@ append_extent (Append e generation blocks q) = e
 append_extent (Put e offset group) = e
 append_extent (Have e length) = e
 append_extent _ = 0
+
+abbrev pub check_extent : CheckBody → ℕ
+check_extent (Check e generation q) = e
+check_extent (Probe e generation) = e
+check_extent (Probed e generation length) = e
+check_extent _ = 0
 
 abbrev pub seal_extent : SealBody → ℕ
 seal_extent (Make e fence target places) = e
@@ -418,6 +544,7 @@ read_extent _ = 0
 -- the extent that a packet to a node is about, where its row is built; 0 is no extent
 abbrev pub extent_of : Body → ℕ
 extent_of (bodies.Append body) = append_extent body
+extent_of (bodies.Check body) = check_extent body
 extent_of (bodies.Seal body) = seal_extent body
 extent_of (bodies.Read body) = read_extent body
 extent_of _ = 0

@@ -3,15 +3,17 @@ use Rattle.std.specs.Prelude.{◌≡◌, ℕ, suc, Bool, true, false, not, ◌&&
 use Rattle.blocks.specs.declared.record.Nodes.{Nodes}
 use Rattle.blocks.specs.declared.record.Record.{Record}
 use Rattle.blocks.specs.declared.record.Record.TheVariants.{Manage}
+use Rattle.wire.specs.declared.streams.StreamName.{StreamName}
 use Rattle.model.specs.declared.extent.Extent.{Extent}
 use Rattle.model.specs.declared.manager_record.ManagerRecord.{ManagerRecord}
-use Rattle.model.specs.declared.manager_record.ManagerRecord.TheVariants.{First, CreateStream, Extend, Seal}
-use Rattle.model.specs.Ledger.{kind_number, record_of}
-use Rattle.model.specs.Manager.{Book, Stream, first_book, new_extent, with_stream, with_extent, extended, sealed_to, is_there, is_pick, last_of}
+use Rattle.model.specs.declared.manager_record.ManagerRecord.TheVariants.{First, CreateStream, OpenStreams, Extend, Seal}
+use Rattle.streams.specs.Streams.{Stream, Streams, stream_of, create_fault, open_fault, created, opened, last_of}
+use Rattle.model.specs.Ledger.{record_of}
+use Rattle.model.specs.Manager.{Book, first_book, with_streams, with_extent, extended, sealed_to, is_there, is_pick}
 
-abbrev pub extended_if : Book → ℕ → Option Stream → Nodes → Book
-extended_if b k None pick = b
-extended_if b k (Some x) pick = extended b k x pick
+abbrev pub extended_if : Book → StreamName → Option Stream → Nodes → Book
+extended_if b s None pick = b
+extended_if b s (Some x) pick = extended b s x.fence pick
 
 abbrev pub sealed_if : Book → ℕ → Option Extent → ℕ → Book
 sealed_if b e None length = b
@@ -20,8 +22,9 @@ sealed_if b e (Some x) length = with_extent b e (sealed_to x length)
 -- the book after one more record
 abbrev pub after_record : Book → ManagerRecord → Book
 after_record b (First nodes target) = b
-after_record b (CreateStream s fence) = with_stream b (kind_number s.kind) (record { fence = fence; extents = [] })
-after_record b (Extend s generation pick) = extended_if b (kind_number s.kind) (b.stream (kind_number s.kind)) pick
+after_record b (CreateStream s fence) = with_streams b (created b.stream s fence)
+after_record b (OpenStreams range generation) = with_streams b (opened b.stream range generation)
+after_record b (Extend s generation pick) = extended_if b s (stream_of b.stream s) pick
 after_record b (Seal e length) = sealed_if b e (b.extent e) length
 
 -- a book, or none before the first record, after one more
@@ -67,9 +70,9 @@ seal_fits (Some x) = not (is_there x.sealed)
 abbrev pub ruling_fits : Option Book → Option ManagerRecord → Bool
 ruling_fits None (Some (First nodes target)) = true
 ruling_fits None r = false
-ruling_fits (Some b) (Some (CreateStream s fence)) = (s.range == 0) && ((fence == 0) && not (is_there (b.stream (kind_number s.kind))))
-ruling_fits (Some b) (Some (Extend s generation pick)) =
-    (s.range == 0) && (is_pick b.nodes pick && extend_fits b generation (b.stream (kind_number s.kind)))
+ruling_fits (Some b) (Some (CreateStream s fence)) = not (is_there (create_fault b.stream s))
+ruling_fits (Some b) (Some (OpenStreams range generation)) = not (is_there (open_fault b.stream range generation))
+ruling_fits (Some b) (Some (Extend s generation pick)) = is_pick b.nodes pick && extend_fits b generation (stream_of b.stream s)
 ruling_fits (Some b) (Some (Seal e length)) = seal_fits (b.extent e)
 ruling_fits (Some b) r = false
 
@@ -86,5 +89,5 @@ pub record SameBook (a b : Book) : Type 0 where
   pub nodes : a.nodes ≡ b.nodes
   pub target : a.target ≡ b.target
   pub count : a.count ≡ b.count
-  pub stream : (k : ℕ) → a.stream k ≡ b.stream k
+  pub stream : (range kind : ℕ) → a.stream range kind ≡ b.stream range kind
   pub extent : (e : ℕ) → a.extent e ≡ b.extent e

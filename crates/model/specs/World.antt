@@ -5,6 +5,8 @@ use Rattle.wire.specs.declared.actor.ActorId.{ActorId}
 use Rattle.wire.specs.declared.actor.ActorId.TheVariants.{Node, Manager, Map, Server, User}
 use Rattle.wire.specs.declared.body.AppendBody.{AppendBody}
 use Rattle.wire.specs.declared.body.AppendBody.TheVariants as appends
+use Rattle.wire.specs.declared.body.CheckBody.{CheckBody}
+use Rattle.wire.specs.declared.body.CheckBody.TheVariants as checks
 use Rattle.wire.specs.declared.body.SealBody.{SealBody}
 use Rattle.wire.specs.declared.body.SealBody.TheVariants as seals
 use Rattle.wire.specs.declared.body.ReadBody.{ReadBody}
@@ -221,3 +223,39 @@ start nodes target =
       desk = running;
       nodes = nodes;
     }
+
+-- ---- servers
+
+abbrev pub is_check : CheckBody → Bool
+is_check (checks.Check e generation q) = true
+is_check _ = false
+
+abbrev pub is_server_stream_call : StreamBody → Bool
+is_server_stream_call (streams.CreateStream s fence q) = true
+is_server_stream_call (streams.OpenStreams range generation q) = true
+is_server_stream_call (streams.Confirm range generation q) = true
+is_server_stream_call (streams.Extend s generation last pick q) = true
+is_server_stream_call _ = false
+
+-- what servers may ask of nodes and of the manager
+abbrev pub is_server_call : Body → Bool
+is_server_call (bodies.Append body) = is_append body
+is_server_call (bodies.Check body) = is_check body
+is_server_call (bodies.Seal body) = is_seal body
+is_server_call (bodies.Read body) = is_read body
+is_server_call (bodies.Stream body) = is_server_stream_call body
+is_server_call _ = false
+
+-- an event, or a server that asks what it likes, under any generation
+pub data Move : Type 0 where
+  Happens : (event : Event) → Move
+  Asks : (server : ℕ) (to : ActorId) (body : Body) → Move
+
+abbrev pub moved : World → Move → World
+moved w (Happens event) = happens w event
+moved w (Asks server to body) = if is_server_call body then sent_more w (packet (Server server) to body ∷ []) else w
+
+-- whatever the servers do
+abbrev pub run_moves : List Move → World → World
+run_moves [] w = w
+run_moves (move ∷ moves) w = run_moves moves (moved w move)

@@ -5,11 +5,13 @@
 //! prove that their calls are these functions, and the laws of whole runs are proved of the functions alone.
 #![tactic(auto)]
 
+mod checking;
 mod event;
 mod extent;
 mod manager_record;
 mod waiting;
 
+pub use checking::Checking;
 pub use event::Event;
 pub use extent::{Asker, Extent, PlaceReport};
 pub use manager_record::ManagerRecord;

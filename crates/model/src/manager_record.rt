@@ -1,6 +1,6 @@
 //! The records of the stream manager.
 use blocks::Nodes;
-use wire::{ExtentId, Fence, StreamName};
+use wire::{ExtentId, Fence, RangeId, StreamName};
 
 /// What the manager writes down. Its bytes stand behind the kind byte of a manage record.
 #[derive(Clone, Copy, Debug, PartialEq, Eq)]
@@ -14,6 +14,11 @@ pub enum ManagerRecord {
     CreateStream {
         stream: StreamName,
         fence: Fence,
+    },
+    /// 3: the four streams of a range listen to no generation below this one.
+    OpenStreams {
+        range: RangeId,
+        generation: Fence,
     },
     /// 4: a new extent at the end of a stream, made with this fence on these places. Extents are numbered from 1.
     Extend {

@@ -6,27 +6,25 @@ use Rattle.disk.specs.declared.device.DiskFault.{DiskFault}
 use Rattle.disk.specs.declared.device.DiskFault.TheVariants.{Failed, Memory}
 use Rattle.disk.specs.declared.memory.MemDisk.{MemDisk}
 use Rattle.disk.specs.declared.memory.Stop.{Stop}
-use Rattle.disk.specs.Appends.{listed}
+use Rattle.disk.specs.Appends.{Records, listed}
+use Rattle.disk.specs.Filed.{Filed}
 use Rattle.disk.specs.Memory.{memory_state}
 use Rattle.blocks.specs.declared.record.Record.{Record}
 use Rattle.wire.specs.declared.actor.ActorId.TheVariants.{Manager}
 use Rattle.wire.specs.declared.note.Note.{Note}
 use Rattle.wire.specs.declared.packet.Packet.{Packet}
 use Rattle.wire.specs.declared.packet.Step.{Step}
-use Rattle.wire.specs.declared.streams.StreamKind.{StreamKind}
-use Rattle.wire.specs.declared.streams.StreamKind.TheVariants.{Metadata, Log, RowData, BlobData}
 use Rattle.model.specs.declared.extent.Extent.{Extent}
-use Rattle.model.specs.Ledger.{kind_number}
 use Rattle.model.specs.Maps.{entry_at}
 use Rattle.model.specs.Outcome.{Outcome}
 use Rattle.model.specs.Manager.{Book, book_stopped, forgotten, forgotten_if, manager_row}
 use Rattle.model.specs.Replay.{book_replay}
 use Rattle.model.specs.World.{World, Cell, after_ruling, armed, burnt, desk_halted, down, manager_does, manager_stops, manager_takes, restart, running, stands_in, stop, stops_in, unsent}
 use Rattle.model.proofs.Tests.{if_elim, both_parts}
-use Rattle.manager.specs.Table.{TableState, Lists, forgotten_table, listing_in}
+use Rattle.manager.specs.Table.{TableState, Lists, forgotten_table}
 use Rattle.manager.specs.Manager.{ManagerState, Ledgered, IsLedger, MakesBook, Shows, table_of}
 use Rattle.manager.specs.Ruled.{Ruled}
-use Rattle.world.specs.Desk.{DeskSeen, DeskMirrors, Makes, Served, desk_of}
+use Rattle.world.specs.Desk.{DeskSeen, DeskMirrors, Makes, Served, Tells, desk_of}
 use Rattle.world.specs.Nodes.{nothing, plan_of}
 use Rattle.world.specs.Stopping.{shown_if, stands_told}
 use Rattle.world.proofs.Choices.{tested, is_below}
@@ -41,12 +39,6 @@ entry-forgotten [] (suc n) = refl
 entry-forgotten (x ∷ xs) (suc zero) = refl
 entry-forgotten (x ∷ xs) (suc (suc n)) = entry-forgotten xs (suc n)
 
-same_listing : (t : TableState) (k : StreamKind) → listing_in (forgotten_table t) k ≡ listing_in t k
-same_listing t Metadata = refl
-same_listing t Log = refl
-same_listing t RowData = refl
-same_listing t BlobData = refl
-
 made_stopped : (rs : List Record) (b : Book) → MakesBook rs b → Makes rs (book_stopped b)
 made_stopped rs b m = record { book = m.book; replays = m.replays; nodes = m.nodes; target = m.target; count = m.count; stream = m.stream; extent = m.extent }
 
@@ -58,7 +50,7 @@ ledger_stopped t rs b l shows = record {
   nodes = l.shows.nodes ∙ sym shows.nodes;
   target = l.shows.target ∙ sym shows.target;
   count = l.shows.count ∙ length-map t.extents forgotten ∙ sym shows.count;
-  stream = λ k. l.shows.stream k ∙ same_listing t k ∙ sym (shows.stream k);
+  stream = λ range kind. l.shows.stream range kind ∙ sym (shows.stream range kind);
   extent = λ e. l.shows.extent e ∙ entry-forgotten t.extents e ∙ ap forgotten_if (sym (shows.extent e));
 }
 
@@ -71,9 +63,54 @@ came_back t rs b m l fresh =
       nodes = sym m.nodes ∙ ap (λ (k : Book). k.nodes) same ∙ shows.nodes;
       target = sym m.target ∙ ap (λ (k : Book). k.target) same ∙ shows.target;
       count = sym m.count ∙ ap (λ (k : Book). k.count) same ∙ shows.count;
-      stream = λ k. sym (m.stream k) ∙ ap (λ (j : Book). j.stream (kind_number k)) same ∙ shows.stream k;
+      stream = λ range kind. sym (m.stream range kind) ∙ ap (λ (j : Book). j.stream range kind) same ∙ shows.stream range kind;
       extent = λ e. sym (m.extent e) ∙ ap (λ (j : Book). j.extent e) same ∙ shows.extent e;
     }
+
+-- what a table says and what its records make is what is seen
+pub lists_told : (x : ManagerState MemDisk) (b : Book) → IsLedger x x.file.records → Shows x b → Tells (desk_of x) b
+lists_told x b l shows = record {
+  nodes = shows.nodes;
+  target = shows.target;
+  count = shows.count;
+  extent = shows.extent;
+  streams = record { book = l.book; replays = l.replays; stream = λ range kind. l.shows.stream range kind ∙ sym (shows.stream range kind) };
+}
+
+pub told_lists : (x : ManagerState MemDisk) (b : Book) → IsLedger x x.file.records → Tells (desk_of x) b → Shows x b
+told_lists x b l t =
+    let same : t.streams.book ≡ l.book = same_Some t.streams.book l.book (sym t.streams.replays ∙ l.replays) in
+    record {
+      nodes = t.nodes;
+      target = t.target;
+      count = t.count;
+      stream = λ range kind. sym (t.streams.stream range kind) ∙ ap (λ (k : Book). k.stream range kind) same ∙ l.shows.stream range kind;
+      extent = t.extent;
+    }
+
+-- one whose table and records are as they were is seen as it was
+told_as_before : (x y : ManagerState MemDisk) (b : Book) → table_of y ≡ table_of x → y.file.records ≡ x.file.records → Tells (desk_of x) b → Tells (desk_of y) b
+told_as_before x y b kept same t = record {
+  nodes = t.nodes ∙ ap (λ (u : TableState). u.nodes) (sym kept);
+  target = t.target ∙ ap (λ (u : TableState). u.target) (sym kept);
+  count = t.count ∙ ap (λ (u : TableState). length u.extents) (sym kept);
+  extent = λ e. t.extent e ∙ ap (λ (u : TableState). entry_at u.extents e) (sym kept);
+  streams = record { book = t.streams.book; replays = ap book_replay same ∙ t.streams.replays; stream = t.streams.stream };
+}
+
+ok_records : (old new : Filed MemDisk) (k : Option Record) (s : Step) → Records memory_state old new (listed k) (Ok s) → new.records ≡ old.records ++ listed k
+ok_records old new None s h = ap (λ (f : Filed MemDisk). f.records) h.0 ∙ sym (append-nil old.records)
+ok_records old new (Some r) s h = h.ok.2
+
+-- and after a row what the row says of it
+row_told : (o : Outcome Book) (x y : ManagerState MemDisk) (s : Step) → Ruled memory_state x y o (Ok s) → Tells (desk_of y) o.after
+row_told o x y s h = record {
+  nodes = h.after.nodes;
+  target = h.after.target;
+  count = h.after.count;
+  extent = h.after.extent;
+  streams = record { book = h.stands.book; replays = ap book_replay (ok_records x.file y.file o.written s h.file) ∙ h.stands.replays; stream = h.stands.stream };
+}
 
 -- ---- a row
 
@@ -86,7 +123,7 @@ served_ok o x y w s up m h =
       post = ap (λ l. w.post ++ l) (sym h.packets);
       notes = ap (λ l. w.notes ++ l) (sym h.notes);
       desk = record {
-        running = λ _. h.after;
+        running = λ _. row_told o x y s h;
         stopped = λ isdown. absurd (let u = yup in cc);
         up = burnt_up w.desk o.written ∙ m.up ∙ ap not (up ∙ sym yup);
         plan = λ _. plan_ok x.file y.file o.written s w.desk h.file (m.plan up) f;
@@ -133,7 +170,7 @@ served_broken o x y w s up m before sent told h =
     (λ more. halted_desk (desk_of y) w (after_ruling w (unsent o)) s ydown (nil_end w.post sent) (ap (λ l. w.notes ++ l) (sym more.1))
     (subst (λ (rs : List Record). Makes rs (book_stopped o.after)) (sym more.0) (made_stopped (x.file.records ++ listed o.written) o.after h.stands)) refl refl refl)
     (λ less. halted_desk (desk_of y) w w s ydown (nil w.post sent) (nil w.notes less.1)
-    (subst (λ (rs : List Record). Makes rs (book_stopped w.book)) (sym less.0) (ledger_stopped (table_of x) x.file.records w.book before (m.running up))) refl refl refl))
+    (subst (λ (rs : List Record). Makes rs (book_stopped w.book)) (sym less.0) (ledger_stopped (table_of x) x.file.records w.book before (told_lists x w.book before (m.running up)))) refl refl refl))
     (λ f. absurd (broken_stops x.file y.file o.written w.desk h.file (m.plan up) f))
   where
     if_elim2 : (b : Bool) (Q P : Bool → Type 0) → Q b → (Q true → P true) → (Q false → P false) → P b
@@ -147,8 +184,8 @@ served_broken o x y w s up m before sent told h =
 pub desk_same : (o : Outcome Book) (x y : ManagerState MemDisk) → Ruled memory_state x y o (Err Memory) → desk_of y ≡ desk_of x
 desk_same o x y h =
     let f = short_same x.file y.file o.written h.file in
-    let table : table_of y ≡ table_of x = ap (λ (z : ManagerState MemDisk). table_of z) h.same in
-    λ i. record { table = table i; records = f.0 i; stopped = f.1 i; stop = f.2 i }
+    let table : table_of y ≡ table_of x = h.same in
+    λ i. record { nodes = (table i).nodes; target = (table i).target; extents = (table i).extents; records = f.0 i; stopped = f.1 i; stop = f.2 i }
 
 pub served_still : (x : DeskSeen) (w : World) (s : Step) → DeskMirrors x w → s.packets ≡ [] → s.notes ≡ [] → Served x w w s
 served_still x w s m sent told = record { post = nil w.post sent; notes = nil w.notes told; desk = m; replica = refl; cell = refl; nodes = refl }
@@ -197,12 +234,12 @@ desk_stop_now call keep x y w up now m before same isdown =
     served_up (desk_of x) (desk_of y) w (manager_stops w call keep) nothing up m
     (if_elim (λ v. Served (desk_of y) w v nothing) (call == 0) (desk_halted w) _
     (λ z. halted_desk (desk_of y) w w nothing isdown (sym (append-nil w.post)) (sym (append-nil w.notes))
-    (subst (λ (rs : List Record). Makes rs (book_stopped w.book)) (sym same) (ledger_stopped (table_of x) x.file.records w.book before (m.running up))) refl refl refl)
+    (subst (λ (rs : List Record). Makes rs (book_stopped w.book)) (sym same) (ledger_stopped (table_of x) x.file.records w.book before (told_lists x w.book before (m.running up)))) refl refl refl)
     (λ z. absurd (let f = subst (λ k. (k == 0) ≡ false) now z in cc)))
 
 pub desk_stop_later : (call : ℕ) (keep : Bool) (x y : ManagerState MemDisk) (w : World) → x.file.stopped ≡ false → call ≢ 0 → DeskMirrors (desk_of x) w →
-    table_of y ≡ table_of x → y.file.stopped ≡ x.file.stopped → (memory_state y.file.disk).stop ≡ Some (call, keep) → Served (desk_of y) w (stop w Manager call keep) nothing
-desk_stop_later call keep x y w up later m kept same told =
+    table_of y ≡ table_of x → y.file.records ≡ x.file.records → y.file.stopped ≡ x.file.stopped → (memory_state y.file.disk).stop ≡ Some (call, keep) → Served (desk_of y) w (stop w Manager call keep) nothing
+desk_stop_later call keep x y w up later m kept records same told =
     served_up (desk_of x) (desk_of y) w (manager_stops w call keep) nothing up m
     (if_elim (λ v. Served (desk_of y) w v nothing) (call == 0) (desk_halted w) _
     (λ z. absurd (later (tested call 0 z)))
@@ -210,7 +247,7 @@ desk_stop_later call keep x y w up later m kept same told =
       post = sym (append-nil w.post);
       notes = sym (append-nil w.notes);
       desk = record {
-        running = λ _. subst (λ (t : TableState). Lists t w.book) (sym kept) (m.running up);
+        running = λ _. told_as_before x y w.book kept records (m.running up);
         stopped = λ isdown. absurd (let a = same ∙ up in cc);
         up = ap not (sym (same ∙ up));
         plan = λ _. told ∙ sym (plan_armed call keep later);
@@ -235,7 +272,7 @@ desk_restarts x y w isdown m isup same untold made fresh =
       post = sym (append-nil w.post);
       notes = sym (append-nil w.notes);
       desk = record {
-        running = λ _. came_back (table_of y) y.file.records w.book (subst (λ (rs : List Record). Makes rs w.book) (sym same) (m.stopped isdown)) made fresh;
+        running = λ _. lists_told y w.book made (came_back (table_of y) y.file.records w.book (subst (λ (rs : List Record). Makes rs w.book) (sym same) (m.stopped isdown)) made fresh);
         stopped = λ d. absurd cc;
         up = ap not (sym isup);
         plan = λ _. untold;

@@ -12,15 +12,15 @@ use Rattle.model.specs.declared.event.Event.{Event}
 use Rattle.model.specs.declared.event.Event.TheVariants.{Submit, Deliver, Stop, Restart, Decide}
 use Rattle.model.specs.Node.{Replica}
 use Rattle.model.specs.Outcome.{packet}
-use Rattle.model.specs.World.{World, Cell, happens, is_request, sent_more, delivered, delivered_if, node_takes, manager_takes, decides, stop, restart, run, start}
+use Rattle.model.specs.World.Move.{Asks}
+use Rattle.model.specs.World.{World, Cell, happens, moved, is_request, is_server_call, sent_more, delivered, delivered_if, node_takes, manager_takes, decides, stop, restart, run, start}
 use Rattle.model.proofs.Tests.{if_elim}
 use Rattle.world.specs.declared.fault.WorldFault.{WorldFault}
-use Rattle.world.specs.Desk.{DeskSeen, DeskMirrors, IsNewDesk, Makes, Served}
+use Rattle.world.specs.Desk.{DeskSeen, DeskMirrors, IsNewDesk, Makes, Served, Tells}
 use Rattle.world.specs.Nodes.{NodeSeen, NodesMirror, Went, AreNew, nothing, plan_of}
 use Rattle.world.specs.Run.{RunState, IsFew, Mirrors, Moved}
 use Rattle.world.proofs.Seen.{entry_beyond}
 use Rattle.world.proofs.Going.{begun}
-use Rattle.manager.specs.Table.{Lists}
 use Rattle.model.specs.Manager.{Book}
 
 nil : {A : Type 0} (xs : List A) {ys : List A} → ys ≡ [] → xs ≡ xs ++ ys
@@ -42,7 +42,7 @@ nodes_as xs w v m replicas cells count = record {
 -- and what is said of the manager says nothing of the packets, the observations and the nodes
 desk_as : (x : DeskSeen) (w v : World) → DeskMirrors x w → v.book ≡ w.book → v.desk ≡ w.desk → DeskMirrors x v
 desk_as x w v m book desk = record {
-  running = λ up. subst (λ (b : Book). Lists x.table b) (sym book) (m.running up);
+  running = λ up. subst (λ (b : Book). Tells x b) (sym book) (m.running up);
   stopped = λ isdown. subst (λ (b : Book). Makes x.records b) (sym book) (m.stopped isdown);
   up = ap (λ (c : Cell). c.up) desk ∙ m.up;
   plan = λ up. m.plan up ∙ ap plan_of (sym desk);
@@ -91,6 +91,25 @@ submitted r x user to body may is w m =
 pub unsubmitted : (r : RunState) (user : ℕ) (to : ActorId) (body : Body) → is_request body ≡ false → (w : World) → Mirrors r w → Mirrors r (happens w (Submit user to body))
 unsubmitted r user to body never w m =
     if_elim (λ v. Mirrors r v) (is_request body) (sent_more w (packet (User user) to body ∷ [])) w (λ t. absurd cc) (λ f. m)
+
+-- ---- a server
+
+pub asked : (r x : RunState) (server : ℕ) (to : ActorId) (body : Body) → is_server_call body ≡ true → x ≡ sent_in r (packet (Server server) to body ∷ []) →
+    (w : World) → Mirrors r w → Mirrors x (moved w (Asks server to body))
+asked r x server to body may is w m =
+    subst (λ z. Mirrors z (moved w (Asks server to body))) (sym is)
+    (if_elim (λ v. Mirrors (sent_in r (packet (Server server) to body ∷ [])) v) (is_server_call body) (sent_more w (packet (Server server) to body ∷ [])) w
+    (λ t. record {
+      post = ap (λ l. l ++ packet (Server server) to body ∷ []) m.post;
+      notes = m.notes;
+      nodes = nodes_as r.nodes w (sent_more w (packet (Server server) to body ∷ [])) m.nodes refl refl refl;
+      desk = desk_as r.desk w (sent_more w (packet (Server server) to body ∷ [])) m.desk refl refl;
+    })
+    (λ f. absurd cc))
+
+pub unasked : (r : RunState) (server : ℕ) (to : ActorId) (body : Body) → is_server_call body ≡ false → (w : World) → Mirrors r w → Mirrors r (moved w (Asks server to body))
+unasked r server to body never w m =
+    if_elim (λ v. Mirrors r v) (is_server_call body) (sent_more w (packet (Server server) to body ∷ [])) w (λ t. absurd cc) (λ f. m)
 
 -- what `request` answers tells whether it is one
 pub is_asked : (b : Bool) (body copy : Body) → Some copy ≡ (if b then Some body else None) → (b ≡ true) × (copy ≡ body)
@@ -181,7 +200,7 @@ decided_one r x e s nodes h sent told w m =
 
 begun_desk : (d : DeskSeen) (nodes target : ℕ) → IsNewDesk nodes target d → DeskMirrors d (start nodes target)
 begun_desk d nodes target h = record {
-  running = λ _. h.shows;
+  running = λ _. h.tells;
   stopped = λ isdown. absurd (let u = h.running in cc);
   up = ap not (sym h.running);
   plan = λ _. h.untold;

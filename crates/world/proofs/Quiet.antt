@@ -1,5 +1,5 @@
 -- The manager's rows for packets show nothing.
-use Rattle.std.proofs.Common.{◌≡◌, ℕ, Bool, true, false, not, ◌&&◌, ◌==◌, if◌then◌else◌, List, [], Option, Some, None, refl}
+use Rattle.std.proofs.Common.{◌≡◌, ℕ, Bool, true, false, not, ◌&&◌, ◌==◌, if◌then◌else◌, List, [], Option, Some, None, Result, Ok, Err, refl}
 use Rattle.blocks.specs.declared.record.Nodes.{Nodes}
 use Rattle.wire.specs.declared.actor.ActorId.TheVariants.{Manager}
 use Rattle.wire.specs.declared.actor.ReqNo.{ReqNo}
@@ -8,50 +8,60 @@ use Rattle.wire.specs.declared.body.Body.TheVariants as bodies
 use Rattle.wire.specs.declared.body.SealBody.{SealBody}
 use Rattle.wire.specs.declared.body.SealBody.TheVariants.{SealExtent, Frozen, IsSealed, Short}
 use Rattle.wire.specs.declared.body.StreamBody.{StreamBody}
-use Rattle.wire.specs.declared.body.StreamBody.TheVariants.{CreateStream, Extend}
+use Rattle.wire.specs.declared.body.StreamBody.TheVariants.{CreateStream, OpenStreams, Confirm, Confirmed, Extend, Trim, MultiModify}
 use Rattle.wire.specs.declared.packet.Packet.{Packet}
 use Rattle.wire.specs.declared.refusal.Refusal.{Refusal}
 use Rattle.wire.specs.declared.streams.StreamName.{StreamName}
 use Rattle.model.specs.declared.extent.Extent.{Extent}
 use Rattle.model.specs.Actors.{is_user}
 use Rattle.model.specs.Outcome.{Outcome, or_refused, silent}
-use Rattle.model.specs.Ledger.{kind_number}
-use Rattle.model.specs.Manager.{Book, Stream, asks_tail, create_refusal, create_row, create_taken, extend_after, extend_behind, extend_picked, extend_row, extend_stream, frozen_row, is_number, is_pick, is_sealed_row, is_there, last_of, manager_row, noted, seal_asked, seal_body_row, seal_extent_row, short_row, stream_body_row, with_report, frozen_to, known_sealed, first_sealed, place_of}
+use Rattle.streams.specs.Streams.{stream_of, extending}
+use Rattle.model.specs.Manager.{Book, answer, asks_tail, confirm_refusal, create_refusal, create_taken, extend_answered, extend_picked, extend_row, frozen_row, is_foreign, is_pick, is_sealed_row, is_there, last_told, no_users, open_refusal, open_taken, sealed_lengths, manager_row, noted, seal_asked, seal_body_row, seal_extent_row, short_row, stream_body_row, with_report, frozen_to, known_sealed, first_sealed, place_of}
 use Rattle.model.proofs.Tests.{if_elim}
 
 abbrev IsQuiet : Outcome Book → Type 0
 IsQuiet o = o.notes ≡ []
 
-created : (b : Book) (p : Packet) (s : StreamName) (q : ReqNo) (x : Option Refusal) → IsQuiet (or_refused b Manager p q x (create_taken b p s q))
-created b p s q None = refl
-created b p s q (Some refusal) = refl
+created : (b : Book) (p : Packet) (s : StreamName) (fence : ℕ) (q : ReqNo) (x : Option Refusal) → IsQuiet (or_refused b Manager p q x (create_taken b p s fence q))
+created b p s fence q None = refl
+created b p s fence q (Some refusal) = refl
 
-picked : (b : Book) (p : Packet) (s : StreamName) (x : Stream) (pick : Nodes) (q : ReqNo) → IsQuiet (extend_picked b p s x pick q)
-picked b p s x pick q = if_elim IsQuiet (is_pick b.nodes pick) _ _ (λ t. refl) (λ f. refl)
+opened : (b : Book) (p : Packet) (range generation : ℕ) (q : ReqNo) (x : Option Refusal) → IsQuiet (or_refused b Manager p q x (open_taken b p range generation q))
+opened b p range generation q None = refl
+opened b p range generation q (Some refusal) = refl
 
-behind : (b : Book) (p : Packet) (s : StreamName) (x : Stream) (e : ℕ) (y : Option Extent) (last : Option ℕ) (pick : Nodes) (q : ReqNo) → IsQuiet (extend_behind b p s x e y last pick q)
-behind b p s x e None last pick q = refl
-behind b p s x e (Some y) last pick q =
-    if_elim IsQuiet (is_number e last) _ _
-    (λ t. if_elim IsQuiet (is_there y.sealed) (extend_picked b p s x pick q) _ (λ u. picked b p s x pick q) (λ u. refl))
-    (λ f. refl)
+confirmed : (b : Book) (p : Packet) (q : ReqNo) (x : Option Refusal) → IsQuiet (or_refused b Manager p q x (answer b p (Confirmed q)))
+confirmed b p q None = refl
+confirmed b p q (Some refusal) = refl
 
-after : (b : Book) (p : Packet) (s : StreamName) (x : Stream) (e last : Option ℕ) (pick : Nodes) (q : ReqNo) → IsQuiet (extend_after b p s x e last pick q)
-after b p s x None last pick q = picked b p s x pick q
-after b p s x (Some e) last pick q = behind b p s x e (b.extent e) last pick q
+picked : (b : Book) (p : Packet) (s : StreamName) (generation : ℕ) (pick : Nodes) (q : ReqNo) → IsQuiet (extend_picked b p s generation pick q)
+picked b p s generation pick q = if_elim IsQuiet (is_pick b.nodes pick) _ _ (λ t. refl) (λ f. refl)
 
-streamed : (b : Book) (p : Packet) (s : StreamName) (x : Option Stream) (last : Option ℕ) (pick : Nodes) (q : ReqNo) → IsQuiet (extend_stream b p s x last pick q)
-streamed b p s None last pick q = refl
-streamed b p s (Some x) last pick q = after b p s x (last_of x.extents) last pick q
+named : (b : Book) (p : Packet) (e : ℕ) (x : Option Extent) (q : ReqNo) → IsQuiet (last_told b p e x q)
+named b p e None q = refl
+named b p e (Some x) q = refl
 
-extended : (b : Book) (p : Packet) (s : StreamName) (last : Option ℕ) (pick : Nodes) (q : ReqNo) → IsQuiet (extend_row b p s last pick q)
-extended b p s last pick q =
-    if_elim IsQuiet (s.range == 0) (extend_stream b p s (b.stream (kind_number s.kind)) last pick q) _
-    (λ t. streamed b p s (b.stream (kind_number s.kind)) last pick q) (λ f. refl)
+extended : (b : Book) (p : Packet) (s : StreamName) (generation : ℕ) (pick : Nodes) (q : ReqNo) (x : Result (Option ℕ) Refusal) → IsQuiet (extend_answered b p s generation pick q x)
+extended b p s generation pick q (Err refusal) = refl
+extended b p s generation pick q (Ok None) = picked b p s generation pick q
+extended b p s generation pick q (Ok (Some e)) = named b p e (b.extent e) q
+
+lengthened : (b : Book) (p : Packet) (s : StreamName) (generation : ℕ) (last : Option ℕ) (pick : Nodes) (q : ReqNo) → IsQuiet (extend_row b p s generation last pick q)
+lengthened b p s generation last pick q =
+    if_elim IsQuiet (is_foreign p.from s.range) _ _
+    (λ t. refl)
+    (λ f. extended b p s generation pick q (extending (sealed_lengths b) (stream_of b.stream s) generation last))
+
+barred : (b : Book) (p : Packet) (q : ReqNo) → IsQuiet (no_users b p q)
+barred b p q = if_elim IsQuiet (is_user p.from) _ _ (λ t. refl) (λ f. refl)
 
 called : (b : Book) (p : Packet) (body : StreamBody) → IsQuiet (stream_body_row b p body)
-called b p (CreateStream s fence q) = created b p s q (create_refusal b s)
-called b p (Extend s generation last pick q) = extended b p s last pick q
+called b p (CreateStream s fence q) = created b p s _ q (create_refusal b p s)
+called b p (OpenStreams range generation q) = opened b p range generation q (open_refusal b p range generation)
+called b p (Confirm range generation q) = confirmed b p q (confirm_refusal b p range generation)
+called b p (Extend s generation last pick q) = lengthened b p s _ last pick q
+called b p (Trim range generation before to_blob q) = barred b p q
+called b p (MultiModify list q) = barred b p q
 called b p body = refl
 
 asked : (b : Book) (p : Packet) (e : ℕ) (q : ReqNo) (x : Extent) (length : Option ℕ) → IsQuiet (seal_asked b p e q x length)
@@ -96,6 +106,6 @@ closed b p (Short e length) = short b p e length (b.extent e)
 closed b p body = refl
 
 pub row_quiet : (b : Book) (p : Packet) (body : Body) → IsQuiet (manager_row b p body)
-row_quiet b p (bodies.Stream body) = if_elim IsQuiet (is_user p.from) (stream_body_row b p body) (silent b) (λ t. called b p body) (λ f. refl)
+row_quiet b p (bodies.Stream body) = called b p body
 row_quiet b p (bodies.Seal body) = closed b p body
 row_quiet b p body = refl

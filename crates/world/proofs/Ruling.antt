@@ -10,44 +10,30 @@ use Rattle.wire.specs.declared.packet.Packet.{Packet}
 use Rattle.wire.specs.declared.packet.Step.{Step}
 use Rattle.wire.specs.declared.refusal.Refusal.{Refusal}
 use Rattle.wire.specs.declared.refusal.Refusal.TheVariants as refusals
-use Rattle.wire.specs.declared.streams.StreamKind.{StreamKind}
-use Rattle.wire.specs.declared.streams.StreamKind.TheVariants.{Metadata, Log, RowData, BlobData}
 use Rattle.model.specs.declared.extent.Extent.{Extent}
-use Rattle.model.specs.Ledger.{kind_number}
 use Rattle.model.specs.Maps.{entry_at}
 use Rattle.model.specs.Outcome.{Outcome, silent}
-use Rattle.model.specs.Manager.{Book, Stream, decide_refusal, decide_row, decided_if, is_there, least_told, manager_row, reminders}
+use Rattle.model.specs.Manager.{Book, decide_refusal, decide_row, decided_if, is_there, least_told, manager_row, reminders}
 use Rattle.model.specs.World.{World, decides, manager_does, manager_takes, stands_in, stops_in}
 use Rattle.manager.specs.declared.fault.ManagerFault.{ManagerFault}
 use Rattle.manager.specs.declared.fault.ManagerFault.TheVariants as faults
-use Rattle.manager.specs.Table.{TableState, Lists, listing_in}
+use Rattle.manager.specs.Table.{TableState, Lists}
 use Rattle.manager.specs.Manager.{ManagerState, IsLedger, Shows, table_of}
+use Rattle.manager.proofs.Deciding.{decided_notes}
 use Rattle.manager.specs.Ruled.{Ruled, as_row, fault_of, sealing_at, sealing_notes}
 use Rattle.world.specs.Desk.{DeskSeen, DeskMirrors, Served, desk_of, refusal_in}
 use Rattle.world.specs.Nodes.{nothing, plan_of}
 use Rattle.world.specs.Stopping.{shown_if, stands_told}
-use Rattle.world.proofs.Desking.{desk_same, served_broken, served_ok, served_up, told_stands}
+use Rattle.world.proofs.Desking.{told_lists, desk_same, served_broken, served_ok, served_up, told_stands}
 use Rattle.world.proofs.Quiet.{row_quiet}
 
 -- ---- some book that a table says
 
-abbrev numbered : TableState → ℕ → Option Stream
-numbered t zero = t.metadata
-numbered t (suc zero) = t.log
-numbered t (suc (suc zero)) = t.row_data
-numbered t (suc (suc (suc k))) = t.blob_data
-
 abbrev book_of : TableState → Book
-book_of t = record { nodes = t.nodes; target = t.target; count = length t.extents; stream = numbered t; extent = entry_at t.extents }
-
-same_streams : (t : TableState) (k : StreamKind) → numbered t (kind_number k) ≡ listing_in t k
-same_streams t Metadata = refl
-same_streams t Log = refl
-same_streams t RowData = refl
-same_streams t BlobData = refl
+book_of t = record { nodes = t.nodes; target = t.target; count = length t.extents; stream = t.streams; extent = entry_at t.extents }
 
 says : (t : TableState) → Lists t (book_of t)
-says t = record { nodes = refl; target = refl; count = refl; stream = same_streams t; extent = λ e. refl }
+says t = record { nodes = refl; target = refl; count = refl; stream = λ range kind. refl; extent = λ e. refl }
 
 -- ---- a packet
 
@@ -59,10 +45,10 @@ shown_none : (b : Bool) (notes : List Note) → notes ≡ [] → shown_if b note
 shown_none true notes none = none
 shown_none false notes none = refl
 
-pub handled_ok : (p : Packet) (x y : ManagerState MemDisk) (s : Step) → x.file.stopped ≡ false → Handled x y p (Ok s) → (w : World) → DeskMirrors (desk_of x) w → Served (desk_of y) w (manager_takes w p) s
-handled_ok p x y s up h w m =
+pub handled_ok : (p : Packet) (x y : ManagerState MemDisk) (s : Step) → x.file.stopped ≡ false → IsLedger x x.file.records → Handled x y p (Ok s) → (w : World) → DeskMirrors (desk_of x) w → Served (desk_of y) w (manager_takes w p) s
+handled_ok p x y s up before h w m =
     served_up (desk_of x) (desk_of y) w (manager_does w (manager_row w.book p p.body)) s up m
-    (served_ok (manager_row w.book p p.body) x y w s up m (h w.book (m.running up)))
+    (served_ok (manager_row w.book p p.body) x y w s up m (h w.book (told_lists x w.book before (m.running up))))
 
 pub handled_broken : (p : Packet) (x y : ManagerState MemDisk) (s : Step) (fault : DiskFault) → fault ≡ Failed → x.file.stopped ≡ false → IsLedger x x.file.records → s.packets ≡ [] → s.notes ≡ [] →
     Handled x y p (Err fault) → (w : World) → DeskMirrors (desk_of x) w → Served (desk_of y) w (manager_takes w p) s
@@ -70,7 +56,7 @@ handled_broken p x y s fault is up before sent told h w m =
     let row = manager_row w.book p p.body in
     served_up (desk_of x) (desk_of y) w (manager_does w row) s up m
     (served_broken row x y w s up m before sent (λ t. told ∙ sym (shown_none (stands_in w.desk) row.notes (row_quiet w.book p p.body)))
-    (subst (λ (z : DiskFault). Ruled memory_state x y row (Err z)) is (h w.book (m.running up))))
+    (subst (λ (z : DiskFault). Ruled memory_state x y row (Err z)) is (h w.book (told_lists x w.book before (m.running up)))))
 
 pub handled_short : (p : Packet) (x y : ManagerState MemDisk) (fault : DiskFault) → fault ≡ Memory → Handled x y p (Err fault) → desk_of y ≡ desk_of x
 handled_short p x y fault is h =
@@ -135,10 +121,10 @@ refused_as x y e r f is which h = ⊎_elim
 refused_in : (x : ManagerState MemDisk) (e : ℕ) (r : Option Refusal) → x.file.stopped ≡ false → decide_refusal (entry_at x.extents e) ≡ r → refusal_in (desk_of x) e ≡ r
 refused_in x e r up is = ap (λ (b : Bool). if b then None else decide_refusal (entry_at x.extents e)) up ∙ is
 
-pub decided_ok : (e : ℕ) (x y : ManagerState MemDisk) (s : Step) → x.file.stopped ≡ false → Decided x y e (Ok s) → (w : World) → DeskMirrors (desk_of x) w → Served (desk_of y) w (decides w e) s
-decided_ok e x y s up h w m =
+pub decided_ok : (e : ℕ) (x y : ManagerState MemDisk) (s : Step) → x.file.stopped ≡ false → IsLedger x x.file.records → Decided x y e (Ok s) → (w : World) → DeskMirrors (desk_of x) w → Served (desk_of y) w (decides w e) s
+decided_ok e x y s up before h w m =
     let row = decide_row w.book e (w.book.extent e) in
-    served_up (desk_of x) (desk_of y) w (manager_does w row) s up m (served_ok row x y w s up m (h.ruled (not_refused x y e s h) w.book (m.running up)))
+    served_up (desk_of x) (desk_of y) w (manager_does w row) s up m (served_ok row x y w s up m (h.ruled (not_refused x y e s h) w.book (told_lists x w.book before (m.running up))))
 
 pub decided_fine : (e : ℕ) (x y : ManagerState MemDisk) (s : Step) → x.file.stopped ≡ false → Decided x y e (Ok s) → None ≡ refusal_in (desk_of x) e
 decided_fine e x y s up h = sym (refused_in x e None up (not_refused x y e s h))
@@ -168,17 +154,6 @@ refused_ok e x y s r f g was is which up h none =
 pub refused_tells : (e : ℕ) (x y : ManagerState MemDisk) (r : Refusal) (f g : ManagerFault) → f ≡ g → fault_of r ≡ g → (r ≡ refusals.NoSuchExtent) ⊎ (r ≡ refusals.NoReply) → x.file.stopped ≡ false → Decided x y e (Err f) → Some r ≡ refusal_in (desk_of x) e
 refused_tells e x y r f g was is which up h = sym (refused_in x e (Some r) up (refused_as x y e r f (is ∙ sym was) which h))
 
--- what a decision shows
-decided_notes : (b : Book) (e : ℕ) (x : Option Extent) → (decide_row b e x).notes ≡ sealing_notes e (sealing_at x)
-decided_notes b e None = refl
-decided_notes b e (Some x) = cases (is_there x.sealed) (least_told x)
-  where
-    cases : (c : Bool) (l : Option ℕ) →
-        (if c then (record { after = b; written = None; packets = reminders b e x; notes = [] }) else decided_if b e x l).notes ≡ sealing_notes e (if c then None else l)
-    cases true l = refl
-    cases false None = refl
-    cases false (Some l) = refl
-
 pub decided_broken : (e : ℕ) (x y : ManagerState MemDisk) (s : Step) (f : ManagerFault) (told : Option Stop) → f ≡ faults.DiskFailed → x.file.stopped ≡ false → IsLedger x x.file.records →
     option_map {U = ℕ × Bool} (λ (z : Stop). (z.calls, z.keep)) told ≡ (memory_state x.file.disk).stop →
     s.packets ≡ [] → s.notes ≡ shown_if (stands_told told) (sealing_notes e (sealing_at (entry_at x.extents e))) → Decided x y e (Err f) →
@@ -191,7 +166,7 @@ decided_broken e x y s f told is up before plan sent shown h w m =
     served_up (desk_of x) (desk_of y) w (manager_does w row) s up m
     (served_broken row x y w s up m before sent
     (λ t. shown ∙ (λ i. shown_if (told_stands told w.desk row.written (plan ∙ m.plan up) t i) (sym same i)))
-    (subst (λ (z : ManagerFault). Ruled memory_state x y row (as_row (Err z))) is (h.ruled why w.book (m.running up))))
+    (subst (λ (z : ManagerFault). Ruled memory_state x y row (as_row (Err z))) is (h.ruled why w.book (told_lists x w.book before (m.running up)))))
 
 pub failed_fine : (e : ℕ) (x y : ManagerState MemDisk) (f : ManagerFault) → f ≡ faults.DiskFailed → x.file.stopped ≡ false → Decided x y e (Err f) → None ≡ refusal_in (desk_of x) e
 failed_fine e x y f is up h = sym (refused_in x e None up (failed_not_refused x y e f (λ a. let b = is in cc) (λ a. let b = is in cc) h))

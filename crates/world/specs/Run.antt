@@ -4,7 +4,7 @@ use Rattle.wire.specs.declared.note.Note.{Note}
 use Rattle.wire.specs.declared.packet.Packet.{Packet}
 use Rattle.wire.specs.declared.packet.Step.{Step}
 use Rattle.model.specs.declared.event.Event.{Event}
-use Rattle.model.specs.World.{World, run, start}
+use Rattle.model.specs.World.{World, Move, run_moves, start}
 use Rattle.wire.specs.declared.refusal.Refusal.{Refusal}
 use Rattle.model.specs.declared.event.Event.TheVariants.{Decide}
 use Rattle.world.specs.Desk.{DeskSeen, DeskMirrors, refusal_in}
@@ -34,12 +34,12 @@ pub record Moved (xs : List NodeSeen) (d : DeskSeen) (w v : World) (s : Step) : 
 abbrev pub IsFew : Step → Type 0
 IsFew s = (length s.packets ≤ 2048) × (length s.notes ≤ 2048)
 
--- some list of events makes this, from the start
+-- some list of moves makes this, from the start: events, and requests of servers
 pub record IsRun (r : RunState) : Type 0 where
   pub nodes : ℕ
   pub target : ℕ
-  pub events : List Event
-  pub mirrors : Mirrors r (run events (start nodes target))
+  pub moves : List Move
+  pub mirrors : Mirrors r (run_moves moves (start nodes target))
 
 -- why an event is refused: a decision for the manager's reason, and nothing else
 abbrev pub refusal_of : RunState → Event → Option Refusal

@@ -1,9 +1,9 @@
 //! A run: real actors, the packets sent, and what was observed.
 ghost use Rattle.std.specs.Prelude.{◌≡◌, ◌++◌, [], ◌∷◌, None, IfOk, OnOk, OnErr, option_map};
-ghost use Rattle.model.specs.World.{World, happens, delivered, start};
+ghost use Rattle.model.specs.World.{World, happens, moved, delivered, start};
+ghost use Rattle.model.specs.World.Move.{Asks};
 ghost use Rattle.model.specs.declared.event.Event.TheVariants as events;
 ghost use Rattle.model.specs.Outcome.{packet};
-ghost use Rattle.wire.specs.declared.actor.ActorId.TheVariants.{User};
 ghost use Rattle.world.specs.Desk.{DeskMirrors, refusal_in};
 ghost use Rattle.world.specs.Nodes.{NodesMirror, seen_of, running_at};
 ghost use Rattle.world.specs.Run.{IsFew, Mirrors, Moved, refusal_of};
@@ -12,6 +12,7 @@ use crate::desk::{Decision, Desk};
 use crate::fault::WorldFault;
 use crate::nodes::NodeList;
 use crate::post::{make_room, move_in};
+use crate::serving::is_call;
 use crate::setup::Setup;
 use crate::submitting::request;
 use disk::MemDisk;
@@ -19,7 +20,7 @@ use enode::Node;
 use model::Event;
 use std::alloc::Global;
 use std::marker::Model;
-use wire::{ActorId, Body, ExtentId, Note, Packet, Refusal, Step};
+use wire::{ActorId, Body, ExtentId, Note, Packet, Refusal, ServerNo, Step};
 
 /// Real extent nodes and the stream manager on disks in memory, all packets that were sent, numbered from 0, and all
 /// observations. The packets stay, since each may be delivered any number of times.
@@ -95,23 +96,37 @@ impl Cluster {
         match request(alloc, body) {
             Err(_full) => Err(WorldFault::Memory),
             Ok(None) => Ok(None),
-            Ok(Some(body)) => match self.send(user, to, body) {
+            Ok(Some(body)) => match self.send(ActorId::User(user), to, body) {
                 Ok(()) => Ok(None),
                 Err(fault) => Err(fault),
             },
         }
     }
 
-    fn send(&mut self, user: u64, to: ActorId, body: Body) -> Result<(), WorldFault>
-        ensures ok { OnOk result (self.new ≡ record self.old { post = self.old.post ++ packet (User user) to body ∷ [] }) }
+    /// A server asks what servers may ask. Nothing comes of another body.
+    pub(crate) fn ask(
+        &mut self,
+        server: ServerNo,
+        to: ActorId,
+        body: Body,
+    ) -> Result<(), WorldFault>
+        ensures ok { OnOk result ((w : World) → Mirrors self.old w → Mirrors self.new (moved w (Asks server to body))) }
         ensures err { OnErr result (self.new ≡ self.old) }
     {
-        let sent = Packet {
-            from: ActorId::User(user),
-            to,
-            body,
-        };
-        match self.post.push(sent) {
+        if !is_call(&body) {
+            return Ok(());
+        }
+        match self.send(ActorId::Server(server), to, body) {
+            Ok(()) => Ok(()),
+            Err(fault) => Err(fault),
+        }
+    }
+
+    fn send(&mut self, from: ActorId, to: ActorId, body: Body) -> Result<(), WorldFault>
+        ensures ok { OnOk result (self.new ≡ record self.old { post = self.old.post ++ packet from to body ∷ [] }) }
+        ensures err { OnErr result (self.new ≡ self.old) }
+    {
+        match self.post.push(Packet { from, to, body }) {
             Ok(()) => Ok(()),
             Err(_full) => Err(WorldFault::Memory),
         }

@@ -13,6 +13,7 @@ mod fault;
 mod nodes;
 mod post;
 mod running;
+mod serving;
 mod setup;
 mod submitting;
 mod whole;

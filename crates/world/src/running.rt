@@ -1,7 +1,8 @@
 //! A run: a cluster that events brought to where it is.
 ghost use Rattle.std.specs.Prelude.{◌≡◌, IfOk, OnOk, OnErr, option_map};
 ghost use Rattle.model.specs.Honest.{Agree, Kept};
-ghost use Rattle.model.specs.World.{World, happens, start};
+ghost use Rattle.model.specs.World.{World, happens, moved, start};
+ghost use Rattle.model.specs.World.Move.{Asks};
 ghost use Rattle.world.specs.Nodes.{seen_of, running_at};
 ghost use Rattle.world.specs.Run.{Mirrors, refusal_of};
 
@@ -13,10 +14,11 @@ use enode::Node;
 use model::Event;
 use std::alloc::Global;
 use std::marker::Model;
-use wire::{Note, Packet, Refusal};
+use wire::{ActorId, Body, Note, Packet, Refusal, ServerNo};
 
-/// A cluster beside the events that made it: at each moment it is what the model makes of some list of events, from the
-/// start. So what was observed is honest, at any moment and of any run.
+/// A cluster beside the moves that made it: at each moment it is what the model makes of some list of moves, from the
+/// start: events, and requests of servers under any generation. So what was observed is honest, at any moment and of any
+/// run, whatever the servers ask.
 #[derive(Drop)]
 pub struct Run {
     cluster: Cluster,
@@ -53,6 +55,16 @@ impl Run {
         ensures refusal { IfOk result (λ refusal. refusal ≡ refusal_of self.old event.now) }
     {
         self.cluster.step(alloc, event)
+    }
+
+    /// A server asks a node or the manager: an append, a check, a seal, a read, or a call for streams, under any generation.
+    /// Nothing comes of another body. The packet is the next of those sent, and its answer is sent to the server. An error
+    /// is want of memory (22), and nothing has changed.
+    pub fn ask(&mut self, server: ServerNo, to: ActorId, body: Body) -> Result<(), WorldFault>
+        ensures ok { OnOk result ((w : World) → Mirrors self.old w → Mirrors self.new (moved w (Asks server to body))) }
+        ensures err { OnErr result (self.new ≡ self.old) }
+    {
+        self.cluster.ask(server, to, body)
     }
 
     /// All packets that were sent, in order: their places, from 0, are their numbers.

@@ -1,3 +1,5 @@
+mod servers;
+
 use crate::{Run, Setup, check, run};
 use blocks::Nodes;
 use bytes::Bytes;

@@ -9,6 +9,9 @@ use Rattle.enode.proofs.rows.take.Goals as goal
 pub returns-in-Append : goal.returns-in-Append
 returns-in-Append g c = subst (λ (b : Body). Took g.D.Disk.state c.args.replicas.now.entries c.take_append.new.replicas.entries c.args.file.now c.take_append.new.file (extent_of b) (node_row c.args.number (find c.args.replicas.now.entries (extent_of b)) c.args.packet.now b) c.take_append.result) (sym c.in-Append.is) c.take_append.ensures
 
+pub returns-in-Check : goal.returns-in-Check
+returns-in-Check g c = subst (λ (b : Body). Took g.D.Disk.state c.args.replicas.now.entries c.take_check.new.replicas.entries c.args.file.now c.take_check.new.file (extent_of b) (node_row c.args.number (find c.args.replicas.now.entries (extent_of b)) c.args.packet.now b) c.take_check.result) (sym c.in-Check.is) c.take_check.ensures
+
 pub returns-in-Seal : goal.returns-in-Seal
 returns-in-Seal g c = subst (λ (b : Body). Took g.D.Disk.state c.args.replicas.now.entries c.take_seal.new.replicas.entries c.args.file.now c.take_seal.new.file (extent_of b) (node_row c.args.number (find c.args.replicas.now.entries (extent_of b)) c.args.packet.now b) c.take_seal.result) (sym c.in-Seal.is) c.take_seal.ensures
 

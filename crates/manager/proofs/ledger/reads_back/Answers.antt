@@ -2,7 +2,7 @@ use Rattle.std.proofs.Common.{◌≡◌, ◌<◌, ◌^◌, Some, subst, sym, ari
 use Rattle.model.specs.declared.manager_record.ManagerRecord.{ManagerRecord}
 use Rattle.model.specs.Ledger.{spelled, record_of}
 use Rattle.manager.specs.Ledger.{CanSpell}
-use Rattle.manager.proofs.Spelling.{first_again, create_again, extend_again, seal_again}
+use Rattle.manager.proofs.Spelling.{first_again, create_again, open_again, extend_again, seal_again}
 use Rattle.manager.proofs.ledger.reads_back.Goals as goal
 
 abbrev Again : ManagerRecord → Type 0
@@ -16,6 +16,12 @@ returns-in-CreateStream c =
     let range : c.in-CreateStream.stream.range < 2 ^ 64 = omega arith in
     let fence : c.in-CreateStream.fence < 2 ^ 64 = omega arith in
     subst Again (sym c.in-CreateStream.is) (create_again c.in-CreateStream.stream c.in-CreateStream.fence range fence)
+
+pub returns-in-OpenStreams : goal.returns-in-OpenStreams
+returns-in-OpenStreams c =
+    let range : c.in-OpenStreams.range < 2 ^ 64 = omega arith in
+    let generation : c.in-OpenStreams.generation < 2 ^ 64 = omega arith in
+    subst Again (sym c.in-OpenStreams.is) (open_again c.in-OpenStreams.range c.in-OpenStreams.generation range generation)
 
 pub returns-in-Extend : goal.returns-in-Extend
 returns-in-Extend c =

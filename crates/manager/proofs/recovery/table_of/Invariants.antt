@@ -1,11 +1,12 @@
 use Rattle.std.proofs.Common.{◌≡◌, ◌++◌, length}
 use Rattle.std.specs.Vec.Iter.{into_iter_items, into_iter_len}
+use Rattle.manager.specs.Recovery.{plain_of}
 use Rattle.manager.proofs.Recovering.{SoFar}
 use Rattle.manager.proofs.recovery.table_of.Given as goal
 
 abbrev pub invariant-loop-record_read : goal.invariant-loop-record_read
 invariant-loop-record_read g l = record {
-  made : SoFar l.table l.yielded;
+  made : SoFar (plain_of l.table) l.yielded;
   rest : l.yielded ++ into_iter_items l.record_read-iterator ≡ l.fn.file.records;
   count : into_iter_len l.record_read-iterator ≡ length (into_iter_items l.record_read-iterator);
 }

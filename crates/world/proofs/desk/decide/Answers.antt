@@ -12,7 +12,7 @@ use Rattle.world.proofs.desk.decide.Goals as goal
 
 pub returns-in-Ok-decide-clause-ok : goal.returns-in-Ok-decide-clause-ok
 returns-in-Ok-decide-clause-ok c = subst (λ (s : Step). (w : World) → DeskMirrors (desk_of c.args.manager.now) w → Served (desk_of c.decide.new.self) w (decides w c.args.extent) s) (sym c.taken-in-Ok-decide.ensures.0)
-    (decided_ok c.args.extent c.args.manager.now c.decide.new.self c.in-Ok-decide.step (sym c.is_stopped.ensures ∙ c.if-is_stopped.false) (record { refused = c.in-Ok-decide.ensures.refused (sym c.is_stopped.ensures ∙ c.if-is_stopped.false); ruled = c.in-Ok-decide.ensures.ruled (sym c.is_stopped.ensures ∙ c.if-is_stopped.false); taken = c.in-Ok-decide.ensures.taken }))
+    (decided_ok c.args.extent c.args.manager.now c.decide.new.self c.in-Ok-decide.step (sym c.is_stopped.ensures ∙ c.if-is_stopped.false) (c.in-Ok-decide.ensures.ledger (sym c.is_stopped.ensures ∙ c.if-is_stopped.false)) (record { refused = c.in-Ok-decide.ensures.refused (sym c.is_stopped.ensures ∙ c.if-is_stopped.false); ruled = c.in-Ok-decide.ensures.ruled (sym c.is_stopped.ensures ∙ c.if-is_stopped.false); taken = c.in-Ok-decide.ensures.taken }))
 
 pub returns-in-Ok-decide-clause-refusal : goal.returns-in-Ok-decide-clause-refusal
 returns-in-Ok-decide-clause-refusal c = c.taken-in-Ok-decide.ensures.1 ∙ decided_fine c.args.extent c.args.manager.now c.decide.new.self c.in-Ok-decide.step (sym c.is_stopped.ensures ∙ c.if-is_stopped.false) (record { refused = c.in-Ok-decide.ensures.refused (sym c.is_stopped.ensures ∙ c.if-is_stopped.false); ruled = c.in-Ok-decide.ensures.ruled (sym c.is_stopped.ensures ∙ c.if-is_stopped.false); taken = c.in-Ok-decide.ensures.taken })

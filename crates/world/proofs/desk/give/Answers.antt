@@ -3,7 +3,7 @@ use Rattle.world.proofs.Ruling.{handled_ok, handled_broken, handled_short}
 use Rattle.world.proofs.desk.give.Goals as goal
 
 pub returns-in-Ok-clause-ok : goal.returns-in-Ok-clause-ok
-returns-in-Ok-clause-ok c = handled_ok c.args.packet.now c.args.manager.now c.handle.new.self c.in-Ok.step (sym c.is_stopped.ensures ∙ c.if-is_stopped.false) (c.in-Ok.ensures.took (sym c.is_stopped.ensures ∙ c.if-is_stopped.false))
+returns-in-Ok-clause-ok c = handled_ok c.args.packet.now c.args.manager.now c.handle.new.self c.in-Ok.step (sym c.is_stopped.ensures ∙ c.if-is_stopped.false) (c.in-Ok.ensures.ledger (sym c.is_stopped.ensures ∙ c.if-is_stopped.false)) (c.in-Ok.ensures.took (sym c.is_stopped.ensures ∙ c.if-is_stopped.false))
 
 pub returns-in-Err-Failed-clause-ok : goal.returns-in-Err-Failed-clause-ok
 returns-in-Err-Failed-clause-ok c = handled_broken c.args.packet.now c.args.manager.now c.handle.new.self c.silent-in-Err-Failed.result c.in-Err-Failed.field-0 c.in-Err-Failed.field-0-is (sym c.is_stopped.ensures ∙ c.if-is_stopped.false) (c.in-Err-Failed.ensures.ledger (sym c.is_stopped.ensures ∙ c.if-is_stopped.false))

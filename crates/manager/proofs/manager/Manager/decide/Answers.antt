@@ -5,6 +5,7 @@ use Rattle.model.specs.Bounds.{AreFew}
 use Rattle.model.specs.Maps.{entry_at}
 use Rattle.model.specs.Manager.{decide_row}
 use Rattle.manager.specs.Manager.{state_of}
+use Rattle.manager.specs.Table.{plain}
 use Rattle.manager.specs.Plan.{decide}
 use Rattle.manager.specs.Ruled.{Ruled, as_row}
 use Rattle.manager.proofs.Tables.{book_shows}
@@ -15,8 +16,8 @@ use Rattle.manager.proofs.manager.Manager.decide.Goals as goal
 
 pub invariant_of-self : goal.invariant_of-self
 invariant_of-self g c = λ up.
-    stays g.D.Disk.state _ _ _ _ _ c.decide_on-done.result c.decide_on-done.ensures.done c.decide_on-done.ensures.again
-    (decision_follows _ _ (book_shows _) c.number-in-None.result).can (c.self.invariant (sym c.is_stopped.ensures ∙ c.if-is_stopped.false)) up
+    stays g.D.Disk.state (plain c.self.inside.table) (plain c.decide_on-done.new.table) _ _ _ c.decide_on-done.result c.decide_on-done.ensures.done c.decide_on-done.ensures.again
+    (decision_follows (plain c.self.inside.table) _ (book_shows (plain c.self.inside.table)) c.number-in-None.result).can (c.self.invariant (sym c.is_stopped.ensures ∙ c.if-is_stopped.false)) up
 
 pub returns-in-None-clause-ruled : goal.returns-in-None-clause-ruled
 returns-in-None-clause-ruled g c = rw (← c.self.view_is) (λ up none b shows.
@@ -24,7 +25,7 @@ returns-in-None-clause-ruled g c = rw (← c.self.view_is) (λ up none b shows.
     let is = state_of c.decide_on-done.new.table c.decide_on-done.new.file in
     subst (λ (e : ℕ). Ruled g.D.Disk.state was is (decide_row b e (b.extent e)) (as_row c.answer.result)) c.number-in-None.ensures
     (subst (λ (w : Result Step DiskFault). Ruled g.D.Disk.state was is (decide_row b c.number-in-None.result (b.extent c.number-in-None.result)) w) (sym c.answer.ensures.row)
-    (ruled g.D.Disk.state _ _ _ _ _ _ c.decide_on-done.result c.decide_on-done.ensures.done c.decide_on-done.ensures.again
+    (ruled g.D.Disk.state c.self.inside.table c.decide_on-done.new.table _ _ _ _ c.decide_on-done.result c.decide_on-done.ensures.done c.decide_on-done.ensures.again
     (decision_follows _ b shows c.number-in-None.result) (c.self.invariant (sym c.is_stopped.ensures ∙ c.if-is_stopped.false)))))
 
 pub returns-in-None-clause-few : goal.returns-in-None-clause-few
@@ -32,4 +33,4 @@ returns-in-None-clause-few g c =
     let plan = decide c.self.inside.table.target c.number-in-None.result (entry_at c.self.inside.table.extents c.number-in-None.result) in
     row_step (λ (s : Step). AreFew s.packets s.notes) c.answer.result
     (subst (λ (w : Result Step DiskFault). IfOk w (λ s. AreFew s.packets s.notes)) (sym c.answer.ensures.row)
-    (step_few plan c.decide_on-done.result (decision_follows c.self.inside.table _ (book_shows c.self.inside.table) c.number-in-None.result).few c.decide_on-done.ensures.done.step))
+    (step_few plan c.decide_on-done.result (decision_follows (plain c.self.inside.table) _ (book_shows (plain c.self.inside.table)) c.number-in-None.result).few c.decide_on-done.ensures.done.step))

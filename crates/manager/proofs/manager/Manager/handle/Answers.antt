@@ -1,4 +1,5 @@
 use Rattle.std.proofs.Common.{sym, ◌∙◌}
+use Rattle.manager.specs.Table.{plain}
 use Rattle.manager.specs.Plan.{planned}
 use Rattle.manager.proofs.Tables.{book_shows}
 use Rattle.manager.proofs.Planning.{plan_follows}
@@ -7,13 +8,13 @@ use Rattle.manager.proofs.manager.Manager.handle.Goals as goal
 
 pub invariant_of-self : goal.invariant_of-self
 invariant_of-self g c = λ up.
-    stays g.D.Disk.state _ _ _ _ _ c.handle_on.result c.handle_on.ensures.done c.handle_on.ensures.again
-    (plan_follows _ _ (book_shows _) c.args.packet.now c.args.packet.now.body).can (c.self.invariant (sym c.is_stopped.ensures ∙ c.if-is_stopped.false)) up
+    stays g.D.Disk.state (plain c.self.inside.table) (plain c.handle_on.new.table) _ _ _ c.handle_on.result c.handle_on.ensures.done c.handle_on.ensures.again
+    (plan_follows (plain c.self.inside.table) _ (book_shows (plain c.self.inside.table)) c.args.packet.now c.args.packet.now.body).can (c.self.invariant (sym c.is_stopped.ensures ∙ c.if-is_stopped.false)) up
 
 pub returns-clause-took : goal.returns-clause-took
 returns-clause-took g c = rw (← c.self.view_is) (λ up b shows.
-    ruled g.D.Disk.state _ _ _ _ _ _ c.handle_on.result c.handle_on.ensures.done c.handle_on.ensures.again
+    ruled g.D.Disk.state c.self.inside.table c.handle_on.new.table _ _ _ _ c.handle_on.result c.handle_on.ensures.done c.handle_on.ensures.again
     (plan_follows _ b shows c.args.packet.now c.args.packet.now.body) (c.self.invariant (sym c.is_stopped.ensures ∙ c.if-is_stopped.false)))
 
 pub returns-clause-few : goal.returns-clause-few
-returns-clause-few g c = step_few (planned c.self.inside.table c.args.packet.now c.args.packet.now.body) c.handle_on.result (plan_follows _ _ (book_shows _) c.args.packet.now c.args.packet.now.body).few c.handle_on.ensures.done.step
+returns-clause-few g c = step_few (planned (plain c.self.inside.table) c.args.packet.now c.args.packet.now.body) c.handle_on.result (plan_follows (plain c.self.inside.table) _ (book_shows (plain c.self.inside.table)) c.args.packet.now c.args.packet.now.body).few c.handle_on.ensures.done.step

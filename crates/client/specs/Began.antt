@@ -1,0 +1,9 @@
+-- What a call that begins something leaves.
+use Rattle.std.specs.Prelude.{◌≡◌, Option, Some, None, Result, Ok}
+use Rattle.wire.specs.declared.packet.Packet.{Packet}
+use Rattle.client.specs.Client.{ClientState, Outcome}
+use Rattle.client.specs.declared.fault.ClientFault.{ClientFault}
+
+-- the row's one packet is handed out, and the state is the row's
+abbrev pub Begins : Result Outcome ClientFault → ClientState → Packet → Type 0
+Begins row after packet = row ≡ Ok (record { after = after; packet = Some packet; news = None })

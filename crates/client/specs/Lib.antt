@@ -1,0 +1,4 @@
+pub mod Requests
+pub mod Client
+pub mod Began
+pub mod Load

@@ -1,0 +1,381 @@
+//! A server's work on one stream.
+ghost use Rattle.std.specs.Prelude.{◌≡◌, ◌≢◌, Ok, Err, Some, None, IfOk, IfErr, OnErr};
+ghost use Rattle.client.specs.Client.{last_extent, is_idle, new_client, append_row, append_behind, check_row, read_sealed_row, read_checked_row, reply_row, give_up_row, closes, shuts, grows, reads_groups};
+ghost use Rattle.client.specs.Began.{Begins};
+ghost use Rattle.client.specs.declared.fault.ClientFault.{ClientFault};
+ghost use Rattle.client.specs.declared.fault.ClientFault.TheVariants as faults;
+
+use crate::fault::ClientFault;
+use crate::job::{Job, Place, Reaction};
+use crate::replies::reply;
+use crate::sending::{
+    append_packet, check_packet, extend_packet, next_place, node_at, read_packet, seal_packet,
+};
+use blocks::Nodes;
+use std::alloc::{AllocError, Global};
+use std::marker::Model;
+use wire::{
+    Blocks, ExtentId, Fence, Packet, ReqNo, ServerNo, StreamExtent, StreamList, StreamName,
+};
+
+/// What a server knows of one of its streams under a generation, and the one request that it has out on it.
+#[derive(Drop)]
+pub struct StreamClient {
+    pub(crate) server: ServerNo,
+    pub(crate) stream: StreamName,
+    pub(crate) generation: Fence,
+    pub(crate) base: u64,
+    pub(crate) extents: Vec<StreamExtent>,
+    pub(crate) checked: Option<u32>,
+    pub(crate) pick: Nodes,
+    pub(crate) group: Blocks,
+    pub(crate) job: Job,
+}
+
+impl Model for StreamClient {
+    ghost use Rattle.client.specs.Client.{ClientState};
+
+    ghost Value = { ClientState };
+
+    ghost view = { λ c. record { server = c.server; stream = c.stream; generation = c.generation; base = c.base; extents = c.extents.items; checked = c.checked; pick = c.pick; group = c.group; job = c.job } };
+}
+
+/// The last extent, if there is one.
+pub(crate) fn last(extents: &[StreamExtent]) -> Option<StreamExtent>
+    ensures { result ≡ last_extent extents.now }
+{
+    if extents.is_empty() {
+        return None;
+    }
+    match extents.get(extents.len() - 1) {
+        None => None,
+        Some(found) => Some(*found),
+    }
+}
+
+fn is_idle(job: Job) -> bool
+    ensures { result ≡ is_idle job }
+{
+    match job {
+        Job::Idle => true,
+        Job::Sent { .. } => false,
+        Job::Closing { .. } => false,
+        Job::Growing { .. } => false,
+        Job::Checking { .. } => false,
+        Job::Shutting { .. } => false,
+        Job::Reading { .. } => false,
+    }
+}
+
+impl StreamClient {
+    /// The client of a stream as the manager told it, under a generation. A new extent of the stream is asked for at these
+    /// nodes, the primary first. Nothing is out. An error is want of memory (22).
+    pub fn new(
+        alloc: Global,
+        server: ServerNo,
+        stream: StreamName,
+        generation: Fence,
+        list: &StreamList,
+        pick: Nodes,
+    ) -> Result<StreamClient, AllocError>
+        ensures { IfOk result (λ c. c ≡ new_client server stream generation list.now pick) }
+    {
+        let mut extents = Vec::new(alloc);
+        extents.extend_from_slice(list.extents.as_slice())?;
+        Ok(StreamClient {
+            server,
+            stream,
+            generation,
+            base: list.base,
+            extents,
+            checked: None,
+            pick,
+            group: Blocks::of(Vec::new(alloc)),
+            job: Job::Idle,
+        })
+    }
+
+    /// Begins an append of these blocks: to the last extent where it is open, else to a new one behind it. The packet bears
+    /// this number. 22: no memory. 35: another request is out. After a refusal nothing has changed.
+    pub fn append(
+        &mut self,
+        alloc: Global,
+        request: &ReqNo,
+        blocks: &Blocks,
+    ) -> Result<Packet, ClientFault>
+        ensures ok { IfOk result (λ p. Begins (append_row self.old request.now blocks.now) self.new p) }
+        ensures err { OnErr result (self.new ≡ self.old) }
+        ensures fault { IfErr result (λ f. f ≢ faults.Memory → append_row self.old request.now blocks.now ≡ Err f) }
+        ensures refused { (f : ClientFault) → append_row self.old request.now blocks.now ≡ Err f → result ≡ Err f }
+    {
+        if !is_idle(self.job) {
+            return Err(ClientFault::Busy);
+        }
+        let group = match blocks.copy(alloc) {
+            Ok(group) => group,
+            Err(_full) => return Err(ClientFault::Memory),
+        };
+        match last(&self.extents) {
+            None => {
+                self.group = group;
+                Ok(self.grow(&None, request))
+            }
+            Some(extent) => self.append_behind(alloc, request, group, &extent),
+        }
+    }
+
+    /// To this extent, which is the last, where it is open, else to one behind it.
+    fn append_behind(
+        &mut self,
+        alloc: Global,
+        request: &ReqNo,
+        group: Blocks,
+        extent: &StreamExtent,
+    ) -> Result<Packet, ClientFault>
+        ensures ok { IfOk result (λ p. append_behind (record self.old { group = group }) request.now extent.now extent.now.length
+            ≡ record { after = self.new; packet = Some p; news = None }) }
+        ensures err { OnErr result (self.new ≡ self.old) }
+        ensures fault { IfErr result (λ f. f ≡ faults.Memory) }
+    {
+        match extent.length {
+            None => {
+                let primary = extent.places.primary;
+                let packet = match append_packet(
+                    alloc,
+                    self.server,
+                    primary,
+                    extent.extent,
+                    self.generation,
+                    &group,
+                    request,
+                ) {
+                    Ok(packet) => packet,
+                    Err(_full) => return Err(ClientFault::Memory),
+                };
+                self.group = group;
+                self.job = Job::Sent {
+                    extent: extent.extent,
+                    request: *request,
+                };
+                Ok(packet)
+            }
+            Some(_length) => {
+                self.group = group;
+                Ok(self.grow(&Some(extent.extent), request))
+            }
+        }
+    }
+
+    /// Begins the check of the last extent's length. The packet bears this number. 1: the stream has no extent. 4: the last
+    /// is sealed. 35: another request is out. After a refusal nothing has changed.
+    pub fn check_length(&mut self, request: &ReqNo) -> Result<Packet, ClientFault>
+        ensures ok { IfOk result (λ p. Begins (check_row self.old request.now) self.new p) }
+        ensures err { OnErr result (self.new ≡ self.old) }
+        ensures fault { IfErr result (λ f. check_row self.old request.now ≡ Err f) }
+    {
+        if !is_idle(self.job) {
+            return Err(ClientFault::Busy);
+        }
+        match last(&self.extents) {
+            None => Err(ClientFault::NoSuchExtent),
+            Some(extent) => match extent.length {
+                Some(_length) => Err(ClientFault::NotOpen),
+                None => {
+                    self.job = Job::Checking {
+                        extent: extent.extent,
+                        request: *request,
+                    };
+                    Ok(check_packet(
+                        self.server,
+                        extent.places.primary,
+                        extent.extent,
+                        self.generation,
+                        request,
+                    ))
+                }
+            },
+        }
+    }
+
+    /// Begins to read a sealed extent whole, the one that stands behind so many others in the list, at its first place. The
+    /// packet bears this number. 1: the list is no longer than that. 9: the extent is not known to be sealed. 35: another
+    /// request is out. After a refusal nothing has changed.
+    pub fn read_sealed(&mut self, request: &ReqNo, position: usize) -> Result<Packet, ClientFault>
+        ensures ok { IfOk result (λ p. Begins (read_sealed_row self.old request.now position) self.new p) }
+        ensures err { OnErr result (self.new ≡ self.old) }
+        ensures fault { IfErr result (λ f. read_sealed_row self.old request.now position ≡ Err f) }
+    {
+        if !is_idle(self.job) {
+            return Err(ClientFault::Busy);
+        }
+        let extent = match self.extents.get(position) {
+            None => return Err(ClientFault::NoSuchExtent),
+            Some(extent) => *extent,
+        };
+        match extent.length {
+            None => Err(ClientFault::NotSealed),
+            Some(length) => Ok(self.read(
+                extent.extent,
+                &extent.places,
+                length,
+                true,
+                Place::First,
+                request,
+            )),
+        }
+    }
+
+    /// Begins to read the last extent, which is open, as far as it was checked, at its primary. The packet bears this number.
+    /// 1: the stream has no extent. 4: the last is sealed. 9: it was not checked. 35: another request is out. After a refusal
+    /// nothing has changed.
+    pub fn read_checked(&mut self, request: &ReqNo) -> Result<Packet, ClientFault>
+        ensures ok { IfOk result (λ p. Begins (read_checked_row self.old request.now) self.new p) }
+        ensures err { OnErr result (self.new ≡ self.old) }
+        ensures fault { IfErr result (λ f. read_checked_row self.old request.now ≡ Err f) }
+    {
+        if !is_idle(self.job) {
+            return Err(ClientFault::Busy);
+        }
+        match last(&self.extents) {
+            None => Err(ClientFault::NoSuchExtent),
+            Some(extent) => match extent.length {
+                Some(_length) => Err(ClientFault::NotOpen),
+                None => match self.checked {
+                    None => Err(ClientFault::NotSealed),
+                    Some(length) => Ok(self.read(
+                        extent.extent,
+                        &extent.places,
+                        length,
+                        false,
+                        Place::First,
+                        request,
+                    )),
+                },
+            },
+        }
+    }
+
+    /// What is done with a packet that has come: nothing where it repeats another number than that of the request that is
+    /// out. What is sent next bears this number. An error is want of memory (22), and nothing has changed.
+    pub fn on_reply(
+        &mut self,
+        alloc: Global,
+        request: &ReqNo,
+        packet: &Packet,
+    ) -> Result<Reaction, AllocError>
+        ensures ok { IfOk result (λ r. reply_row self.old request.now packet.now.body ≡ record { after = self.new; packet = r.packet; news = r.news }) }
+        ensures err { OnErr result (self.new ≡ self.old) }
+    {
+        reply(self, alloc, request, &packet.body)
+    }
+
+    /// What is done where no answer comes: an append or a check that is out has its extent sealed, under this number; a
+    /// read of a sealed extent goes to its next place, and all else is asked again, each under its own number. A new extent
+    /// is asked for at these nodes from now on. Nothing is sent where nothing is out.
+    pub fn give_up(&mut self, request: &ReqNo, pick: &Nodes) -> Option<Packet>
+        ensures { give_up_row self.old request.now pick.now ≡ record { after = self.new; packet = result; news = None } }
+    {
+        self.pick = *pick;
+        let job = self.job;
+        match &job {
+            Job::Idle => None,
+            Job::Sent { extent, request: _ } => Some(self.close(*extent, request)),
+            Job::Closing {
+                extent,
+                request: same,
+            } => Some(self.close(*extent, same)),
+            Job::Growing {
+                last,
+                request: same,
+            } => Some(self.grow(last, same)),
+            Job::Checking { extent, request: _ } => Some(self.shut(*extent, request)),
+            Job::Shutting {
+                extent,
+                request: same,
+            } => Some(self.shut(*extent, same)),
+            Job::Reading {
+                extent,
+                places,
+                upto,
+                sealed,
+                place,
+                request: same,
+            } => {
+                if *sealed {
+                    return Some(self.read(*extent, places, *upto, true, next_place(*place), same));
+                }
+                Some(self.shut(*extent, request))
+            }
+        }
+    }
+
+    /// Has an extent sealed that takes no more of the appends.
+    pub(crate) fn close(&mut self, extent: ExtentId, request: &ReqNo) -> Packet
+        ensures { closes self.old extent request.now ≡ record { after = self.new; packet = Some result; news = None } }
+    {
+        self.job = Job::Closing {
+            extent,
+            request: *request,
+        };
+        seal_packet(self.server, extent, request)
+    }
+
+    /// Has an extent sealed that could not be checked.
+    pub(crate) fn shut(&mut self, extent: ExtentId, request: &ReqNo) -> Packet
+        ensures { shuts self.old extent request.now ≡ record { after = self.new; packet = Some result; news = None } }
+    {
+        self.job = Job::Shutting {
+            extent,
+            request: *request,
+        };
+        seal_packet(self.server, extent, request)
+    }
+
+    /// Asks for another extent.
+    pub(crate) fn grow(&mut self, last: &Option<ExtentId>, request: &ReqNo) -> Packet
+        ensures { grows self.old last.now request.now ≡ record { after = self.new; packet = Some result; news = None } }
+    {
+        self.job = Job::Growing {
+            last: *last,
+            request: *request,
+        };
+        extend_packet(
+            self.server,
+            self.stream,
+            self.generation,
+            last,
+            &self.pick,
+            request,
+        )
+    }
+
+    /// Asks a place for groups.
+    fn read(
+        &mut self,
+        extent: ExtentId,
+        places: &Nodes,
+        upto: u32,
+        sealed: bool,
+        place: Place,
+        request: &ReqNo,
+    ) -> Packet
+        ensures { reads_groups self.old extent places.now upto sealed place request.now ≡ record { after = self.new; packet = Some result; news = None } }
+    {
+        self.job = Job::Reading {
+            extent,
+            places: *places,
+            upto,
+            sealed,
+            place,
+            request: *request,
+        };
+        read_packet(
+            self.server,
+            node_at(places, place),
+            extent,
+            upto,
+            sealed,
+            request,
+        )
+    }
+}

@@ -1,0 +1,413 @@
+//! What a client does with an answer.
+ghost use Rattle.std.specs.Prelude.{◌≡◌, Some, None, IfOk, OnErr};
+ghost use Rattle.client.specs.Client.{awaits, sealed_last, refused_job, append_reply, check_reply, seal_reply, read_reply, stream_reply, reply_row, appended_job, checked_job, sealed_job, groups_job, extended_job, appends_again, ends, waits};
+ghost use Rattle.wire.specs.declared.refusal.Refusal.TheVariants as refusals;
+
+use crate::client::StreamClient;
+use crate::job::{Job, News, Reaction};
+use crate::requests::is_same;
+use crate::sending::append_packet;
+use blocks::Nodes;
+use std::alloc::{AllocError, Global};
+use wire::{
+    AppendBody, Blocks, Body, CheckBody, ExtentId, Packet, ReadBody, Refusal, ReqNo, SealBody,
+    StreamBody, StreamExtent,
+};
+
+/// Whether an answer of this number is waited for.
+fn awaits(job: Job, answered: &ReqNo) -> bool
+    ensures { result ≡ awaits job answered.now }
+{
+    match &job {
+        Job::Idle => false,
+        Job::Sent { request, .. } => is_same(request, answered),
+        Job::Closing { request, .. } => is_same(request, answered),
+        Job::Growing { request, .. } => is_same(request, answered),
+        Job::Checking { request, .. } => is_same(request, answered),
+        Job::Shutting { request, .. } => is_same(request, answered),
+        Job::Reading { request, .. } => is_same(request, answered),
+    }
+}
+
+fn nothing() -> Reaction
+    ensures { (result.packet ≡ None) × (result.news ≡ None) }
+{
+    Reaction {
+        packet: None,
+        news: None,
+    }
+}
+
+/// Notes the length of the last extent.
+fn seal_last(extents: &mut Vec<StreamExtent>, length: u32)
+    ensures { extents.new.items ≡ sealed_last extents.old.items length }
+{
+    let count = extents.len();
+    if count == 0 {
+        return;
+    }
+    let mut sealed = extents[count - 1];
+    sealed.length = Some(length);
+    extents[count - 1] = sealed;
+}
+
+/// Nothing is waited for any more.
+fn end(client: &mut StreamClient, alloc: Global, told: News) -> Reaction
+    ensures { ends client.old told ≡ record { after = client.new; packet = result.packet; news = result.news } }
+{
+    client.job = Job::Idle;
+    client.group = Blocks::of(Vec::new(alloc));
+    Reaction {
+        packet: None,
+        news: Some(told),
+    }
+}
+
+/// What an answer leaves, where nothing comes of it.
+fn stays(client: &mut StreamClient) -> Reaction
+    ensures { waits client.old ≡ record { after = client.new; packet = result.packet; news = result.news } }
+{
+    nothing()
+}
+
+/// A request is out.
+fn asks(packet: Packet) -> Reaction
+    ensures { (result.packet ≡ Some packet) × (result.news ≡ None) }
+{
+    Reaction {
+        packet: Some(packet),
+        news: None,
+    }
+}
+
+/// An append is refused: an extent that takes no more of them is sealed.
+fn left(client: &mut StreamClient, request: &ReqNo) -> Reaction
+    ensures closed { refused_job client.old request.now refusals.NotOpen client.old.job ≡ record { after = client.new; packet = result.packet; news = result.news } }
+    ensures full { refused_job client.old request.now refusals.ExtentFull client.old.job ≡ record { after = client.new; packet = result.packet; news = result.news } }
+{
+    let job = client.job;
+    match job {
+        Job::Sent { extent, .. } => asks(client.close(extent, request)),
+        Job::Idle => stays(client),
+        Job::Closing { .. } => stays(client),
+        Job::Growing { .. } => stays(client),
+        Job::Checking { .. } => stays(client),
+        Job::Shutting { .. } => stays(client),
+        Job::Reading { .. } => stays(client),
+    }
+}
+
+fn refused(client: &mut StreamClient, alloc: Global, request: &ReqNo, refusal: Refusal) -> Reaction
+    ensures { refused_job client.old request.now refusal client.old.job ≡ record { after = client.new; packet = result.packet; news = result.news } }
+{
+    match refusal {
+        Refusal::Stale => end(client, alloc, News::Fenced),
+        Refusal::NotOpen => left(client, request),
+        Refusal::ExtentFull => left(client, request),
+        _ => stays(client),
+    }
+}
+
+fn appended(client: &mut StreamClient, alloc: Global, offset: u32) -> Reaction
+    ensures { appended_job client.old offset client.old.job ≡ record { after = client.new; packet = result.packet; news = result.news } }
+{
+    let job = client.job;
+    match job {
+        Job::Sent { extent, .. } => end(client, alloc, News::Appended { extent, offset }),
+        Job::Idle => stays(client),
+        Job::Closing { .. } => stays(client),
+        Job::Growing { .. } => stays(client),
+        Job::Checking { .. } => stays(client),
+        Job::Shutting { .. } => stays(client),
+        Job::Reading { .. } => stays(client),
+    }
+}
+
+fn append_reply(
+    client: &mut StreamClient,
+    alloc: Global,
+    request: &ReqNo,
+    body: &AppendBody,
+) -> Reaction
+    ensures { append_reply client.old request.now body.now ≡ record { after = client.new; packet = result.packet; news = result.news } }
+{
+    match body {
+        AppendBody::Appended {
+            request: answered,
+            offset,
+            ..
+        } => {
+            if !awaits(client.job, answered) {
+                return stays(client);
+            }
+            appended(client, alloc, *offset)
+        }
+        AppendBody::Refused {
+            request: answered,
+            refusal,
+        } => {
+            if !awaits(client.job, answered) {
+                return stays(client);
+            }
+            refused(client, alloc, request, *refusal)
+        }
+        AppendBody::Append { .. } => stays(client),
+        AppendBody::Put { .. } => stays(client),
+        AppendBody::Have { .. } => stays(client),
+    }
+}
+
+/// The check found a length, or the extent is sealed.
+fn checked(
+    client: &mut StreamClient,
+    alloc: Global,
+    request: &ReqNo,
+    found: Option<u32>,
+) -> Reaction
+    ensures { checked_job client.old request.now found client.old.job ≡ record { after = client.new; packet = result.packet; news = result.news } }
+{
+    let job = client.job;
+    match job {
+        Job::Checking { extent, .. } => match found {
+            None => asks(client.shut(extent, request)),
+            Some(length) => {
+                client.checked = Some(length);
+                end(client, alloc, News::Checked { extent, length })
+            }
+        },
+        Job::Idle => stays(client),
+        Job::Sent { .. } => stays(client),
+        Job::Closing { .. } => stays(client),
+        Job::Growing { .. } => stays(client),
+        Job::Shutting { .. } => stays(client),
+        Job::Reading { .. } => stays(client),
+    }
+}
+
+fn check_reply(
+    client: &mut StreamClient,
+    alloc: Global,
+    request: &ReqNo,
+    body: &CheckBody,
+) -> Reaction
+    ensures { check_reply client.old request.now body.now ≡ record { after = client.new; packet = result.packet; news = result.news } }
+{
+    match body {
+        CheckBody::Checked {
+            request: answered,
+            length,
+        } => {
+            if !awaits(client.job, answered) {
+                return stays(client);
+            }
+            checked(client, alloc, request, *length)
+        }
+        CheckBody::Check { .. } => stays(client),
+        CheckBody::Probe { .. } => stays(client),
+        CheckBody::Probed { .. } => stays(client),
+    }
+}
+
+/// The last extent is sealed: an append goes on behind it, and a check is over.
+fn sealed(client: &mut StreamClient, alloc: Global, request: &ReqNo, length: u32) -> Reaction
+    ensures { sealed_job client.old request.now length client.old.job ≡ record { after = client.new; packet = result.packet; news = result.news } }
+{
+    let job = client.job;
+    match job {
+        Job::Closing { extent, .. } => {
+            seal_last(&mut client.extents, length);
+            asks(client.grow(&Some(extent), request))
+        }
+        Job::Shutting { extent, .. } => {
+            seal_last(&mut client.extents, length);
+            end(client, alloc, News::Sealed { extent, length })
+        }
+        Job::Idle => stays(client),
+        Job::Sent { .. } => stays(client),
+        Job::Growing { .. } => stays(client),
+        Job::Checking { .. } => stays(client),
+        Job::Reading { .. } => stays(client),
+    }
+}
+
+fn seal_reply(
+    client: &mut StreamClient,
+    alloc: Global,
+    request: &ReqNo,
+    body: &SealBody,
+) -> Reaction
+    ensures { seal_reply client.old request.now body.now ≡ record { after = client.new; packet = result.packet; news = result.news } }
+{
+    match body {
+        SealBody::SealedIs {
+            request: answered,
+            length,
+            ..
+        } => {
+            if !awaits(client.job, answered) {
+                return stays(client);
+            }
+            sealed(client, alloc, request, *length)
+        }
+        SealBody::Make { .. } => stays(client),
+        SealBody::SealExtent { .. } => stays(client),
+        SealBody::Freeze { .. } => stays(client),
+        SealBody::Frozen { .. } => stays(client),
+        SealBody::Seal { .. } => stays(client),
+        SealBody::IsSealed { .. } => stays(client),
+        SealBody::Short { .. } => stays(client),
+        SealBody::SendTail { .. } => stays(client),
+        SealBody::Tail { .. } => stays(client),
+    }
+}
+
+fn groups(client: &mut StreamClient, alloc: Global) -> Reaction
+    ensures { groups_job client.old client.old.job ≡ record { after = client.new; packet = result.packet; news = result.news } }
+{
+    let job = client.job;
+    match job {
+        Job::Reading { extent, upto, .. } => end(client, alloc, News::Content { extent, upto }),
+        Job::Idle => stays(client),
+        Job::Sent { .. } => stays(client),
+        Job::Closing { .. } => stays(client),
+        Job::Growing { .. } => stays(client),
+        Job::Checking { .. } => stays(client),
+        Job::Shutting { .. } => stays(client),
+    }
+}
+
+fn read_reply(client: &mut StreamClient, alloc: Global, body: &ReadBody) -> Reaction
+    ensures { read_reply client.old body.now ≡ record { after = client.new; packet = result.packet; news = result.news } }
+{
+    match body {
+        ReadBody::Groups {
+            request: answered,
+            ..
+        } => {
+            if !awaits(client.job, answered) {
+                return stays(client);
+            }
+            groups(client, alloc)
+        }
+        ReadBody::ReadAt { .. } => stays(client),
+        ReadBody::Bytes { .. } => stays(client),
+        ReadBody::ReadGroups { .. } => stays(client),
+    }
+}
+
+/// The group goes to the extent that was made for it. What takes memory comes first.
+fn append_again(
+    client: &mut StreamClient,
+    alloc: Global,
+    request: &ReqNo,
+    extent: ExtentId,
+    places: &Nodes,
+) -> Result<Reaction, AllocError>
+    ensures ok { IfOk result (λ r. appends_again client.old request.now extent places.now ≡ record { after = client.new; packet = r.packet; news = r.news }) }
+    ensures err { OnErr result (client.new ≡ client.old) }
+{
+    let packet = match append_packet(
+        alloc,
+        client.server,
+        places.primary,
+        extent,
+        client.generation,
+        &client.group,
+        request,
+    ) {
+        Ok(packet) => packet,
+        Err(full) => return Err(full),
+    };
+    let added = StreamExtent {
+        extent,
+        places: *places,
+        length: None,
+    };
+    match client.extents.push(added) {
+        Ok(()) => {}
+        Err(_full) => return Err(AllocError),
+    }
+    client.checked = None;
+    client.job = Job::Sent {
+        extent,
+        request: *request,
+    };
+    Ok(asks(packet))
+}
+
+fn extended(
+    client: &mut StreamClient,
+    alloc: Global,
+    request: &ReqNo,
+    extent: ExtentId,
+    places: &Nodes,
+) -> Result<Reaction, AllocError>
+    ensures ok { IfOk result (λ r. extended_job client.old request.now extent places.now client.old.job ≡ record { after = client.new; packet = r.packet; news = r.news }) }
+    ensures err { OnErr result (client.new ≡ client.old) }
+{
+    let job = client.job;
+    match job {
+        Job::Growing { .. } => append_again(client, alloc, request, extent, places),
+        Job::Idle => Ok(stays(client)),
+        Job::Sent { .. } => Ok(stays(client)),
+        Job::Closing { .. } => Ok(stays(client)),
+        Job::Checking { .. } => Ok(stays(client)),
+        Job::Shutting { .. } => Ok(stays(client)),
+        Job::Reading { .. } => Ok(stays(client)),
+    }
+}
+
+fn stream_reply(
+    client: &mut StreamClient,
+    alloc: Global,
+    request: &ReqNo,
+    body: &StreamBody,
+) -> Result<Reaction, AllocError>
+    ensures ok { IfOk result (λ r. stream_reply client.old request.now body.now ≡ record { after = client.new; packet = r.packet; news = r.news }) }
+    ensures err { OnErr result (client.new ≡ client.old) }
+{
+    match body {
+        StreamBody::Extended {
+            request: answered,
+            extent,
+            places,
+        } => {
+            if !awaits(client.job, answered) {
+                return Ok(stays(client));
+            }
+            extended(client, alloc, request, *extent, places)
+        }
+        StreamBody::CreateStream { .. } => Ok(stays(client)),
+        StreamBody::Created { .. } => Ok(stays(client)),
+        StreamBody::OpenStreams { .. } => Ok(stays(client)),
+        StreamBody::Opened { .. } => Ok(stays(client)),
+        StreamBody::Confirm { .. } => Ok(stays(client)),
+        StreamBody::Confirmed { .. } => Ok(stays(client)),
+        StreamBody::Extend { .. } => Ok(stays(client)),
+        StreamBody::Trim { .. } => Ok(stays(client)),
+        StreamBody::Trimmed { .. } => Ok(stays(client)),
+        StreamBody::MultiModify { .. } => Ok(stays(client)),
+        StreamBody::Modified { .. } => Ok(stays(client)),
+    }
+}
+
+/// The row of an answer.
+pub(crate) fn reply(
+    client: &mut StreamClient,
+    alloc: Global,
+    request: &ReqNo,
+    body: &Body,
+) -> Result<Reaction, AllocError>
+    ensures ok { IfOk result (λ r. reply_row client.old request.now body.now ≡ record { after = client.new; packet = r.packet; news = r.news }) }
+    ensures err { OnErr result (client.new ≡ client.old) }
+{
+    match body {
+        Body::Append(body) => Ok(append_reply(client, alloc, request, body)),
+        Body::Check(body) => Ok(check_reply(client, alloc, request, body)),
+        Body::Seal(body) => Ok(seal_reply(client, alloc, request, body)),
+        Body::Read(body) => Ok(read_reply(client, alloc, body)),
+        Body::Stream(body) => stream_reply(client, alloc, request, body),
+        Body::Map(_body) => Ok(stays(client)),
+        Body::Table(_body) => Ok(stays(client)),
+    }
+}

@@ -1,0 +1,39 @@
+//! Request numbers.
+ghost use Rattle.std.specs.Prelude.{◌≡◌};
+ghost use Rattle.client.specs.Requests.{is_same};
+
+use wire::ReqNo;
+
+/// Whether two numbers name one request.
+pub(crate) fn is_same(one: &ReqNo, other: &ReqNo) -> bool
+    ensures { result ≡ is_same one.now other.now }
+{
+    match one {
+        ReqNo::Server {
+            server,
+            session,
+            count,
+        } => match other {
+            ReqNo::Server {
+                server: to,
+                session: of,
+                count: number,
+            } => server.number() == to.number() && *session == *of && *count == *number,
+            ReqNo::User { .. } => false,
+            ReqNo::NoRequest => false,
+        },
+        ReqNo::User { user, ticket } => match other {
+            ReqNo::Server { .. } => false,
+            ReqNo::User {
+                user: of,
+                ticket: number,
+            } => *user == *of && *ticket == *number,
+            ReqNo::NoRequest => false,
+        },
+        ReqNo::NoRequest => match other {
+            ReqNo::Server { .. } => false,
+            ReqNo::User { .. } => false,
+            ReqNo::NoRequest => true,
+        },
+    }
+}

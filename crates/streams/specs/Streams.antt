@@ -1,0 +1,128 @@
+-- Streams: named lists of extents (Calder et al., SOSP 2011, section 4.1). Each has a fence, the least generation that it
+-- listens to, and the index of its first extent.
+use Rattle.std.specs.Prelude.{ℕ, zero, suc, ◌-◌, Bool, true, false, ◌&&◌, List, [], ◌∷◌, ◌++◌, Option, Some, None, option_map, Result, Ok, Err, ◌==◌, nat_lt, nat_le, slice_get, if◌then◌else◌}
+use Rattle.wire.specs.declared.refusal.Refusal.{Refusal}
+use Rattle.wire.specs.declared.refusal.Refusal.TheVariants.{Stale, NoSuchStream, NameTaken, LastOpen}
+use Rattle.wire.specs.declared.streams.StreamKind.{StreamKind}
+use Rattle.wire.specs.declared.streams.StreamKind.TheVariants.{Metadata, Log, RowData, BlobData}
+use Rattle.wire.specs.declared.streams.StreamName.{StreamName}
+
+abbrev pub kind_number : StreamKind → ℕ
+kind_number Metadata = 0
+kind_number Log = 1
+kind_number RowData = 2
+kind_number BlobData = 3
+
+-- the index of its first extent, its fence, and its extents in order
+pub record Stream : Type 0 where
+  pub base : ℕ
+  pub fence : ℕ
+  pub extents : List ℕ
+
+-- with no extent
+abbrev pub empty_stream : ℕ → Stream
+empty_stream fence = record { base = 0; fence = fence; extents = [] }
+
+-- the streams that there are, by the number of their range and of their kind
+abbrev pub Streams : Type 0
+Streams = ℕ → ℕ → Option Stream
+
+abbrev pub stream_of : Streams → StreamName → Option Stream
+stream_of streams s = streams s.range (kind_number s.kind)
+
+-- with this stream under a name
+abbrev pub with_stream : Streams → StreamName → Stream → Streams
+with_stream streams s x range kind = if (range == s.range) && (kind == kind_number s.kind) then Some x else streams range kind
+
+abbrev pub is_there : {A : Type 0} → Option A → Bool
+is_there None = false
+is_there (Some x) = true
+
+-- ---- a new stream
+
+abbrev pub create_fault : Streams → StreamName → Option Refusal
+create_fault streams s = if is_there (stream_of streams s) then Some NameTaken else None
+
+abbrev pub created : Streams → StreamName → ℕ → Streams
+created streams s fence = with_stream streams s (empty_stream fence)
+
+-- ---- the four streams of a range, opened for a generation
+
+-- each of the four is there, and passes the test
+abbrev pub passes : (Stream → Bool) → Option Stream → Bool
+passes test None = false
+passes test (Some x) = test x
+
+abbrev pub all_pass : (Stream → Bool) → Streams → ℕ → Bool
+all_pass test streams range =
+    passes test (streams range 0) && (passes test (streams range 1) && (passes test (streams range 2) && passes test (streams range 3)))
+
+abbrev pub has_four : Streams → ℕ → Bool
+has_four = all_pass (λ x. true)
+
+-- a generation opens the streams of a range only where it is above each of their fences
+abbrev pub open_fault : Streams → ℕ → ℕ → Option Refusal
+open_fault streams range generation =
+    if has_four streams range
+    then (if all_pass (λ x. nat_lt x.fence generation) streams range then None else Some Stale)
+    else Some NoSuchStream
+
+abbrev pub fenced_at : ℕ → Option Stream → Option Stream
+fenced_at generation None = None
+fenced_at generation (Some x) = Some (record x { fence = generation })
+
+-- all streams of the range have this fence
+abbrev pub opened : Streams → ℕ → ℕ → Streams
+opened streams opening generation range kind = if range == opening then fenced_at generation (streams range kind) else streams range kind
+
+-- a generation is confirmed only while it is the fence of the four
+abbrev pub confirm_fault : Streams → ℕ → ℕ → Option Refusal
+confirm_fault streams range generation =
+    if has_four streams range
+    then (if all_pass (λ x. x.fence == generation) streams range then None else Some Stale)
+    else Some NoSuchStream
+
+-- ---- one more extent at the end
+
+abbrev pub last_of : List ℕ → Option ℕ
+last_of [] = None
+last_of (e ∷ []) = Some e
+last_of (e ∷ f ∷ es) = last_of (f ∷ es)
+
+abbrev pub is_number : ℕ → Option ℕ → Bool
+is_number e None = false
+is_number e (Some f) = f == e
+
+-- Behind its last extent: another than the caller takes for the last is named to it, and nothing is added behind an open
+-- one. None: the extent may be added.
+abbrev pub behind : (ℕ → Option ℕ) → Option ℕ → Option ℕ → Result (Option ℕ) Refusal
+behind sealed None last = Ok None
+behind sealed (Some e) last =
+    if is_number e last then (if is_there (sealed e) then Ok None else Err LastOpen) else Ok (Some e)
+
+-- what the end of a stream answers to a generation that takes `last` for its last extent; `sealed` are the lengths of the
+-- extents that are sealed
+abbrev pub extending : (ℕ → Option ℕ) → Option Stream → ℕ → Option ℕ → Result (Option ℕ) Refusal
+extending sealed None generation last = Err NoSuchStream
+extending sealed (Some x) generation last = if generation == x.fence then behind sealed (last_of x.extents) last else Err Stale
+
+abbrev pub longer : ℕ → Stream → Stream
+longer e x = record x { extents = x.extents ++ e ∷ [] }
+
+abbrev pub extended_if : Streams → StreamName → ℕ → Option Stream → Streams
+extended_if streams s e None = streams
+extended_if streams s e (Some x) = with_stream streams s (longer e x)
+
+-- with one more extent at the end of a stream
+abbrev pub extended : Streams → StreamName → ℕ → Streams
+extended streams s e = extended_if streams s e (stream_of streams s)
+
+-- ---- places
+
+-- the extent of an index; the first extent has the stream's base as its index
+abbrev pub at_index : Stream → ℕ → Option ℕ
+at_index x index = if nat_le x.base index then slice_get x.extents (index - x.base) else None
+
+abbrev pub located : Option Stream → ℕ → ℕ → Option (ℕ × ℕ)
+located None index offset = None
+located (Some x) index offset = option_map (λ e. (e, offset)) (at_index x index)

@@ -1,0 +1,100 @@
+-- A table of streams as the code has it: a list of them, in the order of their names.
+use Rattle.std.specs.Prelude.{◌≡◌, ◌≢◌, ℕ, ◌+◌, ◌*◌, ◌<◌, ◌≤◌, Bool, ◌&&◌, ◌==◌, List, [], ◌∷◌, length, Option, Some, None, option_map, if◌then◌else◌, slice_index_or, true, nat_lt}
+use Rattle.wire.specs.declared.streams.StreamName.{StreamName}
+use Rattle.streams.specs.declared.fences.Fences.{Fences}
+use Rattle.streams.specs.Streams.{Stream, Streams, kind_number, stream_of, with_stream, is_there}
+
+-- a stream under its name; so many extents may be added at its end without memory
+pub record Entry : Type 0 where
+  pub name : StreamName
+  pub stream : Stream
+  pub room : ℕ
+
+abbrev pub has_name : ℕ → ℕ → Entry → Bool
+has_name range kind x = (range == x.name.range) && (kind == kind_number x.name.kind)
+
+-- the first one with this name
+abbrev pub found : List Entry → ℕ → ℕ → Option Entry
+found [] range kind = None
+found (x ∷ entries) range kind = if has_name range kind x then Some x else found entries range kind
+
+abbrev pub streams_in : List Entry → Streams
+streams_in entries range kind = option_map (λ x. x.stream) (found entries range kind)
+
+abbrev pub room_of : Option Entry → ℕ
+room_of None = 0
+room_of (Some x) = x.room
+
+-- What a caller sees of a table: its streams, and how many may be added without memory.
+pub record StreamTableState : Type 0 where
+  pub entries : List Entry
+  pub room : ℕ
+
+abbrev pub streams_of : StreamTableState → Streams
+streams_of t = streams_in t.entries
+
+abbrev pub no_streams : Streams
+no_streams range kind = None
+
+-- one more extent may be added to the stream without memory, if there is the stream
+abbrev pub HasRoomIn : List Entry → StreamName → Type 0
+HasRoomIn entries s = is_there (stream_of (streams_in entries) s) ≡ true → 0 < room_of (found entries s.range (kind_number s.kind))
+
+abbrev pub HasRoom : StreamTableState → StreamName → Type 0
+HasRoom t s = HasRoomIn t.entries s
+
+-- with another fence, where there is the stream
+abbrev pub fenced_if : Streams → StreamName → ℕ → Option Stream → Streams
+fenced_if streams s fence None = streams
+fenced_if streams s fence (Some x) = with_stream streams s (record x { fence = fence })
+
+abbrev pub fenced : Streams → StreamName → ℕ → Streams
+fenced streams s fence = fenced_if streams s fence (stream_of streams s)
+
+-- ---- the fences of a range
+
+abbrev pub fences_from : Option ℕ → Option ℕ → Option ℕ → Option ℕ → Option Fences
+fences_from (Some a) (Some b) (Some c) (Some d) = Some (record { metadata = a; log = b; row_data = c; blob_data = d })
+fences_from (Some a) (Some b) (Some c) None = None
+fences_from (Some a) (Some b) None d = None
+fences_from (Some a) None c d = None
+fences_from None b c d = None
+
+abbrev pub fence_of : Option Stream → Option ℕ
+fence_of x = option_map (λ x. x.fence) x
+
+-- those of the four, if the four are there
+abbrev pub fences_of : Streams → ℕ → Option Fences
+fences_of streams range =
+    fences_from (fence_of (streams range 0)) (fence_of (streams range 1)) (fence_of (streams range 2)) (fence_of (streams range 3))
+
+abbrev pub are_below : Fences → ℕ → Bool
+are_below x generation =
+    nat_lt x.metadata generation && (nat_lt x.log generation && (nat_lt x.row_data generation && nat_lt x.blob_data generation))
+
+abbrev pub are_all : Fences → ℕ → Bool
+are_all x generation =
+    (x.metadata == generation) && ((x.log == generation) && ((x.row_data == generation) && (x.blob_data == generation)))
+
+-- ---- the order of names
+
+-- the streams of a range stand side by side
+abbrev pub key_of : StreamName → ℕ
+key_of s = s.range * 4 + kind_number s.kind
+
+abbrev pub key_at : List Entry → ℕ → Entry → ℕ
+key_at entries i d = let x = slice_index_or entries i d in key_of x.name
+
+abbrev pub IsStrictlySorted : List Entry → Type 0
+IsStrictlySorted entries = (i j : ℕ) (d : Entry) → i < j → j < length entries → key_at entries i d < key_at entries j d
+
+-- the entry at this place has the key
+pub record IsAt (entries : List Entry) (key i : ℕ) : Type 0 where
+  pub in_range : i < length entries
+  pub has_key : (d : Entry) → key_at entries i d ≡ key
+
+-- a new entry with the key belongs here: smaller keys before it, and greater ones from it on
+pub record IsGapFor (entries : List Entry) (key i : ℕ) : Type 0 where
+  pub in_range : i ≤ length entries
+  pub smaller_before : (j : ℕ) (d : Entry) → j < i → key_at entries j d < key
+  pub greater_after : (j : ℕ) (d : Entry) → i ≤ j → j < length entries → key < key_at entries j d

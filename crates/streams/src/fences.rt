@@ -1,0 +1,36 @@
+//! The fences of the four streams of a range.
+ghost use Rattle.std.specs.Prelude.{◌≡◌};
+ghost use Rattle.streams.specs.Table.{are_below, are_all};
+
+use wire::Fence;
+
+/// The fences of the four streams of a range.
+#[derive(Clone, Copy)]
+pub(crate) struct Fences {
+    pub(crate) metadata: Fence,
+    pub(crate) log: Fence,
+    pub(crate) row_data: Fence,
+    pub(crate) blob_data: Fence,
+}
+
+impl Fences {
+    /// Whether a generation is above each of them.
+    pub(crate) fn are_below(self, generation: Fence) -> bool
+        ensures { result ≡ are_below self generation }
+    {
+        self.metadata.number() < generation.number()
+            && self.log.number() < generation.number()
+            && self.row_data.number() < generation.number()
+            && self.blob_data.number() < generation.number()
+    }
+
+    /// Whether a generation is each of them.
+    pub(crate) fn are(self, generation: Fence) -> bool
+        ensures { result ≡ are_all self generation }
+    {
+        self.metadata.number() == generation.number()
+            && self.log.number() == generation.number()
+            && self.row_data.number() == generation.number()
+            && self.blob_data.number() == generation.number()
+    }
+}

@@ -1,0 +1,128 @@
+//! One stream.
+ghost use Rattle.std.specs.Prelude.{◌≡◌, ◌<◌, ◌++◌, ◌∷◌, [], OnOk, OnErr, option_map};
+ghost use Rattle.streams.specs.Streams.{empty_stream, last_of, longer, at_index};
+ghost use Rattle.streams.specs.Table.{key_of};
+
+use std::alloc::{AllocError, Global};
+use std::marker::Model;
+use wire::{ExtentId, Fence, StreamKind, StreamName};
+
+/// A stream: the index of its first extent, its fence, and its extents in order.
+#[derive(Drop)]
+pub struct Listed {
+    name: StreamName,
+    base: u64,
+    fence: Fence,
+    extents: Vec<ExtentId>,
+}
+
+impl Model for Listed {
+    ghost use Rattle.std.specs.Prelude.{◌-◌, vec_capacity, vec_len};
+    ghost use Rattle.streams.specs.Table.{Entry};
+
+    ghost Value = { Entry };
+
+    ghost view = { λ x. record {
+      name = x.name;
+      stream = record { base = x.base; fence = x.fence; extents = x.extents.items };
+      room = vec_capacity x.extents - vec_len x.extents;
+    } };
+}
+
+/// The place of a name in the order of names.
+pub(crate) fn key_of(name: StreamName) -> u128
+    ensures { result ≡ key_of name }
+{
+    let range = name.range.number() as u128;
+    match name.kind {
+        StreamKind::Metadata => range * 4,
+        StreamKind::Log => range * 4 + 1,
+        StreamKind::RowData => range * 4 + 2,
+        StreamKind::BlobData => range * 4 + 3,
+    }
+}
+
+impl Listed {
+    /// A stream without an extent; takes no memory.
+    pub(crate) fn new(alloc: Global, name: StreamName, fence: Fence) -> Listed
+        ensures name { result.name ≡ name }
+        ensures stream { result.stream ≡ empty_stream fence }
+    {
+        Listed {
+            name,
+            base: 0,
+            fence,
+            extents: Vec::new(alloc),
+        }
+    }
+
+    /// The place of its name in the order of names.
+    pub(crate) fn key(&self) -> u128
+        ensures { result ≡ key_of self.now.name }
+    {
+        key_of(self.name)
+    }
+
+    /// The index of its first extent.
+    pub fn base(&self) -> u64
+        ensures { result ≡ self.now.stream.base }
+    {
+        self.base
+    }
+
+    /// The generation that it listens to.
+    pub fn fence(&self) -> Fence
+        ensures { result ≡ self.now.stream.fence }
+    {
+        self.fence
+    }
+
+    /// Its extents, in order.
+    pub fn extents(&self) -> &[ExtentId]
+        ensures { result.now ≡ self.now.stream.extents }
+    {
+        &self.extents
+    }
+
+    /// Its last extent, if it has one.
+    pub fn last(&self) -> Option<ExtentId>
+        ensures { result ≡ last_of self.now.stream.extents }
+    {
+        self.extents.last().copied()
+    }
+
+    /// The extent of an index.
+    pub(crate) fn at(&self, index: u64) -> Option<ExtentId>
+        ensures { result ≡ at_index self.now.stream index }
+    {
+        if index < self.base {
+            return None;
+        }
+        self.extents.get((index - self.base) as usize).copied()
+    }
+
+    /// Listens to another generation.
+    pub(crate) fn set_fence(&mut self, fence: Fence)
+        ensures { self.new ≡ record self.old { stream = record self.old.stream { fence = fence } } }
+    {
+        self.fence = fence;
+    }
+
+    /// Makes room for one more extent. Without memory nothing has changed but room.
+    pub(crate) fn reserve(&mut self) -> Result<(), AllocError>
+        ensures name { self.new.name ≡ self.old.name }
+        ensures stream { self.new.stream ≡ self.old.stream }
+        ensures room { OnOk result (0 < self.new.room) }
+    {
+        self.extents.reserve(1)
+    }
+
+    /// Adds an extent at the end, into room that was made.
+    pub(crate) fn push(&mut self, extent: ExtentId)
+        requires { 0 < self.old.room }
+        ensures name { self.new.name ≡ self.old.name }
+        ensures stream { self.new.stream ≡ longer extent self.old.stream }
+    {
+        if let Err(_full) = self.extents.push(extent) {}
+    }
+}
