@@ -243,20 +243,76 @@ fn stands(extent: u64, offset: u32) -> Option<News> {
     })
 }
 
+// These hold no value that is let go, so that a test has few ways out.
+fn goes_across(alloc: Global, run: &mut Run, log: &mut StreamClient) -> Result<bool, Fail> {
+    let first = appends(alloc, run, log, 1, 0)?;
+    let lost = appends(alloc, run, log, 1, 3)?;
+    let sealing = gives_up(alloc, run, log, 1)?;
+    let again = decided(alloc, run, log, 1)?;
+    let told = first == stands(1, 0) && again == stands(2, 0);
+    Ok(told && lost.is_none() && sealing.is_none() && log.extents().len() == 2)
+}
+
+/// The log of a second server, which checked its last extent before its load was confirmed.
+fn loads_after_a_check(
+    alloc: Global,
+    run: &mut Run,
+    server: u8,
+) -> Result<(StreamClient, Option<News>), Fail> {
+    let (load, mut log) = opens(alloc, run, server)?;
+    let found = checks(alloc, run, &mut log, server)?;
+    if confirmed(alloc, run, server, load)? {
+        Ok((log, found))
+    } else {
+        Err(Fail::from("the load does not count"))
+    }
+}
+
+fn is_fenced(
+    alloc: Global,
+    run: &mut Run,
+    old: &mut StreamClient,
+    log: &mut StreamClient,
+) -> Result<bool, Fail> {
+    let late = appends(alloc, run, old, 1, 0)?;
+    let next = appends(alloc, run, log, 2, 0)?;
+    Ok(late == Some(News::Fenced) && next == stands(1, 3))
+}
+
+fn fences(alloc: Global, run: &mut Run, old: &mut StreamClient) -> Result<bool, Fail> {
+    let first = appends(alloc, run, old, 1, 0)?;
+    let (log, found) = loads_after_a_check(alloc, run, 2)?;
+    let mut log = log;
+    let length = News::Checked {
+        extent: ExtentId::new(1),
+        length: 3,
+    };
+    if first != stands(1, 0) || found != Some(length) {
+        return Ok(false);
+    }
+    is_fenced(alloc, run, old, &mut log)
+}
+
+fn load_of(alloc: Global, run: &mut Run, server: u8) -> Result<RangeLoad, Fail> {
+    let (load, _log) = opens(alloc, run, server)?;
+    Ok(load)
+}
+
+fn last_alone_counts(alloc: Global, run: &mut Run) -> Result<bool, Fail> {
+    let old = load_of(alloc, run, 1)?;
+    let new = load_of(alloc, run, 2)?;
+    let stale = confirmed(alloc, run, 1, old)?;
+    let counts = confirmed(alloc, run, 2, new)?;
+    Ok(counts && !stale)
+}
+
 #[test]
 fn a_client_appends_across_a_seal(rt: HostRuntime) -> Result<(), Fail> {
     let alloc = rt.alloc();
     let mut run = started(alloc)?;
     let mut log = loads(alloc, &mut run, 1)?;
-    let first = appends(alloc, &mut run, &mut log, 1, 0)?;
-    assert!(rt; first == stands(1, 0));
-    let lost = appends(alloc, &mut run, &mut log, 1, 3)?;
-    assert!(rt; lost.is_none());
-    let sealing = gives_up(alloc, &mut run, &mut log, 1)?;
-    assert!(rt; sealing.is_none());
-    let again = decided(alloc, &mut run, &mut log, 1)?;
-    assert!(rt; again == stands(2, 0));
-    assert!(rt; log.extents().len() == 2);
+    let went = goes_across(alloc, &mut run, &mut log)?;
+    assert!(rt; went);
     Ok(())
 }
 
@@ -265,20 +321,8 @@ fn a_second_generation_fences_the_first(rt: HostRuntime) -> Result<(), Fail> {
     let alloc = rt.alloc();
     let mut run = started(alloc)?;
     let mut old = loads(alloc, &mut run, 1)?;
-    let first = appends(alloc, &mut run, &mut old, 1, 0)?;
-    assert!(rt; first == stands(1, 0));
-    let (load, mut log) = opens(alloc, &mut run, 2)?;
-    let found = checks(alloc, &mut run, &mut log, 2)?;
-    let length = News::Checked {
-        extent: ExtentId::new(1),
-        length: 3,
-    };
-    assert!(rt; found == Some(length));
-    assert!(rt; confirmed(alloc, &mut run, 2, load)?);
-    let late = appends(alloc, &mut run, &mut old, 1, 0)?;
-    assert!(rt; late == Some(News::Fenced));
-    let next = appends(alloc, &mut run, &mut log, 2, 0)?;
-    assert!(rt; next == stands(1, 3));
+    let fenced = fences(alloc, &mut run, &mut old)?;
+    assert!(rt; fenced);
     Ok(())
 }
 
@@ -286,9 +330,7 @@ fn a_second_generation_fences_the_first(rt: HostRuntime) -> Result<(), Fail> {
 fn an_old_load_never_counts(rt: HostRuntime) -> Result<(), Fail> {
     let alloc = rt.alloc();
     let mut run = started(alloc)?;
-    let (old, _log) = opens(alloc, &mut run, 1)?;
-    let (new, _other) = opens(alloc, &mut run, 2)?;
-    assert!(rt; !confirmed(alloc, &mut run, 1, old)?);
-    assert!(rt; confirmed(alloc, &mut run, 2, new)?);
+    let alone = last_alone_counts(alloc, &mut run)?;
+    assert!(rt; alone);
     Ok(())
 }
