@@ -33,6 +33,16 @@ def best(words, text=None):
     return min((run(words, text) for _ in range(ROUNDS)), key=lambda r: r[0])
 
 
+def told_micros(words, told):
+    """The least time in microseconds that a run of bench tells, behind these words, of some runs."""
+    found = []
+    for _ in range(ROUNDS):
+        out = run([BENCH, *words])[2].split()
+        assert out[:-1] == told.encode().split() + [b"micros"], out
+        found.append(int(out[-1]))
+    return min(found)
+
+
 def appends_to_a_node():
     found = {}
     for count in (10_000, 20_000):
@@ -77,12 +87,7 @@ def appends_to_three_nodes():
 def restarts_of_a_node():
     found = {}
     for count in (100_000, 200_000):
-        told = []
-        for _ in range(ROUNDS):
-            words = run([BENCH, "restart", str(count)])[2].split()
-            assert words[:3] == [b"taken", str(count).encode(), b"micros"], words
-            told.append(int(words[3]))
-        found[count] = min(told)
+        found[count] = told_micros(["restart", str(count)], f"taken {count}")
         print(f"restart: a node with {count} records of 1 KiB: {found[count] / 1e6:.3f} s")
     print(f"restart: 2N over N: {found[200_000] / found[100_000]:.2f} (at most 2.3)")
 
@@ -114,12 +119,7 @@ def seals_of_extents():
 def check_of_observations():
     found = {}
     for count in (10_000, 20_000):
-        told = []
-        for _ in range(ROUNDS):
-            words = run([BENCH, "check", str(count)])[2].split()
-            assert words[:4] == [b"check", str(count).encode(), b"found", b"none"], words
-            told.append(int(words[5]))
-        found[count] = min(told)
+        found[count] = told_micros(["check", str(count)], f"check {count} found none")
         print(f"check: observations of {count} appends of 1 KiB: {found[count] / 1e6:.4f} s")
     print(f"check: 2N over N: {found[20_000] / found[10_000]:.2f} (at most 2.5)")
 
@@ -127,12 +127,7 @@ def check_of_observations():
 def streams_of_extents():
     found = {}
     for count in (5_000, 10_000):
-        told = []
-        for _ in range(ROUNDS):
-            words = run([BENCH, "streams", str(count)])[2].split()
-            assert words[:3] == [b"found", str(100 * count).encode(), b"micros"], words
-            told.append(int(words[3]))
-        found[count] = min(told)
+        found[count] = told_micros(["streams", str(count)], f"found {100 * count}")
         print(f"streams: 100 streams of {count} extents, each extended and located: {found[count] / 1e6:.4f} s")
     print(f"streams: 2N over N: {found[10_000] / found[5_000]:.2f} (at most 2.3)")
 
