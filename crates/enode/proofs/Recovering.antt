@@ -1,5 +1,5 @@
 -- One record more, when a node is made from its records.
-use Rattle.std.proofs.Common.{◌≡◌, ℕ, true, List, [], ◌∷◌, ◌++◌, Option, Some, None, Result, Ok, Err, IfOk, ap, sym, subst, arith, ◌≤◌, length, ◌∙◌, refl, ⊎_elim}
+use Rattle.std.proofs.Common.{◌≡◌, ◌≢◌, ℕ, true, List, [], ◌∷◌, ◌++◌, Option, Some, None, Result, Ok, Err, IfOk, ap, sym, subst, arith, ◌≤◌, length, ◌∙◌, refl, ⊎_elim}
 use Rattle.std.proofs.lemmas.Bool.Decides.{eqb_tells}
 use Rattle.disk.specs.declared.fault.FileFault.{FileFault}
 use Rattle.disk.specs.declared.fault.FileFault.TheVariants.{Damaged}
@@ -11,6 +11,7 @@ use Rattle.model.specs.Node.{Replica, contents, fresh}
 use Rattle.model.specs.Bounds.{FewWait}
 use Rattle.enode.specs.Node.{find, fresh_of, IsReplay, IsRestart}
 use Rattle.enode.specs.Recovery.{fits_among, Recovers}
+use Rattle.hosting.specs.Recovery.{Recovers as RecoversOne}
 
 contents-fresh : (c : Option Content) → contents (fresh_of c) ≡ c
 contents-fresh None = refl
@@ -72,3 +73,37 @@ restart_replays n is rs h = record {
 pub ok_more : {A B : Type 0} {P Q : A → Type 0} (r : Result A B) → ((x : A) → P x → Q x) → IfOk r P → IfOk r Q
 ok_more (Ok x) f h = f x h
 ok_more (Err y) f h = tt
+
+-- a record that one replica takes back is taken back by its node
+pub recovers_kept : (n : ℕ) (old new : List (ℕ × Replica)) (r : Record) (e : ℕ) (was is : Replica) (result : Result Unit FileFault) →
+    extent_of r ≡ Some e → find old e ≡ Some was → find new e ≡ Some is → ((f : ℕ) → f ≢ e → find new f ≡ find old f) → RecoversOne was is r result → Recovers n old new r result
+recovers_kept n old new r e was is (Ok u) about had has others h = record {
+  fits = ap (fits_among n old r) about ∙ ap (λ (s : Option Replica). fits n (contents s) r) had ∙ h.fitting n;
+  here = λ f at. subst (λ (k : ℕ). contents (find new k) ≡ applied (contents (find old k)) r) (same_number e f (sym about ∙ at))
+      (ap contents has ∙ h.here ∙ ap (λ (s : Option Replica). applied (contents s) r) (sym had));
+  elsewhere = λ f apart. others f (λ same. apart (about ∙ ap (λ (k : ℕ). Some k) (sym same)));
+  fresh = λ f clean. ⊎_elim
+      (λ same.
+      let at : f ≡ e = same.1 in
+      let before : was ≡ fresh was.content = same_replica was (fresh was.content) (sym had ∙ subst (λ (k : ℕ). find old k ≡ fresh_of (contents (find old k))) at clean ∙ ap (λ (s : Option Replica). fresh_of (contents s)) had) in
+      subst (λ (k : ℕ). find new k ≡ fresh_of (contents (find new k))) (sym at)
+      (has ∙ ap (λ (x : Replica). Some x) (h.clean before) ∙ ap (λ (s : Option Replica). fresh_of (contents s)) (sym has)))
+      (λ apart. others f apart.1 ∙ clean ∙ ap (λ (s : Option Replica). fresh_of (contents s)) (sym (others f apart.1)))
+      (eqb_tells f e);
+  fault = tt;
+  cause = tt;
+}
+  where
+    same_number : (a b : ℕ) → (Some a ≡ Some b) → a ≡ b
+    same_number a b h = cc
+
+    same_replica : (a b : Replica) → (Some a ≡ Some b) → a ≡ b
+    same_replica a b h = cc
+recovers_kept n old new r e was is (Err x) about had has others h = record {
+  fits = tt;
+  here = tt;
+  elsewhere = tt;
+  fresh = tt;
+  fault = λ damaged. ap (fits_among n old r) about ∙ ap (λ (s : Option Replica). fits n (contents s) r) had ∙ h.unfit damaged n;
+  cause = h.cause;
+}

@@ -1,4 +1,3 @@
 pub mod Node
 pub mod Took
 pub mod Recovery
-pub mod Sealing

@@ -1,5 +1,5 @@
 -- What a row leaves of a node.
-use Rattle.std.specs.Prelude.{◌≡◌, ◌≢◌, ℕ, List, [], Option, Some, None, Result, IsErrOf, OnOk, OnErr, IfOk, IfErr}
+use Rattle.std.specs.Prelude.{◌≡◌, ◌≢◌, ℕ, List, [], Option, None, Result, IsErrOf, OnOk, OnErr, IfOk, IfErr}
 use Rattle.disk.specs.declared.device.DiskFault.{DiskFault}
 use Rattle.disk.specs.declared.device.DiskFault.TheVariants.{Failed, Memory}
 use Rattle.disk.specs.Disk.{DiskState}
@@ -11,16 +11,6 @@ use Rattle.model.specs.Outcome.{Outcome}
 use Rattle.model.specs.Node.{Replica}
 use Rattle.enode.specs.Node.{find}
 
--- a replica and its node's file after a row
-pub record Rowed {D : Type 0} (state : D → DiskState) (was is : Replica) (old new : Filed D) (o : Outcome (Option Replica)) (result : Result Step DiskFault) : Type 0 where
-  pub after : OnOk result (Some is ≡ o.after)
-  pub packets : IfOk result (λ step. step.packets ≡ o.packets)
-  pub notes : IfOk result (λ step. step.notes ≡ o.notes)
-  pub same : OnErr result (is ≡ was)
-  -- a row that writes a record observes nothing
-  pub shows : IsErrOf result Failed → o.notes ≡ []
-  pub file : Records state old new (listed o.written) result
-
 -- a node's replicas and its file after a row about extent e
 pub record Took {D : Type 0} (state : D → DiskState) (was is : List (ℕ × Replica)) (old new : Filed D) (e : ℕ) (o : Outcome (Option Replica)) (result : Result Step DiskFault) : Type 0 where
   pub here : OnOk result (find is e ≡ o.after)
@@ -31,12 +21,10 @@ pub record Took {D : Type 0} (state : D → DiskState) (was is : List (ℕ × Re
   pub shows : IsErrOf result Failed → o.notes ≡ []
   pub file : Records state old new (listed o.written) result
 
--- a node's replicas after a row about extent e that writes no record
-pub record Told (was is : List (ℕ × Replica)) (e : ℕ) (o : Outcome (Option Replica)) (result : Result Step DiskFault) : Type 0 where
-  pub here : OnOk result (find is e ≡ o.after)
-  pub elsewhere : OnOk result ((f : ℕ) → f ≢ e → find is f ≡ find was f)
+-- what a row about an extent without a replica answers: none is there afterwards either, and no record is written
+pub record Absent (o : Outcome (Option Replica)) (result : Result Step DiskFault) : Type 0 where
+  pub after : o.after ≡ None
+  pub unwritten : o.written ≡ None
   pub packets : IfOk result (λ step. step.packets ≡ o.packets)
   pub notes : IfOk result (λ step. step.notes ≡ o.notes)
-  pub same : OnErr result ((f : ℕ) → find is f ≡ find was f)
-  pub unwritten : o.written ≡ None
   pub fault : IfErr result (λ x. x ≡ Memory)

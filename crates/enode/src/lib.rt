@@ -6,16 +6,12 @@
 //! stop drops, are what its records make of them. A refusal for want of memory changes nothing.
 #![tactic(auto)]
 
-mod checking;
-mod hosted;
+mod absent;
+mod extents;
+mod making;
 mod node;
-mod primary;
-mod reading;
 mod recovery;
 mod rows;
-mod sealing;
-mod secondary;
-mod sending;
 
 pub use node::Node;
 

@@ -12,10 +12,10 @@ ghost use Rattle.enode.specs.Node.{find, IsReplay, IsRestart};
 ghost use Rattle.enode.specs.Took.{Took};
 ghost use Rattle.model.specs.Bounds.{AreFew};
 
-use crate::hosted::Hosted;
 use crate::recovery::replicas_of;
 use crate::rows::take;
 use disk::{Disk, DiskFault, FileFault, MemDisk, RecordFile};
+use hosting::Hosted;
 use replica::Replica;
 use std::alloc::{AllocError, Global};
 use std::collections::BTreeMap;

@@ -1,22 +1,35 @@
 //! Replicas from the records of a node's file.
-ghost use Rattle.std.specs.Prelude.{◌≡◌, ◌<◌, true, false, IfOk, IsErrOf};
+ghost use Rattle.std.specs.Prelude.{◌≡◌, ◌<◌, ℕ, Some, None, true, false, IfOk, IsErrOf};
 ghost use Rattle.blocks.specs.declared.record.Record.TheVariants as records;
 ghost use Rattle.disk.specs.Disk.{IsSteady};
-ghost use Rattle.replica.specs.Replay.{fit};
-ghost use Rattle.enode.specs.Node.{IsRestart};
+ghost use Rattle.replica.specs.Replay.{extent_of, fit};
+ghost use Rattle.enode.specs.Node.{find, IsRestart};
 ghost use Rattle.enode.specs.Recovery.{Recovers};
 
-use crate::hosted::{Hosted, is_open};
-use crate::reading::is_sealed;
-use crate::rows::{insert_new, is_place};
-use crate::sealing::{is_frozen, is_tail};
-use blocks::{Group, Groups, Nodes, Record};
+use crate::making::{insert_new, is_place};
+use blocks::{Nodes, Record};
 use disk::{Disk, FileFault, RecordFile};
+use hosting::Hosted;
 use std::alloc::Global;
 use std::collections::BTreeMap;
 use wire::{ExtentId, Fence};
 
-/// The record of a new replica: there is none of its extent, and this node is one of its three places.
+/// The extent that a record is about, if it is about one.
+fn extent_of(added: &Record) -> Option<u64>
+    ensures { result ≡ extent_of added.now }
+{
+    match added {
+        Record::Make { extent, .. } => Some(*extent),
+        Record::Append { extent, .. } => Some(*extent),
+        Record::Fence { extent, .. } => Some(*extent),
+        Record::Freeze { extent } => Some(*extent),
+        Record::Seal { extent, .. } => Some(*extent),
+        Record::Fill { extent, .. } => Some(*extent),
+        Record::Manage { .. } => None,
+    }
+}
+
+/// The record of a new replica, where there is none of its extent: this node is one of its three places.
 fn recover_make(
     replicas: &mut BTreeMap<u64, Hosted>,
     alloc: Global,
@@ -26,11 +39,9 @@ fn recover_make(
     target: u32,
     places: &Nodes,
 ) -> Result<(), FileFault>
+    requires { find replicas.old.entries extent ≡ None }
     ensures { Recovers number replicas.old.entries replicas.new.entries (records.Make extent fence target places.now) result }
 {
-    if replicas.contains_key(&extent.number()) {
-        return Err(FileFault::Damaged);
-    }
     if !is_place(number, places) || !places.are_distinct_nodes() {
         return Err(FileFault::Damaged);
     }
@@ -42,126 +53,14 @@ fn recover_make(
     Ok(())
 }
 
-/// The record of a group: it stands at the end of an open replica below its target.
-fn recover_append(
-    replicas: &mut BTreeMap<u64, Hosted>,
-    number: u8,
-    extent: ExtentId,
-    offset: u32,
-    group: Group,
-) -> Result<(), FileFault>
-    ensures { Recovers number replicas.old.entries replicas.new.entries (records.Append extent offset group) result }
-{
-    let Some(hosted) = replicas.get_mut(&extent.number()) else {
-        return Err(FileFault::Damaged);
-    };
-    if !is_open(hosted.replica().state()) {
-        return Err(FileFault::Damaged);
-    }
-    let length = hosted.replica().len();
-    if offset != length || length >= hosted.replica().target() {
-        return Err(FileFault::Damaged);
-    }
-    hosted.add_recorded(group)?;
-    Ok(())
-}
-
-/// The record of a higher fence: the replica is open, and its fence is below it.
-fn recover_fence(
-    replicas: &mut BTreeMap<u64, Hosted>,
-    number: u8,
-    extent: ExtentId,
-    generation: u64,
-) -> Result<(), FileFault>
-    ensures { Recovers number replicas.old.entries replicas.new.entries (records.Fence extent generation) result }
-{
-    let Some(hosted) = replicas.get_mut(&extent.number()) else {
-        return Err(FileFault::Damaged);
-    };
-    if !is_open(hosted.replica().state()) {
-        return Err(FileFault::Damaged);
-    }
-    if hosted.replica().fence() >= generation {
-        return Err(FileFault::Damaged);
-    }
-    hosted.raise_recorded(generation);
-    Ok(())
-}
-
-/// The record of a freeze: the replica is open.
-fn recover_freeze(
-    replicas: &mut BTreeMap<u64, Hosted>,
-    alloc: Global,
-    number: u8,
-    extent: ExtentId,
-) -> Result<(), FileFault>
-    ensures { Recovers number replicas.old.entries replicas.new.entries (records.Freeze extent) result }
-{
-    let Some(hosted) = replicas.get_mut(&extent.number()) else {
-        return Err(FileFault::Damaged);
-    };
-    if !is_open(hosted.replica().state()) {
-        return Err(FileFault::Damaged);
-    }
-    hosted.freeze_recorded(alloc);
-    Ok(())
-}
-
-/// The record of a seal: the replica is not sealed yet, and a group ends there.
-fn recover_seal(
-    replicas: &mut BTreeMap<u64, Hosted>,
-    alloc: Global,
-    number: u8,
-    extent: ExtentId,
-    length: u32,
-) -> Result<(), FileFault>
-    ensures { Recovers number replicas.old.entries replicas.new.entries (records.Seal extent length) result }
-{
-    let Some(hosted) = replicas.get_mut(&extent.number()) else {
-        return Err(FileFault::Damaged);
-    };
-    if is_sealed(hosted.replica().state()) {
-        return Err(FileFault::Damaged);
-    }
-    if !hosted.replica().is_boundary(length) {
-        return Err(FileFault::Damaged);
-    }
-    hosted.seal_recorded(alloc, length);
-    Ok(())
-}
-
-/// The record of groups that bring a frozen replica from its end to its length.
-fn recover_fill(
-    replicas: &mut BTreeMap<u64, Hosted>,
-    alloc: Global,
-    number: u8,
-    extent: ExtentId,
-    from: u32,
-    length: u32,
-    groups: Groups,
-) -> Result<(), FileFault>
-    ensures { Recovers number replicas.old.entries replicas.new.entries (records.Fill extent from length groups) result }
-{
-    let Some(hosted) = replicas.get_mut(&extent.number()) else {
-        return Err(FileFault::Damaged);
-    };
-    if !is_frozen(hosted.replica().state()) {
-        return Err(FileFault::Damaged);
-    }
-    if !is_tail(hosted.replica(), from, length, &groups) {
-        return Err(FileFault::Damaged);
-    }
-    hosted.fill_recorded(alloc, groups)?;
-    Ok(())
-}
-
-/// One record more.
-fn recover(
+/// The first record of an extent: a replica is made by it.
+fn recover_first(
     replicas: &mut BTreeMap<u64, Hosted>,
     alloc: Global,
     number: u8,
     record_read: Record,
 ) -> Result<(), FileFault>
+    requires { (e : ℕ) → extent_of record_read ≡ Some e → find replicas.old.entries e ≡ None }
     ensures { Recovers number replicas.old.entries replicas.new.entries record_read result }
 {
     match record_read {
@@ -179,33 +78,30 @@ fn recover(
             target,
             &nodes,
         ),
-        Record::Append {
-            extent,
-            offset,
-            group,
-        } => recover_append(replicas, number, ExtentId::new(extent), offset, group),
-        Record::Fence { extent, generation } => {
-            recover_fence(replicas, number, ExtentId::new(extent), generation)
-        }
-        Record::Freeze { extent } => recover_freeze(replicas, alloc, number, ExtentId::new(extent)),
-        Record::Seal { extent, length } => {
-            recover_seal(replicas, alloc, number, ExtentId::new(extent), length)
-        }
-        Record::Fill {
-            extent,
-            from,
-            length,
-            groups,
-        } => recover_fill(
-            replicas,
-            alloc,
-            number,
-            ExtentId::new(extent),
-            from,
-            length,
-            groups,
-        ),
+        Record::Append { .. } => Err(FileFault::Damaged),
+        Record::Fence { .. } => Err(FileFault::Damaged),
+        Record::Freeze { .. } => Err(FileFault::Damaged),
+        Record::Seal { .. } => Err(FileFault::Damaged),
+        Record::Fill { .. } => Err(FileFault::Damaged),
         Record::Manage { .. } => Err(FileFault::Damaged),
+    }
+}
+
+/// One record more.
+fn recover(
+    replicas: &mut BTreeMap<u64, Hosted>,
+    alloc: Global,
+    number: u8,
+    record_read: Record,
+) -> Result<(), FileFault>
+    ensures { Recovers number replicas.old.entries replicas.new.entries record_read result }
+{
+    let Some(extent) = extent_of(&record_read) else {
+        return Err(FileFault::Damaged);
+    };
+    match replicas.get_mut(&extent) {
+        None => recover_first(replicas, alloc, number, record_read),
+        Some(hosted) => hosted.recover(alloc, record_read),
     }
 }
 

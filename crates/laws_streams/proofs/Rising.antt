@@ -25,8 +25,8 @@ use Rattle.model.specs.Actors.{is_node, is_user, generation_of}
 use Rattle.model.specs.Manager.{Book, is_there, forgotten_if, book_stopped, new_extent, with_extent, extended, create_tests, create_refusal, create_taken, open_tests, open_refusal, open_taken, confirm_refusal, answer, is_foreign, is_pick, sealed_lengths, extend_made, last_told, extend_answered, extend_row, no_users, seal_asked, seal_extent_row, with_report, noted, frozen_to, frozen_row, known_sealed, is_sealed_row, place_of, first_sealed, asks_tail, short_row, decided_if, least_told, decide_row, stream_body_row, seal_body_row, manager_row, reminders}
 use Rattle.model.specs.Node.{extent_of, node_row}
 use Rattle.model.specs.Outcome.{Outcome, silent, sends, refused, or_refused}
-use Rattle.model.specs.World.{World, stops_in, stands_in, halted, node_does, node_takes, desk_halted, manager_does, delivered, delivered_if, is_request, node_stops, manager_stops, stop, is_present, restart, happens, is_server_call, Move, moved, run_moves}
-use Rattle.model.specs.World.Move.{Happens, Asks}
+use Rattle.model.specs.World.{World, stops_in, stands_in, halted, node_does, node_takes, desk_halted, manager_does, delivered, delivered_if, is_request, node_stops, manager_stops, stop, is_present, restart, happens, is_server_call, is_told, Move, moved, run_moves}
+use Rattle.model.specs.World.Move.{Happens, Asks, Says}
 use Rattle.model.proofs.Tests.{if_elim, both_parts, none_met}
 use Rattle.laws_streams.specs.Fences.{Risen, FencesRise, MadeWithFences}
 use Rattle.laws_streams.proofs.Tests.{is_below, not_true, tested, changed_elim}
@@ -347,6 +347,7 @@ happens_goes w (Decide e) =
 moved_goes : (w : World) (move : Move) → Goes w (moved w move)
 moved_goes w (Happens event) = happens_goes w event
 moved_goes w (Asks server to body) = if_elim (Goes w) (is_server_call body) _ w (λ _. onward_refl w.book) (λ _. onward_refl w.book)
+moved_goes w (Says from to body) = if_elim (Goes w) (is_told body) _ w (λ _. onward_refl w.book) (λ _. onward_refl w.book)
 
 -- ---- runs
 

@@ -18,8 +18,8 @@ use Rattle.model.specs.Maps.{changed}
 use Rattle.model.specs.Manager.{Book, manager_row, decide_row}
 use Rattle.model.specs.Node.{Replica, extent_of, node_row}
 use Rattle.model.specs.Outcome.{Outcome, packet}
-use Rattle.model.specs.World.{Cell, World, running, armed, stops_in, stands_in, burnt, unsent, halted, after_row, node_does, node_takes, desk_halted, after_ruling, manager_does, manager_takes, decides, node_stops, manager_stops, stop, is_present, restart, sent_more, delivered, delivered_if, is_append, is_seal, is_request, happens, start, is_check, is_server_call, Move, moved}
-use Rattle.model.specs.World.Move.{Happens, Asks}
+use Rattle.model.specs.World.{Cell, World, running, armed, stops_in, stands_in, burnt, unsent, halted, after_row, node_does, node_takes, desk_halted, after_ruling, manager_does, manager_takes, decides, node_stops, manager_stops, stop, is_present, restart, sent_more, delivered, delivered_if, is_append, is_seal, is_request, happens, start, is_check, is_server_call, is_refusal, is_told, Move, moved}
+use Rattle.model.specs.World.Move.{Happens, Asks, Says}
 use Rattle.model.proofs.Tests.{if_elim}
 use Rattle.laws_streams.specs.Origins.{Origin}
 use Rattle.laws_streams.proofs.Tests.{Each, each-append, each-get, contains_get, contains_left}
@@ -98,6 +98,17 @@ server_fine g from to (bodies.Append b) t = asked_append g from b t
 server_fine g from to (bodies.Check b) t = asked_check g from to b t
 server_fine g from to (bodies.Seal b) t = asked_seal g from b t
 server_fine g from to b t = tt
+
+told_append : (g : Ground) (from : ActorId) (b : AppendBody) → is_refusal b ≡ true → FineAppend g from b
+told_append g from (Put e o group) t = absurd cc
+told_append g from (Have e l) t = absurd cc
+told_append g from b t = tt
+
+told_fine : (g : Ground) (from to : ActorId) (b : Body) → is_told b ≡ true → FineBody g from to b
+told_fine g from to (bodies.Append b) t = told_append g from b t
+told_fine g from to (bodies.Check b) t = absurd cc
+told_fine g from to (bodies.Seal b) t = absurd cc
+told_fine g from to b t = tt
 
 -- ---- one move
 
@@ -243,6 +254,11 @@ module _ (C : ℕ → Group → Origin → Type 0) (D : ℕ → ℕ → Type 0) 
       if_elim (Next C D (suc k) a.ground) (is_server_call body) _ w
       (λ t. passed k w (sent_more w (packet (Server server) to body ∷ [])) a
       (sent_holds w (packet (Server server) to body ∷ []) a.ground a.holds (server_fine a.ground (Server server) to body t, tt)))
+      (λ f. passed k w w a a.holds)
+  moved_good w (Says from to body) k a comes new =
+      if_elim (Next C D (suc k) a.ground) (is_told body) _ w
+      (λ t. passed k w (sent_more w (packet from to body ∷ [])) a
+      (sent_holds w (packet from to body ∷ []) a.ground a.holds (told_fine a.ground from to body t, tt)))
       (λ f. passed k w w a a.holds)
 
   pub start_good : (nodes target : ℕ) → Good C D 0 (start nodes target)

@@ -1,23 +1,23 @@
 -- What an append to the file says of a step that ends as the append does.
 use Rattle.std.proofs.Common.{rules, ◌≡◌, Option, Some, None, Result, Ok, Err, refl, ap, sym, subst, ◌∙◌}
+use Rattle.blocks.specs.declared.record.Record.{Record}
+use Rattle.blocks.specs.declared.record.Record.TheVariants.{Manage}
 use Rattle.disk.specs.declared.device.DiskFault.{DiskFault}
 use Rattle.disk.specs.declared.device.DiskFault.TheVariants.{Memory}
 use Rattle.disk.specs.Disk.{DiskState, IsUntouched}
 use Rattle.disk.specs.Filed.{Filed}
 use Rattle.disk.specs.Appends.{Appends}
-use Rattle.blocks.specs.declared.record.Record.{Record}
-use Rattle.blocks.specs.declared.record.Record.TheVariants.{Manage}
 use Rattle.disk.specs.Appends.{Records}
 use Rattle.wire.specs.declared.packet.Step.{Step}
 use Rattle.model.specs.declared.manager_record.ManagerRecord.{ManagerRecord}
 use Rattle.model.specs.Ledger.{spelled}
-use Rattle.manager.specs.declared.plan.Change.{Change}
-use Rattle.manager.specs.declared.plan.Change.TheVariants.{Write}
-use Rattle.manager.specs.declared.plan.Plan.{Plan}
+use Rattle.directory.specs.Table.{TableState, table_after}
+use Rattle.planning.specs.declared.plan.Change.{Change}
+use Rattle.planning.specs.declared.plan.Change.TheVariants.{Write}
+use Rattle.planning.specs.declared.plan.Plan.{Plan}
+use Rattle.planning.specs.Plan.{changed_by, written_by}
 use Rattle.manager.specs.Done.{Done}
-use Rattle.manager.specs.Plan.{changed_by, written_by}
 use Rattle.manager.specs.Ruled.{listed}
-use Rattle.manager.specs.Table.{TableState, table_after}
 
 -- how a step ended, without what it gives
 abbrev bare : Result Step DiskFault → Result Unit DiskFault

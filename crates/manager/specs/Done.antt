@@ -5,9 +5,9 @@ use Rattle.disk.specs.Disk.{DiskState}
 use Rattle.disk.specs.Filed.{Filed}
 use Rattle.disk.specs.Appends.{Records}
 use Rattle.wire.specs.declared.packet.Step.{Step}
-use Rattle.manager.specs.declared.plan.Plan.{Plan}
-use Rattle.manager.specs.Table.{TableState}
-use Rattle.manager.specs.Plan.{changed_by, written_by}
+use Rattle.directory.specs.Table.{TableState}
+use Rattle.planning.specs.declared.plan.Plan.{Plan}
+use Rattle.planning.specs.Plan.{changed_by, written_by}
 use Rattle.manager.specs.Ruled.{listed}
 
 pub record Done {D : Type 0} (state : D → DiskState) (was is : TableState) (old new : Filed D) (plan : Plan) (result : Result Step DiskFault) : Type 0 where

@@ -1,12 +1,13 @@
 -- The manager's state, and what its records make of it.
-use Rattle.std.specs.Prelude.{◌≡◌, ℕ, true, List, map, Option, Some}
+use Rattle.std.specs.Prelude.{◌≡◌, ℕ, true, List, map, Some}
 use Rattle.blocks.specs.declared.record.Record.{Record}
 use Rattle.disk.specs.Filed.{Filed}
 use Rattle.streams.specs.Table.{StreamTableState, streams_of}
 use Rattle.model.specs.declared.extent.Extent.{Extent}
 use Rattle.model.specs.Manager.{Book, forgotten, book_stopped}
 use Rattle.model.specs.Replay.{book_replay, book_fits}
-use Rattle.manager.specs.Table.{TableState, TableValue, Lists, forgotten_table}
+use Rattle.directory.specs.Replay.{Ledgered}
+use Rattle.directory.specs.Table.{TableState, TableValue, Lists}
 
 pub record ManagerState (D : Type 0) : Type 0 where
   pub nodes : ℕ
@@ -29,13 +30,6 @@ Shows s b = Lists (table_of s) b
 -- without what a stop drops
 abbrev pub forgotten_state : {D : Type 0} → ManagerState D → ManagerState D
 forgotten_state s = record s { extents = map forgotten s.extents }
-
--- the records fit, and make this table but for what a stop drops
-pub record Ledgered (t : TableState) (rs : List Record) : Type 0 where
-  pub book : Book
-  pub replays : book_replay rs ≡ Some book
-  pub shows : Lists (forgotten_table t) book
-  pub fits : book_fits rs ≡ true
 
 abbrev pub IsLedger : {D : Type 0} → ManagerState D → List Record → Type 0
 IsLedger s rs = Ledgered (table_of s) rs

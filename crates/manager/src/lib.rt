@@ -7,20 +7,11 @@
 //! for what a stop drops, is what its records make. A refusal for want of memory changes nothing.
 #![tactic(auto)]
 
-mod actors;
-mod calls;
 mod fault;
-mod ledger;
-mod lengthening;
 mod manager;
 mod performing;
-mod plan;
 mod recovery;
-mod reports;
 mod sealing;
-mod sending;
-mod table;
-mod telling;
 
 pub use fault::ManagerFault;
 pub use manager::Manager;

@@ -14,17 +14,16 @@ ghost use Rattle.model.specs.Maps.{entry_at};
 ghost use Rattle.model.specs.Manager.{Book, first_book, manager_row, decide_row, decide_refusal};
 ghost use Rattle.model.specs.Replay.{book_fits};
 ghost use Rattle.model.specs.declared.manager_record.ManagerRecord.TheVariants as ledger;
+ghost use Rattle.directory.specs.Table.{plain, first_table};
 ghost use Rattle.manager.specs.Manager.{Shows, IsLedger, forgotten_state};
-ghost use Rattle.manager.specs.Table.{plain, first_table};
 ghost use Rattle.manager.specs.Ruled.{Ruled, as_row, fault_of, sealing_at};
 
 use crate::fault::ManagerFault;
-use crate::ledger::{reads_back, write};
-use crate::performing::{decide_on, handle_on};
+use crate::performing::{decide_on, handle_on, write};
 use crate::recovery::table_of;
-use crate::sealing::sealing_of;
-use crate::table::Table;
+use crate::sealing::{answer, refusal, sealing_of};
 use blocks::Version;
+use directory::{Table, reads_back};
 use disk::{Disk, DiskFault, FileFault, MemDisk, RecordFile, Stop};
 use model::{Extent, ManagerRecord};
 use std::alloc::{AllocError, Global};
@@ -42,26 +41,15 @@ pub struct Manager<D: Disk> {
 /// While it runs, its table is what its records make of it, but for what a stop drops.
 impl<D: Disk> Model for Manager<D> {
     ghost use Rattle.std.specs.Prelude.{◌≡◌, false};
-    ghost use Rattle.manager.specs.Manager.{ManagerState, Ledgered, state_of};
-    ghost use Rattle.manager.specs.Table.{plain};
+    ghost use Rattle.directory.specs.Replay.{Ledgered};
+    ghost use Rattle.directory.specs.Table.{plain};
+    ghost use Rattle.manager.specs.Manager.{ManagerState, state_of};
 
     ghost Value = { ManagerState D };
 
     ghost view = { λ m. state_of m.table m.file };
 
     ghost invariant = { λ m. m.file.stopped ≡ false → Ledgered (plain m.table) m.file.records };
-}
-
-/// The answer of a decision that was not refused.
-fn answer(done: Result<Step, DiskFault>) -> Result<Step, ManagerFault>
-    ensures row { as_row result ≡ done }
-    ensures taken { IfErr result (λ e. (e ≢ ManagerFault.NoSuchExtent) × (e ≢ ManagerFault.NoReply)) }
-{
-    match done {
-        Ok(step) => Ok(step),
-        Err(DiskFault::Failed) => Err(ManagerFault::DiskFailed),
-        Err(DiskFault::Memory) => Err(ManagerFault::Memory),
-    }
 }
 
 /// The manager of a file without a record and of the first table: its first record is written.
@@ -208,7 +196,7 @@ impl<D: Disk> Manager<D> {
         if self.file.is_stopped() {
             return Ok(Step::silent(alloc));
         }
-        match self.table.refusal(extent.number()) {
+        match refusal(&self.table, extent.number()) {
             Some(fault) => Err(fault),
             None => {
                 let done = decide_on(&mut self.table, &mut self.file, alloc, extent.number());

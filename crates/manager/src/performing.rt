@@ -1,25 +1,54 @@
 //! What a step is about to do is done: the record is written first, and then the table changes.
-ghost use Rattle.std.specs.Prelude.{◌≡◌, false};
+ghost use Rattle.std.specs.Prelude.{◌≡◌, false, OnOk, OnErr};
+ghost use Rattle.blocks.specs.declared.record.Record.TheVariants as records;
+ghost use Rattle.disk.specs.Appends.{Appends};
+ghost use Rattle.model.specs.Ledger.{spelled};
 ghost use Rattle.model.specs.Maps.{entry_at};
-ghost use Rattle.manager.specs.Plan.{Plans, IsReadAgain, planned, decide};
+ghost use Rattle.directory.specs.Table.{plain, table_after};
+ghost use Rattle.planning.specs.Plan.{IsReadAgain, planned, decide};
 ghost use Rattle.manager.specs.Done.{Done};
-ghost use Rattle.manager.specs.Table.{plain};
 
-use crate::plan::{Change, Plan};
-use crate::sending::silent;
-use crate::table::Table;
+use blocks::Record;
+use directory::{Table, encode};
 use disk::{Disk, DiskFault, RecordFile};
-use std::alloc::{AllocError, Global};
-use wire::{Body, Packet, Step};
+use model::ManagerRecord;
+use planning::{Change, Plan, decide, plan_for};
+use std::alloc::Global;
+use wire::{Packet, Step};
 
-/// What the manager is about to do with a packet.
-pub(crate) fn plan_for(table: &Table, alloc: Global, packet: &Packet) -> Result<Plan, AllocError>
-    ensures { Plans (planned (plain table.now) packet.now packet.now.body) result }
+/// Adds a record to the manager's file.
+pub(crate) fn write<D: Disk>(
+    alloc: Global,
+    file: &mut RecordFile<D>,
+    ruling: &ManagerRecord,
+) -> Result<(), DiskFault>
+    requires running { file.old.stopped ≡ false }
+    ensures { Appends D.state file.old file.new (records.Manage (spelled ruling.now)) result }
 {
-    match &packet.body {
-        Body::Stream(body) => table.stream_body(alloc, packet, body),
-        Body::Seal(body) => table.seal_body(alloc, packet, body),
-        _ => Ok(silent(alloc)),
+    let text = encode(alloc, ruling)?;
+    file.append(alloc, &Record::Manage { text })
+}
+
+/// Makes room for what a record adds to the table, writes it, and does what it makes of the table. At an error the table is
+/// as it was.
+fn rule<D: Disk>(
+    table: &mut Table,
+    file: &mut RecordFile<D>,
+    alloc: Global,
+    ruling: &ManagerRecord,
+) -> Result<(), DiskFault>
+    requires running { file.old.stopped ≡ false }
+    ensures ok { OnOk result (plain table.new ≡ table_after (plain table.old) ruling.now) }
+    ensures err { OnErr result (plain table.new ≡ plain table.old) }
+    ensures file { Appends D.state file.old file.new (records.Manage (spelled ruling.now)) result }
+{
+    table.reserve(ruling)?;
+    match write(alloc, file, ruling) {
+        Ok(()) => {
+            table.apply(ruling);
+            Ok(())
+        }
+        Err(fault) => Err(fault),
     }
 }
 
@@ -40,7 +69,7 @@ pub(crate) fn perform<D: Disk>(
             table.replace(extent, entry);
             Ok(step)
         }
-        Change::Write(ruling) => match table.rule(alloc, file, &ruling) {
+        Change::Write(ruling) => match rule(table, file, alloc, &ruling) {
             Ok(()) => Ok(step),
             Err(fault) => Err(fault),
         },
@@ -58,7 +87,7 @@ pub(crate) fn handle_on<D: Disk>(
     ensures done { Done D.state (plain table.old) (plain table.new) file.old file.new (planned (plain table.old) packet.now packet.now.body) result }
     ensures again { IsReadAgain (planned (plain table.old) packet.now packet.now.body).change }
 {
-    match plan_for(table, alloc, packet) {
+    match plan_for(alloc, table, packet) {
         Ok(plan) => perform(table, file, alloc, plan),
         Err(_full) => Err(DiskFault::Memory),
     }
@@ -75,7 +104,7 @@ pub(crate) fn decide_on<D: Disk>(
     ensures done { Done D.state (plain table.old) (plain table.new) file.old file.new (decide table.old.target extent (entry_at table.old.extents extent)) result }
     ensures again { IsReadAgain (decide table.old.target extent (entry_at table.old.extents extent)).change }
 {
-    match table.decide(alloc, extent) {
+    match decide(alloc, table, extent) {
         Ok(plan) => perform(table, file, alloc, plan),
         Err(_full) => Err(DiskFault::Memory),
     }

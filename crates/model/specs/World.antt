@@ -246,14 +246,27 @@ is_server_call (bodies.Read body) = is_read body
 is_server_call (bodies.Stream body) = is_server_stream_call body
 is_server_call _ = false
 
--- an event, or a server that asks what it likes, under any generation
+abbrev pub is_refusal : AppendBody → Bool
+is_refusal (appends.Refused q refusal) = true
+is_refusal _ = false
+
+-- what servers and the map tell users and each other: no node takes it, and neither does the manager
+abbrev pub is_told : Body → Bool
+is_told (bodies.Append body) = is_refusal body
+is_told (bodies.Map body) = true
+is_told (bodies.Table body) = true
+is_told _ = false
+
+-- an event; a server that asks what it likes, under any generation; or somebody who tells what no node takes
 pub data Move : Type 0 where
   Happens : (event : Event) → Move
   Asks : (server : ℕ) (to : ActorId) (body : Body) → Move
+  Says : (from to : ActorId) (body : Body) → Move
 
 abbrev pub moved : World → Move → World
 moved w (Happens event) = happens w event
 moved w (Asks server to body) = if is_server_call body then sent_more w (packet (Server server) to body ∷ []) else w
+moved w (Says from to body) = if is_told body then sent_more w (packet from to body ∷ []) else w
 
 -- whatever the servers do
 abbrev pub run_moves : List Move → World → World

@@ -21,8 +21,9 @@ use Rattle.model.specs.Manager.{Book, book_stopped, forgotten, forgotten_if, man
 use Rattle.model.specs.Replay.{book_replay}
 use Rattle.model.specs.World.{World, Cell, after_ruling, armed, burnt, desk_halted, down, manager_does, manager_stops, manager_takes, restart, running, stands_in, stop, stops_in, unsent}
 use Rattle.model.proofs.Tests.{if_elim, both_parts}
-use Rattle.manager.specs.Table.{TableState, Lists, forgotten_table}
-use Rattle.manager.specs.Manager.{ManagerState, Ledgered, IsLedger, MakesBook, Shows, table_of}
+use Rattle.directory.specs.Table.{TableState, Lists, forgotten_table}
+use Rattle.directory.specs.Replay.{Ledgered}
+use Rattle.manager.specs.Manager.{ManagerState, IsLedger, MakesBook, Shows, table_of}
 use Rattle.manager.specs.Ruled.{Ruled}
 use Rattle.world.specs.Desk.{DeskSeen, DeskMirrors, Makes, Served, Tells, desk_of}
 use Rattle.world.specs.Nodes.{nothing, plan_of}

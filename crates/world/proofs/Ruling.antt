@@ -17,7 +17,7 @@ use Rattle.model.specs.Manager.{Book, decide_refusal, decide_row, decided_if, is
 use Rattle.model.specs.World.{World, decides, manager_does, manager_takes, stands_in, stops_in}
 use Rattle.manager.specs.declared.fault.ManagerFault.{ManagerFault}
 use Rattle.manager.specs.declared.fault.ManagerFault.TheVariants as faults
-use Rattle.manager.specs.Table.{TableState, Lists}
+use Rattle.directory.specs.Table.{TableState, Lists}
 use Rattle.manager.specs.Manager.{ManagerState, IsLedger, Shows, table_of}
 use Rattle.manager.proofs.Deciding.{decided_notes}
 use Rattle.manager.specs.Ruled.{Ruled, as_row, fault_of, sealing_at, sealing_notes}

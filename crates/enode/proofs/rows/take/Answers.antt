@@ -1,20 +1,14 @@
-use Rattle.std.proofs.Common.{sym, subst}
-use Rattle.wire.specs.declared.body.Body.{Body}
-use Rattle.model.specs.Node.{node_row, extent_of}
+use Rattle.std.proofs.Common.{rules, ℕ, subst}
+use Rattle.model.specs.Node.{node_row}
 use Rattle.enode.specs.Node.{find}
 use Rattle.enode.specs.Took.{Took}
-use Rattle.enode.proofs.Telling.{took_told}
+use Rattle.enode.proofs.Rowing.{took_none, took_some}
 use Rattle.enode.proofs.rows.take.Goals as goal
 
-pub returns-in-Append : goal.returns-in-Append
-returns-in-Append g c = subst (λ (b : Body). Took g.D.Disk.state c.args.replicas.now.entries c.take_append.new.replicas.entries c.args.file.now c.take_append.new.file (extent_of b) (node_row c.args.number (find c.args.replicas.now.entries (extent_of b)) c.args.packet.now b) c.take_append.result) (sym c.in-Append.is) c.take_append.ensures
+pub returns-in-None : goal.returns-in-None
+returns-in-None g c = took_none g.D.Disk.state c.args.replicas.now.entries c.get_mut.follows.lender-at-none.entries _ _ _ _ c.args.number _ _ c.take_absent.result (search rules) (search rules) c.take_absent.ensures
 
-pub returns-in-Check : goal.returns-in-Check
-returns-in-Check g c = subst (λ (b : Body). Took g.D.Disk.state c.args.replicas.now.entries c.take_check.new.replicas.entries c.args.file.now c.take_check.new.file (extent_of b) (node_row c.args.number (find c.args.replicas.now.entries (extent_of b)) c.args.packet.now b) c.take_check.result) (sym c.in-Check.is) c.take_check.ensures
-
-pub returns-in-Seal : goal.returns-in-Seal
-returns-in-Seal g c = subst (λ (b : Body). Took g.D.Disk.state c.args.replicas.now.entries c.take_seal.new.replicas.entries c.args.file.now c.take_seal.new.file (extent_of b) (node_row c.args.number (find c.args.replicas.now.entries (extent_of b)) c.args.packet.now b) c.take_seal.result) (sym c.in-Seal.is) c.take_seal.ensures
-
-pub returns-in-Read : goal.returns-in-Read
-returns-in-Read g c = subst (λ (b : Body). Took g.D.Disk.state c.args.replicas.now.entries c.args.replicas.now.entries c.args.file.now c.args.file.now (extent_of b) (node_row c.args.number (find c.args.replicas.now.entries (extent_of b)) c.args.packet.now b) c.take_read.result) (sym c.in-Read.is)
-    (took_told g.D.Disk.state _ _ c.args.file.now _ _ c.take_read.result c.take_read.ensures)
+pub returns-in-Some : goal.returns-in-Some
+returns-in-Some g c =
+    subst (λ (e : ℕ). Took g.D.Disk.state c.args.replicas.now.entries (c.get_mut.follows.lender c.handle.new.hosted).entries c.args.file.now c.handle.new.file e (node_row c.args.number (find c.args.replicas.now.entries e) c.args.packet.now c.args.packet.now.body) c.handle.result) c.extent_of-extent.ensures
+    (took_some g.D.Disk.state _ _ _ _ c.extent_of-extent.result c.args.number _ _ c.in-Some.hosted.now c.handle.new.hosted c.handle.result (search rules) (search rules) (search rules) c.handle.ensures)

@@ -3,10 +3,10 @@ use Rattle.blocks.specs.declared.record.Record.{Record}
 use Rattle.blocks.specs.declared.record.Record.TheVariants.{Manage}
 use Rattle.model.specs.declared.manager_record.ManagerRecord.TheVariants.{First}
 use Rattle.model.specs.Ledger.{spelled}
-use Rattle.manager.specs.Table.{TableState, Lists, first_table}
 use Rattle.model.specs.Manager.{first_book}
-use Rattle.manager.specs.Manager.{Ledgered}
-use Rattle.manager.proofs.Recovering.{first_ledger, first_shows}
+use Rattle.directory.specs.Table.{TableState, Lists, first_table}
+use Rattle.directory.specs.Replay.{Ledgered}
+use Rattle.directory.proofs.Recovering.{first_ledger, first_shows}
 use Rattle.manager.proofs.manager.begin.Goals as goal
 
 pub invariant_of-result : goal.invariant_of-result

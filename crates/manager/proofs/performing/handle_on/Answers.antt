@@ -1,5 +1,5 @@
-use Rattle.manager.specs.Plan.{planned}
-use Rattle.manager.specs.Table.{plain}
+use Rattle.directory.specs.Table.{plain}
+use Rattle.planning.specs.Plan.{planned}
 use Rattle.manager.proofs.Rowing.{short}
 use Rattle.manager.proofs.performing.handle_on.Goals as goal
 

@@ -4,12 +4,12 @@ use Rattle.wire.specs.declared.packet.Step.{Step}
 use Rattle.model.specs.Bounds.{AreFew}
 use Rattle.model.specs.Maps.{entry_at}
 use Rattle.model.specs.Manager.{decide_row}
+use Rattle.directory.specs.Table.{plain}
+use Rattle.directory.proofs.Tables.{book_shows}
+use Rattle.planning.specs.Plan.{decide}
+use Rattle.planning.proofs.Planning.{decision_follows}
 use Rattle.manager.specs.Manager.{state_of}
-use Rattle.manager.specs.Table.{plain}
-use Rattle.manager.specs.Plan.{decide}
 use Rattle.manager.specs.Ruled.{Ruled, as_row}
-use Rattle.manager.proofs.Tables.{book_shows}
-use Rattle.manager.proofs.Planning.{decision_follows}
 use Rattle.manager.proofs.Keeping.{ruled, stays, step_few}
 use Rattle.manager.proofs.Deciding.{row_step}
 use Rattle.manager.proofs.manager.Manager.decide.Goals as goal

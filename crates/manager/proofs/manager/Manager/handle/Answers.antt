@@ -1,8 +1,8 @@
 use Rattle.std.proofs.Common.{sym, ◌∙◌}
-use Rattle.manager.specs.Table.{plain}
-use Rattle.manager.specs.Plan.{planned}
-use Rattle.manager.proofs.Tables.{book_shows}
-use Rattle.manager.proofs.Planning.{plan_follows}
+use Rattle.directory.specs.Table.{plain}
+use Rattle.directory.proofs.Tables.{book_shows}
+use Rattle.planning.specs.Plan.{planned}
+use Rattle.planning.proofs.Planning.{plan_follows}
 use Rattle.manager.proofs.Keeping.{ruled, stays, step_few}
 use Rattle.manager.proofs.manager.Manager.handle.Goals as goal
 

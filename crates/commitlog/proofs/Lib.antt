@@ -1,0 +1,7 @@
+pub mod Loop
+pub mod Texts
+pub mod Pieces
+pub mod Numbering
+pub mod Laws
+pub mod Measures
+pub mod Entries

@@ -1,0 +1,6 @@
+pub mod Running
+pub mod Record
+pub mod Reading
+pub mod Sizes
+pub mod Places
+pub mod Replay

@@ -1,0 +1,46 @@
+//! Records of the commit log, as values.
+ghost use Rattle.std.specs.Prelude.{◌≡◌};
+
+use std::marker::Model;
+use wire::Changes;
+
+/// Transactions in the order of their numbers. Its value is the list of their changes.
+#[derive(Drop)]
+pub struct Transactions {
+    items: Vec<Changes>,
+}
+
+impl Model for Transactions {
+    ghost use Rattle.std.specs.Prelude.{List};
+    ghost use Rattle.wire.specs.declared.transaction.Change.{Change};
+
+    ghost Value = { List (List Change) };
+
+    ghost view = { λ list. list.items.items };
+}
+
+impl Transactions {
+    /// Takes them as they are.
+    pub fn of(items: Vec<Changes>) -> Transactions
+        ensures { result ≡ items.items }
+    {
+        Transactions { items }
+    }
+
+    /// They, in order.
+    pub fn as_slice(&self) -> &[Changes]
+        ensures { result.now ≡ self.now }
+    {
+        &self.items
+    }
+}
+
+/// What one append to the commit log commits: transactions with consecutive numbers.
+///
+/// A value may be out of range: `Fits` of specs/Record.antt is what has a spelling.
+#[derive(Drop)]
+pub struct LogRecord {
+    /// The number of the first transaction, from 1.
+    pub first: u64,
+    pub transactions: Transactions,
+}

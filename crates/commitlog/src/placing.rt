@@ -1,0 +1,120 @@
+//! What rows keep of the changes of a record: small values themselves, large ones by the place of their block.
+ghost use Rattle.std.specs.Prelude.{◌≡◌, ◌+◌, ◌<◌, ◌^◌, ◌++◌, IfOk, OnOk};
+ghost use Rattle.std.specs.List.{AllByRecursion, flat_map};
+ghost use Rattle.blocks.specs.Limits.{group_size};
+ghost use Rattle.cells.specs.Cell.{IsEntry};
+ghost use Rattle.commitlog.specs.Record.{large, change_values, transaction_values, spelling, HasValue, IsChange, IsTransaction, Fits};
+ghost use Rattle.commitlog.specs.Places as specs;
+
+use crate::log_record::LogRecord;
+use crate::sizes::text_size;
+use bytes::Bytes;
+use cells::{Cell, Place, is_large};
+use std::alloc::{AllocError, Global};
+use wire::{Change, Changes, ExtentId};
+
+/// What a row keeps of a value, and the offset of the next large value.
+fn kept_cell(
+    extent: ExtentId,
+    offset: u32,
+    value: &Option<Bytes>,
+) -> Result<(Cell, u32), AllocError>
+    requires fits { HasValue value.now }
+    requires room { offset + group_size (large value.now) < 2 ^ 32 }
+    ensures { IfOk result (λ x. (x.0 ≡ specs.kept_cell extent offset value.now)
+        × (x.1 ≡ offset + group_size (large value.now))) }
+{
+    match value {
+        None => Ok((Cell::Deleted, offset)),
+        Some(value) => {
+            if is_large(value) {
+                let length = value.len() as u32;
+                let place = Place {
+                    extent,
+                    offset,
+                    length,
+                };
+                Ok((Cell::Placed(place), offset + length))
+            } else {
+                Ok((Cell::Inline(value.clone()?), offset))
+            }
+        }
+    }
+}
+
+/// What a row keeps of a change, and the offset of the next large value.
+fn kept_change(
+    extent: ExtentId,
+    offset: u32,
+    change: &Change,
+) -> Result<((Bytes, Cell), u32), AllocError>
+    requires fits { IsChange change.now }
+    requires room { offset + group_size (change_values change.now) < 2 ^ 32 }
+    ensures { IfOk result (λ x. (x.0 ≡ specs.kept_change extent offset change.now)
+        × (x.1 ≡ offset + group_size (change_values change.now))) }
+{
+    let (cell, next) = kept_cell(extent, offset, &change.value)?;
+    let key = change.key.clone()?;
+    Ok(((key, cell), next))
+}
+
+/// Adds what rows keep of the changes of a transaction, and answers the offset of the next large value.
+fn put_cells(
+    out: &mut Vec<(Bytes, Cell)>,
+    extent: ExtentId,
+    offset: u32,
+    changes: &[Change],
+) -> Result<u32, AllocError>
+    requires fits { AllByRecursion IsChange changes.now }
+    requires room { offset + group_size (transaction_values changes.now) < 2 ^ 32 }
+    ensures cells { OnOk result (out.new.items ≡ out.old.items ++ specs.kept_changes extent offset changes.now) }
+    ensures next { IfOk result (λ next. next ≡ offset + group_size (transaction_values changes.now)) }
+{
+    let mut next = offset;
+    for change in changes {
+        let (kept, after) = kept_change(extent, next, change)?;
+        out.push(kept)?;
+        next = after;
+    }
+    Ok(next)
+}
+
+fn put_all_cells(
+    out: &mut Vec<(Bytes, Cell)>,
+    extent: ExtentId,
+    offset: u32,
+    all: &[Changes],
+) -> Result<(), AllocError>
+    requires fits { AllByRecursion IsTransaction all.now }
+    requires room { offset + group_size (flat_map transaction_values all.now) < 2 ^ 32 }
+    ensures { OnOk result (out.new.items
+        ≡ out.old.items ++ flat_map (λ t. t) (specs.kept_transactions extent offset all.now)) }
+{
+    let mut next = offset;
+    for changes in all {
+        next = put_cells(out, extent, next, changes.as_slice())?;
+    }
+    Ok(())
+}
+
+/// What rows keep of the changes of a record whose group stands in the extent from the offset on, transaction by
+/// transaction. Small values share their buffers; an error is want of memory (22).
+///
+/// That the record fits is the caller's condition, and that the group ends below 2^32 in the extent.
+pub fn cells(
+    alloc: Global,
+    written: &LogRecord,
+    extent: ExtentId,
+    offset: u32,
+) -> Result<Vec<(Bytes, Cell)>, AllocError>
+    requires fits { Fits written.now }
+    requires room { offset + group_size (spelling written.now) < 2 ^ 32 }
+    ensures kept { IfOk result (λ kept. kept.items ≡ flat_map (λ t. t) (specs.kept written.now extent offset)) }
+    ensures entries { IfOk result (λ kept. AllByRecursion (λ e. IsEntry e.0 e.1) kept.items) }
+{
+    let all = written.transactions.as_slice();
+    let start = offset + text_size(written);
+    let mut out = Vec::new(alloc);
+    put_all_cells(&mut out, extent, start, all)?;
+    Ok(out)
+}

@@ -1,0 +1,179 @@
+//! Writing a record as a group. The writers of text append what their clauses say, or for want of memory a part of it.
+ghost use Rattle.std.specs.Prelude.{◌≡◌, ◌+◌, ◌≤◌, ◌++◌, length, IfOk, OnOk};
+ghost use Rattle.std.specs.List.{AllByRecursion, flat_map};
+ghost use Rattle.commitlog.specs.Record.{large, change_values, transaction_values, text_cell, text_change, text_changes, text_transactions, cell_bytes, change_bytes, transaction_bytes, transactions_bytes, text as text_from, pieces, spelling, HasValue, IsChange, IsTransaction, Fits};
+
+use crate::log_record::LogRecord;
+use crate::sizes::text_size;
+use blocks::writer::{put_bytes, put_u8, put_u16, put_u32, put_u64};
+use blocks::{Block, Group, MAX_BLOCK};
+use bytes::Bytes;
+use cells::is_large;
+use std::alloc::{AllocError, Global};
+use wire::{Change, Changes};
+
+/// Appends a cell, and answers the number of the next large value.
+fn put_cell(out: &mut Vec<u8>, number: u32, value: &Option<Bytes>) -> Result<u32, AllocError>
+    requires fits { HasValue value.now }
+    requires room { number + length (large value.now) ≤ 256 }
+    ensures text { OnOk result (out.new.items ≡ out.old.items ++ cell_bytes (text_cell number value.now)) }
+    ensures next { IfOk result (λ next. next ≡ number + length (large value.now)) }
+{
+    match value {
+        None => {
+            put_u8(out, 0)?;
+            Ok(number)
+        }
+        Some(value) => {
+            if is_large(value) {
+                put_u8(out, 2)?;
+                put_u8(out, number as u8)?;
+                put_u32(out, value.len() as u32)?;
+                Ok(number + 1)
+            } else {
+                put_u8(out, 1)?;
+                put_u32(out, value.len() as u32)?;
+                put_bytes(out, value)?;
+                Ok(number)
+            }
+        }
+    }
+}
+
+/// Appends a change, and answers the number of the next large value.
+fn put_change(out: &mut Vec<u8>, number: u32, change: &Change) -> Result<u32, AllocError>
+    requires fits { IsChange change.now }
+    requires room { number + length (change_values change.now) ≤ 256 }
+    ensures text { OnOk result (out.new.items ≡ out.old.items ++ change_bytes (text_change number change.now)) }
+    ensures next { IfOk result (λ next. next ≡ number + length (change_values change.now)) }
+{
+    put_u16(out, change.key.len() as u16)?;
+    put_bytes(out, &change.key)?;
+    put_cell(out, number, &change.value)
+}
+
+/// Appends the changes of a transaction, and answers the number of the next large value.
+fn put_changes(out: &mut Vec<u8>, number: u32, changes: &[Change]) -> Result<u32, AllocError>
+    requires fits { AllByRecursion IsChange changes.now }
+    requires room { number + length (transaction_values changes.now) ≤ 256 }
+    ensures text { OnOk result (out.new.items ≡ out.old.items ++ flat_map change_bytes (text_changes number changes.now)) }
+    ensures next { IfOk result (λ next. next ≡ number + length (transaction_values changes.now)) }
+{
+    let mut next = number;
+    for change in changes {
+        next = put_change(out, next, change)?;
+    }
+    Ok(next)
+}
+
+/// Appends a transaction, and answers the number of the next large value.
+fn put_transaction(out: &mut Vec<u8>, number: u32, changes: &[Change]) -> Result<u32, AllocError>
+    requires fits { IsTransaction changes.now }
+    requires room { number + length (transaction_values changes.now) ≤ 256 }
+    ensures text { OnOk result (out.new.items ≡ out.old.items ++ transaction_bytes (text_changes number changes.now)) }
+    ensures next { IfOk result (λ next. next ≡ number + length (transaction_values changes.now)) }
+{
+    put_u8(out, changes.len() as u8)?;
+    put_changes(out, number, changes)
+}
+
+fn put_transactions(out: &mut Vec<u8>, all: &[Changes]) -> Result<(), AllocError>
+    requires fits { AllByRecursion IsTransaction all.now }
+    requires room { length (flat_map transaction_values all.now) ≤ 256 }
+    ensures { OnOk result (out.new.items ≡ out.old.items ++ flat_map transaction_bytes (text_transactions 0 all.now)) }
+{
+    let mut number = 0;
+    for changes in all {
+        number = put_transaction(out, number, changes.as_slice())?;
+    }
+    Ok(())
+}
+
+/// Appends how many transactions there are, and they.
+fn put_counted(out: &mut Vec<u8>, all: &[Changes]) -> Result<(), AllocError>
+    requires fits { AllByRecursion IsTransaction all.now }
+    requires room { length (flat_map transaction_values all.now) ≤ 256 }
+    requires count { length all.now ≤ 1024 }
+    ensures { OnOk result (out.new.items ≡ out.old.items ++ transactions_bytes (text_transactions 0 all.now)) }
+{
+    put_u16(out, all.len() as u16)?;
+    put_transactions(out, all)
+}
+
+/// The text of a record.
+fn text_of(alloc: Global, written: &LogRecord) -> Result<Vec<u8>, AllocError>
+    requires { Fits written.now }
+    ensures { IfOk result (λ text. text.items ≡ text_from written.now) }
+{
+    let all = written.transactions.as_slice();
+    let size = text_size(written);
+    let mut text = Vec::new(alloc);
+    put_u32(&mut text, size)?;
+    put_u64(&mut text, written.first)?;
+    put_counted(&mut text, all)?;
+    Ok(text)
+}
+
+/// The pieces of a text, which share its buffer.
+fn pieces_of(alloc: Global, text: Vec<u8>) -> Result<Vec<Block>, AllocError>
+    ensures { IfOk result (λ made. made.items ≡ pieces text.items) }
+{
+    let count = (text.len() + (MAX_BLOCK as usize - 1)) / MAX_BLOCK as usize;
+    let mut rest = Bytes::from_vec(text)?;
+    let mut made = Vec::with_capacity(alloc, count)?;
+    for _ in 0..count {
+        let end = rest.len().min(MAX_BLOCK as usize);
+        made.push(Block::of(rest.split_to(end)?))?;
+    }
+    Ok(made)
+}
+
+/// Adds the large value of a change, which shares its buffer.
+fn put_value(out: &mut Vec<Block>, value: &Option<Bytes>) -> Result<(), AllocError>
+    requires { HasValue value.now }
+    ensures { OnOk result (out.new.items ≡ out.old.items ++ large value.now) }
+{
+    match value {
+        None => Ok(()),
+        Some(value) => {
+            if !is_large(value) {
+                return Ok(());
+            }
+            out.push(Block::of(value.clone()?))?;
+            Ok(())
+        }
+    }
+}
+
+fn put_values(out: &mut Vec<Block>, changes: &[Change]) -> Result<(), AllocError>
+    requires { AllByRecursion IsChange changes.now }
+    ensures { OnOk result (out.new.items ≡ out.old.items ++ transaction_values changes.now) }
+{
+    for change in changes {
+        put_value(out, &change.value)?;
+    }
+    Ok(())
+}
+
+fn put_all_values(out: &mut Vec<Block>, all: &[Changes]) -> Result<(), AllocError>
+    requires { AllByRecursion IsTransaction all.now }
+    ensures { OnOk result (out.new.items ≡ out.old.items ++ flat_map transaction_values all.now) }
+{
+    for changes in all {
+        put_values(out, changes.as_slice())?;
+    }
+    Ok(())
+}
+
+/// The group that a record is spelled as: the pieces of its text, and then its large values, which share their buffers.
+///
+/// That the record fits is the caller's condition. An error is want of memory (22).
+pub fn encode(alloc: Global, written: &LogRecord) -> Result<Group, AllocError>
+    requires { Fits written.now }
+    ensures { IfOk result (λ group. group ≡ spelling written.now) }
+{
+    let text = text_of(alloc, written)?;
+    let mut made = pieces_of(alloc, text)?;
+    put_all_values(&mut made, written.transactions.as_slice())?;
+    Ok(Group::of(made))
+}

@@ -1,5 +1,0 @@
-use Rattle.enode.proofs.Ending.{fill_fits}
-use Rattle.enode.proofs.sealing.write_fill.Goals as goal
-
-pub write-requires-clause-fits : goal.write-requires-clause-fits
-write-requires-clause-fits g c = fill_fits c.args.file.now.version c.number.result c.args.from c.args.length c.args.groups c.number.type_inv c.ranges.from.fits c.ranges.length.fits c.requires.fill

@@ -1,0 +1,63 @@
+//! The extent that a packet is about.
+ghost use Rattle.std.specs.Prelude.{◌≡◌};
+ghost use Rattle.model.specs.Node.{append_extent, check_extent, extent_of, read_extent, seal_extent};
+
+use wire::{AppendBody, Body, CheckBody, ReadBody, SealBody};
+
+fn append_extent(body: &AppendBody) -> u64
+    ensures { result ≡ append_extent body.now }
+{
+    match body {
+        AppendBody::Append { extent, .. } => extent.number(),
+        AppendBody::Put { extent, .. } => extent.number(),
+        AppendBody::Have { extent, .. } => extent.number(),
+        _ => 0,
+    }
+}
+
+fn check_extent(body: &CheckBody) -> u64
+    ensures { result ≡ check_extent body.now }
+{
+    match body {
+        CheckBody::Check { extent, .. } => extent.number(),
+        CheckBody::Probe { extent, .. } => extent.number(),
+        CheckBody::Probed { extent, .. } => extent.number(),
+        _ => 0,
+    }
+}
+
+fn seal_extent(body: &SealBody) -> u64
+    ensures { result ≡ seal_extent body.now }
+{
+    match body {
+        SealBody::Make { extent, .. } => extent.number(),
+        SealBody::Freeze { extent } => extent.number(),
+        SealBody::Seal { extent, .. } => extent.number(),
+        SealBody::SendTail { extent, .. } => extent.number(),
+        SealBody::Tail { extent, .. } => extent.number(),
+        _ => 0,
+    }
+}
+
+fn read_extent(body: &ReadBody) -> u64
+    ensures { result ≡ read_extent body.now }
+{
+    match body {
+        ReadBody::ReadAt { extent, .. } => extent.number(),
+        ReadBody::ReadGroups { extent, .. } => extent.number(),
+        _ => 0,
+    }
+}
+
+/// The extent that a packet to a node is about; 0 where it is about none.
+pub(crate) fn extent_of(body: &Body) -> u64
+    ensures { result ≡ extent_of body.now }
+{
+    match body {
+        Body::Append(body) => append_extent(body),
+        Body::Check(body) => check_extent(body),
+        Body::Seal(body) => seal_extent(body),
+        Body::Read(body) => read_extent(body),
+        _ => 0,
+    }
+}

@@ -1,0 +1,6 @@
+use Rattle.hosting.proofs.Written.{append_written}
+use Rattle.hosting.proofs.hosted.Hosted.append.Goals as goal
+
+pub returns-in-Ok-clause-file : goal.returns-in-Ok-clause-file
+returns-in-Ok-clause-file g c = rw (← c.self.view_is) (append_written g.D.Disk.state _ _ c.args.extent c.len-offset.result _ c.args.blocks.now c.in_ok-added.added c.write_append.result
+    c.len-offset.ensures.value c.in_ok-added.ensures c.in-Ok.is c.write_append.ensures)

@@ -1,0 +1,122 @@
+//! A replica at a node, with what a stop drops.
+ghost use Rattle.std.specs.Prelude.{◌≡◌, ◌≤◌, drop, length};
+ghost use Rattle.std.specs.VecDeque.{deque_len};
+ghost use Rattle.blocks.specs.Limits.{IsTarget};
+ghost use Rattle.replica.specs.Content.{new_content};
+ghost use Rattle.replica.specs.State.{content_of};
+ghost use Rattle.model.specs.Node.{fresh};
+
+use blocks::Nodes;
+use model::{Checking, Waiting};
+use replica::Replica;
+use std::alloc::Global;
+use std::collections::VecDeque;
+use std::marker::Model;
+use wire::Fence;
+
+/// A replica, and at its primary how long each secondary is known to be, the appends that wait for both, and the check
+/// that is under way.
+#[derive(Drop)]
+pub struct Hosted {
+    pub(crate) replica: Replica,
+    pub(crate) second_has: u32,
+    pub(crate) third_has: u32,
+    pub(crate) waiting: VecDeque<Waiting>,
+    pub(crate) check: Option<Checking>,
+}
+
+impl Model for Hosted {
+    ghost use Rattle.replica.specs.State.{content_of};
+    ghost use Rattle.model.specs.Node.{Replica as State};
+
+    ghost Value = { State };
+
+    ghost view = { λ h. record { content = content_of h.replica; second_has = h.second_has; third_has = h.third_has; waiting = h.waiting.items; check = h.check } };
+}
+
+impl Hosted {
+    /// A new replica: open and empty, of a target from 4,096 to 16,777,216 bytes, with nothing of what a stop drops;
+    /// takes no memory.
+    pub fn new(alloc: Global, places: Nodes, target: u32, fence: Fence) -> Hosted
+        requires { IsTarget target }
+        ensures { result ≡ fresh (new_content places target fence) }
+    {
+        Hosted {
+            replica: Replica::new(alloc, places, target, fence.number()),
+            second_has: 0,
+            third_has: 0,
+            waiting: VecDeque::new(alloc),
+            check: None,
+        }
+    }
+
+    /// What a stop leaves of it.
+    pub fn replica(&self) -> &Replica
+        ensures { content_of result.now ≡ self.now.content }
+    {
+        &self.replica
+    }
+
+    /// How long its second place is known to be, in bytes.
+    pub fn second_has(&self) -> u32
+        ensures { result ≡ self.now.second_has }
+    {
+        self.second_has
+    }
+
+    /// How long its third place is known to be, in bytes.
+    pub fn third_has(&self) -> u32
+        ensures { result ≡ self.now.third_has }
+    {
+        self.third_has
+    }
+
+    /// The appends that wait for both secondaries, the oldest first.
+    pub fn waiting(&self) -> &VecDeque<Waiting>
+        ensures { result.now.items ≡ self.now.waiting }
+    {
+        &self.waiting
+    }
+
+    /// The check that is under way.
+    pub fn check(&self) -> Option<Checking>
+        ensures { result ≡ self.now.check }
+    {
+        self.check
+    }
+
+    /// Another check is under way, or none.
+    pub fn set_check(&mut self, check: Option<Checking>)
+        ensures { self.new ≡ record self.old { check = check } }
+    {
+        self.check = check;
+    }
+
+    /// The secondaries are known to be so long, and the first of the waiting appends wait no more.
+    pub fn answer(&mut self, second_has: u32, third_has: u32, count: usize)
+        requires { count ≤ length self.old.waiting }
+        ensures { self.new ≡ record self.old { second_has = second_has; third_has = third_has; waiting = drop count self.old.waiting } }
+    {
+        self.second_has = second_has;
+        self.third_has = third_has;
+        drop_first(&mut self.waiting, count);
+    }
+
+    /// What a stop drops is gone.
+    pub(crate) fn forget(&mut self)
+        ensures { self.new ≡ fresh self.old.content }
+    {
+        self.second_has = 0;
+        self.third_has = 0;
+        self.waiting.clear();
+        self.check = None;
+    }
+}
+
+/// The first of the waiting appends wait no more.
+fn drop_first(waiting: &mut VecDeque<Waiting>, count: usize)
+    requires { count ≤ deque_len waiting.old }
+    ensures { waiting.new.items ≡ drop count waiting.old.items }
+{
+    let _answered = waiting.drain(..count);
+}

@@ -1,0 +1,214 @@
+//! The steps of a replica that its node's records keep. All that takes memory comes before the record, and the record
+//! before the change.
+ghost use Rattle.std.specs.Prelude.{◌≡◌, ◌<◌, ◌++◌, ◌∷◌, [], true, false, OnOk, OnErr};
+ghost use Rattle.std.specs.List.{AllByRecursion};
+ghost use Rattle.std.specs.VecDeque.{deque_len, deque_capacity};
+ghost use Rattle.blocks.specs.Limits.{IsGroup};
+ghost use Rattle.blocks.specs.declared.record.Record.TheVariants as records;
+ghost use Rattle.disk.specs.Appends.{Appends, Records, listed};
+ghost use Rattle.replica.specs.Content.{appended};
+ghost use Rattle.replica.specs.Groups.{text_length};
+ghost use Rattle.replica.specs.Reading.{groups_to};
+ghost use Rattle.replica.specs.Replay.{cut_to, is_boundary, is_frozen, is_open, is_sealed, is_tail};
+ghost use Rattle.model.specs.Node.{fresh, frozen_at, raise_written, raised, sealed_at};
+
+use crate::hosted::Hosted;
+use crate::writing::{write_append, write_fence, write_fill, write_freeze, write_seal};
+use blocks::{Group, Groups};
+use disk::{Disk, DiskFault, RecordFile};
+use model::Waiting;
+use std::alloc::Global;
+use std::collections::VecDeque;
+use wire::{ActorId, Blocks, ExtentId, Fence, ReqNo};
+
+/// Adds a waiting append into room that is there.
+fn push_waiting(waiting: &mut VecDeque<Waiting>, added: Waiting)
+    requires { deque_len waiting.old < deque_capacity waiting.old }
+    ensures { waiting.new.items ≡ waiting.old.items ++ added ∷ [] }
+{
+    if let Err(_full) = waiting.push_back(added) {}
+}
+
+impl Hosted {
+    /// Adds these blocks as a group to the end of an open replica below its target, where it waits for the secondaries,
+    /// once that is recorded. 20: the disk failed, and the file is stopped; 22: the file is as it was.
+    pub fn append<D: Disk>(
+        &mut self,
+        alloc: Global,
+        file: &mut RecordFile<D>,
+        extent: ExtentId,
+        blocks: &Blocks,
+        asker: ActorId,
+        request: ReqNo,
+    ) -> Result<(), DiskFault>
+        requires running { file.old.stopped ≡ false }
+        requires group { IsGroup blocks.now }
+        requires open { is_open self.old.content.phase ≡ true }
+        requires room { text_length self.old.content.groups < self.old.content.target }
+        ensures after { OnOk result (self.new ≡ record self.old {
+          content = appended self.old.content blocks.now;
+          waiting = self.old.waiting ++ record { offset = text_length self.old.content.groups; group = blocks.now; asker = asker; request = request } ∷ [];
+        }) }
+        ensures same { OnErr result (self.new ≡ self.old) }
+        ensures file { Appends D.state file.old file.new (records.Append extent (text_length self.old.content.groups) blocks.now) result }
+    {
+        let offset = self.replica.len();
+        let kept = blocks.group(alloc)?;
+        let added = blocks.group(alloc)?;
+        let waiting = Waiting {
+            offset,
+            group: blocks.group(alloc)?,
+            asker,
+            request,
+        };
+        self.replica.reserve(1)?;
+        self.waiting.reserve(1)?;
+        match write_append(alloc, file, extent, offset, added) {
+            Ok(()) => {
+                self.replica.add(kept);
+                push_waiting(&mut self.waiting, waiting);
+                Ok(())
+            }
+            Err(fault) => Err(fault),
+        }
+    }
+
+    /// Adds a group to the end of an open replica below its target, once that is recorded. 20: the disk failed, and the
+    /// file is stopped; 22: the file is as it was.
+    pub fn put<D: Disk>(
+        &mut self,
+        alloc: Global,
+        file: &mut RecordFile<D>,
+        extent: ExtentId,
+        group: &Group,
+    ) -> Result<(), DiskFault>
+        requires running { file.old.stopped ≡ false }
+        requires open { is_open self.old.content.phase ≡ true }
+        requires room { text_length self.old.content.groups < self.old.content.target }
+        ensures after { OnOk result (self.new ≡ record self.old { content = appended self.old.content group.now }) }
+        ensures same { OnErr result (self.new ≡ self.old) }
+        ensures file { Appends D.state file.old file.new (records.Append extent (text_length self.old.content.groups) group.now) result }
+    {
+        let end = self.replica.len();
+        let _blocks = group.blocks();
+        let kept = group.copy(alloc)?;
+        let added = group.copy(alloc)?;
+        self.replica.reserve(1)?;
+        match write_append(alloc, file, extent, end, added) {
+            Ok(()) => {
+                self.replica.add(kept);
+                Ok(())
+            }
+            Err(fault) => Err(fault),
+        }
+    }
+
+    /// Raises the fence of an open replica to a generation above it, once that is recorded; any other leaves it. 20: the
+    /// disk failed, and the file is stopped; 22: the file is as it was.
+    pub fn raise<D: Disk>(
+        &mut self,
+        alloc: Global,
+        file: &mut RecordFile<D>,
+        extent: ExtentId,
+        generation: Fence,
+    ) -> Result<(), DiskFault>
+        requires running { file.old.stopped ≡ false }
+        requires open { is_open self.old.content.phase ≡ true }
+        ensures after { OnOk result (self.new ≡ record self.old { content = raised self.old.content generation }) }
+        ensures same { OnErr result (self.new ≡ self.old) }
+        ensures file { Records D.state file.old file.new (listed (raise_written extent self.old.content generation)) result }
+    {
+        if self.replica.fence() >= generation.number() {
+            return Ok(());
+        }
+        match write_fence(alloc, file, extent, generation) {
+            Ok(()) => {
+                self.replica.raise(generation.number());
+                Ok(())
+            }
+            Err(fault) => Err(fault),
+        }
+    }
+
+    /// Lets an open replica take no more groups and drops what a stop drops, once that is recorded. 20: the disk failed,
+    /// and the file is stopped; 22: the file is as it was.
+    pub fn freeze<D: Disk>(
+        &mut self,
+        alloc: Global,
+        file: &mut RecordFile<D>,
+        extent: ExtentId,
+    ) -> Result<(), DiskFault>
+        requires running { file.old.stopped ≡ false }
+        requires open { is_open self.old.content.phase ≡ true }
+        ensures after { OnOk result (self.new ≡ frozen_at self.old) }
+        ensures same { OnErr result (self.new ≡ self.old) }
+        ensures file { Appends D.state file.old file.new (records.Freeze extent) result }
+    {
+        match write_freeze(alloc, file, extent) {
+            Ok(()) => {
+                self.replica.freeze(alloc);
+                self.forget();
+                Ok(())
+            }
+            Err(fault) => Err(fault),
+        }
+    }
+
+    /// Keeps the groups up to a length at which one ends, for good, and drops what a stop drops, once that is recorded.
+    /// 20: the disk failed, and the file is stopped; 22: the file is as it was.
+    pub fn seal<D: Disk>(
+        &mut self,
+        alloc: Global,
+        file: &mut RecordFile<D>,
+        extent: ExtentId,
+        length: u32,
+    ) -> Result<(), DiskFault>
+        requires running { file.old.stopped ≡ false }
+        requires not_sealed { is_sealed self.old.content.phase ≡ false }
+        requires boundary { is_boundary (groups_to length self.old.content.groups) ≡ true }
+        ensures after { OnOk result (self.new ≡ fresh (cut_to self.old.content (groups_to length self.old.content.groups))) }
+        ensures same { OnErr result (self.new ≡ self.old) }
+        ensures file { Appends D.state file.old file.new (records.Seal extent length) result }
+    {
+        match write_seal(alloc, file, extent, length) {
+            Ok(()) => {
+                self.replica.seal(alloc, length);
+                self.forget();
+                Ok(())
+            }
+            Err(fault) => Err(fault),
+        }
+    }
+
+    /// Adds the groups that bring a frozen replica from its end to its length, for good, and drops what a stop drops,
+    /// once that is recorded. 20: the disk failed, and the file is stopped; 22: the file is as it was.
+    pub fn fill<D: Disk>(
+        &mut self,
+        alloc: Global,
+        file: &mut RecordFile<D>,
+        extent: ExtentId,
+        from: u32,
+        length: u32,
+        groups: &Groups,
+    ) -> Result<(), DiskFault>
+        requires running { file.old.stopped ≡ false }
+        requires frozen { is_frozen self.old.content.phase ≡ true }
+        requires tail { is_tail self.old.content from length groups.now ≡ true }
+        requires groups { AllByRecursion IsGroup groups.now }
+        ensures after { OnOk result (self.new ≡ sealed_at self.old (self.old.content.groups ++ groups.now)) }
+        ensures same { OnErr result (self.new ≡ self.old) }
+        ensures file { Appends D.state file.old file.new (records.Fill extent from length groups.now) result }
+    {
+        let kept = Groups::copied(alloc, groups.as_slice())?;
+        let added = Groups::copied(alloc, groups.as_slice())?;
+        self.replica.reserve(groups.as_slice().len())?;
+        match write_fill(alloc, file, extent, from, length, added) {
+            Ok(()) => {
+                self.replica.fill(alloc, kept);
+                self.forget();
+                Ok(())
+            }
+            Err(fault) => Err(fault),
+        }
+    }
+}

@@ -1,0 +1,21 @@
+//! The memory table: what rows keep of the keys that changed since the last checkpoint, in two layers.
+//!
+//! Changes go into the live layer. A checkpoint fixes it, writes the fixed layer out while changes go into a new live
+//! one, and drops it (after Calder et al., SOSP 2011, section 5). This crate touches memory alone.
+//!
+//! What the layers above may build on, each a clause here:
+//! - `apply` takes all of its changes, a later one of a key over an earlier, or for want of memory none.
+//! - `get` looks at the live layer first, and then at the fixed one.
+//! - `freeze_layer` and `drop_layer` lose no entry but those of the layer that is dropped.
+//! - `size` is the size of all entries in a page.
+//!
+//! Want of memory is the one error that no clause limits.
+#![tactic(auto)]
+
+mod layer;
+mod mem_table;
+
+pub use mem_table::MemTable;
+
+#[cfg(test)]
+mod tests;

@@ -1,0 +1,4 @@
+pub mod Fold
+pub mod Keys
+pub mod Reading
+pub mod Record

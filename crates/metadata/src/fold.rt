@@ -1,0 +1,225 @@
+//! What the records of a range's metadata say together.
+ghost use Rattle.std.specs.Prelude.{◌≡◌, Some, None, Err, IfOk, OnOk, OnErr};
+ghost use Rattle.metadata.specs.declared.record.MetaItem.TheVariants.{Checkpoint};
+ghost use Rattle.blocks.specs.declared.fault.BlockFault.TheVariants as faults;
+ghost use Rattle.metadata.specs.Fold as specs;
+
+use crate::record::{IndexRange, KeyRange, MetaItem, MetaRecord, Region};
+use blocks::BlockFault;
+use bytes::Bytes;
+use cells::Place;
+use std::alloc::{AllocError, Global};
+use std::marker::Model;
+use streams::Position;
+
+/// What a range's metadata says: its keys, its indexes with the newest first, the regions of the log that are still to be
+/// applied, and the number of the next record (after Calder et al., SOSP 2011, section 5.2). An index or a region counts
+/// only within the range's keys.
+#[derive(Drop)]
+pub struct Metadata {
+    keys: KeyRange,
+    indexes: Vec<IndexRange>,
+    regions: Vec<Region>,
+    next: u64,
+}
+
+impl Model for Metadata {
+    ghost use Rattle.metadata.specs.Fold.{MetadataState};
+
+    ghost Value = { MetadataState };
+
+    ghost view = { λ m. record { keys = m.keys; indexes = m.indexes.items; regions = m.regions.items; next = m.next } };
+}
+
+fn all_keys() -> KeyRange
+    ensures { result ≡ specs.all_keys }
+{
+    KeyRange {
+        low: Bytes::new(),
+        high: None,
+    }
+}
+
+fn copied(keys: &KeyRange) -> Result<KeyRange, AllocError>
+    ensures { IfOk result (λ copy. copy ≡ keys.now) }
+{
+    let low = keys.low.clone()?;
+    match &keys.high {
+        None => Ok(KeyRange { low, high: None }),
+        Some(key) => Ok(KeyRange {
+            low,
+            high: Some(key.clone()?),
+        }),
+    }
+}
+
+fn copied_indexes(alloc: Global, all: &[IndexRange]) -> Result<Vec<IndexRange>, AllocError>
+    ensures { IfOk result (λ copies. copies.items ≡ all.now) }
+{
+    let mut copies = Vec::with_capacity(alloc, all.len())?;
+    for one in all {
+        copies.push(IndexRange {
+            place: one.place,
+            keys: copied(&one.keys)?,
+        })?;
+    }
+    Ok(copies)
+}
+
+fn copied_regions(alloc: Global, all: &[Region]) -> Result<Vec<Region>, AllocError>
+    ensures { IfOk result (λ copies. copies.items ≡ all.now) }
+{
+    let mut copies = Vec::with_capacity(alloc, all.len())?;
+    for one in all {
+        copies.push(Region {
+            start: one.start,
+            end: one.end,
+            next: one.next,
+            keys: copied(&one.keys)?,
+        })?;
+    }
+    Ok(copies)
+}
+
+impl Metadata {
+    /// Before the first record: all keys, no index, and all of the log from the number 1 on. An error is want of memory (22).
+    pub fn first(alloc: Global) -> Result<Metadata, AllocError>
+        ensures { IfOk result (λ m. m ≡ specs.first_metadata) }
+    {
+        let mut regions = Vec::new(alloc);
+        regions.push(Region {
+            start: Position {
+                index: 0,
+                offset: 0,
+            },
+            end: None,
+            next: 1,
+            keys: all_keys(),
+        })?;
+        Ok(Metadata {
+            keys: all_keys(),
+            indexes: Vec::new(alloc),
+            regions,
+            next: 1,
+        })
+    }
+
+    /// The same again, which shares the keys. An error is want of memory (22).
+    pub fn copy(&self, alloc: Global) -> Result<Metadata, AllocError>
+        ensures { IfOk result (λ copy. copy ≡ self.now) }
+    {
+        Ok(Metadata {
+            keys: copied(&self.keys)?,
+            indexes: copied_indexes(alloc, &self.indexes)?,
+            regions: copied_regions(alloc, &self.regions)?,
+            next: self.next,
+        })
+    }
+
+    /// A new index, beside the others or in place of them, and the log from a position and number on.
+    fn checkpoint(
+        &mut self,
+        alloc: Global,
+        combine: bool,
+        index: Place,
+        position: Position,
+        next: u64,
+    ) -> Result<(), AllocError>
+        ensures ok { OnOk result (self.new ≡ specs.with_item self.old (Checkpoint combine index position next)) }
+        ensures err { OnErr result (self.new ≡ self.old) }
+    {
+        let mut regions = Vec::with_capacity(alloc, 1)?;
+        regions.push(Region {
+            start: position,
+            end: None,
+            next,
+            keys: copied(&self.keys)?,
+        })?;
+        let mut indexes = Vec::with_capacity(alloc, 1)?;
+        indexes.push(IndexRange {
+            place: index,
+            keys: copied(&self.keys)?,
+        })?;
+        if !combine {
+            indexes.append(&mut self.indexes)?;
+        }
+        self.indexes = indexes;
+        self.regions = regions;
+        Ok(())
+    }
+
+    fn apply(&mut self, alloc: Global, item: MetaItem) -> Result<(), AllocError>
+        ensures ok { OnOk result (self.new ≡ specs.with_item self.old item) }
+        ensures err { OnErr result (self.new ≡ self.old) }
+    {
+        match item {
+            MetaItem::Ranges { keys } => {
+                self.keys = keys;
+                Ok(())
+            }
+            MetaItem::Checkpoint {
+                combine,
+                index,
+                position,
+                next,
+            } => self.checkpoint(alloc, combine, index, position, next),
+            MetaItem::Regions { indexes, regions } => {
+                self.indexes = indexes.into_vec();
+                self.regions = regions.into_vec();
+                Ok(())
+            }
+            MetaItem::SplitStatus { .. } => Ok(()),
+        }
+    }
+
+    /// Takes the record of the next number, and passes over one of a number below; whether it was taken. A record of a number
+    /// above is refused `Damaged` (21), as is one behind which no number is left; nothing has changed then, nor after
+    /// `Memory` (22).
+    pub fn fold(&mut self, alloc: Global, added: MetaRecord) -> Result<bool, BlockFault>
+        ensures ok { IfOk result (λ took. specs.folded self.old added ≡ Some (took, self.new)) }
+        ensures damaged { result ≡ Err faults.Damaged → specs.folded self.old added ≡ None }
+        ensures err { OnErr result (self.new ≡ self.old) }
+    {
+        if added.number < self.next {
+            return Ok(false);
+        }
+        if added.number > self.next || self.next == u64::MAX {
+            return Err(BlockFault::Damaged);
+        }
+        match self.apply(alloc, added.item) {
+            Ok(()) => {
+                self.next += 1;
+                Ok(true)
+            }
+            Err(_full) => Err(BlockFault::Memory),
+        }
+    }
+
+    /// The keys of the range.
+    pub fn keys(&self) -> &KeyRange
+        ensures { result.now ≡ self.now.keys }
+    {
+        &self.keys
+    }
+
+    /// The indexes, the newest first.
+    pub fn indexes(&self) -> &[IndexRange]
+        ensures { result.now ≡ self.now.indexes }
+    {
+        &self.indexes
+    }
+
+    /// The regions of the log that are still to be applied, in the order of the log.
+    pub fn regions(&self) -> &[Region]
+        ensures { result.now ≡ self.now.regions }
+    {
+        &self.regions
+    }
+
+    /// The number of the next record, from 1.
+    pub fn next_number(&self) -> u64
+        ensures { result ≡ self.now.next }
+    {
+        self.next
+    }
+}

@@ -1,0 +1,81 @@
+//! Lists of indexes and of regions.
+ghost use Rattle.std.specs.Prelude.{◌≡◌};
+
+use crate::record::{IndexRange, Region};
+use std::marker::Model;
+
+/// Indexes, the newest first.
+#[derive(Drop)]
+pub struct IndexRanges {
+    items: Vec<IndexRange>,
+}
+
+impl Model for IndexRanges {
+    ghost use Rattle.std.specs.Prelude.{List};
+    ghost use Rattle.metadata.specs.declared.record.IndexRange.{IndexRange};
+
+    ghost Value = { List IndexRange };
+
+    ghost view = { λ list. list.items.items };
+}
+
+impl IndexRanges {
+    /// Takes them as they are.
+    pub fn of(items: Vec<IndexRange>) -> IndexRanges
+        ensures { result ≡ items.items }
+    {
+        IndexRanges { items }
+    }
+
+    /// They, in order.
+    pub fn as_slice(&self) -> &[IndexRange]
+        ensures { result.now ≡ self.now }
+    {
+        &self.items
+    }
+
+    /// The vector of them.
+    pub fn into_vec(self) -> Vec<IndexRange>
+        ensures { result.items ≡ self }
+    {
+        self.items
+    }
+}
+
+/// Regions, in the order of the log.
+#[derive(Drop)]
+pub struct Regions {
+    items: Vec<Region>,
+}
+
+impl Model for Regions {
+    ghost use Rattle.std.specs.Prelude.{List};
+    ghost use Rattle.metadata.specs.declared.record.Region.{Region};
+
+    ghost Value = { List Region };
+
+    ghost view = { λ list. list.items.items };
+}
+
+impl Regions {
+    /// Takes them as they are.
+    pub fn of(items: Vec<Region>) -> Regions
+        ensures { result ≡ items.items }
+    {
+        Regions { items }
+    }
+
+    /// They, in order.
+    pub fn as_slice(&self) -> &[Region]
+        ensures { result.now ≡ self.now }
+    {
+        &self.items
+    }
+
+    /// The vector of them.
+    pub fn into_vec(self) -> Vec<Region>
+        ensures { result.items ≡ self }
+    {
+        self.items
+    }
+}

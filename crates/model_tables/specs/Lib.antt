@@ -1,0 +1,12 @@
+pub mod Extents
+pub mod Lines
+pub mod Answering
+pub mod Getting
+pub mod Loading
+pub mod Log
+pub mod Past
+pub mod Range
+pub mod Server
+pub mod Serving
+pub mod Story
+pub mod Turns

@@ -1,0 +1,190 @@
+-- The table of a server: what it does with a packet, with a moment, and with being told to give up.
+use Rattle.std.specs.Prelude.{ℕ, max, Bool, true, ◌==◌, nat_lt, List, [], ◌∷◌, ◌++◌, Option, Some, None, if◌then◌else◌}
+use Rattle.blocks.specs.declared.record.Nodes.{Nodes}
+use Rattle.wire.specs.declared.actor.ActorId.{ActorId}
+use Rattle.wire.specs.declared.actor.ActorId.TheVariants.{Map}
+use Rattle.wire.specs.declared.actor.ReqNo.{ReqNo}
+use Rattle.wire.specs.declared.body.Body.{Body}
+use Rattle.wire.specs.declared.body.Body.TheVariants as bodies
+use Rattle.wire.specs.declared.body.MapBody.{MapBody}
+use Rattle.wire.specs.declared.body.MapBody.TheVariants as maps
+use Rattle.wire.specs.declared.body.TableBody.{TableBody}
+use Rattle.wire.specs.declared.body.TableBody.TheVariants as tables
+use Rattle.wire.specs.declared.packet.Packet.{Packet}
+use Rattle.wire.specs.declared.refusal.Refusal.TheVariants as refusals
+use Rattle.wire.specs.declared.streams.StreamKind.TheVariants as kinds
+use Rattle.client.specs.Client.{new_client}
+use Rattle.client.specs.Load.{opening, open_packet}
+use Rattle.cells.specs.declared.cell.Place.{Place}
+use Rattle.metadata.specs.Fold.{first_metadata}
+use Rattle.model_tables.specs.declared.stage.Stage.TheVariants.{Opening}
+use Rattle.model_tables.specs.declared.table_note.TableNote.{TableNote}
+use Rattle.model_tables.specs.Range.{Desk, RangeState, RangeOutcome, request, used, refuses, refused_users}
+use Rattle.model_tables.specs.Serving.{transact_row}
+use Rattle.model_tables.specs.Getting.{get_row}
+use Rattle.model_tables.specs.Answering.{range_awaits, answered_number, is_answerer, answer_row, give_up_all}
+
+-- a server, and its ranges in the order of their numbers
+pub record ServerState : Type 0 where
+  pub desk : Desk
+  pub ranges : List RangeState
+
+pub record ServerOutcome : Type 0 where
+  pub after : ServerState
+  pub packets : List Packet
+  pub notes : List TableNote
+
+-- ---- ranges by their numbers
+
+abbrev pub range_of : List RangeState → ℕ → Option RangeState
+range_of [] range = None
+range_of (r ∷ rs) range = if r.load.range == range then Some r else range_of rs range
+
+abbrev pub without_range : List RangeState → ℕ → List RangeState
+without_range [] range = []
+without_range (r ∷ rs) range = if r.load.range == range then rs else r ∷ without_range rs range
+
+abbrev pub with_range : List RangeState → RangeState → List RangeState
+with_range [] added = added ∷ []
+with_range (r ∷ rs) added =
+    if r.load.range == added.load.range then added ∷ rs
+    else if nat_lt added.load.range r.load.range then added ∷ r ∷ rs
+    else r ∷ with_range rs added
+
+abbrev pub set_range : List RangeState → ℕ → Option RangeState → List RangeState
+set_range rs range None = without_range rs range
+set_range rs range (Some r) = with_range rs r
+
+-- the range that waits for an answer of this number
+abbrev pub awaiting : List RangeState → ReqNo → Option RangeState
+awaiting [] w = None
+awaiting (r ∷ rs) w = if range_awaits r w then Some r else awaiting rs w
+
+-- ---- steps
+
+abbrev pub rests : ServerState → ServerOutcome
+rests s = record { after = s; packets = []; notes = [] }
+
+abbrev pub sends_one : ServerState → Packet → ServerOutcome
+sends_one s p = record { after = s; packets = p ∷ []; notes = [] }
+
+-- the step of one of its ranges
+abbrev pub stepped : ServerState → ℕ → RangeOutcome → ServerOutcome
+stepped s range o =
+    record {
+      after = record { desk = record s.desk { count = o.count }; ranges = set_range s.ranges range o.after };
+      packets = o.packets;
+      notes = o.notes;
+    }
+
+-- ---- what the map tells
+
+-- a range that is loaded under a generation
+abbrev pub new_range : Desk → ℕ → ℕ → ℕ → RangeState
+new_range d range generation until =
+    record {
+      until = until;
+      load = opening d.server range generation (request d);
+      stage = Opening;
+      metadata = new_client d.server (record { range = range; kind = kinds.Metadata }) generation (record { base = 0; extents = [] }) d.pick;
+      log = new_client d.server (record { range = range; kind = kinds.Log }) generation (record { base = 0; extents = [] }) d.pick;
+      row_data = record { base = 0; extents = [] };
+      blob_data = record { base = 0; extents = [] };
+      said = first_metadata;
+      regions = [];
+      live = [];
+      fixed = None;
+      next = 1;
+      position = record { index = 0; offset = 0 };
+      queue = [];
+      out = None;
+      gets = [];
+      held = [];
+    }
+
+abbrev pub users_of : Desk → Option RangeState → List Packet
+users_of d None = []
+users_of d (Some r) = refused_users d r
+
+-- whether a generation is above what is known of the range
+abbrev pub is_newer : ℕ → Option RangeState → Bool
+is_newer generation None = true
+is_newer generation (Some r) = nat_lt r.load.generation generation
+
+-- what was known of the range goes, and its streams are opened
+abbrev pub assign_row : ServerState → ℕ → ℕ → ℕ → Option RangeState → ServerOutcome
+assign_row s range generation until known =
+    if is_newer generation known then
+    record {
+      after = record { desk = used s.desk; ranges = with_range s.ranges (new_range s.desk range generation until) };
+      packets = users_of s.desk known ++ open_packet s.desk.server range generation (request s.desk) ∷ [];
+      notes = [];
+    }
+    else rests s
+
+-- a lease's end never goes back
+abbrev pub renew_row : ServerState → ℕ → ℕ → Option RangeState → ServerOutcome
+renew_row s generation until None = rests s
+renew_row s generation until (Some r) =
+    if r.load.generation == generation then
+    record { after = record s { ranges = with_range s.ranges (record r { until = max r.until until }) }; packets = []; notes = [] }
+    else rests s
+
+abbrev pub told_by_map : ServerState → MapBody → ServerOutcome
+told_by_map s (maps.Assign range generation until) = assign_row s range generation until (range_of s.ranges range)
+told_by_map s (maps.Renew range generation until) = renew_row s generation until (range_of s.ranges range)
+told_by_map s body = rests s
+
+abbrev pub map_row : ServerState → ActorId → MapBody → ServerOutcome
+map_row s Map body = told_by_map s body
+map_row s from body = rests s
+
+-- ---- what users ask
+
+abbrev pub table_row : ServerState → Packet → TableBody → ServerOutcome
+table_row s p (tables.Transact range changes q) = transacts s p q range (range_of s.ranges range)
+  where
+    transacts : ServerState → Packet → ReqNo → ℕ → Option RangeState → ServerOutcome
+    transacts s p q range None = sends_one s (refuses s.desk p.from q refusals.NotOwner)
+    transacts s p q range (Some r) = stepped s range (transact_row s.desk r p.from q changes)
+table_row s p (tables.Get range key q) = gets s p q range (range_of s.ranges range)
+  where
+    gets : ServerState → Packet → ReqNo → ℕ → Option RangeState → ServerOutcome
+    gets s p q range None = sends_one s (refuses s.desk p.from q refusals.NotOwner)
+    gets s p q range (Some r) = stepped s range (get_row s.desk r p.from q key)
+table_row s p body = rests s
+
+-- ---- answers
+
+abbrev pub answer_of : ServerState → Packet → ReqNo → List (Place × List ℕ) → Option RangeState → ServerOutcome
+answer_of s p w held None = rests s
+answer_of s p w held (Some r) = stepped s r.load.range (answer_row s.desk r w p.body held)
+
+abbrev pub numbered_row : ServerState → Packet → List (Place × List ℕ) → Option ReqNo → ServerOutcome
+numbered_row s p held None = rests s
+numbered_row s p held (Some w) = if is_answerer p.from p.body then answer_of s p w held (awaiting s.ranges w) else rests s
+
+-- What the server does with a packet. held: what the cache of the range that it belongs to holds after it.
+abbrev pub server_row : ServerState → Packet → Body → List (Place × List ℕ) → ServerOutcome
+server_row s p (bodies.Map body) held = map_row s p.from body
+server_row s p (bodies.Table body) held = table_row s p body
+server_row s p body held = numbered_row s p held (answered_number body)
+
+-- ---- events
+
+-- a moment that goes back changes nothing
+abbrev pub moment_row : ServerState → ℕ → ServerState
+moment_row s now = record s { desk = record s.desk { now = max s.desk.now now } }
+
+abbrev pub gives_up : ServerState → ℕ → Option RangeState → Option ServerOutcome
+gives_up s range None = None
+gives_up s range (Some r) = Some (stepped s range (give_up_all s.desk r))
+
+-- the nodes for new extents are replaced, and the jobs of a range give up; none where the range is unknown (30)
+abbrev pub give_up_row : ServerState → ℕ → Nodes → Option ServerOutcome
+give_up_row s range pick = gives_up (record s { desk = record s.desk { pick = pick } }) range (range_of s.ranges range)
+
+-- a start: no range, and the last moment
+abbrev pub started : ℕ → ℕ → ℕ → Nodes → ℕ → ServerState
+started server session now pick batch =
+    record { desk = record { server = server; session = session; now = now; pick = pick; batch = batch; count = 1 }; ranges = [] }

@@ -1,0 +1,65 @@
+//! What a server shows of its steps.
+ghost use Rattle.std.specs.Prelude.{◌≡◌};
+
+use bytes::Bytes;
+use cells::Cell;
+use metadata::IndexRanges;
+use std::marker::Model;
+use wire::{Changes, Fence, RangeId};
+
+/// Keys, each with what a row keeps of its value, in order of the keys.
+#[derive(Drop)]
+pub struct Entries {
+    items: Vec<(Bytes, Cell)>,
+}
+
+impl Model for Entries {
+    ghost use Rattle.std.specs.Prelude.{ℕ, List};
+    ghost use Rattle.cells.specs.declared.cell.Cell.{Cell};
+
+    ghost Value = { List (List ℕ × Cell) };
+
+    ghost view = { λ list. list.items.items };
+}
+
+impl Entries {
+    /// Takes them as they are.
+    pub fn of(items: Vec<(Bytes, Cell)>) -> Entries
+        ensures { result ≡ items.items }
+    {
+        Entries { items }
+    }
+
+    /// They, in order.
+    pub fn as_slice(&self) -> &[(Bytes, Cell)]
+        ensures { result.now ≡ self.now }
+    {
+        &self.items
+    }
+}
+
+/// One observation of a server. Of a loaded table it has the memory table and the indexes, from which a run makes the rows.
+#[derive(Drop)]
+pub enum TableNote {
+    /// This transaction got its number, under a generation.
+    Began {
+        range: RangeId,
+        generation: Fence,
+        number: u64,
+        changes: Changes,
+    },
+    /// The transaction of this number was answered.
+    Done {
+        range: RangeId,
+        generation: Fence,
+        number: u64,
+    },
+    /// The range was loaded: its memory table, its indexes, and the number of the next transaction.
+    Loaded {
+        range: RangeId,
+        generation: Fence,
+        entries: Entries,
+        indexes: IndexRanges,
+        next: u64,
+    },
+}

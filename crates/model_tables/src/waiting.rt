@@ -1,0 +1,64 @@
+//! What waits at a server.
+ghost use Rattle.std.specs.Prelude.{◌≡◌};
+
+use bytes::Bytes;
+use cells::Place;
+use client::Place as Replica;
+use std::marker::Model;
+use wire::{ActorId, Changes, ReqNo};
+
+/// A transaction that waits to be appended, or is being appended.
+#[derive(Drop)]
+pub struct WaitingTransaction {
+    pub from: ActorId,
+    pub request: ReqNo,
+    pub changes: Changes,
+}
+
+/// A read of a value that a Get asked for: its number, the place, and the replica that was asked last.
+#[derive(Clone, Copy, Debug, PartialEq, Eq)]
+pub struct PlaceRead {
+    pub request: ReqNo,
+    pub place: Place,
+    pub replica: Replica,
+}
+
+/// Reads, in the order in which they were sent.
+#[derive(Drop)]
+pub struct PlaceReads {
+    items: Vec<PlaceRead>,
+}
+
+impl Model for PlaceReads {
+    ghost use Rattle.std.specs.Prelude.{List};
+    ghost use Rattle.model_tables.specs.declared.waiting.PlaceRead.{PlaceRead};
+
+    ghost Value = { List PlaceRead };
+
+    ghost view = { λ list. list.items.items };
+}
+
+impl PlaceReads {
+    /// Takes them as they are.
+    pub fn of(items: Vec<PlaceRead>) -> PlaceReads
+        ensures { result ≡ items.items }
+    {
+        PlaceReads { items }
+    }
+
+    /// They, in order.
+    pub fn as_slice(&self) -> &[PlaceRead]
+        ensures { result.now ≡ self.now }
+    {
+        &self.items
+    }
+}
+
+/// A Get that waits for the bytes of a value.
+#[derive(Drop)]
+pub struct WaitingGet {
+    pub from: ActorId,
+    pub request: ReqNo,
+    pub key: Bytes,
+    pub reads: PlaceReads,
+}

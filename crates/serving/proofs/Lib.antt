@@ -1,0 +1,5 @@
+pub mod Rowing
+pub mod Raising
+pub mod Putting
+pub mod Telling
+pub mod Cutting

@@ -1,0 +1,2 @@
+pub mod Rowed
+pub mod Sealing
