@@ -8,11 +8,11 @@ ghost use Rattle.world.specs.Desk.{DeskMirrors, refusal_in};
 ghost use Rattle.world.specs.Nodes.{NodesMirror, seen_of, running_at};
 ghost use Rattle.world.specs.Run.{IsFew, Mirrors, Moved, refusal_of};
 
+use crate::calls::is_call;
 use crate::desk::{Decision, Desk};
 use crate::fault::WorldFault;
 use crate::nodes::NodeList;
 use crate::post::{make_room, move_in};
-use crate::serving::is_call;
 use crate::setup::Setup;
 use crate::submitting::request;
 use disk::MemDisk;

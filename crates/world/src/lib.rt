@@ -7,13 +7,13 @@
 //! nothing.
 #![tactic(auto)]
 
+mod calls;
 mod cluster;
 mod desk;
 mod fault;
 mod nodes;
 mod post;
 mod running;
-mod serving;
 mod setup;
 mod submitting;
 mod whole;
