@@ -5,3 +5,4 @@ pub mod Numbering
 pub mod Laws
 pub mod Measures
 pub mod Entries
+pub mod Skipped

@@ -9,7 +9,8 @@
 //! - `decode` answers exactly the record that a group spells, and `Damaged` only where no record that fits has that
 //!   spelling.
 //! - No two records that fit have one spelling (`one_spelling`).
-//! - `cells` gives each change as a row keeps it, a large value by the place where its block stands in the extent.
+//! - `cells` gives each change as a row keeps it, a large value by the place where its block stands in the extent, and
+//!   `cells_from` those of the transactions behind the first.
 //! - `Filling` takes the next transaction exactly as long as the group has at most 64 blocks.
 //! - `Replay` takes each number once, in order.
 //!
@@ -26,7 +27,7 @@ mod values;
 mod writing;
 
 pub use log_record::{LogRecord, Transactions};
-pub use placing::cells;
+pub use placing::{cells, cells_from};
 pub use reading::{decode, one_spelling};
 pub use replay::Replay;
 pub use sizes::Filling;

@@ -1,5 +1,5 @@
 //! What rows keep of the changes of a record: small values themselves, large ones by the place of their block.
-ghost use Rattle.std.specs.Prelude.{◌≡◌, ◌+◌, ◌<◌, ◌^◌, ◌++◌, IfOk, OnOk};
+ghost use Rattle.std.specs.Prelude.{◌≡◌, ◌+◌, ◌<◌, ◌≤◌, ◌^◌, ◌++◌, length, drop, IfOk, OnOk};
 ghost use Rattle.std.specs.List.{AllByRecursion, flat_map};
 ghost use Rattle.blocks.specs.Limits.{group_size};
 ghost use Rattle.cells.specs.Cell.{IsEntry};
@@ -97,10 +97,62 @@ fn put_all_cells(
     Ok(())
 }
 
+/// The offset behind the large values of a transaction, which must fit 32 bits.
+fn offset_after(offset: u32, changes: &[Change]) -> u32
+    requires { offset + group_size (transaction_values changes.now) < 2 ^ 32 }
+    ensures { result ≡ offset + group_size (transaction_values changes.now) }
+{
+    let mut next = offset;
+    for change in changes {
+        if let Some(value) = &change.value
+            && is_large(value)
+        {
+            next += value.len() as u32;
+        }
+    }
+    next
+}
+
+/// The offset behind the large values of some transactions.
+fn offset_after_all(offset: u32, all: &[Changes]) -> u32
+    requires { offset + group_size (flat_map transaction_values all.now) < 2 ^ 32 }
+    ensures { result ≡ offset + group_size (flat_map transaction_values all.now) }
+{
+    let mut next = offset;
+    for changes in all {
+        next = offset_after(next, changes.as_slice());
+    }
+    next
+}
+
 /// What rows keep of the changes of a record whose group stands in the extent from the offset on, transaction by
-/// transaction. Small values share their buffers; an error is want of memory (22).
+/// transaction, without the first `old` transactions. Small values share their buffers; an error is want of memory (22).
 ///
-/// That the record fits is the caller's condition, and that the group ends below 2^32 in the extent.
+/// That the record fits is the caller's condition, as is that it has so many transactions, and that the group ends below
+/// 2^32 in the extent.
+pub fn cells_from(
+    alloc: Global,
+    written: &LogRecord,
+    old: usize,
+    extent: ExtentId,
+    offset: u32,
+) -> Result<Vec<(Bytes, Cell)>, AllocError>
+    requires fits { Fits written.now }
+    requires first { old ≤ length written.now.transactions }
+    requires room { offset + group_size (spelling written.now) < 2 ^ 32 }
+    ensures kept { IfOk result (λ kept. kept.items ≡ flat_map (λ t. t) (drop old (specs.kept written.now extent offset))) }
+    ensures entries { IfOk result (λ kept. AllByRecursion (λ e. IsEntry e.0 e.1) kept.items) }
+{
+    let all = written.transactions.as_slice();
+    let start = offset + text_size(written);
+    let (before, rest) = all.split_at(old);
+    let first = offset_after_all(start, before);
+    let mut out = Vec::new(alloc);
+    put_all_cells(&mut out, extent, first, rest)?;
+    Ok(out)
+}
+
+/// What rows keep of all changes of a record whose group stands in the extent from the offset on, as `cells_from`.
 pub fn cells(
     alloc: Global,
     written: &LogRecord,
@@ -112,9 +164,5 @@ pub fn cells(
     ensures kept { IfOk result (λ kept. kept.items ≡ flat_map (λ t. t) (specs.kept written.now extent offset)) }
     ensures entries { IfOk result (λ kept. AllByRecursion (λ e. IsEntry e.0 e.1) kept.items) }
 {
-    let all = written.transactions.as_slice();
-    let start = offset + text_size(written);
-    let mut out = Vec::new(alloc);
-    put_all_cells(&mut out, extent, start, all)?;
-    Ok(out)
+    cells_from(alloc, written, 0, extent, offset)
 }

@@ -242,6 +242,9 @@ fn record_of(alloc: Global, blocks: &[Block]) -> Result<LogRecord, BlockFault>
 pub fn decode(alloc: Global, group: &Group) -> Result<LogRecord, BlockFault>
     ensures found { IfOk result (λ r. Fits r × (spelling r ≡ group.now)) }
 
+    // So it is what reading from left to right gives.
+    ensures read { Gives (λ r. r) result (record_at group.now) }
+
     // Where the group is a record's spelling that record is found, unless memory ran out.
     ensures only { (r : LogRecord) → Fits r → spelling r ≡ group.now
         → MatchResult result (λ x. x ≡ r) (λ e. e ≡ BlockFault.Memory) }

@@ -66,7 +66,8 @@ fn copied_indexes(alloc: Global, all: &[IndexRange]) -> Result<Vec<IndexRange>, 
     Ok(copies)
 }
 
-fn copied_regions(alloc: Global, all: &[Region]) -> Result<Vec<Region>, AllocError>
+/// The same regions again, which share their keys. An error is want of memory (22).
+pub fn copied_regions(alloc: Global, all: &[Region]) -> Result<Vec<Region>, AllocError>
     ensures { IfOk result (λ copies. copies.items ≡ all.now) }
 {
     let mut copies = Vec::with_capacity(alloc, all.len())?;

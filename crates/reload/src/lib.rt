@@ -1,0 +1,20 @@
+//! What a load of a range makes of the groups that it reads: what its metadata says, and the table of its log.
+//!
+//! This crate touches memory alone. What the layers above may build on, each a clause here:
+//! - `Reload::read_metadata` folds the records of an extent's groups, each number once, in order.
+//! - `Reload::read_log` replays the groups of an extent: each region takes, from its own next number on, what stands from its
+//!   start to its end, within its keys and the range's.
+//! - Both take all of an extent, or for damage (21) or want of memory (22) none.
+//!
+//! Want of memory is the one error that no clause limits.
+#![tactic(auto)]
+
+mod groups;
+mod reading;
+mod regions;
+mod reload;
+
+pub use reload::Reload;
+
+#[cfg(test)]
+mod tests;
