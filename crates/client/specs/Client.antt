@@ -290,6 +290,34 @@ reply_row c q (bodies.Read body) = read_reply c body
 reply_row c q (bodies.Stream body) = stream_reply c q body
 reply_row c q body = waits c
 
+-- whether an answer may take memory: only one that tells of a new extent
+abbrev pub stream_needs_memory : StreamBody → Bool
+stream_needs_memory (streams.Extended w e places) = true
+stream_needs_memory body = false
+
+abbrev pub needs_memory : Body → Bool
+needs_memory (bodies.Stream body) = stream_needs_memory body
+needs_memory body = false
+
+-- the extent whose groups are asked for, and how far
+abbrev pub reading_of : Job → Option (ℕ × ℕ)
+reading_of (Reading e places upto sealed place w) = Some (e, upto)
+reading_of job = None
+
+abbrev pub groups_content : Job → ReadBody → Option (ℕ × ℕ)
+groups_content job (reads.Groups w e groups) = if awaits job w then reading_of job else None
+groups_content job body = None
+
+-- the extent whose groups an answer brings, and how far
+abbrev pub content_of : Job → Body → Option (ℕ × ℕ)
+content_of job (bodies.Read body) = groups_content job body
+content_of job body = None
+
+-- the same of what was told
+abbrev pub content_told : Option News → Option (ℕ × ℕ)
+content_told (Some (news.Content e upto)) = Some (e, upto)
+content_told told = None
+
 -- ---- giving up
 
 -- An append or a check that is not answered seals its extent. A read of a sealed extent goes to its next place. All

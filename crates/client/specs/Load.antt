@@ -40,6 +40,12 @@ abbrev pub is_open : LoadPhase → Bool
 is_open Opened = true
 is_open phase = false
 
+-- whether an answer of this number is waited for
+abbrev pub load_awaits : LoadPhase → ReqNo → Bool
+load_awaits (Opening q) w = is_same q w
+load_awaits (Confirming q) w = is_same q w
+load_awaits phase w = false
+
 -- ---- answers
 
 abbrev pub opened_phase : ReqNo → LoadPhase → LoadPhase

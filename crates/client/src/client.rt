@@ -1,21 +1,19 @@
 //! A server's work on one stream.
-ghost use Rattle.std.specs.Prelude.{◌≡◌, ◌≢◌, Ok, Err, Some, None, IfOk, IfErr, OnErr};
-ghost use Rattle.client.specs.Client.{last_extent, is_idle, new_client, append_row, append_behind, check_row, read_sealed_row, read_checked_row, reply_row, give_up_row, closes, shuts, grows, reads_groups};
+ghost use Rattle.std.specs.Prelude.{◌≡◌, Err, Some, None, [], true, IfOk, IfErr, IfSome, OnErr};
+ghost use Rattle.client.specs.Client.{last_extent, is_idle, new_client, check_row, read_sealed_row, read_checked_row, reply_row, give_up_row, content_of, content_told, needs_memory, ends, closes, shuts, grows, reads_groups};
 ghost use Rattle.client.specs.Began.{Begins};
 ghost use Rattle.client.specs.declared.fault.ClientFault.{ClientFault};
-ghost use Rattle.client.specs.declared.fault.ClientFault.TheVariants as faults;
+ghost use Rattle.client.specs.declared.job.News.TheVariants as news;
 
 use crate::fault::ClientFault;
 use crate::job::{Job, Place, Reaction};
 use crate::replies::reply;
-use crate::sending::{
-    append_packet, check_packet, extend_packet, next_place, node_at, read_packet, seal_packet,
-};
+use crate::sending::{check_packet, extend_packet, next_place, node_at, read_packet, seal_packet};
 use blocks::Nodes;
 use std::alloc::{AllocError, Global};
 use std::marker::Model;
 use wire::{
-    Blocks, ExtentId, Fence, Packet, ReqNo, ServerNo, StreamExtent, StreamList, StreamName,
+    Blocks, Body, ExtentId, Fence, Packet, ReqNo, ServerNo, StreamExtent, StreamList, StreamName,
 };
 
 /// What a server knows of one of its streams under a generation, and the one request that it has out on it.
@@ -53,7 +51,7 @@ pub(crate) fn last(extents: &[StreamExtent]) -> Option<StreamExtent>
     }
 }
 
-fn is_idle(job: Job) -> bool
+pub(crate) fn is_idle(job: Job) -> bool
     ensures { result ≡ is_idle job }
 {
     match job {
@@ -93,77 +91,6 @@ impl StreamClient {
             group: Blocks::of(Vec::new(alloc)),
             job: Job::Idle,
         })
-    }
-
-    /// Begins an append of these blocks: to the last extent where it is open, else to a new one behind it. The packet bears
-    /// this number. 22: no memory. 35: another request is out. After a refusal nothing has changed.
-    pub fn append(
-        &mut self,
-        alloc: Global,
-        request: &ReqNo,
-        blocks: &Blocks,
-    ) -> Result<Packet, ClientFault>
-        ensures ok { IfOk result (λ p. Begins (append_row self.old request.now blocks.now) self.new p) }
-        ensures err { OnErr result (self.new ≡ self.old) }
-        ensures fault { IfErr result (λ f. f ≢ faults.Memory → append_row self.old request.now blocks.now ≡ Err f) }
-        ensures refused { (f : ClientFault) → append_row self.old request.now blocks.now ≡ Err f → result ≡ Err f }
-    {
-        if !is_idle(self.job) {
-            return Err(ClientFault::Busy);
-        }
-        let group = match blocks.copy(alloc) {
-            Ok(group) => group,
-            Err(_full) => return Err(ClientFault::Memory),
-        };
-        match last(&self.extents) {
-            None => {
-                self.group = group;
-                Ok(self.grow(&None, request))
-            }
-            Some(extent) => self.append_behind(alloc, request, group, &extent),
-        }
-    }
-
-    /// To this extent, which is the last, where it is open, else to one behind it.
-    fn append_behind(
-        &mut self,
-        alloc: Global,
-        request: &ReqNo,
-        group: Blocks,
-        extent: &StreamExtent,
-    ) -> Result<Packet, ClientFault>
-        ensures ok { IfOk result (λ p. append_behind (record self.old { group = group }) request.now extent.now extent.now.length
-            ≡ record { after = self.new; packet = Some p; news = None }) }
-        ensures err { OnErr result (self.new ≡ self.old) }
-        ensures fault { IfErr result (λ f. f ≡ faults.Memory) }
-    {
-        match extent.length {
-            None => {
-                let primary = extent.places.primary;
-                let packet = match append_packet(
-                    alloc,
-                    self.server,
-                    primary,
-                    extent.extent,
-                    self.generation,
-                    &group,
-                    request,
-                ) {
-                    Ok(packet) => packet,
-                    Err(_full) => return Err(ClientFault::Memory),
-                };
-                self.group = group;
-                self.job = Job::Sent {
-                    extent: extent.extent,
-                    request: *request,
-                };
-                Ok(packet)
-            }
-            Some(_length) => {
-                self.group = group;
-                Ok(self.grow(&Some(extent.extent), request))
-            }
-        }
     }
 
     /// Begins the check of the last extent's length. The packet bears this number. 1: the stream has no extent. 4: the last
@@ -256,7 +183,8 @@ impl StreamClient {
     }
 
     /// What is done with a packet that has come: nothing where it repeats another number than that of the request that is
-    /// out. What is sent next bears this number. An error is want of memory (22), and nothing has changed.
+    /// out. What is sent next bears this number. An error is want of memory (22), which comes only where a new extent is
+    /// told, and nothing has changed.
     pub fn on_reply(
         &mut self,
         alloc: Global,
@@ -264,9 +192,29 @@ impl StreamClient {
         packet: &Packet,
     ) -> Result<Reaction, AllocError>
         ensures ok { IfOk result (λ r. reply_row self.old request.now packet.now.body ≡ record { after = self.new; packet = r.packet; news = r.news }) }
+        ensures content { IfOk result (λ r. content_told r.news ≡ content_of self.old.job packet.now.body) }
         ensures err { OnErr result (self.new ≡ self.old) }
+        ensures needed { OnErr result (needs_memory packet.now.body ≡ true) }
     {
-        reply(self, alloc, request, &packet.body)
+        self.on_answer(alloc, request, &packet.body)
+    }
+
+    /// The same with what the packet says alone.
+    pub fn on_answer(
+        &mut self,
+        alloc: Global,
+        request: &ReqNo,
+        body: &Body,
+    ) -> Result<Reaction, AllocError>
+        ensures ok { IfOk result (λ r. reply_row self.old request.now body.now ≡ record { after = self.new; packet = r.packet; news = r.news }) }
+        ensures content { IfOk result (λ r. content_told r.news ≡ content_of self.old.job body.now) }
+        ensures err { OnErr result (self.new ≡ self.old) }
+        ensures needed { OnErr result (needs_memory body.now ≡ true) }
+    {
+        match reply(self, alloc, request, body) {
+            Ok(reaction) => Ok(reaction),
+            Err(full) => Err(full),
+        }
     }
 
     /// What is done where no answer comes: an append or a check that is out has its extent sealed, under this number; a

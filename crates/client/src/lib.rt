@@ -7,7 +7,9 @@
 //! confirmed, and an append that is tried again is the same group under a new number.
 #![tactic(auto)]
 
+mod appending;
 mod client;
+mod content;
 mod fault;
 mod job;
 mod known;
@@ -16,6 +18,7 @@ mod replies;
 mod requests;
 mod sending;
 
+pub use appending::Appending;
 pub use client::StreamClient;
 pub use fault::ClientFault;
 pub use job::{Job, News, Place, Reaction};

@@ -1,6 +1,6 @@
 //! The opening of a range's streams for a load, and its confirmation.
 ghost use Rattle.std.specs.Prelude.{◌≡◌, Some, None, true, false};
-ghost use Rattle.client.specs.Load.{opening, open_packet, confirm_packet, is_loaded, is_open, opened_phase, confirmed_phase, stale_phase, refused_phase, append_phase, stream_phase, reply_phase, again};
+ghost use Rattle.client.specs.Load.{opening, open_packet, confirm_packet, is_loaded, is_open, load_awaits, opened_phase, confirmed_phase, stale_phase, refused_phase, append_phase, stream_phase, reply_phase, again};
 ghost use Rattle.client.specs.declared.load.LoadPhase.TheVariants as phases;
 
 use crate::requests::is_same;
@@ -40,6 +40,19 @@ impl Model for RangeLoad {
     ghost Value = { LoadState };
 
     ghost view = { λ l. record { server = l.server; range = l.range; generation = l.generation; phase = l.phase } };
+}
+
+/// Whether an answer of this number is waited for.
+pub(crate) fn load_awaits(phase: &LoadPhase, answered: &ReqNo) -> bool
+    ensures { result ≡ load_awaits phase.now answered.now }
+{
+    match phase {
+        LoadPhase::Opening { request } => is_same(request, answered),
+        LoadPhase::Confirming { request } => is_same(request, answered),
+        LoadPhase::Opened => false,
+        LoadPhase::Confirmed => false,
+        LoadPhase::Fenced => false,
+    }
 }
 
 fn opening_packet(server: ServerNo, range: RangeId, generation: Fence, request: &ReqNo) -> Packet
@@ -218,6 +231,13 @@ impl RangeLoad {
         self.phase
     }
 
+    /// It is as far as its owner found an answer to bring it.
+    pub fn set_phase(&mut self, phase: LoadPhase)
+        ensures { self.new ≡ record self.old { phase = phase } }
+    {
+        self.phase = phase;
+    }
+
     /// What is sent again where no answer comes, with the number that it had; none where nothing is out.
     pub fn give_up(&self) -> Option<Packet>
         ensures { result ≡ again self.now self.now.phase }
@@ -234,6 +254,27 @@ impl RangeLoad {
             LoadPhase::Confirmed => None,
             LoadPhase::Fenced => None,
         }
+    }
+
+    /// The range.
+    pub fn range(&self) -> RangeId
+        ensures { result ≡ self.now.range }
+    {
+        self.range
+    }
+
+    /// The generation that it is loaded under.
+    pub fn generation(&self) -> Fence
+        ensures { result ≡ self.now.generation }
+    {
+        self.generation
+    }
+
+    /// Whether an answer of this number is waited for.
+    pub fn awaits(&self, request: &ReqNo) -> bool
+        ensures { result ≡ load_awaits self.now.phase request.now }
+    {
+        load_awaits(&self.phase, request)
     }
 
     /// Whether it counts: only once the manager has confirmed its generation.

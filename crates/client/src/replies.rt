@@ -1,6 +1,6 @@
 //! What a client does with an answer.
-ghost use Rattle.std.specs.Prelude.{◌≡◌, Some, None, IfOk, OnErr};
-ghost use Rattle.client.specs.Client.{awaits, sealed_last, refused_job, append_reply, check_reply, seal_reply, read_reply, stream_reply, reply_row, appended_job, checked_job, sealed_job, groups_job, extended_job, appends_again, ends, waits};
+ghost use Rattle.std.specs.Prelude.{◌≡◌, Some, None, true, IfOk, OnErr};
+ghost use Rattle.client.specs.Client.{awaits, needs_memory, stream_needs_memory, sealed_last, refused_job, append_reply, check_reply, seal_reply, read_reply, stream_reply, reply_row, appended_job, checked_job, sealed_job, groups_job, extended_job, appends_again, ends, waits};
 ghost use Rattle.wire.specs.declared.refusal.Refusal.TheVariants as refusals;
 
 use crate::client::StreamClient;
@@ -15,7 +15,7 @@ use wire::{
 };
 
 /// Whether an answer of this number is waited for.
-fn awaits(job: Job, answered: &ReqNo) -> bool
+pub(crate) fn awaits(job: Job, answered: &ReqNo) -> bool
     ensures { result ≡ awaits job answered.now }
 {
     match &job {
@@ -365,6 +365,7 @@ fn stream_reply(
 ) -> Result<Reaction, AllocError>
     ensures ok { IfOk result (λ r. stream_reply client.old request.now body.now ≡ record { after = client.new; packet = r.packet; news = r.news }) }
     ensures err { OnErr result (client.new ≡ client.old) }
+    ensures needed { OnErr result (stream_needs_memory body.now ≡ true) }
 {
     match body {
         StreamBody::Extended {
@@ -400,6 +401,7 @@ pub(crate) fn reply(
 ) -> Result<Reaction, AllocError>
     ensures ok { IfOk result (λ r. reply_row client.old request.now body.now ≡ record { after = client.new; packet = r.packet; news = r.news }) }
     ensures err { OnErr result (client.new ≡ client.old) }
+    ensures needed { OnErr result (needs_memory body.now ≡ true) }
 {
     match body {
         Body::Append(body) => Ok(append_reply(client, alloc, request, body)),

@@ -29,6 +29,26 @@ pub(crate) fn sent(server: ServerNo, to: ActorId, body: Body) -> Packet
     }
 }
 
+/// An append of these blocks to the primary.
+pub(crate) fn sent_append(
+    server: ServerNo,
+    primary: u8,
+    extent: ExtentId,
+    generation: Fence,
+    blocks: Blocks,
+    request: &ReqNo,
+) -> Packet
+    ensures { result ≡ from_server server (Node primary) (bodies.Append (appends.Append extent generation blocks request.now)) }
+{
+    let body = Body::Append(AppendBody::Append {
+        extent,
+        generation,
+        blocks,
+        request: *request,
+    });
+    sent(server, ActorId::Node(primary), body)
+}
+
 /// An append to the primary. It shares the bytes of the blocks.
 pub(crate) fn append_packet(
     alloc: Global,
@@ -42,13 +62,7 @@ pub(crate) fn append_packet(
     ensures { IfOk result (λ p. p ≡ from_server server (Node primary) (bodies.Append (appends.Append extent generation group.now request.now))) }
 {
     let blocks = group.copy(alloc)?;
-    let body = Body::Append(AppendBody::Append {
-        extent,
-        generation,
-        blocks,
-        request: *request,
-    });
-    Ok(sent(server, ActorId::Node(primary), body))
+    Ok(sent_append(server, primary, extent, generation, blocks, request))
 }
 
 /// The check of an extent's length, to its primary.

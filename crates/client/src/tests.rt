@@ -90,6 +90,22 @@ fn answer(
     Ok(client.on_reply(alloc, &number(count), &packet)?)
 }
 
+/// Begins an append of one block, made beforehand.
+fn begins_append(client: &mut StreamClient, alloc: Global, count: u64) -> Result<bool, Fail> {
+    let mut items = Vec::new(alloc);
+    items.push(Bytes::copy_from_slice(alloc, b"abc")?)?;
+    let appending = Appending::of(alloc, &Blocks::of(items))?;
+    match client.begin_append(&number(count), appending) {
+        Ok(_packet) => Ok(true),
+        Err(_fault) => Ok(false),
+    }
+}
+
+/// Whether an answer of this number would bring the groups of the extent 1, up to the length 6.
+fn brings_content(client: &StreamClient, alloc: Global, count: u64) -> bool {
+    client.content(&groups(alloc, count)) == Some((ExtentId::new(1), 6))
+}
+
 fn appended(count: u64, offset: u32) -> Body {
     Body::Append(AppendBody::Appended {
         request: number(count),
@@ -361,6 +377,32 @@ fn appends_to_an_open_extent(rt: HostRuntime) -> Result<(), Fail> {
     assert!(rt; client.generation().number() == 2);
     assert!(rt; client.stream() == log());
     assert!(rt; client.extents().len() == 1);
+    assert!(rt; client.last_extent().is_some());
+    client.set_pick(&places());
+    assert!(rt; client.pick() == places());
+    Ok(())
+}
+
+#[test]
+fn appends_what_was_made_beforehand(rt: HostRuntime) -> Result<(), Fail> {
+    let alloc = rt.alloc();
+    let mut client = client(alloc, true, None)?;
+    assert!(rt; begins_append(&mut client, alloc, 1)?);
+    assert!(rt; client.awaits(&number(1)));
+    assert!(rt; !client.awaits(&number(2)));
+    assert!(rt; !begins_append(&mut client, alloc, 2)?);
+    Ok(())
+}
+
+#[test]
+fn takes_content_by_itself(rt: HostRuntime) -> Result<(), Fail> {
+    let alloc = rt.alloc();
+    let mut client = client(alloc, true, Some(6))?;
+    assert!(rt; reads(&mut client, 1, 6));
+    assert!(rt; brings_content(&client, alloc, 1));
+    assert!(rt; !brings_content(&client, alloc, 2));
+    client.end_read(alloc);
+    assert!(rt; client.job() == Job::Idle);
     Ok(())
 }
 
@@ -435,6 +477,7 @@ fn reads_what_was_checked(rt: HostRuntime) -> Result<(), Fail> {
         length: 5,
     };
     assert!(rt; told == Some(length));
+    assert!(rt; client.checked() == Some(5));
     assert!(rt; reads_checked(&mut client, 2, 5));
     Ok(())
 }
@@ -611,6 +654,8 @@ fn counts_once_confirmed(rt: HostRuntime) -> Result<(), Fail> {
     assert!(rt; !confirms(&mut load));
     let other = told(&mut load, opened(alloc, 2, 1));
     assert!(rt; other == LoadPhase::Opening { request: number(1) });
+    assert!(rt; load.awaits(&number(1)));
+    assert!(rt; load.range().number() == 1 && load.generation().number() == 2);
     assert!(rt; opens_again(&load));
     assert!(rt; told(&mut load, opened(alloc, 1, 1)) == LoadPhase::Opened);
     assert!(rt; !load.is_loaded());
@@ -634,5 +679,7 @@ fn never_counts_once_fenced(rt: HostRuntime) -> Result<(), Fail> {
     assert!(rt; told(&mut load, confirmed(2)) == LoadPhase::Fenced);
     assert!(rt; load.phase() == LoadPhase::Fenced);
     assert!(rt; !load.is_loaded());
+    load.set_phase(LoadPhase::Opened);
+    assert!(rt; load.phase() == LoadPhase::Opened);
     Ok(())
 }

@@ -1,5 +1,5 @@
 -- The rows of Make, Append and Put keep what is known.
-use Rattle.std.proofs.Common.{◌≡◌, ◌≢◌, ◌⊎◌, ℕ, ◌+◌, ◌<◌, ◌≤◌, Bool, true, false, not, ◌==◌, nat_lt, nat_le, if◌then◌else◌, List, [], ◌∷◌, ◌++◌, length, Some, None, refl, sym, ◌∙◌, inl, inr, arith, subst, ap, length-append, append_assoc}
+use Rattle.std.proofs.Common.{◌≡◌, ◌≢◌, ◌⊎◌, ℕ, ◌+◌, ◌*◌, ◌<◌, ◌≤◌, Bool, true, false, not, ◌==◌, nat_lt, nat_le, if◌then◌else◌, List, [], ◌∷◌, ◌++◌, length, Some, None, slice_get, Contains, refl, sym, ◌∙◌, inl, inr, arith, subst, ap, length-append, append_assoc}
 use Rattle.std.specs.List.{list_any}
 use Rattle.blocks.specs.declared.record.Nodes.{Nodes}
 use Rattle.wire.specs.Blocks.{is_block}
@@ -19,13 +19,14 @@ use Rattle.model.specs.Honest.{Stands}
 use Rattle.model.specs.Maps.{changed, changed_at}
 use Rattle.model.specs.Node.{Replica, is_open, make_tests, make_taken, make_row, append_tests, append_refusal, append_taken, append_row, tells_length, put_fits, put_added, put_passed, put_taken, put_tests, put_refusal, put_row}
 use Rattle.model.specs.Outcome.{all_met, silent, or_refused}
-use Rattle.model.proofs.Tests.{if_elim, both_parts, none_met}
+use Rattle.model.proofs.Tests.{if_elim, both_parts, none_met, all_are}
 use Rattle.laws_streams.specs.Origins.{Begins, Origin}
-use Rattle.laws_streams.proofs.Lists.{begins_refl, begins_push, NoneEmpty, none_empty-push, stands_on, stands_last, stands_end, same_beginning}
-use Rattle.laws_streams.proofs.Tests.{none_of, is_below, not_below, not_true, tested, changed_elim, changed_at-same, changed_at-other, changed-same, changed-other, untested, Each, each-append}
-use Rattle.laws_streams.proofs.Ground.{Ground, Sound, FineAppend, Chain, FinePhase, FineOne, FineNone, FineReplica, check_later, no_more, Later, Still}
+use Rattle.laws_streams.proofs.Lists.{begins_refl, begins_push, take_past, get_next, NoneEmpty, none_empty-push, stands_on, stands_last, stands_end, same_beginning}
+use Rattle.laws_streams.proofs.Tests.{none_of, is_below, at_most, above, not_below, not_true, tested, changed_elim, changed_at_elim, changed_at-same, changed_at-other, changed-same, changed-other, untested, Each, each-append, contains_left, contains_last, contains_pushed}
+use Rattle.laws_streams.proofs.Ground.{Ground, EndsAt, longest, Sound, FineAppend, Chain, FinePhase, FineWaiting, FineOne, FineNone, FineReplica}
+use Rattle.laws_streams.proofs.Growing.{ends_later, check_later, waits_later, no_more, Later, Still}
 use Rattle.laws_streams.proofs.Holding.{Moment, origin_of, Unmoved, Added, FineRow}
-use Rattle.laws_streams.proofs.Keeping.{Keeps, plain, sent, kept_silent, unless_refused, told_nothing, open_phase, phase_open, sound_later, grown_last, grown_closed}
+use Rattle.laws_streams.proofs.Keeping.{packet_is, Keeps, plain, sent, kept_silent, unless_refused, told_nothing, open_phase, phase_open, sound_later, grown_last, grown_closed}
 
 -- ---- Make
 
@@ -41,6 +42,8 @@ make_keeps now g n p e fence target at sound none made =
       second_has = omega arith;
       third_has = omega arith;
       waiting = λ i. tt;
+      waits = tt;
+      target = (let w = both_parts (nat_le 4096 target) (nat_le target 16777216) (all_are (make_tests n p target at) t).1.1.1.0 in at_most target 16777216 w.1);
       born = omega (arith, made.1);
       check = tt;
       fence = λ i. let f = (none.script at made.0 i).1 in omega (arith, f);
@@ -56,6 +59,15 @@ group_sized (b ∷ bs) p q =
     let l : 0 < length b = is_below 0 (length b) (both_parts (nat_lt 0 (length b)) (nat_le (length b) 65536) f).0 in
     omega (arith, length-append b (joined bs))
 
+group_small : (blocks : Group) → list_any (λ b. not (is_block b)) blocks ≡ false → size blocks ≤ length blocks * 65536
+group_small [] q = omega arith
+group_small (b ∷ bs) q =
+    let two = none_of (not (is_block b)) (list_any (λ x. not (is_block x)) bs) q in
+    let f : is_block b ≡ true = not_true (is_block b) two.0 in
+    let l : length b ≤ 65536 = at_most (length b) 65536 (both_parts (nat_lt 0 (length b)) (nat_le (length b) 65536) f).1 in
+    let m = group_small bs two.1 in
+    omega (arith, length-append b (joined bs), l, m)
+
 -- one more that stands at the script's end
 chain_push : (s t : List Group) (from : ℕ) (ws : List Waiting) (w : Waiting) → Begins s t → from ≤ text_length s → Chain s from ws →
     w.offset ≡ text_length s → Stands w.group w.offset t → 0 < size w.group → Chain t from (ws ++ w ∷ [])
@@ -64,9 +76,10 @@ chain_push s t from (x ∷ xs) w b l c at stands some =
     (c.0, stands_on b c.1, c.2, chain_push s t (x.offset + size x.group) xs w b (stands_end c.1) c.3 at stands some)
 
 -- the script of extent e becomes these groups and one more, of this origin
-appended : Ground → ℕ → ℕ → List Group → Group → Origin → Ground
-appended g n e groups blocks origin =
+appended : Ground → ℕ → ℕ → List Group → Group → Origin → Packet → Ground
+appended g n e groups blocks origin p =
     record g {
+      asked = g.asked ++ p ∷ [];
       script = changed e (groups ++ blocks ∷ []) g.script;
       origin = changed e (g.origin e ++ origin ∷ []) g.origin;
       last = changed_at n e (text_length (groups ++ blocks ∷ [])) g.last;
@@ -75,13 +88,14 @@ appended g n e groups blocks origin =
 module _ (now : Moment) (g : Ground) (n e : ℕ) (r : Replica) (sound : Sound g) (fine : FineOne g n e r)
     (primary : n ≡ r.content.places.primary) (blocks : Group) (some : 0 < size blocks)
     (live : FinePhase g n e r.content.places r.content.groups phases.Open) (generation : ℕ) (request : ReqNo)
-    (is : now.packet.body ≡ bodies.Append (Append e generation blocks request)) (newer : r.content.fence ≤ generation_of now.packet.from generation) where
+    (to : now.packet.to ≡ Node n) (is : now.packet.body ≡ bodies.Append (Append e generation blocks request)) (newer : r.content.fence ≤ generation_of now.packet.from generation)
+    (short : text_length (r.content.groups ++ blocks ∷ []) ≤ longest) where
   abbrev new : Origin
   new = origin_of now generation request
 
   -- what is known after it
   abbrev next : Ground
-  next = appended g n e r.content.groups blocks new
+  next = appended g n e r.content.groups blocks new now.packet
 
   longer : g.last n e ≤ text_length (r.content.groups ++ blocks ∷ [])
   longer = omega (arith, live.1, text_length-push r.content.groups blocks)
@@ -95,7 +109,7 @@ module _ (now : Moment) (g : Ground) (n e : ℕ) (r : Replica) (sound : Sound g)
         e (g.origin e ++ new ∷ []) g.origin k
         (λ q. (new ∷ [], rw q refl, (let f = fine.fence primary in let c = ap g.fence q in omega (arith, newer, f, c), tt))) (λ o. no_more (g.fence k) (g.origin k));
     fence = λ k. omega arith;
-    asked = λ p c. c;
+    asked = λ p c. contains_left g.asked (now.packet ∷ []) p c;
     acked = λ k. omega arith;
     places = λ k at h. h;
     born = λ k at h. refl;
@@ -104,12 +118,23 @@ module _ (now : Moment) (g : Ground) (n e : ℕ) (r : Replica) (sound : Sound g)
     closed = λ m k c. (c, grown_closed g n e _ live.0 longer m k c);
   }
 
+  -- what each place has is a beginning of the script, with the new group too
+  append_whole : (m k : ℕ) → EndsAt (next.script k) (next.last m k)
+  unfolding appended
+  append_whole m k =
+      let s = changed-same e (r.content.groups ++ blocks ∷ []) g.script in
+      changed_at_elim (EndsAt (next.script k)) n e (text_length (r.content.groups ++ blocks ∷ [])) g.last m k
+      (λ p q. record { front = r.content.groups ++ blocks ∷ []; begins = rw (q, s) (begins_refl (r.content.groups ++ blocks ∷ [])); ends = refl })
+      (λ o. ends_later (sound.whole m k) (append_later.script k))
+
   append_sound : Sound next
   unfolding appended
   append_sound = sound_later g _ sound append_later (λ k. refl) (λ k. refl)
       (λ k. changed_elim NoneEmpty e (r.content.groups ++ blocks ∷ []) g.script k
       (λ q. none_empty-push r.content.groups blocks (subst NoneEmpty (live.2 primary) (sound.none_empty e)) some)
       (λ o. sound.none_empty k))
+      (λ k. changed_elim (λ x. text_length x ≤ longest) e (r.content.groups ++ blocks ∷ []) g.script k (λ q. short) (λ o. sound.short k))
+      append_whole
       (λ k. elim (k == e) as (λ t. length (if t then g.origin e ++ new ∷ [] else g.origin k)
       ≡ length (if t then r.content.groups ++ blocks ∷ [] else g.script k)) [
         | true ↦ let a = sound.aged e in let b = ap (λ (x : List Group). length x) (live.2 primary) in
@@ -146,6 +171,26 @@ module _ (now : Moment) (g : Ground) (n e : ℕ) (r : Replica) (sound : Sound g)
     );
   }
 
+  -- the append that waits now
+  new_waits : FineWaiting next n e (record { offset = text_length r.content.groups; group = blocks; asker = now.packet.from; request = request })
+  unfolding appended
+  new_waits =
+      let s = changed-same e (r.content.groups ++ blocks ∷ []) g.script in
+      let o = changed-same e (g.origin e ++ new ∷ []) g.origin in
+      let l : length (g.origin e) ≡ length r.content.groups = sound.aged e ∙ ap (λ (x : List Group). length x) (live.2 primary) in
+      record {
+        generation = generation;
+        asked = subst (Contains (g.asked ++ now.packet ∷ [])) (packet_is now.packet (Node n) (bodies.Append (Append e generation blocks request)) to is)
+            (contains_last g.asked now.packet);
+        index = length r.content.groups;
+        from = new;
+        is = rw s (get_next r.content.groups [] blocks);
+        start = rw (s, take_past r.content.groups (blocks ∷ [])) refl;
+        appended = rw o (subst (λ k. slice_get (g.origin e ++ new ∷ []) k ≡ Some new) l (get_next (g.origin e) [] new));
+        counted = refl;
+        number = refl;
+      }
+
   append_replica : is_open r.content.phase ≡ true →
       FineReplica next n e (append_taken n r now.packet e blocks request).after
   unfolding appended
@@ -161,9 +206,11 @@ module _ (now : Moment) (g : Ground) (n e : ℕ) (r : Replica) (sound : Sound g)
         waiting = λ i. rw s (chain_push r.content.groups (r.content.groups ++ blocks ∷ []) (g.acked e) r.waiting _ (begins_push r.content.groups (blocks ∷ []))
             (let had = (sound.all_had e r.content.places fine.places).0 in let m = ap (λ k. g.last k e) primary in omega (arith, live.1))
             (subst (λ x. Chain x (g.acked e) r.waiting) (live.2 primary) (fine.waiting primary)) refl (stands_last r.content.groups blocks) some);
+        waits = each-append (FineWaiting next n e) r.waiting _ (waits_later g next append_later n e r.waiting fine.waits) (new_waits, tt);
+        target = fine.target;
         fence = fine.fence;
         born = fine.born;
-        check = check_later g next append_later n e r.content.places r.content.fence r.check fine.check;
+        check = check_later g next append_later n e r.content.places r.content.fence (λ i. refl) refl r.check fine.check;
       }
 
   append_grown : (k : ℕ) → Unmoved g next k
@@ -198,7 +245,7 @@ module _ (now : Moment) (g : Ground) (n e : ℕ) (r : Replica) (sound : Sound g)
         still = append_still;
         replica = append_replica t;
         packets = (put, (put, tt));
-        asked = λ p c. inl c;
+        asked = λ p c. contains_pushed g.asked now.packet p c;
         notes = tt;
         apart = tt;
         cross = told_nothing now.told;
@@ -208,17 +255,22 @@ module _ (now : Moment) (g : Ground) (n e : ℕ) (r : Replica) (sound : Sound g)
       }
 
 pub append_keeps : (now : Moment) (g : Ground) (n e generation : ℕ) (r : Replica) (blocks : Group) (q : ReqNo) → Sound g → FineOne g n e r →
-    now.packet.body ≡ bodies.Append (Append e generation blocks q) → Keeps now g n e (append_row n r now.packet e generation blocks q)
-append_keeps now g n e generation r blocks q sound fine is =
+    now.packet.to ≡ Node n → now.packet.body ≡ bodies.Append (Append e generation blocks q) → Keeps now g n e (append_row n r now.packet e generation blocks q)
+append_keeps now g n e generation r blocks q sound fine to is =
     unless_refused now g n e (Some r) now.packet q (append_refusal n r now.packet generation blocks) (append_taken n r now.packet e blocks q) sound fine
     (λ none.
     let met = none_met (append_tests n r now.packet generation blocks) none in
     let primary : n ≡ r.content.places.primary = tested n r.content.places.primary (not_true _ met.0) in
     let live : is_open r.content.phase ≡ true = not_true _ met.1.0 in
     let some : 0 < size blocks = group_sized blocks (none_of _ _ met.1.1.1.0).0 met.1.1.1.1.0 in
-    let newer : r.content.fence ≤ generation_of now.packet.from generation = not_below (generation_of now.packet.from generation) r.content.fence met.1.1.0 in (
-      appended g n e r.content.groups blocks (origin_of now generation q),
-      append_fine now g n e r sound fine primary blocks some (open_phase g n e r live fine) generation q is newer live,
+    let newer : r.content.fence ≤ generation_of now.packet.from generation = not_below (generation_of now.packet.from generation) r.content.fence met.1.1.0 in
+    let room : text_length r.content.groups < r.content.target = above r.content.target (text_length r.content.groups) met.1.1.1.1.1.0 in
+    let few : length blocks ≤ 64 = not_below 64 (length blocks) (none_of (length blocks == 0) (nat_lt 64 (length blocks)) met.1.1.1.0).1 in
+    let small = group_small blocks met.1.1.1.1.0 in
+    let short : text_length (r.content.groups ++ blocks ∷ []) ≤ longest =
+    omega (arith, text_length-push r.content.groups blocks, room, few, small, fine.target) in (
+      appended g n e r.content.groups blocks (origin_of now generation q) now.packet,
+      append_fine now g n e r sound fine primary blocks some (open_phase g n e r live fine) generation q to is newer short live,
     ))
 
 -- ---- Put
@@ -252,9 +304,15 @@ module _ (now : Moment) (g : Ground) (n e : ℕ) (r : Replica) (sound : Sound g)
     closed = λ m k c. (c, grown_closed g n e _ live.0 reaches m k c);
   }
 
+  put_whole : (m k : ℕ) → EndsAt (g.script k) (changed_at n e (text_length (r.content.groups ++ group ∷ [])) g.last m k)
+  put_whole m k =
+      changed_at_elim (EndsAt (g.script k)) n e (text_length (r.content.groups ++ group ∷ [])) g.last m k
+      (λ p q. record { front = r.content.groups ++ group ∷ []; begins = rw q (begins_next fine.begins (sound.none_empty e) stands refl); ends = refl })
+      (λ o. sound.whole m k)
+
   put_sound : Sound (lasting g n e (text_length (r.content.groups ++ group ∷ [])))
   unfolding lasting
-  put_sound = sound_later g _ sound put_later (λ k. refl) (λ k. refl) sound.none_empty sound.aged sound.born sound.unmade
+  put_sound = sound_later g _ sound put_later (λ k. refl) (λ k. refl) sound.none_empty sound.short put_whole sound.aged sound.born sound.unmade
       (λ k at m. let had = sound.all_had k at m in let l = grown_last g n e (text_length (r.content.groups ++ group ∷ [])) live.0 reaches in
       (omega (arith, had.0, l at.primary k), omega (arith, had.1, l at.second k), omega (arith, had.2, l at.third k)))
 
@@ -272,9 +330,11 @@ module _ (now : Moment) (g : Ground) (n e : ℕ) (r : Replica) (sound : Sound g)
     second_has = let l = grown_last g n e (text_length (r.content.groups ++ group ∷ [])) live.0 reaches r.content.places.second e in omega (arith, fine.second_has, l);
     third_has = let l = grown_last g n e (text_length (r.content.groups ++ group ∷ [])) live.0 reaches r.content.places.third e in omega (arith, fine.third_has, l);
     waiting = fine.waiting;
+    waits = waits_later g _ put_later n e r.waiting fine.waits;
+    target = fine.target;
     fence = fine.fence;
     born = fine.born;
-    check = check_later g _ put_later n e r.content.places r.content.fence r.check fine.check;
+    check = check_later g _ put_later n e r.content.places r.content.fence (λ i. refl) refl r.check fine.check;
   }
 
   put_fine : (offset : ℕ) → is_open r.content.phase ≡ true →

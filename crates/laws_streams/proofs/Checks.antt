@@ -1,12 +1,10 @@
 -- The rows of Check, Probe and Probed keep what is known: a check is answered once all three places told one length.
 use Rattle.std.proofs.Common.{◌≡◌, ◌≢◌, ◌⊎◌, ℕ, ◌≤◌, true, ◌&&◌, ◌==◌, nat_lt, [], ◌∷◌, ◌++◌, Option, Some, None, Contains, refl, sym, ◌∙◌, inl, inr, arith, ap, subst, append-nil}
 use Rattle.blocks.specs.declared.record.Nodes.{Nodes}
-use Rattle.wire.specs.declared.actor.ActorId.{ActorId}
 use Rattle.wire.specs.declared.actor.ActorId.TheVariants.{Node}
 use Rattle.wire.specs.declared.actor.ReqNo.{ReqNo}
 use Rattle.wire.specs.declared.actor.ReqNo.TheVariants.{NoRequest}
 use Rattle.wire.specs.declared.body.CheckBody.TheVariants.{Check, Probed, Checked}
-use Rattle.wire.specs.declared.body.Body.{Body}
 use Rattle.wire.specs.declared.body.Body.TheVariants as bodies
 use Rattle.wire.specs.declared.packet.Packet.{Packet}
 use Rattle.replica.specs.Groups.{text_length}
@@ -15,13 +13,14 @@ use Rattle.model.specs.declared.checking.Checking.{Checking}
 use Rattle.model.specs.Actors.{is_node, generation_of}
 use Rattle.model.specs.Maps.{changed}
 use Rattle.model.specs.Node.{Replica, is_open, check_tests, check_refusal, raised, check_begun, checked_as, check_taken, check_row, probe_tests, probe_refusal, probe_taken, probe_row, with_probed, common_length, settled, probed_by, probed_for, probed_row}
-use Rattle.model.specs.Outcome.{packet, silent, or_refused}
+use Rattle.model.specs.Outcome.{silent, or_refused}
 use Rattle.model.proofs.Tests.{if_elim, both_parts, none_met}
 use Rattle.laws_streams.proofs.Lists.{begins_refl}
 use Rattle.laws_streams.proofs.Tests.{is_below, not_below, not_true, tested, changed_elim, changed-same, contains_left, contains_pushed, contains_last}
-use Rattle.laws_streams.proofs.Ground.{Ground, Sound, FineCheckBody, FineCover, AtMost, FineChecking, FineCheck, FineOne, no_more, Later, Still, replica_later}
+use Rattle.laws_streams.proofs.Ground.{Ground, Sound, FineCheckBody, FineCover, AtMost, FineChecking, FineCheck, FineOne}
+use Rattle.laws_streams.proofs.Growing.{no_more, Later, Still, replica_later, waits_later}
 use Rattle.laws_streams.proofs.Holding.{Moment}
-use Rattle.laws_streams.proofs.Keeping.{Keeps, plain, sent, kept_silent, unless_refused, told_nothing, open_phase, sound_later}
+use Rattle.laws_streams.proofs.Keeping.{packet_is, Keeps, plain, sent, kept_silent, unless_refused, told_nothing, open_phase, sound_later}
 
 -- ---- Check
 
@@ -38,6 +37,8 @@ raised_fine g n e k r c fine check =
       second_has = fine.second_has;
       third_has = fine.third_has;
       waiting = fine.waiting;
+      waits = fine.waits;
+      target = fine.target;
       fence = λ i. let f = fine.fence i in omega (arith, f, l);
       born = let f = fine.born in omega (arith, f, l);
       check = check k (omega (arith, l)) (omega arith);
@@ -49,6 +50,8 @@ raised_fine g n e k r c fine check =
       second_has = fine.second_has;
       third_has = fine.third_has;
       waiting = fine.waiting;
+      waits = fine.waits;
+      target = fine.target;
       fence = fine.fence;
       born = fine.born;
       check = check r.content.fence (omega arith) l;
@@ -79,16 +82,13 @@ asking_still g p m k = record { last = refl; closed = refl; primary = λ at made
 
 asking_sound : (g : Ground) (p : Packet) → Sound g → Sound (asking g p)
 unfolding asking
-asking_sound g p sound = sound_later g _ sound (asking_later g p) (λ k. refl) (λ k. refl) sound.none_empty sound.aged sound.born sound.unmade sound.all_had
-
-packet_is : (p : Packet) (to : ActorId) (body : Body) → p.to ≡ to → p.body ≡ body → p ≡ packet p.from to body
-packet_is p to body t b = rw (← t, ← b) refl
+asking_sound g p sound = sound_later g _ sound (asking_later g p) (λ k. refl) (λ k. refl) sound.none_empty sound.short sound.whole sound.aged sound.born sound.unmade sound.all_had
 
 check_begun_keeps : (now : Moment) (g : Ground) (n e generation : ℕ) (r : Replica) (q : ReqNo) → Sound g → FineOne g n e r → n ≡ r.content.places.primary →
-    now.packet.to ≡ Node n → now.packet.body ≡ bodies.Check (Check e generation q) →
+    r.content.fence ≤ generation_of now.packet.from generation → now.packet.to ≡ Node n → now.packet.body ≡ bodies.Check (Check e generation q) →
     Keeps now g n e (check_begun n r now.packet e (generation_of now.packet.from generation) q)
 unfolding asking
-check_begun_keeps now g n e generation r q sound fine primary to is =
+check_begun_keeps now g n e generation r q sound fine primary listened to is =
     let h : Ground = asking g now.packet in
     let old : FineOne h n e r = replica_later g h sound (asking_later g now.packet) n e (asking_still g now.packet n e) (Some r) fine in
     let k = generation_of now.packet.from generation in
@@ -104,6 +104,8 @@ check_begun_keeps now g n e generation r q sound fine primary to is =
             (λ fence low high. record {
               primary = primary;
               fenced = high;
+              above = let f = fine.fence primary in omega (arith, f, listened);
+              newer = let f = fine.born in omega (arith, f, listened);
               second = tt;
               third = tt;
               generation = generation;
@@ -129,7 +131,7 @@ check_keeps now g n e generation r q sound fine to is =
     (λ none.
     let primary = tested n r.content.places.primary (not_true _ (none_met (check_tests n r k) none).0) in
     if_elim (Keeps now g n e) (is_open r.content.phase) (check_begun n r now.packet e k q) _
-    (λ t. check_begun_keeps now g n e generation r q sound fine primary to is)
+    (λ t. check_begun_keeps now g n e generation r q sound fine primary (not_below k r.content.fence (none_met (check_tests n r k) none).1.0) to is)
     (λ f. sent now g n e (Some r) (checked_as n now.packet.from q None) sound fine (tt, tt)))
 
 -- ---- Probe
@@ -139,6 +141,8 @@ higher_check g n e places a b None l f = tt
 higher_check g n e places a b (Some c) l f = record {
   primary = f.primary;
   fenced = omega (arith, f.fenced, l);
+  above = f.above;
+  newer = f.newer;
   second = f.second;
   third = f.third;
   generation = f.generation;
@@ -169,6 +173,8 @@ with_check g n e r c fine check = record {
   second_has = fine.second_has;
   third_has = fine.third_has;
   waiting = fine.waiting;
+  waits = fine.waits;
+  target = fine.target;
   fence = fine.fence;
   born = fine.born;
   check = check;
@@ -179,103 +185,104 @@ fencing : Ground → ℕ → ℕ → Ground
 fencing g e k = record g { fence = changed e k g.fence }
 
 module _ (now : Moment) (g : Ground) (n e : ℕ) (r : Replica) (sound : Sound g) (fine : FineOne g n e r) (primary : n ≡ r.content.places.primary) where
-  fencing_later : Later g (fencing g e r.content.fence)
-  unfolding fencing
-  fencing_later = record {
-    script = λ k. begins_refl (g.script k);
-    acked = λ k. omega arith;
-    places = λ k at h. h;
-    born = λ k at h. refl;
-    sealed = λ k l h. h;
-    origin = λ k. no_more (g.fence k) (g.origin k);
-    fence = λ k. changed_elim (λ x. g.fence k ≤ x) e r.content.fence g.fence k
-        (λ q. let c = ap g.fence q in let f = fine.fence primary in omega (arith, c, f)) (λ o. omega arith);
-    asked = λ p c. c;
-    last = λ m k. omega arith;
-    closed = λ m k c. (c, refl);
-  }
+  -- from the generation of the check on
+  module _ (c : Checking) (check : FineChecking g n e r.content.places r.content.fence c) where
+    fencing_later : Later g (fencing g e c.generation)
+    unfolding fencing
+    fencing_later = record {
+      script = λ k. begins_refl (g.script k);
+      acked = λ k. omega arith;
+      places = λ k at h. h;
+      born = λ k at h. refl;
+      sealed = λ k l h. h;
+      origin = λ k. no_more (g.fence k) (g.origin k);
+      fence = λ k. changed_elim (λ x. g.fence k ≤ x) e c.generation g.fence k
+          (λ q. let d = ap g.fence q in omega (arith, d, check.above)) (λ o. omega arith);
+      asked = λ p c. c;
+      last = λ m k. omega arith;
+      closed = λ m k c. (c, refl);
+    }
 
-  fencing_sound : Sound (fencing g e r.content.fence)
-  unfolding fencing
-  fencing_sound = sound_later g _ sound fencing_later (λ k. refl) (λ k. refl) sound.none_empty sound.aged sound.born
-      (λ k m. (
-        (sound.unmade k m).0,
-        (sound.unmade k m).1,
-        changed_elim (λ x. x ≡ 0) e r.content.fence g.fence k
-            (λ q. let c : g.places k ≡ g.places e = cc in let d = fine.places in absurd (cc)) (λ o. (sound.unmade k m).2),
-      ))
-      sound.all_had
+    fencing_sound : Sound (fencing g e c.generation)
+    unfolding fencing
+    fencing_sound = sound_later g _ sound fencing_later (λ k. refl) (λ k. refl) sound.none_empty sound.short sound.whole sound.aged sound.born
+        (λ k m. (
+          (sound.unmade k m).0,
+          (sound.unmade k m).1,
+          changed_elim (λ x. x ≡ 0) e c.generation g.fence k
+              (λ q. let d : g.places k ≡ g.places e = cc in let f = fine.places in absurd (cc)) (λ o. (sound.unmade k m).2),
+        ))
+        sound.all_had
 
-  fencing_still : (m k : ℕ) → (m ≢ n) ⊎ (k ≢ e) → Still g (fencing g e r.content.fence) m k
-  unfolding fencing
-  fencing_still m k other = record {
-    last = refl;
-    closed = refl;
-    primary = λ at made i. (
-      refl,
-      refl,
-      changed_elim (λ x. x ≡ g.fence k) e r.content.fence g.fence k
-          (λ q. let c : Some at ≡ Some r.content.places = sym made ∙ ap g.places q ∙ fine.places in
-          let d : at ≡ r.content.places = cc in
-          let j : m ≡ n = i ∙ ap (λ (x : Nodes). x.primary) d ∙ sym primary in
-          elim other [ inl x ↦ absurd (x j) | inr x ↦ absurd (x q) ])
-          (λ o. refl),
-    );
-  }
+    fencing_still : (m k : ℕ) → (m ≢ n) ⊎ (k ≢ e) → Still g (fencing g e c.generation) m k
+    unfolding fencing
+    fencing_still m k other = record {
+      last = refl;
+      closed = refl;
+      primary = λ at made i. (
+        refl,
+        refl,
+        changed_elim (λ x. x ≡ g.fence k) e c.generation g.fence k
+            (λ q. let y : Some at ≡ Some r.content.places = sym made ∙ ap g.places q ∙ fine.places in
+            let d : at ≡ r.content.places = cc in
+            let j : m ≡ n = i ∙ ap (λ (x : Nodes). x.primary) d ∙ sym primary in
+            elim other [ inl x ↦ absurd (x j) | inr x ↦ absurd (x q) ])
+            (λ o. refl),
+      );
+    }
 
-  -- all three have the primary's length: what stands behind it from now on is no older
-  found_equal : (k a b : ℕ) → k ≤ r.content.fence → a ≤ g.last r.content.places.second e → b ≤ g.last r.content.places.third e →
-      (is_open r.content.phase && ((a == text_length r.content.groups) && (b == text_length r.content.groups))) ≡ true →
-      FineCover (fencing g e r.content.fence) e k (text_length r.content.groups)
-  unfolding fencing
-  found_equal k a b low x y t =
-      let u = both_parts (is_open r.content.phase) ((a == text_length r.content.groups) && (b == text_length r.content.groups)) t in
-      let v = both_parts (a == text_length r.content.groups) (b == text_length r.content.groups) u.1 in
-      let i = tested a (text_length r.content.groups) v.0 in
-      let j = tested b (text_length r.content.groups) v.1 in
-      let phase = open_phase g n e r u.0 fine in
-      let m = ap (λ z. g.last z e) primary in
-      record {
-        front = g.script e;
-        back = [];
-        olds = g.origin e;
-        news = [];
-        split = sym (append-nil (g.script e));
-        origins = sym (append-nil (g.origin e));
-        same = sound.aged e;
-        end = ap text_length (phase.2 primary);
-        newer = tt;
-        fenced = rw (changed-same e r.content.fence g.fence) low;
-        places = r.content.places;
-        made = fine.places;
-        had = (omega (arith, phase.1, m), omega (arith, x, i), omega (arith, y, j));
-      }
+    -- all three have the primary's length: what stands behind it from now on is no older
+    found_equal : (a b : ℕ) → a ≤ g.last r.content.places.second e → b ≤ g.last r.content.places.third e →
+        (is_open r.content.phase && ((a == text_length r.content.groups) && (b == text_length r.content.groups))) ≡ true →
+        FineCover (fencing g e c.generation) e c.generation (text_length r.content.groups)
+    unfolding fencing
+    found_equal a b x y t =
+        let u = both_parts (is_open r.content.phase) ((a == text_length r.content.groups) && (b == text_length r.content.groups)) t in
+        let v = both_parts (a == text_length r.content.groups) (b == text_length r.content.groups) u.1 in
+        let i = tested a (text_length r.content.groups) v.0 in
+        let j = tested b (text_length r.content.groups) v.1 in
+        let phase = open_phase g n e r u.0 fine in
+        let m = ap (λ z. g.last z e) primary in
+        record {
+          front = g.script e;
+          back = [];
+          olds = g.origin e;
+          news = [];
+          split = sym (append-nil (g.script e));
+          origins = sym (append-nil (g.origin e));
+          same = sound.aged e;
+          end = ap text_length (phase.2 primary);
+          newer = tt;
+          fenced = rw (changed-same e c.generation g.fence) (omega arith);
+          places = r.content.places;
+          made = fine.places;
+          had = (omega (arith, phase.1, m), omega (arith, x, i), omega (arith, y, j));
+        }
 
-  answer_fine : (c : Checking) (a b : ℕ) → FineChecking g n e r.content.places r.content.fence c →
-      a ≤ g.last r.content.places.second e → b ≤ g.last r.content.places.third e →
-      FineCheckBody (fencing g e r.content.fence) (Node n) c.asker (Checked c.request (common_length r a b))
-  answer_fine c a b check x y =
-      if_elim (λ z. FineCheckBody (fencing g e r.content.fence) (Node n) c.asker (Checked c.request z))
-      (is_open r.content.phase && ((a == text_length r.content.groups) && (b == text_length r.content.groups))) (Some (text_length r.content.groups)) None
-      (λ t. record {
-        node = n;
-        answers = refl;
-        extent = e;
-        generation = check.generation;
-        asked = fencing_later.asked _ check.asked;
-        covers = subst (λ k. FineCover (fencing g e r.content.fence) e k (text_length r.content.groups)) check.counted (found_equal c.generation a b check.fenced x y t);
-      })
-      (λ f. tt)
+    answer_fine : (a b : ℕ) → a ≤ g.last r.content.places.second e → b ≤ g.last r.content.places.third e →
+        FineCheckBody (fencing g e c.generation) (Node n) c.asker (Checked c.request (common_length r a b))
+    answer_fine a b x y =
+        if_elim (λ z. FineCheckBody (fencing g e c.generation) (Node n) c.asker (Checked c.request z))
+        (is_open r.content.phase && ((a == text_length r.content.groups) && (b == text_length r.content.groups))) (Some (text_length r.content.groups)) None
+        (λ t. record {
+          node = n;
+          answers = refl;
+          extent = e;
+          generation = check.generation;
+          asked = fencing_later.asked _ check.asked;
+          covers = subst (λ k. FineCover (fencing g e c.generation) e k (text_length r.content.groups)) check.counted (found_equal a b x y t);
+        })
+        (λ f. tt)
 
   settled_keeps : (c : Checking) (a b : Option ℕ) → FineChecking g n e r.content.places r.content.fence c →
       AtMost (g.last r.content.places.second e) a → AtMost (g.last r.content.places.third e) b → Keeps now g n e (settled n r c a b)
   unfolding fencing
   settled_keeps c (Some a) (Some b) check x y = (
-    fencing g e r.content.fence,
+    fencing g e c.generation,
     record {
-      sound = fencing_sound;
-      later = fencing_later;
-      still = fencing_still;
+      sound = fencing_sound c check;
+      later = fencing_later c check;
+      still = fencing_still c check;
       grown = λ k. inl (refl, refl);
       replica = record {
         places = fine.places;
@@ -284,11 +291,13 @@ module _ (now : Moment) (g : Ground) (n e : ℕ) (r : Replica) (sound : Sound g)
         second_has = fine.second_has;
         third_has = fine.third_has;
         waiting = fine.waiting;
-        fence = λ i. rw (changed-same e r.content.fence g.fence) (omega arith);
+        waits = waits_later g (fencing g e c.generation) (fencing_later c check) n e r.waiting fine.waits;
+        target = fine.target;
+        fence = λ i. rw (changed-same e c.generation g.fence) check.fenced;
         born = fine.born;
         check = tt;
       };
-      packets = (answer_fine c a b check x y, tt);
+      packets = (answer_fine c check a b x y, tt);
       asked = λ p k. inl k;
       notes = tt;
       apart = tt;
@@ -308,11 +317,11 @@ probed_keeps now g n e k l r p sound fine told_length = by_check r.check fine.ch
     by_place c f =
         if_elim (λ z. Keeps now g n e (probed_by n r z)) (is_node r.content.places.second p.from) (Some (record c { second = Some l })) _
         (λ t. settled_keeps now g n e r sound fine f.primary (record c { second = Some l }) (Some l) c.third
-        (record { primary = f.primary; fenced = f.fenced; second = told_length r.content.places.second t; third = f.third; generation = f.generation; counted = f.counted; asked = f.asked })
+        (record { primary = f.primary; fenced = f.fenced; above = f.above; newer = f.newer; second = told_length r.content.places.second t; third = f.third; generation = f.generation; counted = f.counted; asked = f.asked })
         (told_length r.content.places.second t) f.third)
         (λ _. if_elim (λ z. Keeps now g n e (probed_by n r z)) (is_node r.content.places.third p.from) (Some (record c { third = Some l })) None
         (λ t. settled_keeps now g n e r sound fine f.primary (record c { third = Some l }) c.second (Some l)
-        (record { primary = f.primary; fenced = f.fenced; second = f.second; third = told_length r.content.places.third t; generation = f.generation; counted = f.counted; asked = f.asked })
+        (record { primary = f.primary; fenced = f.fenced; above = f.above; newer = f.newer; second = f.second; third = told_length r.content.places.third t; generation = f.generation; counted = f.counted; asked = f.asked })
         f.second (told_length r.content.places.third t))
         (λ _. kept_silent now g n e (Some r) sound fine))
 

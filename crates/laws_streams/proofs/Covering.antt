@@ -1,28 +1,26 @@
 -- What fences and the answers to checks leave, at the end of a longer run.
-use Rattle.std.proofs.Common.{◌≡◌, ◌⊎◌, ℕ, zero, suc, true, ◌<◌, ◌≤◌, ◌||◌, ◌==◌, List, [], ◌∷◌, ◌++◌, length, take, Option, Some, None, slice_get, Contains, refl, sym, ap, ◌∙◌, inl, inr, arith, subst, append-nil, length-append}
+use Rattle.std.proofs.Common.{◌≡◌, ◌⊎◌, ℕ, zero, suc, ◌<◌, ◌≤◌, List, [], ◌∷◌, ◌++◌, length, take, Option, Some, None, slice_get, Contains, refl, sym, ap, ◌∙◌, inl, inr, arith, subst, append-nil, length-append}
 use Rattle.blocks.specs.declared.record.Nodes.{Nodes}
 use Rattle.wire.specs.declared.actor.ReqNo.{ReqNo}
 use Rattle.wire.specs.declared.body.CheckBody.TheVariants.{Checked}
 use Rattle.wire.specs.declared.body.Body.TheVariants as bodies
 use Rattle.wire.specs.declared.note.Note.TheVariants.{Acked, SealedAt}
 use Rattle.wire.specs.declared.packet.Packet.{Packet}
-use Rattle.replica.specs.declared.phase.Phase.{Phase}
-use Rattle.replica.specs.declared.phase.Phase.TheVariants as phases
 use Rattle.replica.specs.Groups.{Group, text_length}
-use Rattle.replica.specs.Replay.{is_place}
 use Rattle.model.specs.declared.extent.Extent.{Extent}
 use Rattle.model.specs.Actors.{generation_of}
-use Rattle.model.specs.Node.{Replica}
 use Rattle.model.specs.World.{World, start, Move, run_moves}
 use Rattle.laws_streams.specs.Origins.{Origin, course_of_moves}
 use Rattle.laws_streams.specs.Fences.{Covers, EndsWithin, Answers, Stays, FencesHold}
-use Rattle.laws_streams.proofs.Lists.{text_length-append, text_length-cons}
-use Rattle.laws_streams.proofs.Tests.{either, tested, each-get, each-contains}
-use Rattle.laws_streams.proofs.Ground.{Ground, Sound, FineBody, FinePacket, FineAck, FinePhase, FineOne, FineReplica, FineCover, FineChecked, cover_later}
+use Rattle.laws_streams.proofs.Lists.{text_length-append, text_length-cons, take_past, get_next}
+use Rattle.laws_streams.proofs.Tests.{each-get, each-contains}
+use Rattle.laws_streams.proofs.Ground.{Ground, Sound, FineBody, FinePacket, FineAck, FineReplica, FineCover, FineChecked}
+use Rattle.laws_streams.proofs.Growing.{cover_later}
 use Rattle.laws_streams.proofs.Holding.{places_of}
+use Rattle.laws_streams.proofs.Lasting.{AllHad, sealed_beyond, held_at}
 use Rattle.laws_streams.proofs.Claims.{told, origins}
 use Rattle.laws_streams.proofs.Steps.{good_next}
-use Rattle.laws_streams.proofs.Law.{After, AfterMore, take_past, get_next, after_all, from_here, first_good}
+use Rattle.laws_streams.proofs.Law.{After, AfterMore, after_all, from_here, first_good}
 
 -- ---- lists
 
@@ -82,31 +80,10 @@ module _ (g : Ground) (e k l : ℕ) (c : FineCover g e k l) where
             omega (arith, m, n, s.place, text_length-append s.before (group ∷ []), text_length-cons group []);
       }
 
-  place_had : (n : ℕ) (at : Nodes) → g.places e ≡ Some at → is_place n at ≡ true → l ≤ g.last n e
-  place_had n at made place =
+  all_had : AllHad g e l
+  all_had at made =
       let same : c.places ≡ at = (let d : Some c.places ≡ Some at = sym c.made ∙ made in cc) in
-      let had = subst (λ (x : Nodes). (l ≤ g.last x.primary e) × (l ≤ g.last x.second e) × (l ≤ g.last x.third e)) same c.had in
-      elim (either (n == at.primary) ((n == at.second) || (n == at.third)) place) [
-        | inl x ↦ let m : n ≡ at.primary = tested n at.primary x in omega (arith, had.0, ap (λ j. g.last j e) m)
-        | inr y ↦ elim (either (n == at.second) (n == at.third) y) [
-          | inl x ↦ let m : n ≡ at.second = tested n at.second x in omega (arith, had.1, ap (λ j. g.last j e) m)
-          | inr x ↦ let m : n ≡ at.third = tested n at.third x in omega (arith, had.2, ap (λ j. g.last j e) m)
-        ]
-      ]
-
-  sealed_beyond : Sound g → (other : ℕ) → g.sealed e ≡ Some other → l ≤ other
-  sealed_beyond sound other is =
-      let (at, n, made, place, closed, last) = sound.noted e other is in
-      let m = place_had n at made place in
-      omega (arith, m, last)
-
-  held_at : Sound g → (n : ℕ) (r : Replica) → FineOne g n e r → is_place n r.content.places ≡ true → l ≤ text_length r.content.groups
-  held_at sound n r fine place = by_phase r.content.phase fine.phase
-    where
-      by_phase : (phase : Phase) → FinePhase g n e r.content.places r.content.groups phase → l ≤ text_length r.content.groups
-      by_phase phases.Open f = let m = place_had n r.content.places fine.places place in omega (arith, m, f.1)
-      by_phase phases.Frozen f = let m = place_had n r.content.places fine.places place in omega (arith, m, f.1)
-      by_phase phases.Sealed f = sealed_beyond sound (text_length r.content.groups) f.1
+      subst (λ (x : Nodes). (l ≤ g.last x.primary e) × (l ≤ g.last x.second e) × (l ≤ g.last x.third e)) same c.had
 
 -- ---- at the end of a run
 
@@ -121,7 +98,7 @@ module _ (w : World) (before after : List Move) (half : After w (before ++ after
         | inr a ↦ let m = each-get (λ x. half.ground.fence e ≤ x.generation) news a.0 o newer a.1 in omega (arith, m, c.fenced)
       ]
 
-  answers_hold : (answer : Packet) (request : ReqNo) (end : ℕ) → Contains (run_moves before w).post answer →
+  pub answers_hold : (answer : Packet) (request : ReqNo) (end : ℕ) → Contains (run_moves before w).post answer →
       answer.body ≡ bodies.Check (Checked request (Some end)) → Answers before after w whole.ground.script whole.ground.origin answer request end
   answers_hold answer request end stands is =
       let fine : FinePacket half.ground answer = each-contains (FinePacket half.ground) (run_moves before w).post answer half.holds.packets stands in
@@ -136,14 +113,14 @@ module _ (w : World) (before after : List Move) (half : After w (before ++ after
         covers = cover_is whole.ground f.extent (generation_of answer.to f.generation) end cover;
         acked = λ offset group p. acked_within whole.ground f.extent (generation_of answer.to f.generation) end cover whole.holds.sound offset group
             (told (run_moves (before ++ after) w) whole.ground whole.holds (Acked f.extent offset group) p);
-        held = λ n r there place. held_at whole.ground f.extent (generation_of answer.to f.generation) end cover whole.holds.sound n r
+        held = λ n r there place. held_at whole.ground f.extent end (all_had whole.ground f.extent (generation_of answer.to f.generation) end cover) whole.holds.sound n r
             (subst (FineReplica whole.ground n f.extent) there (whole.holds.replicas n f.extent)) place;
-        sealed = λ other p. sealed_beyond whole.ground f.extent (generation_of answer.to f.generation) end cover whole.holds.sound other
+        sealed = λ other p. sealed_beyond whole.ground f.extent end (all_had whole.ground f.extent (generation_of answer.to f.generation) end cover) whole.holds.sound other
             (told (run_moves (before ++ after) w) whole.ground whole.holds (SealedAt f.extent other) p);
         not_below = later_not_below f.extent (generation_of answer.to f.generation) end f.covers;
       }
 
-  extent_stays : (e : ℕ) (x : Extent) → (run_moves before w).book.extent e ≡ Some x → Stays x ((run_moves (before ++ after) w).book.extent e)
+  pub extent_stays : (e : ℕ) (x : Extent) → (run_moves before w).book.extent e ≡ Some x → Stays x ((run_moves (before ++ after) w).book.extent e)
   extent_stays e x is =
       let v = run_moves (before ++ after) w in
       let old : half.ground.places e ≡ Some x.places = half.holds.book.places e ∙ ap places_of is in
@@ -155,7 +132,7 @@ module _ (w : World) (before after : List Move) (half : After w (before ++ after
       by_extent None p fence = absurd cc
       by_extent (Some y) p fence = record { now = y; is = refl; places = (let c : y.places ≡ x.places = cc in c); fence = fence y refl }
 
-  appended_above : (e : ℕ) (x : Extent) (i : ℕ) (o : Origin) → (run_moves before w).book.extent e ≡ Some x → slice_get (whole.ground.origin e) i ≡ Some o →
+  pub appended_above : (e : ℕ) (x : Extent) (i : ℕ) (o : Origin) → (run_moves before w).book.extent e ≡ Some x → slice_get (whole.ground.origin e) i ≡ Some o →
       x.fence ≤ o.generation
   appended_above e x i o is there =
       let old : half.ground.places e ≡ Some x.places = half.holds.book.places e ∙ ap places_of is in
@@ -163,7 +140,7 @@ module _ (w : World) (before after : List Move) (half : After w (before ++ after
       let m = each-get (λ y. whole.ground.born e ≤ y.generation) (whole.ground.origin e) i o (whole.holds.sound.born e) there in
       omega (arith, m, born)
 
-  hold : FencesHold before after w
+  abbrev pub hold : FencesHold before after w
   hold = record {
     stays = extent_stays;
     above = appended_above;

@@ -22,7 +22,8 @@ use Rattle.model.proofs.Tests.{if_elim}
 use Rattle.laws_streams.specs.Origins.{LeastTold}
 use Rattle.laws_streams.proofs.Lists.{begins_refl}
 use Rattle.laws_streams.proofs.Tests.{at_most, above, or_left, or_right, changed_elim, changed-same, Each, each-append}
-use Rattle.laws_streams.proofs.Ground.{Ground, Sound, FineSeal, FinePacket, no_more, Later}
+use Rattle.laws_streams.proofs.Ground.{Ground, Sound, FineSeal, FinePacket}
+use Rattle.laws_streams.proofs.Growing.{no_more, Later}
 use Rattle.laws_streams.proofs.Holding.{places_of, sealed_of, FineReport, FineReports, FineReportsOf, FineBook, reports_later}
 use Rattle.laws_streams.proofs.Keeping.{each_all, Rules, plain_rule, silent_rule, refused_rule}
 
@@ -237,6 +238,8 @@ module _ (told : List Note) (g : Ground) (b : Book) (sound : Sound g) (book : Fi
   unfolding sealing
   sealing_sound = record {
     none_empty = sound.none_empty;
+    short = sound.short;
+    whole = sound.whole;
     aged = sound.aged;
     born = sound.born;
     unmade = sound.unmade;

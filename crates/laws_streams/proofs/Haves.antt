@@ -14,8 +14,9 @@ use Rattle.model.specs.Maps.{changed}
 use Rattle.model.specs.Node.{Replica, is_open, covered, lesser, greater, acked, answers, answered, answered_if, have_row}
 use Rattle.model.proofs.Tests.{if_elim, both_parts}
 use Rattle.laws_streams.proofs.Lists.{begins_refl, stands_end}
-use Rattle.laws_streams.proofs.Tests.{at_most, above, tested, changed_elim, changed-same, Each, each-weaker, EachPair}
-use Rattle.laws_streams.proofs.Ground.{Ground, Sound, FineAppend, FinePacket, FineNote, Chain, FinePhase, FineOne, check_later, no_more, Later, Still}
+use Rattle.laws_streams.proofs.Tests.{at_most, above, tested, changed_elim, changed-same, Each, each-weaker, EachPair, each-drop}
+use Rattle.laws_streams.proofs.Ground.{Ground, Sound, FineAppend, FinePacket, FineNote, Chain, FinePhase, FineWaiting, FineOne}
+use Rattle.laws_streams.proofs.Growing.{check_later, waits_later, no_more, Later, Still}
 use Rattle.laws_streams.proofs.Holding.{Moment, FineRow}
 use Rattle.laws_streams.proofs.Keeping.{Keeps, each_all, kept_silent, open_phase, sound_later}
 
@@ -151,7 +152,7 @@ module _ (now : Moment) (g : Ground) (n e : ℕ) (r : Replica) (sound : Sound g)
 
   acking_sound : Sound (acking g e up_to)
   unfolding acking
-  acking_sound = sound_later g _ sound acking_later (λ k. refl) (λ k. refl) sound.none_empty sound.aged sound.born
+  acking_sound = sound_later g _ sound acking_later (λ k. refl) (λ k. refl) sound.none_empty sound.short sound.whole sound.aged sound.born
       (λ k m. (
         (sound.unmade k m).0,
         changed_elim (λ x. x ≡ 0) e up_to g.acked k
@@ -199,8 +200,10 @@ module _ (now : Moment) (g : Ground) (n e : ℕ) (r : Replica) (sound : Sound g)
           third_has = fine.third_has;
           fence = fine.fence;
           born = fine.born;
-          check = check_later g (acking g e up_to) acking_later n e r.content.places r.content.fence r.check fine.check;
+          check = check_later g (acking g e up_to) acking_later n e r.content.places r.content.fence (λ i. refl) refl r.check fine.check;
           waiting = λ i. rw s (chain_drop (g.script e) (g.acked e) (count_of r) r.waiting chain);
+          waits = each-drop (FineWaiting (acking g e up_to) n e) (count_of r) r.waiting (waits_later g (acking g e up_to) acking_later n e r.waiting fine.waits);
+          target = fine.target;
         };
         packets = answers_fine (acking g e up_to) n e (leaving r);
         asked = λ p c. inl c;
@@ -232,6 +235,8 @@ have_keeps now g n e l r p sound notes fine told_have =
       phase = fine.phase;
       third_has = fine.third_has;
       waiting = fine.waiting;
+      waits = fine.waits;
+      target = fine.target;
       fence = fine.fence;
       born = fine.born;
       check = fine.check;
@@ -246,6 +251,8 @@ have_keeps now g n e l r p sound notes fine told_have =
       phase = fine.phase;
       second_has = fine.second_has;
       waiting = fine.waiting;
+      waits = fine.waits;
+      target = fine.target;
       fence = fine.fence;
       born = fine.born;
       check = fine.check;

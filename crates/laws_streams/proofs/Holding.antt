@@ -18,7 +18,8 @@ use Rattle.model.specs.World.{World, after_row, after_ruling, unsent, halted, de
 use Rattle.model.proofs.Tests.{if_elim}
 use Rattle.laws_streams.specs.Origins.{Origin}
 use Rattle.laws_streams.proofs.Tests.{Each, each-append, each-weaker, contains_left, EachPair, pairs-append, changed_at_elim}
-use Rattle.laws_streams.proofs.Ground.{Ground, Sound, FinePacket, FineNote, FineReplica, Later, Still, packet_later, note_later, replica_later}
+use Rattle.laws_streams.proofs.Ground.{Ground, Sound, FinePacket, FineNote, FineReplica}
+use Rattle.laws_streams.proofs.Growing.{Later, Still, packet_later, note_later, replica_later}
 
 -- ---- the world
 
@@ -203,6 +204,8 @@ stopped_fine g n e (Some r) f = record {
   second_has = omega arith;
   third_has = omega arith;
   waiting = λ i. tt;
+  waits = tt;
+  target = f.target;
   fence = f.fence;
   born = f.born;
   check = tt;

@@ -3,7 +3,9 @@ use Rattle.std.proofs.Common.{◌≡◌, ℕ, ◌≤◌, true, false, List, [], 
 use Rattle.blocks.specs.declared.record.Nodes.{Nodes}
 use Rattle.blocks.specs.declared.record.Record.{Record}
 use Rattle.wire.specs.declared.actor.ReqNo.{ReqNo}
+use Rattle.wire.specs.declared.actor.ActorId.{ActorId}
 use Rattle.wire.specs.declared.actor.ActorId.TheVariants.{Node, Manager}
+use Rattle.wire.specs.declared.body.Body.{Body}
 use Rattle.wire.specs.declared.body.AppendBody.TheVariants.{Refused}
 use Rattle.wire.specs.declared.body.Body.TheVariants as bodies
 use Rattle.wire.specs.declared.note.Note.{Note}
@@ -11,7 +13,7 @@ use Rattle.wire.specs.declared.packet.Packet.{Packet}
 use Rattle.wire.specs.declared.refusal.Refusal.{Refusal}
 use Rattle.replica.specs.declared.phase.Phase.{Phase}
 use Rattle.replica.specs.declared.phase.Phase.TheVariants as phases
-use Rattle.replica.specs.Groups.{Group}
+use Rattle.replica.specs.Groups.{Group, text_length}
 use Rattle.model.specs.Honest.{Apart}
 use Rattle.model.specs.Maps.{changed_at}
 use Rattle.model.specs.Manager.{Book}
@@ -19,7 +21,8 @@ use Rattle.model.specs.Node.{Replica, is_open}
 use Rattle.model.specs.Outcome.{Outcome, packet, silent, sends, refused, or_refused}
 use Rattle.laws_streams.proofs.Lists.{NoneEmpty}
 use Rattle.laws_streams.proofs.Tests.{changed_at_elim, Each, EachPair}
-use Rattle.laws_streams.proofs.Ground.{Ground, Sound, FinePacket, FineNote, FinePhase, FineOne, FineReplica, Later, later_refl, still_refl}
+use Rattle.laws_streams.proofs.Ground.{Ground, EndsAt, longest, Sound, FinePacket, FineNote, FinePhase, FineOne, FineReplica}
+use Rattle.laws_streams.proofs.Growing.{Later, later_refl, still_refl}
 use Rattle.laws_streams.proofs.Holding.{FineBook, Moment, FineRow, FineRuling}
 
 abbrev pub Keeps : Moment → Ground → ℕ → ℕ → Outcome (Option Replica) → Type 0
@@ -66,6 +69,10 @@ pub unless_refused : (now : Moment) (g : Ground) (n e : ℕ) (s : Option Replica
 unless_refused now g n e s p q (Some c) o sound replica taken = sent now g n e s (packet (Node n) p.from (bodies.Append (Refused q c)) ∷ []) sound replica (tt, tt)
 unless_refused now g n e s p q None o sound replica taken = taken refl
 
+-- a packet that is delivered to an actor, with this body
+pub packet_is : (p : Packet) (to : ActorId) (body : Body) → p.to ≡ to → p.body ≡ body → p ≡ packet p.from to body
+packet_is p to body t b = rw (← t, ← b) refl
+
 -- ---- open replicas
 
 pub open_is : (phase : Phase) → is_open phase ≡ true → phase ≡ phases.Open
@@ -84,13 +91,15 @@ phase_open g n e at groups phase t f = subst (λ x. FinePhase g n e at groups x)
 
 -- the sum of facts that hold when the ground grows and no append is acknowledged
 pub sound_later : (g h : Ground) → Sound g → Later g h → ((k : ℕ) → h.places k ≡ g.places k) → ((k : ℕ) → h.sealed k ≡ g.sealed k) →
-    ((k : ℕ) → NoneEmpty (h.script k)) → ((k : ℕ) → length (h.origin k) ≡ length (h.script k)) →
+    ((k : ℕ) → NoneEmpty (h.script k)) → ((k : ℕ) → text_length (h.script k) ≤ longest) → ((n k : ℕ) → EndsAt (h.script k) (h.last n k)) → ((k : ℕ) → length (h.origin k) ≡ length (h.script k)) →
     ((k : ℕ) → Each (λ x. h.born k ≤ x.generation) (h.origin k)) →
     ((k : ℕ) → g.places k ≡ None → (h.script k ≡ []) × (h.acked k ≡ 0) × (h.fence k ≡ 0)) →
     ((k : ℕ) (at : Nodes) → g.places k ≡ Some at → (h.acked k ≤ h.last at.primary k) × (h.acked k ≤ h.last at.second k) × (h.acked k ≤ h.last at.third k)) →
     Sound h
-sound_later g h sound later places sealed none_empty aged born unmade all_had = record {
+sound_later g h sound later places sealed none_empty short whole aged born unmade all_had = record {
   none_empty = none_empty;
+  short = short;
+  whole = whole;
   aged = aged;
   born = born;
   unmade = λ k m. unmade k (sym (places k) ∙ m);

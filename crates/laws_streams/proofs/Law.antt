@@ -1,5 +1,5 @@
 -- Each run keeps the invariant, whatever the servers do.
-use Rattle.std.proofs.Common.{◌≡◌, ℕ, zero, suc, List, [], ◌∷◌, ◌++◌, length, map, take, Some, slice_get, refl, sym, ap, ◌∙◌, subst, append_assoc, append-nil, arith, length-append}
+use Rattle.std.proofs.Common.{◌≡◌, ℕ, zero, suc, List, [], ◌∷◌, ◌++◌, length, map, take, Some, slice_get, refl, sym, ◌∙◌, subst, append_assoc, append-nil, arith, length-append}
 use Rattle.wire.specs.declared.packet.Packet.{Packet}
 use Rattle.model.specs.declared.event.Event.{Event}
 use Rattle.model.specs.declared.event.Event.TheVariants.{Deliver, Decide}
@@ -7,7 +7,9 @@ use Rattle.model.specs.Honest.{Agree, Kept}
 use Rattle.model.specs.World.{World, happens, run, start, Move, moved, run_moves}
 use Rattle.model.specs.World.Move.{Happens}
 use Rattle.laws_streams.specs.Origins.{event_of, course, course_of_moves, Came, Decided, Origins, OriginsOfMoves}
-use Rattle.laws_streams.proofs.Ground.{Ground, later_refl, later_trans}
+use Rattle.laws_streams.proofs.Lists.{take_past, get_next}
+use Rattle.laws_streams.proofs.Ground.{Ground}
+use Rattle.laws_streams.proofs.Growing.{later_refl, later_trans}
 use Rattle.laws_streams.proofs.Dates.{Comes}
 use Rattle.laws_streams.proofs.Deciding.{SealsNow}
 use Rattle.laws_streams.proofs.Steps.{Good, Next, good_next, moved_good, start_good}
@@ -27,14 +29,6 @@ run_moves_push (x ∷ past) move w = run_moves_push past move (moved w x)
 pub run_is_moves : (events : List Event) (w : World) → run events w ≡ run_moves (map Happens events) w
 run_is_moves [] w = refl
 run_is_moves (event ∷ events) w = run_is_moves events (happens w event)
-
-pub take_past : {A : Type 0} (past rest : List A) → take (length past) (past ++ rest) ≡ past
-take_past [] rest = refl
-take_past (x ∷ past) rest = ap (λ xs. x ∷ xs) (take_past past rest)
-
-pub get_next : {A : Type 0} (past rest : List A) (x : A) → slice_get (past ++ x ∷ rest) (length past) ≡ Some x
-get_next [] rest x = refl
-get_next (y ∷ past) rest x = get_next past rest x
 
 module _ (w : World) (moves : List Move) where
   -- what is known after these of the moves, with the dates of the whole run

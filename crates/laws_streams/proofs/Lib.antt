@@ -1,6 +1,7 @@
 pub mod Lists
 pub mod Tests
 pub mod Ground
+pub mod Growing
 pub mod Holding
 pub mod Keeping
 pub mod Appends
@@ -17,7 +18,19 @@ pub mod Steps
 pub mod Law
 pub mod Rising
 pub mod Confirming
+pub mod Lasting
 pub mod Covering
+pub mod Sending
+pub mod ManagerAnswers
+pub mod NodeAnswers
+pub mod DecisionAnswers
+pub mod StreamAnswers
+pub mod Listing
+pub mod Listings
+pub mod Askers
+pub mod SealAnswers
+pub mod Tracing
+pub mod ContentAnswers
 pub mod Examples
 pub mod SealedExamples
 pub mod CheckExamples

@@ -1,5 +1,5 @@
 -- Lists of groups that begin one another, and what is shown of a text.
-use Rattle.std.proofs.Common.{◌≡◌, ℕ, ◌+◌, ◌<◌, ◌≤◌, List, [], ◌∷◌, ◌++◌, length, get_or, take, drop, refl, sym, ap, subst, ◌∙◌, append_assoc, append-nil, arith, length-append, length-take, length-drop}
+use Rattle.std.proofs.Common.{◌≡◌, ℕ, zero, suc, ◌+◌, ◌<◌, ◌≤◌, Some, slice_get, List, [], ◌∷◌, ◌++◌, length, get_or, take, drop, refl, sym, ap, subst, ◌∙◌, append_assoc, append-nil, arith, length-append, length-take, length-drop}
 use Rattle.std.proofs.lemmas.Grind.{common_steps}
 use Rattle.replica.specs.Groups.{Group, joined, text, size, text_length}
 use Rattle.replica.proofs.Lengths.{text-append}
@@ -23,6 +23,28 @@ begins_push xs ys = record { rest = ys; is = refl }
 
 pub begins_length : {xs ys : List Group} → Begins xs ys → text_length xs ≤ text_length ys
 begins_length {xs} {ys} b = rw (b.is, text_length-append xs b.rest) (omega arith)
+
+-- ---- elements
+
+pub take_past : {A : Type 0} (past rest : List A) → take (length past) (past ++ rest) ≡ past
+take_past [] rest = refl
+take_past (x ∷ past) rest = ap (λ xs. x ∷ xs) (take_past past rest)
+
+pub get_next : {A : Type 0} (past rest : List A) (x : A) → slice_get (past ++ x ∷ rest) (length past) ≡ Some x
+get_next [] rest x = refl
+get_next (y ∷ past) rest x = get_next past rest x
+
+pub get_left : {A : Type 0} (xs ys : List A) (i : ℕ) (x : A) → slice_get xs i ≡ Some x → slice_get (xs ++ ys) i ≡ Some x
+get_left [] ys i x is = absurd cc
+get_left (y ∷ xs) ys zero x is = is
+get_left (y ∷ xs) ys (suc i) x is = get_left xs ys i x is
+
+pub take_left : {A : Type 0} (xs ys : List A) (i : ℕ) (x : A) → slice_get xs i ≡ Some x → take i (xs ++ ys) ≡ take i xs
+take_left [] ys i x is = absurd cc
+take_left (y ∷ xs) ys zero x is = refl
+take_left (y ∷ xs) ys (suc i) x is = ap (λ zs. y ∷ zs) (take_left xs ys i x is)
+
+-- ---- beginnings of scripts
 
 -- each group has a byte
 abbrev pub NoneEmpty : List Group → Type 0
@@ -75,6 +97,19 @@ stands_last c g = record { before = c; after = []; split = refl; place = refl }
 pub stands_end : {g : Group} {o : ℕ} {s : List Group} → Stands g o s → o + size g ≤ text_length s
 stands_end {g} {o} {s} h =
     omega (arith, ap text_length h.split, text_length-append h.before (g ∷ h.after), text_length-cons g h.after, h.place)
+
+-- what stands at an index stands where the groups before it end
+pub stands_index : (s : List Group) (i : ℕ) (g : Group) → slice_get s i ≡ Some g → Stands g (text_length (take i s)) s
+stands_index [] i g is = absurd cc
+stands_index (x ∷ xs) zero g is = record { before = []; after = xs; split = (let c : x ≡ g = cc in ap (λ y. y ∷ xs) c); place = refl }
+stands_index (x ∷ xs) (suc i) g is =
+    let r = stands_index xs i g is in
+    record {
+      before = x ∷ r.before;
+      after = r.after;
+      split = ap (λ ys. x ∷ ys) r.split;
+      place = omega (arith, r.place, text_length-cons x r.before, text_length-cons x (take i xs));
+    }
 
 -- ---- bytes of a text
 

@@ -18,15 +18,16 @@ use Rattle.wire.specs.declared.streams.StreamKind.TheVariants.{Metadata, Log, Ro
 use Rattle.wire.specs.declared.streams.StreamName.{StreamName}
 use Rattle.streams.specs.Streams.{kind_number, Stream, Streams, empty_stream, stream_of, with_stream, passes, all_pass, fenced_at, behind, extending, last_of, longer, extended_if, extended as extended_streams}
 use Rattle.model.specs.declared.event.Event.{Event}
-use Rattle.model.specs.declared.event.Event.TheVariants.{Submit, Deliver, Stop, Restart, Decide}
+use Rattle.model.specs.declared.event.Event.TheVariants.{Submit, Deliver, Stop, Restart, Decide, GiveUp, Assign}
+use Rattle.model.specs.declared.event.Event.TheVariants as events
 use Rattle.model.specs.declared.extent.Extent.{Extent}
 use Rattle.model.specs.declared.extent.PlaceReport.{PlaceReport}
 use Rattle.model.specs.Actors.{is_node, is_user, generation_of}
 use Rattle.model.specs.Manager.{Book, is_there, forgotten_if, book_stopped, new_extent, with_extent, extended, create_tests, create_refusal, create_taken, open_tests, open_refusal, open_taken, confirm_refusal, answer, is_foreign, is_pick, sealed_lengths, extend_made, last_told, extend_answered, extend_row, no_users, seal_asked, seal_extent_row, with_report, noted, frozen_to, frozen_row, known_sealed, is_sealed_row, place_of, first_sealed, asks_tail, short_row, decided_if, least_told, decide_row, stream_body_row, seal_body_row, manager_row, reminders}
 use Rattle.model.specs.Node.{extent_of, node_row}
 use Rattle.model.specs.Outcome.{Outcome, silent, sends, refused, or_refused}
-use Rattle.model.specs.World.{World, stops_in, stands_in, halted, node_does, node_takes, desk_halted, manager_does, delivered, delivered_if, is_request, node_stops, manager_stops, stop, is_present, restart, happens, is_server_call, is_told, Move, moved, run_moves}
-use Rattle.model.specs.World.Move.{Happens, Asks, Says}
+use Rattle.model.specs.World.{World, stops_in, stands_in, halted, node_does, node_takes, desk_halted, manager_does, delivered, delivered_if, is_request, node_stops, manager_stops, stop, is_present, restart, happens, is_server_call, is_told, is_table_note, Move, moved, run_moves}
+use Rattle.model.specs.World.Move.{Happens, Asks, Says, Observes}
 use Rattle.model.proofs.Tests.{if_elim, both_parts, none_met}
 use Rattle.laws_streams.specs.Fences.{Risen, FencesRise, MadeWithFences}
 use Rattle.laws_streams.proofs.Tests.{is_below, not_true, tested, changed_elim}
@@ -72,18 +73,18 @@ with_rises streams s y low t x is =
     record { now = y; is = refl; fence = low x (rw (← r, ← n) is) })
     (λ k. same_stream _ x is)
 
-with_here : (streams : Streams) (s : StreamName) (y : Stream) → stream_of (with_stream streams s y) s ≡ Some y
+pub with_here : (streams : Streams) (s : StreamName) (y : Stream) → stream_of (with_stream streams s y) s ≡ Some y
 with_here streams s y =
     if_elim (λ o. o ≡ Some y) ((s.range == s.range) && (kind_number s.kind == kind_number s.kind)) (Some y) (streams s.range (kind_number s.kind))
     (λ k. refl) (λ k. absurd (let p = eq-eqb s.range s.range refl in let q = eq-eqb (kind_number s.kind) (kind_number s.kind) refl in cc))
 
 -- ---- CreateStream
 
-not_there : {A : Type 0} (o : Option A) → is_there o ≡ false → o ≡ None
+pub not_there : {A : Type 0} (o : Option A) → is_there o ≡ false → o ≡ None
 not_there None f = refl
 not_there (Some x) f = absurd cc
 
-no_fault : (b : Bool) (x : Refusal) → is_there (if b then Some x else None) ≡ false → b ≡ false
+pub no_fault : (b : Bool) (x : Refusal) → is_there (if b then Some x else None) ≡ false → b ≡ false
 no_fault true x f = absurd cc
 no_fault false x f = refl
 
@@ -343,11 +344,15 @@ happens_goes w (Restart actor) = restart_goes w actor
 happens_goes w (Decide e) =
     if_elim (Goes w) w.desk.up (manager_does w (decide_row w.book e (w.book.extent e))) w
     (λ t. manager_goes w (decide_row w.book e (w.book.extent e)) (decide_onward w.book e (w.book.extent e) refl)) (λ f. onward_refl w.book)
+happens_goes w (GiveUp server range pick) = onward_refl w.book
+happens_goes w (Assign range server until) = onward_refl w.book
+happens_goes w (events.Moment now) = onward_refl w.book
 
 moved_goes : (w : World) (move : Move) → Goes w (moved w move)
 moved_goes w (Happens event) = happens_goes w event
 moved_goes w (Asks server to body) = if_elim (Goes w) (is_server_call body) _ w (λ _. onward_refl w.book) (λ _. onward_refl w.book)
 moved_goes w (Says from to body) = if_elim (Goes w) (is_told body) _ w (λ _. onward_refl w.book) (λ _. onward_refl w.book)
+moved_goes w (Observes note) = if_elim (Goes w) (is_table_note note) _ w (λ _. onward_refl w.book) (λ _. onward_refl w.book)
 
 -- ---- runs
 

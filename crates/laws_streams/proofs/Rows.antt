@@ -25,15 +25,15 @@ use Rattle.laws_streams.proofs.Checks.{check_keeps, probe_keeps, probed_keeps}
 use Rattle.laws_streams.proofs.Readings.{read_keeps, groups_keep}
 use Rattle.laws_streams.proofs.Sealing.{freeze_keeps, seal_keeps, send_tail_keeps, tail_keeps}
 
-append_body_keeps : (now : Moment) (g : Ground) (n : ℕ) (s : Option Replica) (b : AppendBody) → now.packet.body ≡ bodies.Append b → Sound g → Each (FineNote g) now.told →
+append_body_keeps : (now : Moment) (g : Ground) (n : ℕ) (s : Option Replica) (b : AppendBody) → now.packet.to ≡ Node n → now.packet.body ≡ bodies.Append b → Sound g → Each (FineNote g) now.told →
     FineReplica g n (append_extent b) s → FineAppend g now.packet.from b → Keeps now g n (append_extent b) (append_body_row n s now.packet b)
-append_body_keeps now g n (Some r) (Append e generation blocks q) is sound notes fine body = append_keeps now g n e generation r blocks q sound fine is
-append_body_keeps now g n None (Append e generation blocks q) is sound notes fine body = sent now g n e None _ sound fine (tt, tt)
-append_body_keeps now g n (Some r) (Put e offset group) is sound notes fine body = put_keeps now g n e offset r now.packet group sound fine body
-append_body_keeps now g n None (Put e offset group) is sound notes fine body = sent now g n e None _ sound fine (tt, tt)
-append_body_keeps now g n (Some r) (Have e length) is sound notes fine body = have_keeps now g n e length r now.packet sound notes fine body
-append_body_keeps now g n None (Have e length) is sound notes fine body = sent now g n e None _ sound fine (tt, tt)
-append_body_keeps now g n s b is sound notes fine body = kept_silent now g n (append_extent b) s sound fine
+append_body_keeps now g n (Some r) (Append e generation blocks q) to is sound notes fine body = append_keeps now g n e generation r blocks q sound fine to is
+append_body_keeps now g n None (Append e generation blocks q) to is sound notes fine body = sent now g n e None _ sound fine (tt, tt)
+append_body_keeps now g n (Some r) (Put e offset group) to is sound notes fine body = put_keeps now g n e offset r now.packet group sound fine body
+append_body_keeps now g n None (Put e offset group) to is sound notes fine body = sent now g n e None _ sound fine (tt, tt)
+append_body_keeps now g n (Some r) (Have e length) to is sound notes fine body = have_keeps now g n e length r now.packet sound notes fine body
+append_body_keeps now g n None (Have e length) to is sound notes fine body = sent now g n e None _ sound fine (tt, tt)
+append_body_keeps now g n s b to is sound notes fine body = kept_silent now g n (append_extent b) s sound fine
 
 check_body_keeps : (now : Moment) (g : Ground) (n : ℕ) (s : Option Replica) (b : CheckBody) → now.packet.to ≡ Node n → now.packet.body ≡ bodies.Check b → Sound g →
     FineReplica g n (check_extent b) s → FineCheckBody g now.packet.from now.packet.to b → Keeps now g n (check_extent b) (check_body_row n s now.packet b)
@@ -72,7 +72,7 @@ read_body_keeps now g n s b sound fine = kept_silent now g n (read_extent b) s s
 
 body_keeps : (now : Moment) (g : Ground) (n : ℕ) (s : Option Replica) (b : Body) → now.packet.to ≡ Node n → now.packet.body ≡ b → Sound g → Each (FineNote g) now.told →
     FineReplica g n (extent_of b) s → FineBody g now.packet.from now.packet.to b → Keeps now g n (extent_of b) (node_row n s now.packet b)
-body_keeps now g n s (bodies.Append b) to is sound notes fine body = append_body_keeps now g n s b is sound notes fine body
+body_keeps now g n s (bodies.Append b) to is sound notes fine body = append_body_keeps now g n s b to is sound notes fine body
 body_keeps now g n s (bodies.Check b) to is sound notes fine body = check_body_keeps now g n s b to is sound fine body
 body_keeps now g n s (bodies.Seal b) to is sound notes fine body = seal_body_keeps now g n s b sound fine body
 body_keeps now g n s (bodies.Read b) to is sound notes fine body = read_body_keeps now g n s b sound fine

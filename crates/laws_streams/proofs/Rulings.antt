@@ -25,7 +25,8 @@ use Rattle.model.specs.Outcome.{silent, refused, or_refused}
 use Rattle.model.proofs.Tests.{if_elim}
 use Rattle.laws_streams.proofs.Lists.{begins_refl}
 use Rattle.laws_streams.proofs.Tests.{changed_elim, changed-same, changed-other, Each}
-use Rattle.laws_streams.proofs.Ground.{Ground, Sound, FineSeal, FineBody, no_more, Later}
+use Rattle.laws_streams.proofs.Ground.{Ground, Sound, FineSeal, FineBody}
+use Rattle.laws_streams.proofs.Growing.{no_more, Later}
 use Rattle.laws_streams.proofs.Holding.{places_of, sealed_of, FineReportsOf, FineBook, reports_later}
 use Rattle.laws_streams.proofs.Keeping.{told_nothing, Rules, written_rule, plain_rule, silent_rule, refused_rule}
 use Rattle.laws_streams.proofs.Deciding.{seal_extent_keeps, frozen_keeps, is_sealed_keeps, short_keeps}
@@ -92,6 +93,8 @@ module _ (News : ℕ → ℕ → Type 0) (told : List Note) (g : Ground) (b : Bo
       let none = sound.unmade (suc b.count) unmade_next in
       record {
         none_empty = sound.none_empty;
+        short = sound.short;
+        whole = sound.whole;
         aged = sound.aged;
         born = λ k. changed_elim (λ x. Each (λ y. x ≤ y.generation) (g.origin k)) (suc b.count) fence g.born k
             (λ q. each_of_none _ (g.origin k) (sound.aged k ∙ ap (λ (x : List Group). length x) (ap g.script q ∙ none.0))) (λ o. sound.born k);

@@ -20,7 +20,8 @@ use Rattle.model.proofs.Tests.{if_elim, both_parts, none_met}
 use Rattle.laws_streams.specs.Origins.{Begins}
 use Rattle.laws_streams.proofs.Lists.{begins_refl, begins_trans, same_beginning}
 use Rattle.laws_streams.proofs.Tests.{not_true, tested, changed_at_elim, changed_at-same, changed_at-other, Each}
-use Rattle.laws_streams.proofs.Ground.{Ground, Sound, FineTail, FinePacket, FinePhase, FineOne, FineReplica, no_more, Later}
+use Rattle.laws_streams.proofs.Ground.{Ground, Sound, FineTail, FinePacket, FinePhase, FineOne, FineReplica}
+use Rattle.laws_streams.proofs.Growing.{no_more, Later}
 use Rattle.laws_streams.proofs.Holding.{Moment, FineRow}
 use Rattle.laws_streams.proofs.Keeping.{Keeps, sent, kept_silent, unless_refused, told_nothing, sound_later}
 use Rattle.laws_streams.proofs.Readings.{prefix_fine, sealed_length}
@@ -47,7 +48,7 @@ module _ (g : Ground) (n e : ℕ) (sound : Sound g) where
 
   closing_sound : Sound (closing g n e)
   unfolding closing
-  closing_sound = sound_later g _ sound closing_later (λ k. refl) (λ k. refl) sound.none_empty sound.aged sound.born sound.unmade sound.all_had
+  closing_sound = sound_later g _ sound closing_later (λ k. refl) (λ k. refl) sound.none_empty sound.short sound.whole sound.aged sound.born sound.unmade sound.all_had
 
   -- a row that closes the replica and observes nothing
   closes_keep : (now : Moment) (s : Option Replica) (written : Option Record) (packets : List Packet) →
@@ -83,6 +84,8 @@ module _ (g : Ground) (n e : ℕ) (sound : Sound g) where
     second_has = omega arith;
     third_has = omega arith;
     waiting = λ i. tt;
+    waits = tt;
+    target = f.target;
     fence = f.fence;
     born = f.born;
     check = tt;
@@ -99,6 +102,8 @@ module _ (g : Ground) (n e : ℕ) (sound : Sound g) where
     second_has = omega arith;
     third_has = omega arith;
     waiting = λ i. tt;
+    waits = tt;
+    target = f.target;
     fence = f.fence;
     born = f.born;
     check = tt;

@@ -1,5 +1,5 @@
 -- Each event keeps the invariant, and so does whatever a server asks.
-use Rattle.std.proofs.Common.{◌≡◌, ℕ, suc, Bool, true, false, not, ◌||◌, ◌==◌, List, [], ◌∷◌, Option, Some, None, slice_get, Contains, refl, ap, inl, inr, arith}
+use Rattle.std.proofs.Common.{◌≡◌, ℕ, suc, Bool, true, false, not, ◌||◌, ◌==◌, List, [], ◌∷◌, ◌++◌, Option, Some, None, slice_get, Contains, refl, ap, inl, inr, arith}
 use Rattle.wire.specs.declared.actor.ActorId.{ActorId}
 use Rattle.wire.specs.declared.actor.ActorId.TheVariants.{Node, Manager, Map, Server, User}
 use Rattle.wire.specs.declared.body.AppendBody.{AppendBody}
@@ -10,20 +10,25 @@ use Rattle.wire.specs.declared.body.SealBody.{SealBody}
 use Rattle.wire.specs.declared.body.SealBody.TheVariants as seals
 use Rattle.wire.specs.declared.body.Body.{Body}
 use Rattle.wire.specs.declared.body.Body.TheVariants as bodies
+use Rattle.wire.specs.declared.note.Note.{Note}
+use Rattle.wire.specs.declared.note.Note.TheVariants.{Acked, SealedAt, Content, Seen}
 use Rattle.wire.specs.declared.packet.Packet.{Packet}
 use Rattle.replica.specs.Groups.{Group}
 use Rattle.model.specs.declared.event.Event.{Event}
-use Rattle.model.specs.declared.event.Event.TheVariants.{Submit, Deliver, Stop, Restart, Decide}
+use Rattle.model.specs.declared.event.Event.TheVariants.{Submit, Deliver, Stop, Restart, Decide, GiveUp, Assign}
+use Rattle.model.specs.declared.event.Event.TheVariants as events
+use Rattle.model.specs.Honest.{Apart}
 use Rattle.model.specs.Maps.{changed}
 use Rattle.model.specs.Manager.{Book, manager_row, decide_row}
 use Rattle.model.specs.Node.{Replica, extent_of, node_row}
 use Rattle.model.specs.Outcome.{Outcome, packet}
-use Rattle.model.specs.World.{Cell, World, running, armed, stops_in, stands_in, burnt, unsent, halted, after_row, node_does, node_takes, desk_halted, after_ruling, manager_does, manager_takes, decides, node_stops, manager_stops, stop, is_present, restart, sent_more, delivered, delivered_if, is_append, is_seal, is_request, happens, start, is_check, is_server_call, is_refusal, is_told, Move, moved}
-use Rattle.model.specs.World.Move.{Happens, Asks, Says}
+use Rattle.model.specs.World.{Cell, World, running, armed, stops_in, stands_in, burnt, unsent, halted, after_row, node_does, node_takes, desk_halted, after_ruling, manager_does, manager_takes, decides, node_stops, manager_stops, stop, is_present, restart, sent_more, delivered, delivered_if, is_append, is_seal, is_request, happens, start, is_check, is_server_call, is_refusal, is_told, is_table_note, Move, moved}
+use Rattle.model.specs.World.Move.{Happens, Asks, Says, Observes}
 use Rattle.model.proofs.Tests.{if_elim}
 use Rattle.laws_streams.specs.Origins.{Origin}
-use Rattle.laws_streams.proofs.Tests.{Each, each-append, each-get, contains_get, contains_left}
-use Rattle.laws_streams.proofs.Ground.{Ground, FineAppend, FineCheckBody, FineSeal, FineBody, FinePacket, Later, later_refl}
+use Rattle.laws_streams.proofs.Tests.{Each, each-append, pairs-append, each-get, contains_get, contains_left}
+use Rattle.laws_streams.proofs.Ground.{Ground, FineNote, FineAppend, FineCheckBody, FineSeal, FineBody, FinePacket}
+use Rattle.laws_streams.proofs.Growing.{Later, later_refl}
 use Rattle.laws_streams.proofs.Holding.{Holds, Moment, FineRow, row_holds, row_unsent, FineRuling, ruling_holds, ruling_unsent, halted_holds, desk_halted_holds}
 use Rattle.laws_streams.proofs.Rows.{node_keeps}
 use Rattle.laws_streams.proofs.Deciding.{SealsNow, decide_keeps}
@@ -64,6 +69,34 @@ sent_holds w packets g a fine = record {
   asked = λ p c. contains_left w.post packets p (a.asked p c);
   notes = a.notes;
   apart = a.apart;
+  replicas = a.replicas;
+  book = a.book;
+}
+
+-- ---- what servers and the map show
+
+shown_fine : (g : Ground) (note : Note) → is_table_note note ≡ true → FineNote g note
+shown_fine g (Acked e o group) t = absurd cc
+shown_fine g (SealedAt e l) t = absurd cc
+shown_fine g (Content e n groups) t = absurd cc
+shown_fine g (Seen e n o bytes) t = absurd cc
+shown_fine g note t = tt
+
+shown_apart : (x note : Note) → is_table_note note ≡ true → Apart x note
+shown_apart (Acked e o group) (Acked f p other) t = absurd cc
+shown_apart x note t = tt
+
+apart_from_all : (notes : List Note) (note : Note) → is_table_note note ≡ true → Each (λ x. Each (Apart x) (note ∷ [])) notes
+apart_from_all [] note t = tt
+apart_from_all (x ∷ notes) note t = ((shown_apart x note t, tt), apart_from_all notes note t)
+
+shown_holds : (w : World) (note : Note) → is_table_note note ≡ true → (g : Ground) → Holds w g → Holds (record w { notes = w.notes ++ note ∷ [] }) g
+shown_holds w note t g a = record {
+  sound = a.sound;
+  packets = a.packets;
+  asked = a.asked;
+  notes = each-append (FineNote g) w.notes (note ∷ []) a.notes (shown_fine g note t, tt);
+  apart = pairs-append Apart w.notes (note ∷ []) a.apart (tt, tt) (apart_from_all w.notes note t);
   replicas = a.replicas;
   book = a.book;
 }
@@ -243,6 +276,9 @@ module _ (C : ℕ → Group → Origin → Type 0) (D : ℕ → ℕ → Type 0) 
   happens_good w (Stop actor call keep) k a comes new = stop_good w actor call keep k a
   happens_good w (Restart actor) k a comes new = restart_good w actor k a
   happens_good w (Decide e) k a comes new = decides_good w e k a (λ f l. new e f l refl)
+  happens_good w (GiveUp server range pick) k a comes new = passed k w w a a.holds
+  happens_good w (Assign range server until) k a comes new = passed k w w a a.holds
+  happens_good w (events.Moment now) k a comes new = passed k w w a a.holds
 
   pub moved_good : (w : World) (move : Move) (k : ℕ) → (a : Good C D k w) →
       ((number : ℕ) (p : Packet) → move ≡ Happens (Deliver number) → slice_get w.post number ≡ Some p → Comes C (record { told = w.notes; number = k; packet = p })) →
@@ -260,12 +296,16 @@ module _ (C : ℕ → Group → Origin → Type 0) (D : ℕ → ℕ → Type 0) 
       (λ t. passed k w (sent_more w (packet from to body ∷ [])) a
       (sent_holds w (packet from to body ∷ []) a.ground a.holds (told_fine a.ground from to body t, tt)))
       (λ f. passed k w w a a.holds)
+  moved_good w (Observes note) k a comes new =
+      if_elim (Next C D (suc k) a.ground) (is_table_note note) _ w
+      (λ t. passed k w (record w { notes = w.notes ++ note ∷ [] }) a (shown_holds w note t a.ground a.holds))
+      (λ f. passed k w w a a.holds)
 
   pub start_good : (nodes target : ℕ) → Good C D 0 (start nodes target)
   start_good nodes target = record {
     ground = record { script = λ e. []; acked = λ e. 0; places = λ e. None; born = λ e. 0; sealed = λ e. None; last = λ n e. 0; closed = λ n e. false; origin = λ e. []; fence = λ e. 0; asked = [] };
     holds = record {
-      sound = record { none_empty = λ e. tt; aged = λ e. refl; born = λ e. tt; unmade = λ e m. (refl, refl, refl); all_had = λ e at m. absurd cc; noted = λ e l m. absurd cc };
+      sound = record { none_empty = λ e. tt; short = λ e. omega arith; whole = λ n e. record { front = []; begins = record { rest = []; is = refl }; ends = refl }; aged = λ e. refl; born = λ e. tt; unmade = λ e m. (refl, refl, refl); all_had = λ e at m. absurd cc; noted = λ e l m. absurd cc };
       packets = tt;
       notes = tt;
       apart = tt;

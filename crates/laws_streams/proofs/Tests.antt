@@ -1,5 +1,5 @@
 -- Choices by a test, and functions that are changed at one place.
-use Rattle.std.proofs.Common.{◌≡◌, ◌≢◌, ◌⊎◌, ℕ, zero, suc, ◌<◌, Bool, true, false, not, ◌&&◌, ◌||◌, ◌==◌, ◌≤◌, nat_lt, nat_le, List, [], ◌∷◌, ◌++◌, Some, slice_get, Contains, AllPairs, length, slice_index_or, refl, sym, inl, inr, arith, eqb-true, subst}
+use Rattle.std.proofs.Common.{◌≡◌, ◌≢◌, ◌⊎◌, ℕ, zero, suc, ◌<◌, Bool, true, false, not, ◌&&◌, ◌||◌, ◌==◌, ◌≤◌, nat_lt, nat_le, List, [], ◌∷◌, ◌++◌, Some, slice_get, Contains, AllPairs, length, drop, slice_index_or, refl, sym, inl, inr, arith, eqb-true, subst}
 use Rattle.std.proofs.lemmas.Bool.Decides.{nat_tests}
 use Rattle.model.specs.Maps.{changed, changed_at}
 use Rattle.model.proofs.Tests.{if_elim, both_parts}
@@ -99,6 +99,11 @@ pub each-at : {A : Type 0} (P : A → Type 0) (xs : List A) (k : ℕ) (d : A) �
 each-at P [] k d h a = absurd (omega arith)
 each-at P (x ∷ xs) zero d h a = a.0
 each-at P (x ∷ xs) (suc k) d h a = each-at P xs k d (omega arith) a.1
+
+pub each-drop : {A : Type 0} (P : A → Type 0) (k : ℕ) (xs : List A) → Each P xs → Each P (drop k xs)
+each-drop P zero xs a = a
+each-drop P (suc k) [] a = tt
+each-drop P (suc k) (x ∷ xs) a = each-drop P k xs a.1
 
 pub contains_get : {A : Type 0} (xs : List A) (k : ℕ) (x : A) → slice_get xs k ≡ Some x → Contains xs x
 contains_get [] k x e = absurd cc

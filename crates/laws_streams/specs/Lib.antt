@@ -1,2 +1,4 @@
 pub mod Origins
 pub mod Fences
+pub mod Answers
+pub mod Listings

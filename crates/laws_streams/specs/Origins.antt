@@ -13,7 +13,7 @@ use Rattle.model.specs.declared.extent.Extent.{Extent}
 use Rattle.model.specs.Actors.{generation_of}
 use Rattle.model.specs.Honest.{Stands}
 use Rattle.model.specs.World.{World, run, Move, run_moves}
-use Rattle.model.specs.World.Move.{Happens, Asks, Says}
+use Rattle.model.specs.World.Move.{Happens, Asks, Says, Observes}
 
 -- for which generation and with which request a group was appended, and by which event of the run, or which move, counted
 -- from 0
@@ -41,12 +41,13 @@ pub record Course : Type 0 where
 abbrev pub course : List Event → World → Course
 course events w = record { event = slice_get events; before = λ n. run (take n events) w; last = run events w }
 
--- what a server asks or tells is no event
+-- what a server asks, tells or shows is no event
 abbrev pub event_of : Option Move → Option Event
 event_of None = None
 event_of (Some (Happens event)) = Some event
 event_of (Some (Asks server to body)) = None
 event_of (Some (Says from to body)) = None
+event_of (Some (Observes note)) = None
 
 abbrev pub course_of_moves : List Move → World → Course
 course_of_moves moves w =

@@ -1,6 +1,7 @@
 //! The laws of the stream layer, over every schedule: what the network loses, repeats and reorders, what users and servers
 //! ask, and where nodes and the manager stop and come back, never makes two observations of an extent disagree, and never
-//! lets a lower generation add to an extent behind the length that a higher one was answered.
+//! lets a lower generation add to an extent behind the length that a higher one was answered; and no answer tells its asker
+//! what was not so.
 //!
 //! This crate has no code. It proves of the tables of the actors, as the crate `model` defines them, what holds of the
 //! observations of every run; the crates that run the actors cite its lemmas.
@@ -12,6 +13,8 @@ ghost use Rattle.model.specs.World.{run, start, Move, moved, run_moves};
 ghost use Rattle.model.specs.Honest.{Agree, Kept};
 ghost use Rattle.laws_streams.specs.Origins.{Origins, OriginsOfMoves};
 ghost use Rattle.laws_streams.specs.Fences.{FencesRise, MadeWithFences, Confirms, OpensIn, Settles, FencesHold};
+ghost use Rattle.laws_streams.specs.Answers.{OpeningsAnswered, ConfirmationsAnswered, ExtensionsAnswered, SealsAnswered, ContentAnswered};
+ghost use Rattle.laws_streams.specs.Listings.{ListsGrow};
 
 /// Whatever is lost, repeated or reordered, and wherever nodes and the manager stop and restart, also while they write a
 /// record: all that is shown of an extent agrees, and what is acknowledged is kept where it was acknowledged, also in what
@@ -43,4 +46,24 @@ pub fn fences()
     ensures confirmed { (nodes target range generation : ℕ) (before after : List Move) (confirming : Move) →
         Confirms (run_moves before (start nodes target)) confirming range generation → Settles before after confirming (start nodes target) range generation }
     ensures checked { (nodes target : ℕ) (before after : List Move) → FencesHold before after (start nodes target) }
+{}
+
+/// Whatever is lost, repeated, reordered or stopped, each answer belongs to a request that was asked under the same number by
+/// the one who is answered, and tells what was so when it was answered: streams as they were when this request opened them,
+/// a generation that this request confirmed, the extent that was last then or was added for this request, and the length at
+/// which an extent is sealed for good. Groups that were read begin what was appended to the extent, up to where it was asked.
+/// Blocks that were appended stand at the answered offset, as the ones of this request and its generation, and are
+/// acknowledged there: each place has them from then on, and no seal cuts them off.
+pub fn answers()
+    ensures opened { (nodes target : ℕ) (moves : List Move) → OpeningsAnswered moves (start nodes target) }
+    ensures confirmed { (nodes target : ℕ) (moves : List Move) → ConfirmationsAnswered moves (start nodes target) }
+    ensures extended { (nodes target : ℕ) (moves : List Move) → ExtensionsAnswered moves (start nodes target) }
+    ensures sealed { (nodes target : ℕ) (before after : List Move) → SealsAnswered before after (start nodes target) }
+    ensures content { (nodes target : ℕ) (before after : List Move) → ContentAnswered before after (start nodes target) }
+{}
+
+/// Whatever is lost, repeated, reordered or stopped: each extent of a stream is in the manager's book and stands in one list,
+/// once, in the order in which extents are made; each but the last of its list is sealed; and a list only grows.
+pub fn listed()
+    ensures grow { (nodes target : ℕ) (before after : List Move) → ListsGrow before after (start nodes target) }
 {}

@@ -53,7 +53,8 @@ fn copied(keys: &KeyRange) -> Result<KeyRange, AllocError>
     }
 }
 
-fn copied_indexes(alloc: Global, all: &[IndexRange]) -> Result<Vec<IndexRange>, AllocError>
+/// The same indexes again, which share their keys. An error is want of memory (22).
+pub fn copied_indexes(alloc: Global, all: &[IndexRange]) -> Result<Vec<IndexRange>, AllocError>
     ensures { IfOk result (λ copies. copies.items ≡ all.now) }
 {
     let mut copies = Vec::with_capacity(alloc, all.len())?;

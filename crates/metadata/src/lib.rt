@@ -16,7 +16,7 @@ mod reading;
 mod record;
 mod writing;
 
-pub use fold::{Metadata, copied_regions};
+pub use fold::{Metadata, copied_indexes, copied_regions};
 pub use lists::{IndexRanges, Regions};
 pub use reading::{decode, one_spelling};
 pub use record::{IndexRange, KeyRange, MetaItem, MetaRecord, Region};

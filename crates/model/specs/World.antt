@@ -20,9 +20,10 @@ use Rattle.wire.specs.declared.body.TableBody.TheVariants as tables
 use Rattle.wire.specs.declared.body.Body.{Body}
 use Rattle.wire.specs.declared.body.Body.TheVariants as bodies
 use Rattle.wire.specs.declared.note.Note.{Note}
+use Rattle.wire.specs.declared.note.Note.TheVariants.{Began, Done, Loaded, Split, Merged}
 use Rattle.wire.specs.declared.packet.Packet.{Packet}
 use Rattle.model.specs.declared.event.Event.{Event}
-use Rattle.model.specs.declared.event.Event.TheVariants.{Submit, Deliver, Stop, Restart, Decide}
+use Rattle.model.specs.declared.event.Event.TheVariants.{Submit, Deliver, Stop, Restart, Decide, GiveUp, Assign, Moment}
 use Rattle.model.specs.Maps.{changed, changed_at}
 use Rattle.model.specs.Outcome.{Outcome, packet}
 use Rattle.model.specs.Node.{Replica, stopped, node_row, extent_of}
@@ -196,13 +197,16 @@ restart w (Node n) = if (w.cell n).up || not (is_present w n) then w else record
 restart w Manager = if w.desk.up then w else record w { desk = running }
 restart w actor = w
 
--- an event that does not fit changes nothing
+-- An event that does not fit changes nothing; what servers and the map do is no matter of the stream layer.
 abbrev pub happens : World → Event → World
 happens w (Submit user to body) = if is_request body then sent_more w (packet (User user) to body ∷ []) else w
 happens w (Deliver number) = delivered_if w (slice_get w.post number)
 happens w (Stop actor call keep) = stop w actor call keep
 happens w (Restart actor) = restart w actor
 happens w (Decide e) = decides w e
+happens w (GiveUp server range pick) = w
+happens w (Assign range server until) = w
+happens w (Moment now) = w
 
 abbrev pub run : List Event → World → World
 run [] w = w
@@ -257,16 +261,28 @@ is_told (bodies.Map body) = true
 is_told (bodies.Table body) = true
 is_told _ = false
 
--- an event; a server that asks what it likes, under any generation; or somebody who tells what no node takes
+-- what servers and the map show
+abbrev pub is_table_note : Note → Bool
+is_table_note (Began range generation number changes) = true
+is_table_note (Done range generation number) = true
+is_table_note (Loaded range generation rows next) = true
+is_table_note (Split range low high key) = true
+is_table_note (Merged left right range) = true
+is_table_note _ = false
+
+-- an event; a server that asks what it likes, under any generation; somebody who tells what no node takes; or an observation
+-- of servers and the map
 pub data Move : Type 0 where
   Happens : (event : Event) → Move
   Asks : (server : ℕ) (to : ActorId) (body : Body) → Move
   Says : (from to : ActorId) (body : Body) → Move
+  Observes : (note : Note) → Move
 
 abbrev pub moved : World → Move → World
 moved w (Happens event) = happens w event
 moved w (Asks server to body) = if is_server_call body then sent_more w (packet (Server server) to body ∷ []) else w
 moved w (Says from to body) = if is_told body then sent_more w (packet from to body ∷ []) else w
+moved w (Observes note) = if is_table_note note then record w { notes = w.notes ++ note ∷ [] } else w
 
 -- whatever the servers do
 abbrev pub run_moves : List Move → World → World

@@ -1,5 +1,6 @@
 //! Events: what may happen next in a run.
-use wire::{ActorId, Body, ExtentId};
+use blocks::Nodes;
+use wire::{ActorId, Body, ExtentId, RangeId, ServerNo};
 
 /// What happens next. An event that does not fit (no such packet, a body that no user asks, a stopped actor) changes
 /// nothing.
@@ -34,5 +35,23 @@ pub enum Event {
     /// The operator has the manager seal an extent, at the least length that its places have told.
     Decide {
         extent: ExtentId,
+    },
+    /// The operator has a server give up on the answers that a range waits for: it asks again, or has an extent sealed that
+    /// does not answer. New extents are made on these nodes from now on. Nodes and the manager do nothing with it.
+    GiveUp {
+        server: ServerNo,
+        range: RangeId,
+        pick: Nodes,
+    },
+    /// The operator has the map assign a range to a server, with a lease up to this moment. Nodes and the manager do nothing
+    /// with it.
+    Assign {
+        range: RangeId,
+        server: ServerNo,
+        until: u64,
+    },
+    /// The clock of leases shows this, to the map and to all servers at once. Nodes and the manager do nothing with it.
+    Moment {
+        now: u64,
     },
 }

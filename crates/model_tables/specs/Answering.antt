@@ -1,5 +1,5 @@
 -- What a range does with an answer, and with being told to give up.
-use Rattle.std.specs.Prelude.{ℕ, suc, Bool, true, false, ◌||◌, List, [], ◌++◌, map, flat_map, Option, Some, None, option_to_list, if◌then◌else◌}
+use Rattle.std.specs.Prelude.{ℕ, suc, ◌+◌, ◌^◌, Bool, true, false, ◌||◌, ◌&&◌, nat_lt, List, [], ◌++◌, map, flat_map, Option, Some, None, option_to_list, if◌then◌else◌}
 use Rattle.std.specs.List.{list_any}
 use Rattle.wire.specs.declared.actor.ActorId.{ActorId}
 use Rattle.wire.specs.declared.actor.ActorId.TheVariants.{Node, Manager}
@@ -23,21 +23,17 @@ use Rattle.client.specs.declared.job.News.TheVariants as news
 use Rattle.client.specs.declared.load.LoadPhase.{LoadPhase}
 use Rattle.client.specs.declared.load.LoadPhase.TheVariants as phases
 use Rattle.client.specs.Client.{Outcome, awaits, reply_row, give_up_row}
-use Rattle.client.specs.Load.{again}
+use Rattle.client.specs.Load.{again, load_awaits}
 use Rattle.client.specs.Requests.{is_same}
 use Rattle.cells.specs.declared.cell.Place.{Place}
 use Rattle.model_tables.specs.declared.waiting.WaitingGet.{WaitingGet}
-use Rattle.model_tables.specs.Range.{Desk, RangeState, RangeOutcome, request, used, goes, answers, dropped, picking, is_serving}
-use Rattle.model_tables.specs.Loading.{Group, opens, serves, metadata_news, log_news}
-use Rattle.model_tables.specs.Serving.{log_done}
+use Rattle.model_tables.specs.declared.desk.Desk.{Desk}
+use Rattle.model_tables.specs.Range.{OutGroup, RangeState, RangeOutcome, request, used, goes, answers, dropped, picking, is_serving}
+use Rattle.model_tables.specs.Loading.{Group, are_counted, opens, serves, metadata_news, log_news}
+use Rattle.model_tables.specs.Serving.{log_done, out_size}
 use Rattle.model_tables.specs.Getting.{bytes_row, gives_up_get}
 
 -- ---- whose answer it is
-
-abbrev pub load_awaits : LoadPhase → ReqNo → Bool
-load_awaits (phases.Opening q) w = is_same q w
-load_awaits (phases.Confirming q) w = is_same q w
-load_awaits phase w = false
 
 abbrev pub get_awaits : WaitingGet → ReqNo → Bool
 get_awaits g w = list_any (λ read. is_same read.request w) g.reads
@@ -133,17 +129,34 @@ metadata_reply d r body =
     metadata_news d (record r { metadata = o.after }) (groups_of body) r.stage o.news (option_to_list o.packet)
 
 -- news of the log's client while the range is served
-abbrev pub serving_news : Desk → RangeState → List (List ℕ) → Option News → List Packet → RangeOutcome
-serving_news d r group (Some news.Fenced) packets = dropped d r
-serving_news d r group (Some (news.Appended e offset)) packets = log_done d r group r.out e offset
-serving_news d r group told packets = goes d r packets []
+abbrev pub serving_news : Desk → RangeState → Option News → List Packet → RangeOutcome
+serving_news d r (Some news.Fenced) packets = dropped d r
+serving_news d r (Some (news.Appended e offset)) packets = log_done d r r.out e offset
+serving_news d r told packets = goes d r packets []
 
-abbrev pub log_reply : Desk → RangeState → Body → RangeOutcome
-log_reply d r body =
+-- whether a group may stand there: an offset whose end no extent reaches, or an extent whose index does not fit 64 bits, is
+-- told by no node
+abbrev pub may_stand : RangeState → Option OutGroup → ℕ → Bool
+may_stand r None offset = true
+may_stand r (Some out) offset = nat_lt (offset + out_size out) (2 ^ 32) && are_counted r.log
+
+abbrev pub is_told_rightly : RangeState → AppendBody → Bool
+is_told_rightly r (appends.Appended w e offset) = may_stand r r.out offset
+is_told_rightly r body = true
+
+abbrev pub is_taken : RangeState → Body → Bool
+is_taken r (bodies.Append body) = is_told_rightly r body
+is_taken r body = true
+
+abbrev pub log_taken : Desk → RangeState → Body → RangeOutcome
+log_taken d r body =
     let o : Outcome = reply_row (picking d r.log) (request d) body in
     let now : RangeState = record r { log = o.after } in
-    if is_serving r.stage then serving_news d now r.log.group o.news (option_to_list o.packet)
+    if is_serving r.stage then serving_news d now o.news (option_to_list o.packet)
     else log_news d now (groups_of body) r.stage o.news (option_to_list o.packet)
+
+abbrev pub log_reply : Desk → RangeState → Body → RangeOutcome
+log_reply d r body = if is_taken r body then log_taken d r body else answers d r []
 
 abbrev pub bytes_reply : Desk → RangeState → ReqNo → ReadBody → List (Place × List ℕ) → RangeOutcome
 bytes_reply d r w (reads.Bytes v e offset bytes) held = bytes_row d r w held

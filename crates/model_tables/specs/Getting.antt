@@ -23,7 +23,8 @@ use Rattle.model_tables.specs.declared.waiting.WaitingGet.{WaitingGet}
 use Rattle.metadata.specs.Keys.{within}
 use Rattle.memtable.specs.Entries.{found}
 use Rattle.memtable.specs.Layers.{found_in, or_else}
-use Rattle.model_tables.specs.Range.{Desk, RangeState, RangeOutcome, request, tells, refuses, answers, is_serving}
+use Rattle.model_tables.specs.declared.desk.Desk.{Desk}
+use Rattle.model_tables.specs.Range.{RangeState, RangeOutcome, request, tells, refuses, answers, is_serving}
 use Rattle.model_tables.specs.Serving.{is_key, lease_ended}
 
 -- ---- the look-up
@@ -114,12 +115,14 @@ abbrev pub gets_after : RangeState → List WaitingGet → Tried → RangeOutcom
 gets_after r before tried =
     record { after = Some (record r { gets = before ++ tried.waiting }); count = tried.count; packets = tried.packets; notes = [] }
 
-abbrev pub gets : Desk → RangeState → ActorId → ReqNo → List ℕ → Option Refusal → RangeOutcome
-gets d r from q key (Some refusal) = answers d r (refuses d from q refusal ∷ [])
-gets d r from q key None = gets_after r r.gets (try d r (record { from = from; request = q; key = key; reads = [] }))
+abbrev pub gets : Desk → RangeState → ActorId → ReqNo → List ℕ → List (Place × List ℕ) → Option Refusal → RangeOutcome
+gets d r from q key held (Some refusal) = answers d r (refuses d from q refusal ∷ [])
+gets d r from q key held None =
+    gets_after (record r { held = held }) r.gets (try d r (record { from = from; request = q; key = key; reads = [] }))
 
-abbrev pub get_row : Desk → RangeState → ActorId → ReqNo → List ℕ → RangeOutcome
-get_row d r from q key = gets d r from q key (get_fault d r key)
+-- held: what the cache holds after it
+abbrev pub get_row : Desk → RangeState → ActorId → ReqNo → List ℕ → List (Place × List ℕ) → RangeOutcome
+get_row d r from q key held = gets d r from q key held (get_fault d r key)
 
 -- ---- bytes that were read
 

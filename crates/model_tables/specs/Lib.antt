@@ -1,3 +1,4 @@
+pub mod Cluster
 pub mod Extents
 pub mod Lines
 pub mod Answering

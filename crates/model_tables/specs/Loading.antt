@@ -25,7 +25,8 @@ use Rattle.model_tables.specs.declared.stage.Stage.TheVariants.{Checking, Readin
 use Rattle.model_tables.specs.declared.table_note.TableNote.TheVariants.{Loaded}
 use Rattle.metadata.specs.Keys.{within}
 use Rattle.memtable.specs.Entries.{Entries as Layer, put_all}
-use Rattle.model_tables.specs.Range.{Desk, RangeState, RangeOutcome, request, goes, dropped, given, picking, later}
+use Rattle.model_tables.specs.declared.desk.Desk.{Desk}
+use Rattle.model_tables.specs.Range.{RangeState, RangeOutcome, request, goes, dropped, given, picking, later}
 
 abbrev pub Group : Type 0
 Group = List (List ℕ)
@@ -152,6 +153,10 @@ opens d r lists =
     })
     (last_extent lists.metadata.extents)
 
+-- whether the indexes of a stream's extents fit 64 bits
+abbrev pub are_counted : ClientState → Bool
+are_counted c = nat_lt (c.base + length c.extents) (2 ^ 64)
+
 -- ---- what answers bring
 
 abbrev pub says : Desk → RangeState → ℕ → Option MetadataState → RangeOutcome
@@ -171,14 +176,20 @@ abbrev pub replays : Desk → RangeState → ℕ → Option (List Region × Laye
 replays d r position None = dropped d r
 replays d r position (Some x) = reads_log d (record r { regions = x.0; live = x.1 }) (suc position)
 
+-- The groups of the log's extent at a position have been read. An extent whose index does not fit 64 bits is never there.
+abbrev pub log_read : Desk → RangeState → ℕ → ℕ → List Group → RangeOutcome
+log_read d r position e groups =
+    if nat_lt (r.log.base + position) (2 ^ 64)
+    then replays d r position (replayed r.said.keys e (record { index = r.log.base + position; offset = 0 }) (r.regions, r.live) groups)
+    else dropped d r
+
 -- news of the log's client during the load
 abbrev pub log_news : Desk → RangeState → List Group → Stage → Option News → List Packet → RangeOutcome
 log_news d r groups stage (Some news.Fenced) packets = dropped d r
 log_news d r groups (Checking kind) (Some (news.Checked e l)) packets = reads_log_from d r (first_position r r.regions)
 log_news d r groups (Checking kind) (Some (news.Sealed e l)) packets = reads_log_from d r (first_position r r.regions)
 log_news d r groups (Reading kind position) (Some (news.Sealed e l)) packets = reads_log d r position
-log_news d r groups (Reading kind position) (Some (news.Content e upto)) packets =
-    replays d r position (replayed r.said.keys e (record { index = r.log.base + position; offset = 0 }) (r.regions, r.live) groups)
+log_news d r groups (Reading kind position) (Some (news.Content e upto)) packets = log_read d r position e groups
 log_news d r groups stage told packets = goes d r packets []
 
 -- ---- the range is served
@@ -193,19 +204,26 @@ abbrev pub log_end : ClientState → Option StreamExtent → Position → Positi
 log_end c None start = start
 log_end c (Some x) start = later (record { index = (c.base + length c.extents) - 1; offset = length_or x.length c.checked }) start
 
--- the table is that of the log behind the last checkpoint, and its next number that of the region without end
-abbrev pub serves_from : Desk → RangeState → Option Region → RangeOutcome
-serves_from d r None = dropped d r
-serves_from d r (Some region) =
+-- The table is that of the log behind the last checkpoint, and its next number that of the region without end. No transaction
+-- waits yet.
+abbrev pub serves_region : Desk → RangeState → Region → RangeOutcome
+serves_region d r region =
     goes d
     (record r {
       load = record r.load { phase = phases.Confirmed };
       stage = Serving;
       next = region.next;
       position = log_end r.log (last_extent r.log.extents) region.start;
+      queue = [];
+      out = None;
     })
     []
     (Loaded r.load.range r.load.generation r.live r.said.indexes region.next ∷ [])
 
+-- numbers begin at 1
+abbrev pub serves_from : Desk → RangeState → Option Region → RangeOutcome
+serves_from d r None = dropped d r
+serves_from d r (Some region) = if nat_lt 0 region.next then serves_region d r region else dropped d r
+
 abbrev pub serves : Desk → RangeState → RangeOutcome
-serves d r = serves_from d r (open_region r.regions)
+serves d r = if are_counted r.log then serves_from d r (open_region r.regions) else dropped d r

@@ -20,21 +20,12 @@ use Rattle.metadata.specs.Fold.{MetadataState}
 use Rattle.client.specs.declared.fault.ClientFault.{ClientFault}
 use Rattle.client.specs.Client.{ClientState, Outcome, waits}
 use Rattle.client.specs.Load.{LoadState}
+use Rattle.model_tables.specs.declared.desk.Desk.{Desk}
 use Rattle.model_tables.specs.declared.stage.Stage.{Stage}
 use Rattle.model_tables.specs.declared.stage.Stage.TheVariants.{Serving}
 use Rattle.model_tables.specs.declared.table_note.TableNote.{TableNote}
 use Rattle.model_tables.specs.declared.waiting.WaitingGet.{WaitingGet}
 use Rattle.model_tables.specs.declared.waiting.WaitingTransaction.{WaitingTransaction}
-
--- what all ranges of a server share: who it is, the moment that it was told last, the nodes that new extents are made on,
--- how many transactions a group may hold, and the number of its next request
-pub record Desk : Type 0 where
-  pub server : ℕ
-  pub session : ℕ
-  pub now : ℕ
-  pub pick : Nodes
-  pub batch : ℕ
-  pub count : ℕ
 
 -- the group that is being appended: the number of its first transaction, and its transactions
 pub record OutGroup : Type 0 where

@@ -1,5 +1,8 @@
 -- The table of a server: what it does with a packet, with a moment, and with being told to give up.
-use Rattle.std.specs.Prelude.{ℕ, max, Bool, true, ◌==◌, nat_lt, List, [], ◌∷◌, ◌++◌, Option, Some, None, if◌then◌else◌}
+use Rattle.std.specs.Prelude.{ℕ, ◌+◌, ◌^◌, max, Bool, true, ◌==◌, nat_lt, List, [], ◌∷◌, ◌++◌, Option, Some, None, if◌then◌else◌}
+use Rattle.std.specs.Map.{lookup, remove_entry, set_value}
+use Rattle.std.specs.BTreeMap.{is_at, insert_entry}
+use Rattle.std.specs.Ordering.{nat_cmp}
 use Rattle.blocks.specs.declared.record.Nodes.{Nodes}
 use Rattle.wire.specs.declared.actor.ActorId.{ActorId}
 use Rattle.wire.specs.declared.actor.ActorId.TheVariants.{Map}
@@ -11,6 +14,7 @@ use Rattle.wire.specs.declared.body.MapBody.TheVariants as maps
 use Rattle.wire.specs.declared.body.TableBody.{TableBody}
 use Rattle.wire.specs.declared.body.TableBody.TheVariants as tables
 use Rattle.wire.specs.declared.packet.Packet.{Packet}
+use Rattle.wire.specs.declared.transaction.Change.{Change}
 use Rattle.wire.specs.declared.refusal.Refusal.TheVariants as refusals
 use Rattle.wire.specs.declared.streams.StreamKind.TheVariants as kinds
 use Rattle.client.specs.Client.{new_client}
@@ -19,7 +23,8 @@ use Rattle.cells.specs.declared.cell.Place.{Place}
 use Rattle.metadata.specs.Fold.{first_metadata}
 use Rattle.model_tables.specs.declared.stage.Stage.TheVariants.{Opening}
 use Rattle.model_tables.specs.declared.table_note.TableNote.{TableNote}
-use Rattle.model_tables.specs.Range.{Desk, RangeState, RangeOutcome, request, used, refuses, refused_users}
+use Rattle.model_tables.specs.declared.desk.Desk.{Desk}
+use Rattle.model_tables.specs.Range.{RangeState, RangeOutcome, request, used, refuses, refused_users}
 use Rattle.model_tables.specs.Serving.{transact_row}
 use Rattle.model_tables.specs.Getting.{get_row}
 use Rattle.model_tables.specs.Answering.{range_awaits, answered_number, is_answerer, answer_row, give_up_all}
@@ -27,7 +32,7 @@ use Rattle.model_tables.specs.Answering.{range_awaits, answered_number, is_answe
 -- a server, and its ranges in the order of their numbers
 pub record ServerState : Type 0 where
   pub desk : Desk
-  pub ranges : List RangeState
+  pub ranges : List (ℕ × RangeState)
 
 pub record ServerOutcome : Type 0 where
   pub after : ServerState
@@ -36,29 +41,18 @@ pub record ServerOutcome : Type 0 where
 
 -- ---- ranges by their numbers
 
-abbrev pub range_of : List RangeState → ℕ → Option RangeState
-range_of [] range = None
-range_of (r ∷ rs) range = if r.load.range == range then Some r else range_of rs range
+abbrev pub range_of : List (ℕ × RangeState) → ℕ → Option RangeState
+range_of rs range = lookup (is_at (nat_cmp range)) rs
 
-abbrev pub without_range : List RangeState → ℕ → List RangeState
-without_range [] range = []
-without_range (r ∷ rs) range = if r.load.range == range then rs else r ∷ without_range rs range
+-- the range as a step left it, or no more
+abbrev pub set_range : List (ℕ × RangeState) → ℕ → Option RangeState → List (ℕ × RangeState)
+set_range rs range None = remove_entry (is_at (nat_cmp range)) rs
+set_range rs range (Some r) = set_value (is_at (nat_cmp range)) rs r
 
-abbrev pub with_range : List RangeState → RangeState → List RangeState
-with_range [] added = added ∷ []
-with_range (r ∷ rs) added =
-    if r.load.range == added.load.range then added ∷ rs
-    else if nat_lt added.load.range r.load.range then added ∷ r ∷ rs
-    else r ∷ with_range rs added
-
-abbrev pub set_range : List RangeState → ℕ → Option RangeState → List RangeState
-set_range rs range None = without_range rs range
-set_range rs range (Some r) = with_range rs r
-
--- the range that waits for an answer of this number
-abbrev pub awaiting : List RangeState → ReqNo → Option RangeState
+-- the number of the range that waits for an answer of this number
+abbrev pub awaiting : List (ℕ × RangeState) → ReqNo → Option ℕ
 awaiting [] w = None
-awaiting (r ∷ rs) w = if range_awaits r w then Some r else awaiting rs w
+awaiting (x ∷ xs) w = if range_awaits x.1 w then Some x.0 else awaiting xs w
 
 -- ---- steps
 
@@ -116,23 +110,23 @@ abbrev pub assign_row : ServerState → ℕ → ℕ → ℕ → Option RangeStat
 assign_row s range generation until known =
     if is_newer generation known then
     record {
-      after = record { desk = used s.desk; ranges = with_range s.ranges (new_range s.desk range generation until) };
+      after = record { desk = used s.desk; ranges = insert_entry nat_cmp s.ranges range (new_range s.desk range generation until) };
       packets = users_of s.desk known ++ open_packet s.desk.server range generation (request s.desk) ∷ [];
       notes = [];
     }
     else rests s
 
 -- a lease's end never goes back
-abbrev pub renew_row : ServerState → ℕ → ℕ → Option RangeState → ServerOutcome
-renew_row s generation until None = rests s
-renew_row s generation until (Some r) =
+abbrev pub renew_row : ServerState → ℕ → ℕ → ℕ → Option RangeState → ServerOutcome
+renew_row s range generation until None = rests s
+renew_row s range generation until (Some r) =
     if r.load.generation == generation then
-    record { after = record s { ranges = with_range s.ranges (record r { until = max r.until until }) }; packets = []; notes = [] }
+    record { after = record s { ranges = set_range s.ranges range (Some (record r { until = max r.until until })) }; packets = []; notes = [] }
     else rests s
 
 abbrev pub told_by_map : ServerState → MapBody → ServerOutcome
 told_by_map s (maps.Assign range generation until) = assign_row s range generation until (range_of s.ranges range)
-told_by_map s (maps.Renew range generation until) = renew_row s generation until (range_of s.ranges range)
+told_by_map s (maps.Renew range generation until) = renew_row s range generation until (range_of s.ranges range)
 told_by_map s body = rests s
 
 abbrev pub map_row : ServerState → ActorId → MapBody → ServerOutcome
@@ -141,44 +135,56 @@ map_row s from body = rests s
 
 -- ---- what users ask
 
-abbrev pub table_row : ServerState → Packet → TableBody → ServerOutcome
-table_row s p (tables.Transact range changes q) = transacts s p q range (range_of s.ranges range)
-  where
-    transacts : ServerState → Packet → ReqNo → ℕ → Option RangeState → ServerOutcome
-    transacts s p q range None = sends_one s (refuses s.desk p.from q refusals.NotOwner)
-    transacts s p q range (Some r) = stepped s range (transact_row s.desk r p.from q changes)
-table_row s p (tables.Get range key q) = gets s p q range (range_of s.ranges range)
-  where
-    gets : ServerState → Packet → ReqNo → ℕ → Option RangeState → ServerOutcome
-    gets s p q range None = sends_one s (refuses s.desk p.from q refusals.NotOwner)
-    gets s p q range (Some r) = stepped s range (get_row s.desk r p.from q key)
-table_row s p body = rests s
+abbrev pub transacts_in : ServerState → Packet → ℕ → List Change → ReqNo → Option RangeState → ServerOutcome
+transacts_in s p range changes q None = sends_one s (refuses s.desk p.from q refusals.NotOwner)
+transacts_in s p range changes q (Some r) = stepped s range (transact_row s.desk r p.from q changes)
+
+abbrev pub gets_in : ServerState → Packet → ℕ → List ℕ → ReqNo → List (Place × List ℕ) → Option RangeState → ServerOutcome
+gets_in s p range key q held None = sends_one s (refuses s.desk p.from q refusals.NotOwner)
+gets_in s p range key q held (Some r) = stepped s range (get_row s.desk r p.from q key held)
+
+abbrev pub table_row : ServerState → Packet → TableBody → List (Place × List ℕ) → ServerOutcome
+table_row s p (tables.Transact range changes q) held = transacts_in s p range changes q (range_of s.ranges range)
+table_row s p (tables.Get range key q) held = gets_in s p range key q held (range_of s.ranges range)
+table_row s p body held = rests s
 
 -- ---- answers
 
-abbrev pub answer_of : ServerState → Packet → ReqNo → List (Place × List ℕ) → Option RangeState → ServerOutcome
+abbrev pub answer_in : ServerState → Packet → ReqNo → List (Place × List ℕ) → ℕ → Option RangeState → ServerOutcome
+answer_in s p w held range None = rests s
+answer_in s p w held range (Some r) = stepped s range (answer_row s.desk r w p.body held)
+
+abbrev pub answer_of : ServerState → Packet → ReqNo → List (Place × List ℕ) → Option ℕ → ServerOutcome
 answer_of s p w held None = rests s
-answer_of s p w held (Some r) = stepped s r.load.range (answer_row s.desk r w p.body held)
+answer_of s p w held (Some range) = answer_in s p w held range (range_of s.ranges range)
 
 abbrev pub numbered_row : ServerState → Packet → List (Place × List ℕ) → Option ReqNo → ServerOutcome
 numbered_row s p held None = rests s
 numbered_row s p held (Some w) = if is_answerer p.from p.body then answer_of s p w held (awaiting s.ranges w) else rests s
 
--- What the server does with a packet. held: what the cache of the range that it belongs to holds after it.
+abbrev pub taken_row : ServerState → Packet → Body → List (Place × List ℕ) → ServerOutcome
+taken_row s p (bodies.Map body) held = map_row s p.from body
+taken_row s p (bodies.Table body) held = table_row s p body held
+taken_row s p body held = numbered_row s p held (answered_number body)
+
+-- whether there are numbers for the requests of any one step
+abbrev pub has_numbers : Desk → Bool
+has_numbers d = nat_lt (d.count + 1024) (2 ^ 64)
+
+-- What the server does with a packet; without numbers for its requests, nothing. held: what the cache of the range that the
+-- packet belongs to holds after it.
 abbrev pub server_row : ServerState → Packet → Body → List (Place × List ℕ) → ServerOutcome
-server_row s p (bodies.Map body) held = map_row s p.from body
-server_row s p (bodies.Table body) held = table_row s p body
-server_row s p body held = numbered_row s p held (answered_number body)
+server_row s p body held = if has_numbers s.desk then taken_row s p body held else rests s
 
 -- ---- events
 
 -- a moment that goes back changes nothing
 abbrev pub moment_row : ServerState → ℕ → ServerState
-moment_row s now = record s { desk = record s.desk { now = max s.desk.now now } }
+moment_row s now = record s { desk = record s.desk { moment = max s.desk.moment now } }
 
 abbrev pub gives_up : ServerState → ℕ → Option RangeState → Option ServerOutcome
 gives_up s range None = None
-gives_up s range (Some r) = Some (stepped s range (give_up_all s.desk r))
+gives_up s range (Some r) = Some (if has_numbers s.desk then stepped s range (give_up_all s.desk r) else rests s)
 
 -- the nodes for new extents are replaced, and the jobs of a range give up; none where the range is unknown (30)
 abbrev pub give_up_row : ServerState → ℕ → Nodes → Option ServerOutcome
@@ -187,4 +193,4 @@ give_up_row s range pick = gives_up (record s { desk = record s.desk { pick = pi
 -- a start: no range, and the last moment
 abbrev pub started : ℕ → ℕ → ℕ → Nodes → ℕ → ServerState
 started server session now pick batch =
-    record { desk = record { server = server; session = session; now = now; pick = pick; batch = batch; count = 1 }; ranges = [] }
+    record { desk = record { server = server; session = session; moment = now; pick = pick; batch = batch; count = 1 }; ranges = [] }

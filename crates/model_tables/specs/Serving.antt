@@ -21,7 +21,8 @@ use Rattle.model_tables.specs.declared.waiting.WaitingTransaction.{WaitingTransa
 use Rattle.metadata.specs.Keys.{within}
 use Rattle.memtable.specs.Entries.{put_all, entries_size}
 use Rattle.memtable.specs.Layers.{size_of}
-use Rattle.model_tables.specs.Range.{Desk, OutGroup, RangeState, RangeOutcome, request, tells, refuses, goes, answers, given, picking, waiting_out, is_serving}
+use Rattle.model_tables.specs.declared.desk.Desk.{Desk}
+use Rattle.model_tables.specs.Range.{OutGroup, RangeState, RangeOutcome, request, tells, refuses, goes, answers, given, picking, waiting_out, is_serving}
 
 -- ---- forming a group
 
@@ -77,7 +78,7 @@ value_size None = 0
 value_size (Some value) = length value
 
 abbrev pub lease_ended : Desk → RangeState → Bool
-lease_ended d r = nat_le r.until d.now
+lease_ended d r = nat_le r.until d.moment
 
 -- those that wait, the group that is being appended counted
 abbrev pub waiting_count : RangeState → ℕ
@@ -120,20 +121,24 @@ committed d s (t ∷ ts) = tells d t.from (bodies.Table (tables.Committed t.requ
 abbrev pub after_these : List Packet → List TableNote → RangeOutcome → RangeOutcome
 after_these packets notes o = record o { packets = packets ++ o.packets; notes = notes ++ o.notes }
 
+-- how many bytes the group that is being appended has
+abbrev pub out_size : OutGroup → ℕ
+out_size out = group_size (spelling (record_of out.first out.transactions))
+
 -- The group stands at an offset of the last extent: its transactions are applied in order and answered, and the next group is
--- formed. group: its blocks.
-abbrev pub applies : Desk → RangeState → List (List ℕ) → OutGroup → ℕ → ℕ → RangeOutcome
-applies d r group out extent offset =
+-- formed.
+abbrev pub applies : Desk → RangeState → OutGroup → ℕ → ℕ → RangeOutcome
+applies d r out extent offset =
     after_these
     (committed d out.first out.transactions)
     (dones r.load.range r.load.generation out.first out.transactions)
     (forms d
     (record r {
       live = put_all r.live (flat_map (λ changes. changes) (kept (record_of out.first out.transactions) extent offset));
-      position = record { index = (r.log.base + length r.log.extents) - 1; offset = offset + group_size group };
+      position = record { index = (r.log.base + length r.log.extents) - 1; offset = offset + out_size out };
       out = None;
     }))
 
-abbrev pub log_done : Desk → RangeState → List (List ℕ) → Option OutGroup → ℕ → ℕ → RangeOutcome
-log_done d r group None extent offset = goes d r [] []
-log_done d r group (Some out) extent offset = applies d r group out extent offset
+abbrev pub log_done : Desk → RangeState → Option OutGroup → ℕ → ℕ → RangeOutcome
+log_done d r None extent offset = goes d r [] []
+log_done d r (Some out) extent offset = applies d r out extent offset

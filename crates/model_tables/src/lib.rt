@@ -10,10 +10,12 @@
 //! The laws of `laws_tables` are proved of these functions alone, and the crates of servers prove that their calls are them.
 #![tactic(auto)]
 
+mod desk;
 mod stage;
 mod table_note;
 mod waiting;
 
+pub use desk::Desk;
 pub use stage::Stage;
 pub use table_note::{Entries, TableNote};
 pub use waiting::{PlaceRead, PlaceReads, WaitingGet, WaitingTransaction};

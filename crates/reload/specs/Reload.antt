@@ -1,4 +1,4 @@
--- What a load has read.
+-- What a load takes of a group.
 use Rattle.std.specs.Prelude.{ℕ, Bool, ◌&&◌, List, Option}
 use Rattle.blocks.specs.Format.{◌>>=◌}
 use Rattle.streams.specs.declared.table.Position.{Position}
@@ -7,15 +7,8 @@ use Rattle.commitlog.specs.Reading.{each_of, record_at}
 use Rattle.memtable.specs.Entries.{Entries}
 use Rattle.metadata.specs.declared.record.KeyRange.{KeyRange}
 use Rattle.metadata.specs.declared.record.Region.{Region}
-use Rattle.metadata.specs.Fold.{MetadataState}
 use Rattle.metadata.specs.Keys.{within}
 use Rattle.model_tables.specs.Loading.{Group, region_takes}
-
--- what the metadata says, the regions of the log with the numbers that are to be applied next, and the table so far
-pub record ReloadState : Type 0 where
-  pub said : MetadataState
-  pub regions : List Region
-  pub live : Entries
 
 -- whether a change is of the range's keys and of the region's own
 abbrev pub is_of : KeyRange → KeyRange → List ℕ × Cell → Bool

@@ -106,9 +106,10 @@ fn take_groups(
     Ok(all)
 }
 
-/// What the regions and their changes become by the groups of an extent, from its first byte on; `index` is that of the extent
-/// in the log.
-pub(crate) fn read_extent(
+/// What the regions of a log become by the groups of an extent, from its first byte on, and the changes that they take of it,
+/// in order; `index` is that of the extent in the log. It is refused `Damaged` (21) where a group is no record, begins above
+/// the next number of a region that holds it, or ends above 2^32 - 1. `Memory` (22) says nothing of the groups.
+pub fn replayed(
     alloc: Global,
     regions: &[Region],
     keys: &KeyRange,

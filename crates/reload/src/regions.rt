@@ -1,5 +1,5 @@
 //! What the regions of a log take of its groups.
-ghost use Rattle.std.specs.Prelude.{◌≡◌, ◌+◌, ◌<◌, ◌^◌, ◌++◌, List, Some, None, Err, filter, IfOk, OnOk};
+ghost use Rattle.std.specs.Prelude.{◌≡◌, ◌+◌, ◌<◌, ◌^◌, ◌++◌, List, Some, None, Err, filter, option_map, IfOk, OnOk};
 ghost use Rattle.std.specs.List.{AllByRecursion};
 ghost use Rattle.blocks.specs.declared.fault.BlockFault.TheVariants as faults;
 ghost use Rattle.blocks.specs.Limits.{group_size};
@@ -116,4 +116,14 @@ pub(crate) fn take_regions(
         all.push(taken)?;
     }
     Ok(all)
+}
+
+/// The region without end, if it stands last.
+pub fn open_region(regions: &[Region]) -> Option<&Region>
+    ensures { option_map (λ region. region.now) result ≡ specs.open_region regions.now }
+{
+    match regions {
+        [] => None,
+        [.., last] => { if last.end.is_some() { None } else { Some(last) } }
+    }
 }

@@ -3,6 +3,8 @@ use super::*;
 use blocks::Group;
 use bytes::Bytes;
 use cells::{Cell, Place};
+use memtable::MemTable;
+use metadata::{KeyRange, Metadata, Region, copied_regions};
 use std::alloc::Global;
 use std::test::Fail;
 use wire::ExtentId;
@@ -35,58 +37,74 @@ fn groups_of(alloc: Global, text: &[u8], values: &[usize]) -> Result<Vec<Group>,
     Ok(groups)
 }
 
-/// A load that has read no group, with all keys.
-fn begun(alloc: Global) -> Result<Reload, Fail> {
-    let mut reload = Reload::new(alloc)?;
-    reload.begin_log(alloc)?;
-    Ok(reload)
+fn all_keys() -> KeyRange {
+    KeyRange {
+        low: Bytes::new(),
+        high: None,
+    }
+}
+
+/// What a load has read of a log.
+#[derive(Drop)]
+struct Log {
+    regions: Vec<Region>,
+    table: MemTable,
+}
+
+/// A log of which no group was read, with all keys.
+fn begun(alloc: Global) -> Result<Log, Fail> {
+    let said = Metadata::first(alloc)?;
+    Ok(Log {
+        regions: copied_regions(alloc, said.regions())?,
+        table: MemTable::new(alloc),
+    })
 }
 
 /// Whether the group was taken as the first of the extent 7.
-fn reads(alloc: Global, reload: &mut Reload, text: &[u8], values: &[usize]) -> Result<bool, Fail> {
+fn reads(alloc: Global, log: &mut Log, text: &[u8], values: &[usize]) -> Result<bool, Fail> {
     let groups = groups_of(alloc, text, values)?;
-    Ok(
-        reload
-            .read_log(alloc, ExtentId::new(7), 0, groups.as_slice())
-            .is_ok(),
-    )
+    let keys = all_keys();
+    let extent = ExtentId::new(7);
+    match replayed(alloc, &log.regions, &keys, extent, 0, groups.as_slice()) {
+        Ok((regions, changes)) => {
+            log.table.apply(alloc, changes)?;
+            log.regions = regions;
+            Ok(true)
+        }
+        Err(_fault) => Ok(false),
+    }
 }
 
-fn next_of(reload: &Reload) -> Option<u64> {
-    match reload.open_region() {
+fn next_of(log: &Log) -> Option<u64> {
+    match open_region(&log.regions) {
         None => None,
         Some(region) => Some(region.next),
     }
 }
 
-fn place_at_b(reload: &Reload) -> Option<Place> {
-    match reload.table().get(&Bytes::from_static(b"b")) {
+fn place_at_b(log: &Log) -> Option<Place> {
+    match log.table.get(&Bytes::from_static(b"b")) {
         Some(Cell::Placed(place)) => Some(*place),
         _ => None,
     }
 }
 
-/// The number of the next record of the metadata, how many regions there are, and how many entries.
-fn counts(reload: Reload) -> (u64, usize, usize) {
-    let (said, regions, table) = reload.into_parts();
-    (said.next_number(), regions.len(), table.live().len())
-}
-
-fn says(alloc: Global, text: &[u8]) -> Result<(u64, usize, usize), Fail> {
+/// The number of the next record of the metadata.
+fn says(alloc: Global, text: &[u8]) -> Result<u64, Fail> {
     let groups = groups_of(alloc, text, &[])?;
-    let mut reload = Reload::new(alloc)?;
-    reload.read_metadata(alloc, groups.as_slice())?;
-    Ok(counts(reload))
+    let first = Metadata::first(alloc)?;
+    let said = folded(alloc, &first, groups.as_slice())?;
+    Ok(said.next_number())
 }
 
 #[test]
 fn a_log_is_read_once(rt: HostRuntime) -> Result<(), Fail> {
     let alloc = rt.alloc();
-    let mut reload = begun(alloc)?;
-    assert!(rt; reads(alloc, &mut reload, &LOG, &[5_000])?);
-    assert_eq!(rt; next_of(&reload), Some(3));
-    assert!(rt; reads(alloc, &mut reload, &LOG, &[5_000])?);
-    assert_eq!(rt; next_of(&reload), Some(3));
+    let mut log = begun(alloc)?;
+    assert!(rt; reads(alloc, &mut log, &LOG, &[5_000])?);
+    assert_eq!(rt; next_of(&log), Some(3));
+    assert!(rt; reads(alloc, &mut log, &LOG, &[5_000])?);
+    assert_eq!(rt; next_of(&log), Some(3));
     Ok(())
 }
 
@@ -98,24 +116,24 @@ fn a_large_value_is_kept_by_its_place(rt: HostRuntime) -> Result<(), Fail> {
         offset: 34,
         length: 5_000,
     };
-    let mut reload = begun(alloc)?;
-    assert!(rt; reads(alloc, &mut reload, &LOG, &[5_000])?);
-    assert!(rt; place_at_b(&reload) == Some(place));
-    assert!(rt; counts(reload) == (1, 1, 2));
+    let mut log = begun(alloc)?;
+    assert!(rt; reads(alloc, &mut log, &LOG, &[5_000])?);
+    assert!(rt; place_at_b(&log) == Some(place));
+    assert!(rt; log.table.live().len() == 2);
     Ok(())
 }
 
 #[test]
 fn a_gap_is_damage(rt: HostRuntime) -> Result<(), Fail> {
     let alloc = rt.alloc();
-    let mut reload = begun(alloc)?;
-    assert!(rt; !reads(alloc, &mut reload, &GAP, &[])?);
-    assert_eq!(rt; next_of(&reload), Some(1));
+    let mut log = begun(alloc)?;
+    assert!(rt; !reads(alloc, &mut log, &GAP, &[])?);
+    assert_eq!(rt; next_of(&log), Some(1));
     Ok(())
 }
 
 #[test]
 fn metadata_is_folded(rt: HostRuntime) -> Result<(), Fail> {
-    assert!(rt; says(rt.alloc(), &KEYS)? == (2, 0, 0));
+    assert_eq!(rt; says(rt.alloc(), &KEYS)?, 2);
     Ok(())
 }

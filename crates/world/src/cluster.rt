@@ -232,6 +232,9 @@ impl Cluster {
                 Err(fault) => Err(fault),
             },
             Event::Decide { extent } => self.decide(alloc, *extent),
+            Event::GiveUp { .. } => Ok(None),
+            Event::Assign { .. } => Ok(None),
+            Event::Moment { .. } => Ok(None),
         }
     }
 

@@ -1,0 +1,3 @@
+pub mod Passing
+pub mod Growing
+pub mod Fronts

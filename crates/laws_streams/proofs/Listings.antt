@@ -1,0 +1,321 @@
+-- In every run each extent stands in one list, once, and each but the last of its list is sealed.
+use Rattle.std.proofs.Common.{◌≡◌, ◌⊎◌, ℕ, zero, suc, ◌<◌, ◌≤◌, ◌&&◌, ◌==◌, nat_le, List, [], ◌∷◌, ◌++◌, length, Option, Some, None, slice_get, refl, sym, ap, ◌∙◌, inl, inr, arith, subst, Bool, not, ◌||◌}
+use Rattle.wire.specs.declared.streams.StreamName.{StreamName}
+use Rattle.streams.specs.Streams.{Stream, stream_of, last_of, empty_stream, kind_number}
+use Rattle.model.specs.declared.extent.Extent.{Extent}
+use Rattle.model.specs.Manager.{Book, sealed_in, sealed_lengths, forgotten, forgotten_if, book_stopped, decide_row, manager_row}
+use Rattle.model.specs.World.{World, start, Move, moved, run_moves, stops_in, stands_in, halted, node_does, node_takes, desk_halted, manager_does, delivered, delivered_if, is_request, node_stops, manager_stops, stop, is_present, restart, happens, is_server_call, is_told, is_table_note}
+use Rattle.model.proofs.Tests.{if_elim}
+use Rattle.laws_streams.specs.Answers.{SealedIn}
+use Rattle.laws_streams.specs.Listings.{Listed, Longer, ListsGrow}
+use Rattle.laws_streams.proofs.Lists.{begins_refl, begins_trans}
+use Rattle.laws_streams.proofs.Rising.{run_more}
+use Rattle.laws_streams.proofs.Listing.{Goes, Grown, goes_refl, row_goes, decide_goes}
+use Rattle.wire.specs.declared.actor.ActorId.{ActorId}
+use Rattle.wire.specs.declared.actor.ActorId.TheVariants.{Node, Manager, Map, Server, User}
+use Rattle.wire.specs.declared.packet.Packet.{Packet}
+use Rattle.model.specs.declared.event.Event.{Event}
+use Rattle.model.specs.declared.event.Event.TheVariants.{Submit, Deliver, Stop, Restart, Decide, GiveUp, Assign, Moment}
+use Rattle.model.specs.Node.{extent_of, node_row}
+use Rattle.model.specs.Outcome.{Outcome}
+use Rattle.model.specs.World.Move.{Happens, Asks, Says, Observes}
+
+-- ---- moves
+
+-- what a stop leaves of a later book
+stopped_goes : (b c : Book) → Goes b c → Goes b (book_stopped c)
+stopped_goes b c a = record {
+  name = a.name;
+  kept = λ e y is. let k = a.kept e y is in record { now = forgotten k.now; is = ap forgotten_if k.is; sealed = k.sealed };
+  grows = a.grows;
+  lists = λ s z is. elim (a.lists s z is) [
+    | inl x ↦ inl x
+    | inr x ↦ elim x [ inl y ↦ inr (inl y) | inr y ↦ inr (inr (y.0, still_grown y.1)) ]
+  ];
+  count = a.count;
+  numbered = λ e y is. by_extent e (c.extent e) refl y is;
+}
+  where
+    still_grown : {s : StreamName} {z : Stream} → Grown b c.extent s z → Grown b (book_stopped c).extent s z
+    still_grown {s} {z} g = record {
+      was = g.was;
+      there = g.there;
+      base = g.base;
+      extents = g.extents;
+      last = g.last;
+      may = g.may;
+      new = forgotten g.new;
+      made = ap forgotten_if g.made;
+    }
+
+    by_extent : (e : ℕ) (o : Option Extent) → c.extent e ≡ o → (y : Extent) → forgotten_if o ≡ Some y → ((x : Extent) × (b.extent e ≡ Some x)) ⊎ (e ≤ c.count)
+    by_extent e None there y is = absurd cc
+    by_extent e (Some x) there y is = a.numbered e x there
+
+module _ (w : World) (fresh : w.book.extent (suc w.book.count) ≡ None) where
+  abbrev GoesTo : World → Type 0
+  GoesTo v = Goes w.book v.book
+
+  same_goes : GoesTo w
+  same_goes = goes_refl w.book
+
+  manager_goes : (o : Outcome Book) → Goes w.book o.after → GoesTo (manager_does w o)
+  manager_goes o a =
+      if_elim GoesTo (stops_in w.desk o.written) _ _
+      (λ s. if_elim GoesTo (stands_in w.desk) _ _ (λ t. stopped_goes w.book o.after a) (λ f. stopped_goes w.book w.book same_goes))
+      (λ r. a)
+
+  node_goes : (n : ℕ) (p : Packet) → GoesTo (node_takes w n p)
+  node_goes n p =
+      let e = extent_of p.body in
+      let o = node_row n (w.replica n e) p p.body in
+      if_elim GoesTo (w.cell n).up (node_does w n e o) w
+      (λ t. if_elim GoesTo (stops_in (w.cell n) o.written) _ _
+      (λ s. if_elim GoesTo (stands_in (w.cell n)) _ _ (λ _. same_goes) (λ _. same_goes)) (λ r. same_goes))
+      (λ f. same_goes)
+
+  delivered_goes : (p : Packet) (to : ActorId) → GoesTo (delivered w p to)
+  delivered_goes p (Node n) = node_goes n p
+  delivered_goes p Manager =
+      if_elim GoesTo w.desk.up (manager_does w (manager_row w.book p p.body)) w
+      (λ t. manager_goes (manager_row w.book p p.body) (row_goes w.book p fresh p.body)) (λ f. same_goes)
+  delivered_goes p Map = same_goes
+  delivered_goes p (Server s) = same_goes
+  delivered_goes p (User u) = same_goes
+
+  delivered_if_goes : (o : Option Packet) → GoesTo (delivered_if w o)
+  delivered_if_goes None = same_goes
+  delivered_if_goes (Some p) = delivered_goes p p.to
+
+  stop_goes : (actor : ActorId) (call : ℕ) (keep : Bool) → GoesTo (stop w actor call keep)
+  stop_goes (Node n) call keep =
+      if_elim GoesTo (w.cell n).up (node_stops w n call keep) w
+      (λ t. if_elim GoesTo (call == 0) (halted w n) _ (λ _. same_goes) (λ _. same_goes)) (λ f. same_goes)
+  stop_goes Manager call keep =
+      if_elim GoesTo w.desk.up (manager_stops w call keep) w
+      (λ t. if_elim GoesTo (call == 0) (desk_halted w) _ (λ _. stopped_goes w.book w.book same_goes) (λ _. same_goes)) (λ f. same_goes)
+  stop_goes Map call keep = same_goes
+  stop_goes (Server s) call keep = same_goes
+  stop_goes (User u) call keep = same_goes
+
+  restart_goes : (actor : ActorId) → GoesTo (restart w actor)
+  restart_goes (Node n) = if_elim GoesTo ((w.cell n).up || not (is_present w n)) w _ (λ _. same_goes) (λ _. same_goes)
+  restart_goes Manager = if_elim GoesTo w.desk.up w _ (λ _. same_goes) (λ _. same_goes)
+  restart_goes Map = same_goes
+  restart_goes (Server s) = same_goes
+  restart_goes (User u) = same_goes
+
+  happens_goes : (event : Event) → GoesTo (happens w event)
+  happens_goes (Submit user to body) = if_elim GoesTo (is_request body) _ w (λ _. same_goes) (λ _. same_goes)
+  happens_goes (Deliver number) = delivered_if_goes (slice_get w.post number)
+  happens_goes (Stop actor call keep) = stop_goes actor call keep
+  happens_goes (Restart actor) = restart_goes actor
+  happens_goes (Decide e) =
+      if_elim GoesTo w.desk.up (manager_does w (decide_row w.book e (w.book.extent e))) w
+      (λ t. manager_goes (decide_row w.book e (w.book.extent e)) (decide_goes w.book e (w.book.extent e) refl)) (λ f. same_goes)
+  happens_goes (GiveUp server range pick) = same_goes
+  happens_goes (Assign range server until) = same_goes
+  happens_goes (Moment now) = same_goes
+
+  moved_goes : (move : Move) → GoesTo (moved w move)
+  moved_goes (Happens event) = happens_goes event
+  moved_goes (Asks server to body) = if_elim GoesTo (is_server_call body) _ w (λ _. same_goes) (λ _. same_goes)
+  moved_goes (Says from to body) = if_elim GoesTo (is_told body) _ w (λ _. same_goes) (λ _. same_goes)
+  moved_goes (Observes note) = if_elim GoesTo (is_table_note note) _ w (λ _. same_goes) (λ _. same_goes)
+
+-- ---- lists
+
+get_pushed : {A : Type 0} (xs : List A) (y : A) (i : ℕ) (e : A) → slice_get (xs ++ y ∷ []) i ≡ Some e → (slice_get xs i ≡ Some e) ⊎ ((i ≡ length xs) × (e ≡ y))
+get_pushed [] y zero e is = inr (refl, (let c : y ≡ e = cc in sym c))
+get_pushed [] y (suc i) e is = absurd cc
+get_pushed (x ∷ xs) y zero e is = inl is
+get_pushed (x ∷ xs) y (suc i) e is = elim (get_pushed xs y i e is) [ inl a ↦ inl a | inr a ↦ inr (ap suc a.0, a.1) ]
+
+get_within : {A : Type 0} (xs : List A) (i : ℕ) (e : A) → slice_get xs i ≡ Some e → i < length xs
+get_within [] i e is = absurd cc
+get_within (x ∷ xs) zero e is = omega arith
+get_within (x ∷ xs) (suc i) e is = let m = get_within xs i e is in omega (arith, m)
+
+last_at : (xs : List ℕ) (i e : ℕ) → slice_get xs i ≡ Some e → suc i ≡ length xs → last_of xs ≡ Some e
+last_at [] i e is end = absurd cc
+last_at (x ∷ []) zero e is end = is
+last_at (x ∷ []) (suc i) e is end = absurd cc
+last_at (x ∷ y ∷ xs) zero e is end = absurd (omega (arith, end))
+last_at (x ∷ y ∷ xs) (suc i) e is end = last_at (y ∷ xs) i e is (omega (arith, end))
+
+-- ---- one step
+
+-- what holds of a book
+record Fit (b : Book) : Type 0 where
+  listed : (s : StreamName) (x : Stream) → stream_of b.stream s ≡ Some x → Listed b s x
+  numbered : (e : ℕ) (y : Extent) → b.extent e ≡ Some y → e ≤ b.count
+
+fresh_next : (b : Book) → Fit b → b.extent (suc b.count) ≡ None
+fresh_next b fit = by_extent (b.extent (suc b.count)) refl
+  where
+    by_extent : (o : Option Extent) → b.extent (suc b.count) ≡ o → o ≡ None
+    by_extent None is = refl
+    by_extent (Some y) is = absurd (let m = fit.numbered (suc b.count) y is in omega (arith, m))
+
+sealed_so : (b : Book) (e l : ℕ) → sealed_lengths b e ≡ Some l → SealedIn b e l
+sealed_so b e l is = by_extent (b.extent e) refl is
+  where
+    by_extent : (o : Option Extent) → b.extent e ≡ o → sealed_in o ≡ Some l → SealedIn b e l
+    by_extent None there is = absurd cc
+    by_extent (Some x) there is = record { extent = x; there = there; sealed = is }
+
+module _ (b c : Book) (goes : Goes b c) (fit : Fit b) where
+  -- it stood there before
+  record Stood (s : StreamName) (i e : ℕ) : Type 0 where
+    was : Stream
+    there : stream_of b.stream s ≡ Some was
+    at : slice_get was.extents i ≡ Some e
+
+  -- it is the new one, at the end
+  record Added (s : StreamName) (i e : ℕ) : Type 0 where
+    name : s ≡ goes.name
+    stream : Stream
+    grown : Grown b c.extent s stream
+    end : i ≡ length grown.was.extents
+    new : e ≡ suc b.count
+
+  found : (s : StreamName) (z : Stream) (i e : ℕ) → stream_of c.stream s ≡ Some z → slice_get z.extents i ≡ Some e → Stood s i e ⊎ Added s i e
+  found s z i e there at = elim (goes.lists s z there) [
+    | inl o ↦ inl (record { was = o.was; there = o.there; at = subst (λ xs. slice_get xs i ≡ Some e) o.extents at })
+    | inr n ↦ elim n [
+      | inl k ↦ absurd (let d : slice_get [] i ≡ Some e = subst (λ xs. slice_get xs i ≡ Some e) k.1 at in cc)
+      | inr g ↦ elim (get_pushed g.1.was.extents (suc b.count) i e (subst (λ xs. slice_get xs i ≡ Some e) g.1.extents at)) [
+        | inl a ↦ inl (record { was = g.1.was; there = g.1.there; at = a })
+        | inr a ↦ inr (record { name = g.0; stream = z; grown = g.1; end = a.0; new = a.1 })
+      ]
+    ]
+  ]
+
+  same_was : (s : StreamName) (x y : Stream) → stream_of b.stream s ≡ Some x → stream_of b.stream s ≡ Some y → x ≡ y
+  same_was s x y a d = let k : Some x ≡ Some y = sym a ∙ d in cc
+
+  -- what stood in a list has a number
+  low : (s : StreamName) (i e : ℕ) → Stood s i e → e ≤ b.count
+  low s i e a = let (y, is) = (fit.listed s a.was a.there).there i e a.at in fit.numbered e y is
+
+  still_there : (e : ℕ) → (y : Extent) × (b.extent e ≡ Some y) → (y : Extent) × (c.extent e ≡ Some y)
+  still_there e (y, is) = let k = goes.kept e y is in (k.now, k.is)
+
+  still_sealed : (e l : ℕ) → SealedIn b e l → SealedIn c e l
+  still_sealed e l s = let k = goes.kept e s.extent s.there in record { extent = k.now; there = k.is; sealed = k.sealed l s.sealed }
+
+  all_there : (s : StreamName) (i e : ℕ) → Stood s i e ⊎ Added s i e → (y : Extent) × (c.extent e ≡ Some y)
+  all_there s i e (inl a) = still_there e ((fit.listed s a.was a.there).there i e a.at)
+  all_there s i e (inr a) = (a.grown.new, ap c.extent a.new ∙ a.grown.made)
+
+  -- the next one is added only behind a sealed one
+  last_sealed : (s : StreamName) (i e : ℕ) → Stood s i e → (g : (z : Stream) × Grown b c.extent s z) → suc i ≡ length g.1.was.extents → (l : ℕ) × SealedIn c e l
+  last_sealed s i e a (z, g) end =
+      let same = same_was s a.was g.was a.there g.there in
+      let at : slice_get g.was.extents i ≡ Some e = subst (λ (v : Stream). slice_get v.extents i ≡ Some e) same a.at in
+      let is_last : last_of g.was.extents ≡ Some e = last_at g.was.extents i e at end in
+      elim g.may [
+        | inl none ↦ absurd (let k : None ≡ Some e = sym none ∙ is_last in cc)
+        | inr m ↦
+            let (f, there, named, (l, sealed)) = m in
+            let k : f ≡ e = (let d : Some f ≡ Some e = sym there ∙ is_last in cc) in
+            (l, still_sealed e l (sealed_so b e l (subst (λ j. sealed_lengths b j ≡ Some l) k sealed)))
+      ]
+
+  all_closed : (s : StreamName) (i e f : ℕ) → Stood s i e ⊎ Added s i e → Stood s (suc i) f ⊎ Added s (suc i) f → (l : ℕ) × SealedIn c e l
+  all_closed s i e f (inl a) (inl d) =
+      let same = same_was s d.was a.was d.there a.there in
+      let (l, sealed) = (fit.listed s a.was a.there).closed i e f a.at (subst (λ (v : Stream). slice_get v.extents (suc i) ≡ Some f) same d.at) in
+      (l, still_sealed e l sealed)
+  all_closed s i e f (inl a) (inr d) = last_sealed s i e a (d.stream, d.grown) d.end
+  all_closed s i e f (inr a) (inl d) =
+      let same = same_was s d.was a.grown.was d.there a.grown.there in
+      let m = get_within a.grown.was.extents (suc i) f (subst (λ (v : Stream). slice_get v.extents (suc i) ≡ Some f) same d.at) in
+      absurd (omega (arith, m, a.end))
+  all_closed s i e f (inr a) (inr d) =
+      let same = same_was s d.grown.was a.grown.was d.grown.there a.grown.there in
+      absurd (omega (arith, a.end, d.end, ap (λ (v : Stream). length v.extents) same))
+
+  all_rising : (s : StreamName) (i j e f : ℕ) → i < j → Stood s i e ⊎ Added s i e → Stood s j f ⊎ Added s j f → e < f
+  all_rising s i j e f l (inl a) (inl d) =
+      let same = same_was s d.was a.was d.there a.there in
+      (fit.listed s a.was a.there).rising i j e f l a.at (subst (λ (v : Stream). slice_get v.extents j ≡ Some f) same d.at)
+  all_rising s i j e f l (inl a) (inr d) = let m = low s i e a in omega (arith, m, d.new)
+  all_rising s i j e f l (inr a) (inl d) =
+      let same = same_was s d.was a.grown.was d.there a.grown.there in
+      let m = get_within a.grown.was.extents j f (subst (λ (v : Stream). slice_get v.extents j ≡ Some f) same d.at) in
+      absurd (omega (arith, m, l, a.end))
+  all_rising s i j e f l (inr a) (inr d) =
+      let same = same_was s d.grown.was a.grown.was d.grown.there a.grown.there in
+      absurd (omega (arith, l, a.end, d.end, ap (λ (v : Stream). length v.extents) same))
+
+  all_apart : (s t : StreamName) (i j e : ℕ) → Stood s i e ⊎ Added s i e → Stood t j e ⊎ Added t j e → s ≡ t
+  all_apart s t i j e (inl a) (inl d) = (fit.listed s a.was a.there).apart t d.was i j e d.there a.at d.at
+  all_apart s t i j e (inl a) (inr d) = absurd (let m = low s i e a in omega (arith, m, d.new))
+  all_apart s t i j e (inr a) (inl d) = absurd (let m = low t j e d in omega (arith, m, a.new))
+  all_apart s t i j e (inr a) (inr d) = a.name ∙ sym d.name
+
+  from_base : (s : StreamName) (z : Stream) → stream_of c.stream s ≡ Some z → z.base ≡ 0
+  from_base s z there = elim (goes.lists s z there) [
+    | inl o ↦ o.base ∙ (fit.listed s o.was o.there).base
+    | inr n ↦ elim n [ inl k ↦ k.0 | inr g ↦ g.1.base ∙ (fit.listed s g.1.was g.1.there).base ]
+  ]
+
+  fit_next : Fit c
+  fit_next = record {
+    listed = λ s z is. record {
+      base = from_base s z is;
+      there = λ i e at. all_there s i e (found s z i e is at);
+      closed = λ i e f at next. all_closed s i e f (found s z i e is at) (found s z (suc i) f is next);
+      rising = λ i j e f l at next. all_rising s i j e f l (found s z i e is at) (found s z j f is next);
+      apart = λ t v i j e there at next. all_apart s t i j e (found s z i e is at) (found t v j e there next);
+    };
+    numbered = λ e y is. elim (goes.numbered e y is) [
+      | inl x ↦ let m = fit.numbered e x.0 x.1 in omega (arith, m, goes.count)
+      | inr x ↦ x
+    ];
+  }
+
+-- ---- runs
+
+run_fit : (moves : List Move) (w : World) → Fit w.book → Fit (run_moves moves w).book
+run_fit [] w fit = fit
+run_fit (move ∷ moves) w fit = run_fit moves (moved w move) (fit_next w.book (moved w move).book (moved_goes w (fresh_next w.book fit) move) fit)
+
+longer_trans : (x : Stream) (o p : Option Stream) → Longer x o → ((y : Stream) → o ≡ Some y → Longer y p) → Longer x p
+longer_trans x o p a next =
+    let d = next a.now a.is in
+    record { now = d.now; is = d.is; begins = begins_trans a.begins d.begins }
+
+run_longer : (moves : List Move) (w : World) → Fit w.book → (s : StreamName) (x : Stream) → stream_of w.book.stream s ≡ Some x →
+    Longer x (stream_of (run_moves moves w).book.stream s)
+run_longer [] w fit s x is = record { now = x; is = is; begins = begins_refl x.extents }
+run_longer (move ∷ moves) w fit s x is =
+    let goes = moved_goes w (fresh_next w.book fit) move in
+    longer_trans x (stream_of (moved w move).book.stream s) (stream_of (run_moves moves (moved w move)).book.stream s) (goes.grows s x is)
+    (λ y there. run_longer moves (moved w move) (fit_next w.book (moved w move).book goes fit) s y there)
+
+-- at first the four streams of range 1 are empty
+first_fit : (nodes target : ℕ) → Fit (start nodes target).book
+first_fit nodes target = record {
+  listed = λ s z is.
+      if_elim (λ o. o ≡ Some z → Listed (start nodes target).book s z) ((s.range == 1) && nat_le (kind_number s.kind) 3) (Some (empty_stream 0)) None
+      (λ t k. let c : empty_stream 0 ≡ z = cc in subst (Listed (start nodes target).book s) c (record {
+        base = refl;
+        there = λ i e at. absurd cc;
+        closed = λ i e f at next. absurd cc;
+        rising = λ i j e f l at next. absurd cc;
+        apart = λ t v i j e there at next. absurd cc;
+      }))
+      (λ t k. absurd cc) is;
+  numbered = λ e y is. absurd cc;
+}
+
+pub lists_grow : (nodes target : ℕ) (before after : List Move) → ListsGrow before after (start nodes target)
+lists_grow nodes target before after =
+    let w = start nodes target in
+    let fit = run_fit before w (first_fit nodes target) in
+    record {
+      listed = fit.listed;
+      longer = λ s x is. subst (λ (v : World). Longer x (stream_of v.book.stream s)) (sym (run_more before after w)) (run_longer after (run_moves before w) fit s x is);
+    }

@@ -1,0 +1,315 @@
+-- What each row of a node's table sends: an answer to the packet that asked, or to those whose appends wait.
+use Rattle.std.proofs.Common.{◌≡◌, ℕ, suc, zero, Bool, true, false, not, ◌&&◌, ◌==◌, nat_lt, List, [], ◌∷◌, take, Option, Some, None, Contains, refl, arith, subst}
+use Rattle.blocks.specs.declared.record.Nodes.{Nodes}
+use Rattle.wire.specs.declared.actor.ActorId.{ActorId}
+use Rattle.wire.specs.declared.actor.ActorId.TheVariants.{Node}
+use Rattle.wire.specs.declared.actor.ReqNo.{ReqNo}
+use Rattle.wire.specs.declared.actor.ReqNo.TheVariants.{NoRequest}
+use Rattle.wire.specs.declared.body.AppendBody.{AppendBody}
+use Rattle.wire.specs.declared.body.AppendBody.TheVariants.{Append, Put, Have, Appended}
+use Rattle.wire.specs.declared.body.SealBody.{SealBody}
+use Rattle.wire.specs.declared.body.SealBody.TheVariants as seals
+use Rattle.wire.specs.declared.body.CheckBody.{CheckBody}
+use Rattle.wire.specs.declared.body.CheckBody.TheVariants.{Check, Probe, Probed}
+use Rattle.wire.specs.declared.body.ReadBody.{ReadBody}
+use Rattle.wire.specs.declared.body.ReadBody.TheVariants as reads
+use Rattle.wire.specs.declared.body.Body.{Body}
+use Rattle.wire.specs.declared.body.Body.TheVariants as bodies
+use Rattle.wire.specs.declared.note.Note.{Note}
+use Rattle.wire.specs.declared.note.Note.TheVariants.{Acked}
+use Rattle.wire.specs.declared.packet.Packet.{Packet}
+use Rattle.wire.specs.declared.refusal.Refusal.{Refusal}
+use Rattle.replica.specs.declared.phase.Phase.{Phase}
+use Rattle.replica.specs.declared.phase.Phase.TheVariants as phases
+use Rattle.replica.specs.Groups.{Group, text_length}
+use Rattle.replica.specs.Reading.{groups_to, groups_from}
+use Rattle.model.specs.declared.checking.Checking.{Checking}
+use Rattle.model.specs.declared.waiting.Waiting.{Waiting}
+use Rattle.model.specs.Actors.{is_node, is_manager, generation_of}
+use Rattle.model.specs.Node as table
+use Rattle.model.specs.Node.{Replica, is_open, is_sealed}
+use Rattle.model.specs.Outcome.{Outcome, all_met, silent, or_refused}
+use Rattle.model.proofs.Tests.{if_elim, none_met}
+use Rattle.laws_streams.proofs.Tests.{Each}
+
+-- ---- what an answer comes from
+
+-- an append that waited at this replica is acknowledged
+pub record FromWaiting (s : Option Replica) (k : ℕ) (notes : List Note) (to : ActorId) (q : ReqNo) (e o : ℕ) : Type 0 where
+  pub extent : e ≡ k
+  pub replica : Replica
+  pub there : s ≡ Some replica
+  pub waiting : Waiting
+  pub waits : Contains replica.waiting waiting
+  pub asker : to ≡ waiting.asker
+  pub request : q ≡ waiting.request
+  pub offset : o ≡ waiting.offset
+  pub noted : Contains notes (Acked k waiting.offset waiting.group)
+
+-- the groups were read from this replica
+pub record FromReading (s : Option Replica) (k : ℕ) (taken : Packet) (to : ActorId) (q : ReqNo) (e : ℕ) (groups : List Group) : Type 0 where
+  pub extent : e ≡ k
+  pub replica : Replica
+  pub there : s ≡ Some replica
+  pub upto : ℕ
+  pub sealed : Bool
+  pub body : taken.body ≡ bodies.Read (reads.ReadGroups e upto sealed q)
+  pub asker : to ≡ taken.from
+  pub found : groups_to upto replica.content.groups ≡ Some groups
+  pub closed : sealed ≡ true → is_sealed replica.content.phase ≡ true
+
+abbrev pub AppendTells : Option Replica → ℕ → List Note → ActorId → AppendBody → Type 0
+AppendTells s k notes to (Appended q e o) = FromWaiting s k notes to q e o
+AppendTells s k notes to _ = Unit {0}
+
+abbrev pub ReadTells : Option Replica → ℕ → Packet → ActorId → ReadBody → Type 0
+ReadTells s k taken to (reads.Groups q e groups) = FromReading s k taken to q e groups
+ReadTells s k taken to _ = Unit {0}
+
+-- no answer of the manager
+abbrev pub SealTells : SealBody → Type 0
+SealTells (seals.SealedIs q e l) = ⊥
+SealTells _ = Unit {0}
+
+abbrev pub BodyTells : Option Replica → ℕ → Packet → List Note → ActorId → Body → Type 0
+BodyTells s k taken notes to (bodies.Append body) = AppendTells s k notes to body
+BodyTells s k taken notes to (bodies.Read body) = ReadTells s k taken to body
+BodyTells s k taken notes to (bodies.Seal body) = SealTells body
+BodyTells s k taken notes to (bodies.Stream body) = ⊥
+BodyTells s k taken notes to _ = Unit {0}
+
+-- what node n with replica s of extent k sends, having taken a packet
+abbrev pub NodeTells : ℕ → Option Replica → ℕ → Packet → List Note → Packet → Type 0
+NodeTells n s k taken notes p = (p.from ≡ Node n) × BodyTells s k taken notes p.to p.body
+
+abbrev Tells : ℕ → Option Replica → ℕ → Packet → Outcome (Option Replica) → Type 0
+Tells n s k taken o = Each (NodeTells n s k taken o.notes) o.packets
+
+-- ---- the waiting appends
+
+contains_first : {A : Type 0} (k : ℕ) (xs : List A) (x : A) → Contains (take k xs) x → Contains xs x
+contains_first zero xs x (i, l, e) = absurd (omega (arith, l))
+contains_first (suc k) [] x (i, l, e) = absurd (omega (arith, l))
+contains_first (suc k) (y ∷ ys) x (zero, l, e) = (0, omega arith, e)
+contains_first (suc k) (y ∷ ys) x (suc i, l, e) = let m = contains_first k ys x (i, omega (arith, l), e) in (suc m.0, omega (arith, m.1), m.2)
+
+module _ (n : ℕ) (k : ℕ) (p : Packet) (r : Replica) where
+  answers_tell : (notes : List Note) (ws : List Waiting) → ((w : Waiting) → Contains ws w → Contains r.waiting w) →
+      ((x : Note) → Contains (table.acked k ws) x → Contains notes x) → Each (NodeTells n (Some r) k p notes) (table.answers n k ws)
+  answers_tell notes [] all told = tt
+  answers_tell notes (w ∷ ws) all told = (
+    (
+      refl,
+      record {
+        extent = refl;
+        replica = r;
+        there = refl;
+        waiting = w;
+        waits = all w (0, omega arith, refl);
+        asker = refl;
+        request = refl;
+        offset = refl;
+        noted = told (Acked k w.offset w.group) (0, omega arith, refl);
+      },
+    ),
+    answers_tell notes ws (λ v c. all v (suc c.0, omega (arith, c.1), c.2)) (λ x c. told x (suc c.0, omega (arith, c.1), c.2)),
+  )
+
+  answered_tells : (now : Replica) → now.waiting ≡ r.waiting → Tells n (Some r) k p (table.answered n now k)
+  answered_tells now same =
+      let ws = take (table.covered (table.lesser now.second_has now.third_has) now.waiting) now.waiting in
+      answers_tell (table.acked k ws) ws (λ w c. subst (λ xs. Contains xs w) same (contains_first _ now.waiting w c)) (λ x c. c)
+
+-- ---- the rows
+
+module _ (n : ℕ) (s : Option Replica) (k : ℕ) (p : Packet) where
+  unless_tells : (q : ReqNo) (x : Option Refusal) (after : Option Replica) (o : Outcome (Option Replica)) → (x ≡ None → Tells n s k p o) →
+      Tells n s k p (or_refused after (Node n) p q x o)
+  unless_tells q (Some refusal) after o taken = ((refl, tt), tt)
+  unless_tells q None after o taken = taken refl
+
+module _ (n k : ℕ) (p : Packet) (r : Replica) where
+  abbrev Told : Outcome (Option Replica) → Type 0
+  Told o = Tells n (Some r) k p o
+
+  silent_told : Told (silent (Some r))
+  silent_told = tt
+
+  put_told : (e offset : ℕ) (group : Group) → Told (table.put_row n r p e offset group)
+  put_told e offset group =
+      if_elim Told (is_node r.content.places.primary p.from) _ (silent (Some r))
+      (λ t. unless_tells n (Some r) k p NoRequest (table.put_refusal r) (Some r) (table.put_taken n r e offset group)
+      (λ none. if_elim Told (table.put_fits r offset) (table.put_added n r e offset group) (table.put_passed n r e) (λ f. ((refl, tt), tt)) (λ f. ((refl, tt), tt))))
+      (λ t. tt)
+
+  have_told : (l : ℕ) → Told (table.have_row n r p k l)
+  have_told l =
+      if_elim Told ((n == r.content.places.primary) && is_open r.content.phase) (table.answered_if n r k (table.with_length r p.from l)) (silent (Some r))
+      (λ t. if_elim (λ o. Told (table.answered_if n r k o)) (is_node r.content.places.second p.from) _ _
+      (λ a. answered_tells n k p r (record r { second_has = table.greater r.second_has l }) refl)
+      (λ a. if_elim (λ o. Told (table.answered_if n r k o)) (is_node r.content.places.third p.from) _ _
+      (λ b. answered_tells n k p r (record r { third_has = table.greater r.third_has l }) refl)
+      (λ b. tt)))
+      (λ t. tt)
+
+  check_told : (e generation : ℕ) (q : ReqNo) → Told (table.check_row n r p e generation q)
+  check_told e generation q =
+      unless_tells n (Some r) k p q (table.check_refusal n r generation) (Some r) (table.check_taken n r p e generation q)
+      (λ none. if_elim Told (is_open r.content.phase) (table.check_begun n r p e generation q) _ (λ t. ((refl, tt), ((refl, tt), tt))) (λ t. ((refl, tt), tt)))
+
+  probe_told : (e generation : ℕ) → Told (table.probe_row n r p e generation)
+  probe_told e generation =
+      if_elim Told (is_node r.content.places.primary p.from) _ (silent (Some r))
+      (λ t. unless_tells n (Some r) k p NoRequest (table.probe_refusal r generation) (Some r) (table.probe_taken n r e generation) (λ none. ((refl, tt), tt)))
+      (λ t. tt)
+
+  settled_told : (c : Checking) (a b : Option ℕ) → Told (table.settled n r c a b)
+  settled_told c (Some a) (Some b) = ((refl, tt), tt)
+  settled_told c (Some a) None = tt
+  settled_told c None b = tt
+
+  probed_by_told : (o : Option Checking) → Told (table.probed_by n r o)
+  probed_by_told None = tt
+  probed_by_told (Some c) = settled_told c c.second c.third
+
+  probed_told : (generation l : ℕ) (o : Option Checking) → Told (table.probed_for n r p generation l o)
+  probed_told generation l None = tt
+  probed_told generation l (Some c) =
+      if_elim Told (c.generation == generation) (table.probed_by n r (table.with_probed c r.content.places p.from l)) (silent (Some r))
+      (λ t. probed_by_told (table.with_probed c r.content.places p.from l)) (λ t. tt)
+
+  read_told : (e offset l : ℕ) (q : ReqNo) → Told (table.read_row n r p e offset l q)
+  read_told e offset l q =
+      unless_tells n (Some r) k p q (table.read_refusal r offset l) (Some r) (table.read_taken n r p e offset l q) (λ none. ((refl, tt), tt))
+
+  asked_sealed : (sealed phase : Bool) → (sealed && not phase) ≡ false → sealed ≡ true → phase ≡ true
+  asked_sealed true true t is = refl
+  asked_sealed true false t is = absurd cc
+  asked_sealed false phase t is = absurd cc
+
+  groups_told : (upto : ℕ) (sealed : Bool) (q : ReqNo) → p.body ≡ bodies.Read (reads.ReadGroups k upto sealed q) → Told (table.groups_row n r p k upto sealed q)
+  groups_told upto sealed q is =
+      unless_tells n (Some r) k p q (table.groups_refusal r sealed) (Some r) (table.groups_taken n r p k upto q (groups_to upto r.content.groups))
+      (λ none. by_found (none_met (table.groups_tests r sealed) none).0 (groups_to upto r.content.groups) refl)
+    where
+      by_found : (sealed && not (is_sealed r.content.phase)) ≡ false → (o : Option (List Group)) → groups_to upto r.content.groups ≡ o →
+          Told (table.groups_taken n r p k upto q o)
+      by_found t None found = ((refl, tt), tt)
+      by_found t (Some groups) found = (
+        (
+          refl,
+          record {
+            extent = refl;
+            replica = r;
+            there = refl;
+            upto = upto;
+            sealed = sealed;
+            body = is;
+            asker = refl;
+            found = found;
+            closed = asked_sealed sealed (is_sealed r.content.phase) t;
+          },
+        ),
+        tt,
+      )
+
+  freeze_told : (e : ℕ) → Told (table.freeze_row n r p e)
+  freeze_told e = if_elim Told (is_manager p.from) (table.freezes n r e r.content.phase) (silent (Some r)) (λ t. by_phase r.content.phase) (λ t. tt)
+    where
+      by_phase : (phase : Phase) → Told (table.freezes n r e phase)
+      by_phase phases.Open = ((refl, tt), tt)
+      by_phase phases.Frozen = ((refl, tt), tt)
+      by_phase phases.Sealed = ((refl, tt), tt)
+
+  shorts_told : (e : ℕ) (phase : Phase) → Told (table.shorts n r e phase)
+  shorts_told e phases.Open = ((refl, tt), tt)
+  shorts_told e phases.Frozen = ((refl, tt), tt)
+  shorts_told e phases.Sealed = ((refl, tt), tt)
+
+  cuts_told : (e l : ℕ) (o : Option (List Group)) → Told (table.cuts n r p e l o)
+  cuts_told e l None = ((refl, tt), tt)
+  cuts_told e l (Some groups) = ((refl, tt), tt)
+
+  seal_told : (e l : ℕ) → Told (table.seal_row n r p e l)
+  seal_told e l =
+      if_elim Told (is_manager p.from) (table.seals n r p e l) (silent (Some r))
+      (λ t. if_elim Told (is_sealed r.content.phase) (table.seals_again n r p e l) _
+      (λ a. if_elim Told (text_length r.content.groups == l) _ _ (λ b. ((refl, tt), tt)) (λ b. ((refl, tt), tt)))
+      (λ a. if_elim Told (nat_lt (text_length r.content.groups) l) (table.shorts n r e r.content.phase) (table.cuts n r p e l (groups_to l r.content.groups))
+      (λ b. shorts_told e r.content.phase) (λ b. cuts_told e l (groups_to l r.content.groups))))
+      (λ t. tt)
+
+  tail_sent_told : (e from to : ℕ) (o : Option (List Group)) → Told (table.tail_sent n r p e from to o)
+  tail_sent_told e from to None = ((refl, tt), tt)
+  tail_sent_told e from to (Some groups) = ((refl, tt), tt)
+
+  send_tail_told : (e from to : ℕ) → Told (table.send_tail_row n r p e from to)
+  send_tail_told e from to =
+      if_elim Told (is_manager p.from) _ (silent (Some r))
+      (λ t. unless_tells n (Some r) k p NoRequest (table.send_tail_refusal r) (Some r) (table.tail_sent n r p e from to (groups_from from r.content.groups))
+      (λ none. tail_sent_told e from to (groups_from from r.content.groups)))
+      (λ t. tt)
+
+  tail_told : (e from l : ℕ) (groups : List Group) → Told (table.tail_row n r p e from l groups)
+  tail_told e from l groups =
+      if_elim Told (table.tail_fits r p.from from l groups) (table.tail_taken n r e from l groups) (silent (Some r)) (λ t. ((refl, tt), tt)) (λ t. tt)
+
+-- ---- the table
+
+module _ (n : ℕ) (p : Packet) where
+  append_tells : (s : Option Replica) (b : AppendBody) → Tells n s (table.append_extent b) p (table.append_body_row n s p b)
+  append_tells (Some r) (Append e generation blocks q) =
+      unless_tells n (Some r) e p q (table.append_refusal n r p generation blocks) (Some r) (table.append_taken n r p e blocks q) (λ none. ((refl, tt), ((refl, tt), tt)))
+  append_tells None (Append e generation blocks q) = ((refl, tt), tt)
+  append_tells (Some r) (Put e offset group) = put_told n e p r e offset group
+  append_tells None (Put e offset group) = ((refl, tt), tt)
+  append_tells (Some r) (Have e l) = have_told n e p r l
+  append_tells None (Have e l) = ((refl, tt), tt)
+  append_tells s b = tt
+
+  check_tells : (s : Option Replica) (b : CheckBody) → Tells n s (table.check_extent b) p (table.check_body_row n s p b)
+  check_tells (Some r) (Check e generation q) = check_told n e p r e (generation_of p.from generation) q
+  check_tells None (Check e generation q) = ((refl, tt), tt)
+  check_tells (Some r) (Probe e generation) = probe_told n e p r e generation
+  check_tells None (Probe e generation) = ((refl, tt), tt)
+  check_tells (Some r) (Probed e generation l) = probed_told n e p r generation l r.check
+  check_tells None (Probed e generation l) = ((refl, tt), tt)
+  check_tells s b = tt
+
+  missing_tells : (k : ℕ) → Tells n None k p (table.missing n p)
+  missing_tells k = if_elim (Tells n None k p) (is_manager p.from) _ (silent None) (λ t. ((refl, tt), tt)) (λ t. tt)
+
+  make_tells : (k fence target : ℕ) (places : Nodes) → Tells n None k p (table.make_row n p k fence target places)
+  make_tells k fence target places =
+      if_elim (Tells n None k p) (all_met (table.make_tests n p target places)) (table.make_taken k fence target places) (silent None) (λ t. tt) (λ t. tt)
+
+  seal_tells : (s : Option Replica) (b : SealBody) → Tells n s (table.seal_extent b) p (table.seal_body_row n s p b)
+  seal_tells None (seals.Make e fence target places) = make_tells e fence target places
+  seal_tells (Some r) (seals.Freeze e) = freeze_told n e p r e
+  seal_tells None (seals.Freeze e) = missing_tells e
+  seal_tells (Some r) (seals.Seal e l) = seal_told n e p r e l
+  seal_tells None (seals.Seal e l) = missing_tells e
+  seal_tells (Some r) (seals.SendTail e from to) = send_tail_told n e p r e from to
+  seal_tells None (seals.SendTail e from to) = missing_tells e
+  seal_tells (Some r) (seals.Tail e from l groups) = tail_told n e p r e from l groups
+  seal_tells None (seals.Tail e from l groups) = ((refl, tt), tt)
+  seal_tells s b = tt
+
+  read_tells : (s : Option Replica) (b : ReadBody) → p.body ≡ bodies.Read b → Tells n s (table.read_extent b) p (table.read_body_row n s p b)
+  read_tells (Some r) (reads.ReadAt e offset l q) is = read_told n e p r e offset l q
+  read_tells None (reads.ReadAt e offset l q) is = ((refl, tt), tt)
+  read_tells (Some r) (reads.ReadGroups e upto sealed q) is = groups_told n e p r upto sealed q is
+  read_tells None (reads.ReadGroups e upto sealed q) is = ((refl, tt), tt)
+  read_tells s b is = tt
+
+  row_tells : (s : Option Replica) (b : Body) → p.body ≡ b → Tells n s (table.extent_of b) p (table.node_row n s p b)
+  row_tells s (bodies.Append b) is = append_tells s b
+  row_tells s (bodies.Check b) is = check_tells s b
+  row_tells s (bodies.Seal b) is = seal_tells s b
+  row_tells s (bodies.Read b) is = read_tells s b is
+  row_tells s b is = tt
+
+-- whatever a node sends, having taken a packet
+pub node_tells : (n : ℕ) (s : Option Replica) (p : Packet) →
+    Each (NodeTells n s (table.extent_of p.body) p (table.node_row n s p p.body).notes) (table.node_row n s p p.body).packets
+node_tells n s p = row_tells n p s p.body refl

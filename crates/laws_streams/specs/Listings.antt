@@ -1,0 +1,30 @@
+-- What the manager's lists of extents are: each extent stands in one list, once, and each but the last of its list is sealed.
+use Rattle.std.specs.Prelude.{◌≡◌, ℕ, suc, ◌<◌, List, ◌++◌, Option, Some, slice_get}
+use Rattle.wire.specs.declared.streams.StreamName.{StreamName}
+use Rattle.streams.specs.Streams.{Stream, stream_of}
+use Rattle.model.specs.declared.extent.Extent.{Extent}
+use Rattle.model.specs.Manager.{Book}
+use Rattle.model.specs.World.{World, Move, run_moves}
+use Rattle.laws_streams.specs.Origins.{Begins}
+use Rattle.laws_streams.specs.Answers.{SealedIn}
+
+-- the list of a stream: from its first extent on, all in the book, in the order in which they were made
+pub record Listed (b : Book) (s : StreamName) (x : Stream) : Type 0 where
+  pub base : x.base ≡ 0
+  pub there : (i e : ℕ) → slice_get x.extents i ≡ Some e → (y : Extent) × (b.extent e ≡ Some y)
+  pub closed : (i e f : ℕ) → slice_get x.extents i ≡ Some e → slice_get x.extents (suc i) ≡ Some f → (length : ℕ) × SealedIn b e length
+  pub rising : (i j e f : ℕ) → i < j → slice_get x.extents i ≡ Some e → slice_get x.extents j ≡ Some f → e < f
+  pub apart : (t : StreamName) (z : Stream) (i j e : ℕ) → stream_of b.stream t ≡ Some z → slice_get x.extents i ≡ Some e → slice_get z.extents j ≡ Some e →
+      s ≡ t
+
+-- the stream is there, and its list begins with that of before
+pub record Longer (x : Stream) (found : Option Stream) : Type 0 where
+  pub now : Stream
+  pub is : found ≡ Some now
+  pub begins : Begins x.extents now.extents
+
+-- the lists of a run, and how each goes on later
+pub record ListsGrow (before after : List Move) (w : World) : Type 0 where
+  pub listed : (s : StreamName) (x : Stream) → stream_of (run_moves before w).book.stream s ≡ Some x → Listed (run_moves before w).book s x
+  pub longer : (s : StreamName) (x : Stream) → stream_of (run_moves before w).book.stream s ≡ Some x →
+      Longer x (stream_of (run_moves (before ++ after) w).book.stream s)

@@ -1,0 +1,87 @@
+//! The answers that a load waits for.
+ghost use Rattle.std.specs.Prelude.{◌≡◌, [], ℕ, List, Some, None, false, IfOk, OnErr, option_to_list};
+ghost use Rattle.client.specs.declared.job.Job.TheVariants as jobs;
+ghost use Rattle.client.specs.declared.job.News.TheVariants as news;
+ghost use Rattle.client.specs.Client.{content_told};
+ghost use Rattle.model_tables.specs.declared.desk.Desk.{Desk};
+ghost use Rattle.model_tables.specs.Range.{RangeState, RangeOutcome, picking, is_serving};
+ghost use Rattle.model_tables.specs.Loading as rows;
+ghost use Rattle.model_tables.specs.Answering as answers;
+ghost use Rattle.loading.specs.Steps.{put, outcome, Makes};
+
+use crate::asking::next_request;
+use crate::content::RangeContent;
+use crate::progress::Progress;
+use blocks::{BlockFault, Group};
+use client::{LoadPhase, News};
+use metadata::{Region, copied_regions};
+use model_tables::{Desk, Stage};
+use reload::{folded, replayed};
+use std::alloc::{AllocError, Global};
+use wire::{AppendBody, Body, ExtentId, Packet, ReadBody, Refusal, StreamBody};
+
+/// The groups of an answer.
+pub(crate) fn groups_of(body: &Body) -> &[Group]
+    ensures { result.now ≡ answers.groups_of body.now }
+{
+    match body {
+        Body::Read(ReadBody::Groups { groups, .. }) => groups.as_slice(),
+        _ => &[],
+    }
+}
+
+/// The opening or the confirmation is refused.
+fn load_refused(body: &AppendBody) -> Progress
+    ensures { (d : Desk) (r : RangeState) → answers.load_refused d r body.now ≡ outcome d r result }
+{
+    match body {
+        AppendBody::Refused {
+            refusal: Refusal::Stale,
+            ..
+        } => Progress::Dropped,
+        _ => Progress::Rests,
+    }
+}
+
+impl RangeContent {
+    /// The streams are opened, or the generation is confirmed.
+    fn load_told(
+        &mut self,
+        alloc: Global,
+        desk: &Desk,
+        body: &StreamBody,
+    ) -> Result<Progress, AllocError>
+        ensures ok { IfOk result (λ p. Makes desk.now (λ r. answers.load_told desk.now r r.load.phase body.now) self.old self.new p) }
+        ensures err { OnErr result (self.new ≡ self.old) }
+    {
+        match body {
+            StreamBody::Opened { streams, .. } => match self.load.phase() {
+                LoadPhase::Opening { .. } => self.opens(alloc, desk, streams),
+                _ => Ok(Progress::Rests),
+            },
+            StreamBody::Confirmed { .. } => match self.load.phase() {
+                LoadPhase::Confirming { .. } => self.serves(alloc),
+                _ => Ok(Progress::Rests),
+            },
+            _ => Ok(Progress::Rests),
+        }
+    }
+
+    /// The answer to the opening or the confirmation: the metadata begins to be read, or the range is served. For want of
+    /// memory (22) nothing has changed.
+    pub fn load_reply(
+        &mut self,
+        alloc: Global,
+        desk: &Desk,
+        body: &Body,
+    ) -> Result<Progress, AllocError>
+        ensures ok { IfOk result (λ p. Makes desk.now (λ r. answers.load_reply desk.now r body.now) self.old self.new p) }
+        ensures err { OnErr result (self.new ≡ self.old) }
+    {
+        match body {
+            Body::Append(body) => Ok(load_refused(body)),
+            Body::Stream(body) => self.load_told(alloc, desk, body),
+            _ => Ok(Progress::Rests),
+        }
+    }
+}

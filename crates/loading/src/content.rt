@@ -1,0 +1,21 @@
+//! What a load makes of a range.
+use client::{RangeLoad, StreamClient};
+use memtable::MemTable;
+use metadata::{Metadata, Region};
+use model_tables::Stage;
+use wire::StreamList;
+
+/// What a server knows of a range beside its transactions and Gets: how far its load is, its streams, what its metadata says,
+/// the regions of its log with the numbers that are to be applied next, and its table.
+#[derive(Drop)]
+pub struct RangeContent {
+    pub load: RangeLoad,
+    pub stage: Stage,
+    pub metadata: StreamClient,
+    pub log: StreamClient,
+    pub row_data: StreamList,
+    pub blob_data: StreamList,
+    pub said: Metadata,
+    pub regions: Vec<Region>,
+    pub table: MemTable,
+}

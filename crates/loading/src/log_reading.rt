@@ -1,0 +1,106 @@
+//! The log is read.
+ghost use Rattle.std.specs.Prelude.{◌≡◌, suc};
+ghost use Rattle.client.specs.Client.{last_extent};
+ghost use Rattle.model_tables.specs.Range.{RangeState};
+ghost use Rattle.model_tables.specs.Loading as rows;
+ghost use Rattle.loading.specs.Steps.{put, Makes};
+
+use crate::asking::{check_last, read_at};
+use crate::content::RangeContent;
+use crate::progress::Progress;
+use metadata::Region;
+use model_tables::{Desk, Stage};
+use reload::open_region;
+use wire::StreamKind;
+
+impl RangeContent {
+    /// The extent at the position is read, or all is.
+    pub(crate) fn reads_log(&mut self, desk: &Desk, position: u64) -> Progress
+        ensures { Makes desk.now (λ r. rows.reads_log desk.now r position) self.old self.new result }
+    {
+        if position < self.log.extents().len() as u64 {
+            self.log.set_pick(&desk.pick);
+            let packet = read_at(&mut self.log, desk, position);
+            self.stage = Stage::Reading {
+                kind: StreamKind::Log,
+                position,
+            };
+            Progress::Goes(packet)
+        } else {
+            self.confirms(desk)
+        }
+    }
+
+    /// The same behind the position.
+    pub(crate) fn reads_log_behind(&mut self, desk: &Desk, position: u64) -> Progress
+        ensures { Makes desk.now (λ r. rows.reads_log desk.now r (suc position)) self.old self.new result }
+    {
+        if position < self.log.extents().len() as u64 {
+            self.reads_log(desk, position + 1)
+        } else {
+            self.confirms(desk)
+        }
+    }
+
+    /// Where the log is read from; none where the first region begins outside of it.
+    fn first_position(&self, regions: &[Region]) -> Option<u64>
+        ensures { (r : RangeState) → result ≡ rows.first_position (put self.now r) regions.now }
+    {
+        match regions {
+            [] => None,
+            [region, ..] => {
+                let index = region.start.index;
+                let base = self.log.base();
+                if index < base || index - base > self.log.extents().len() as u64 {
+                    return None;
+                }
+                Some(index - base)
+            }
+        }
+    }
+
+    /// The log is read from the first region on.
+    pub(crate) fn reads_log_from_start(&mut self, desk: &Desk) -> Progress
+        ensures { Makes desk.now (λ r. rows.reads_log_from desk.now r (rows.first_position r r.regions)) self.old self.new result }
+    {
+        match self.first_position(&self.regions) {
+            None => Progress::Dropped,
+            Some(position) => self.reads_log(desk, position),
+        }
+    }
+
+    /// The length of the last extent is checked first, where it is open.
+    fn checks_log(&mut self, desk: &Desk) -> Progress
+        ensures { Makes desk.now (λ r. rows.checks_log desk.now r (last_extent r.log.extents)) self.old self.new result }
+    {
+        match self.log.last_extent() {
+            None => self.reads_log_from_start(desk),
+            Some(extent) => {
+                if extent.length.is_some() {
+                    return self.reads_log_from_start(desk);
+                }
+                self.log.set_pick(&desk.pick);
+                let packet = check_last(&mut self.log, desk);
+                self.stage = Stage::Checking {
+                    kind: StreamKind::Log,
+                };
+                Progress::Goes(packet)
+            }
+        }
+    }
+
+    /// The metadata is read. The regions are a copy of those that it says.
+    pub(crate) fn begins_log(&mut self, desk: &Desk, regions: Vec<Region>) -> Progress
+        requires { regions.items ≡ self.old.said.regions }
+        ensures { Makes desk.now (λ r. rows.begins_log desk.now r) self.old self.new result }
+    {
+        if open_region(&regions).is_none() {
+            return Progress::Dropped;
+        }
+        if self.first_position(&regions).is_none() || !self.said.indexes().is_empty() {
+            return Progress::Dropped;
+        }
+        self.regions = regions;
+        self.checks_log(desk)
+    }
+}

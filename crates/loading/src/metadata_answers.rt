@@ -1,0 +1,167 @@
+//! The answers to the metadata's client.
+ghost use Rattle.std.specs.Prelude.{◌≡◌, [], ℕ, List, Some, None, IfOk, OnErr, option_to_list};
+ghost use Rattle.client.specs.declared.job.Job.TheVariants as jobs;
+ghost use Rattle.client.specs.declared.job.News.TheVariants as news;
+ghost use Rattle.client.specs.Client.{content_of, content_told};
+ghost use Rattle.model_tables.specs.Range.{picking};
+ghost use Rattle.model_tables.specs.Loading as rows;
+ghost use Rattle.model_tables.specs.Answering as answers;
+ghost use Rattle.loading.specs.declared.progress.Progress.TheVariants as progress;
+ghost use Rattle.loading.specs.Steps.{put, outcome, Makes};
+
+use crate::answering::groups_of;
+use crate::asking::next_request;
+use crate::content::RangeContent;
+use crate::progress::Progress;
+use blocks::{BlockFault, Group};
+use client::News;
+use metadata::{Region, copied_regions};
+use model_tables::{Desk, Stage};
+use reload::folded;
+use std::alloc::{AllocError, Global};
+use wire::{Body, Packet};
+
+impl RangeContent {
+    /// News of the metadata's client, other than of groups. The regions are a copy of those that the metadata says.
+    fn metadata_news(
+        &mut self,
+        desk: &Desk,
+        told: &Option<News>,
+        packet: Option<Packet>,
+        regions: Vec<Region>,
+    ) -> Progress
+        requires regions { regions.items ≡ self.old.said.regions }
+        requires other { content_told told.now ≡ None }
+        ensures { (groups : List rows.Group) → Makes desk.now (λ r. rows.metadata_news desk.now r groups r.stage told.now (option_to_list packet)) self.old self.new result }
+    {
+        let stage = self.stage;
+        match told {
+            None => Progress::Goes(packet),
+            Some(News::Fenced) => Progress::Dropped,
+            Some(News::Appended { .. }) => Progress::Goes(packet),
+            Some(News::Content { .. }) => Progress::Goes(packet),
+            Some(News::Checked { .. }) => match stage {
+                Stage::Checking { .. } => self.reads_metadata(desk, 0, regions),
+                Stage::Opening => Progress::Goes(packet),
+                Stage::Reading { .. } => Progress::Goes(packet),
+                Stage::Confirming => Progress::Goes(packet),
+                Stage::Serving => Progress::Goes(packet),
+            },
+            Some(News::Sealed { .. }) => match stage {
+                Stage::Checking { .. } => self.reads_metadata(desk, 0, regions),
+                Stage::Reading { position, .. } => self.reads_metadata(desk, position, regions),
+                Stage::Opening => Progress::Goes(packet),
+                Stage::Confirming => Progress::Goes(packet),
+                Stage::Serving => Progress::Goes(packet),
+            },
+        }
+    }
+
+    /// An answer that brings no groups.
+    fn metadata_told(
+        &mut self,
+        alloc: Global,
+        desk: &Desk,
+        body: &Body,
+    ) -> Result<Progress, AllocError>
+        requires { content_of self.old.metadata.job body.now ≡ None }
+        ensures ok { IfOk result (λ p. Makes desk.now (λ r. answers.metadata_reply desk.now r body.now) self.old self.new p) }
+        ensures err { OnErr result (self.new ≡ self.old) }
+    {
+        let regions = copied_regions(alloc, self.said.regions())?;
+        let pick = self.metadata.pick();
+        self.metadata.set_pick(&desk.pick);
+        match self.metadata.on_answer(alloc, &next_request(desk), body) {
+            Ok(reaction) => {
+                let told = reaction.news;
+                Ok(self.metadata_news(desk, &told, reaction.packet, regions))
+            }
+            Err(full) => {
+                self.metadata.set_pick(&pick);
+                Err(full)
+            }
+        }
+    }
+
+    /// The read of the metadata that is out is over.
+    fn end_metadata_read(&mut self, alloc: Global, desk: &Desk)
+        ensures { self.new ≡ record self.old { metadata = record (picking desk.now self.old.metadata) { job = jobs.Idle; group = [] } } }
+    {
+        self.metadata.set_pick(&desk.pick);
+        self.metadata.end_read(alloc);
+    }
+
+    /// The groups of the extent at the position are read.
+    fn metadata_read(
+        &mut self,
+        alloc: Global,
+        desk: &Desk,
+        position: u64,
+        groups: &[Group],
+    ) -> Result<Progress, AllocError>
+        ensures ok { IfOk result (λ p. Makes desk.now
+            (λ r. rows.says desk.now (record r { metadata = record (picking desk.now r.metadata) { job = jobs.Idle; group = [] } }) position (rows.said_after r.said groups.now))
+            self.old self.new p) }
+        ensures err { OnErr result (self.new ≡ self.old) }
+    {
+        match folded(alloc, &self.said, groups) {
+            Ok(said) => {
+                let regions = copied_regions(alloc, said.regions())?;
+                self.end_metadata_read(alloc, desk);
+                self.said = said;
+                Ok(self.reads_metadata_behind(desk, position, regions))
+            }
+            Err(BlockFault::Damaged) => Ok(Progress::Dropped),
+            Err(_full) => Err(AllocError),
+        }
+    }
+
+    /// An answer that brings groups.
+    fn metadata_content(
+        &mut self,
+        alloc: Global,
+        desk: &Desk,
+        groups: &[Group],
+    ) -> Result<Progress, AllocError>
+        ensures ok { IfOk result (λ p. (extent upto : ℕ) → Makes desk.now
+            (λ r. rows.metadata_news desk.now (record r { metadata = record (picking desk.now r.metadata) { job = jobs.Idle; group = [] } }) groups.now r.stage (Some (news.Content extent upto)) [])
+            self.old self.new p) }
+        ensures err { OnErr result (self.new ≡ self.old) }
+    {
+        let stage = self.stage;
+        match stage {
+            Stage::Reading { position, .. } => self.metadata_read(alloc, desk, position, groups),
+            Stage::Opening => Ok(self.metadata_passed(alloc, desk)),
+            Stage::Checking { .. } => Ok(self.metadata_passed(alloc, desk)),
+            Stage::Confirming => Ok(self.metadata_passed(alloc, desk)),
+            Stage::Serving => Ok(self.metadata_passed(alloc, desk)),
+        }
+    }
+
+    /// Groups that nothing is made of.
+    fn metadata_passed(&mut self, alloc: Global, desk: &Desk) -> Progress
+        ensures state { self.new ≡ record self.old { metadata = record (picking desk.now self.old.metadata) { job = jobs.Idle; group = [] } } }
+        ensures value { result ≡ progress.Goes None }
+    {
+        self.end_metadata_read(alloc, desk);
+        Progress::Goes(None)
+    }
+
+    /// The answer to the job of the metadata's client: its last extent is checked, then all extents are read in order, and then
+    /// the log. The range is dropped where its generation is old, or what is read is damaged. For want of memory (22) nothing
+    /// has changed.
+    pub fn metadata_reply(
+        &mut self,
+        alloc: Global,
+        desk: &Desk,
+        body: &Body,
+    ) -> Result<Progress, AllocError>
+        ensures ok { IfOk result (λ p. Makes desk.now (λ r. answers.metadata_reply desk.now r body.now) self.old self.new p) }
+        ensures err { OnErr result (self.new ≡ self.old) }
+    {
+        match self.metadata.content(body) {
+            None => self.metadata_told(alloc, desk, body),
+            Some(_read) => self.metadata_content(alloc, desk, groups_of(body)),
+        }
+    }
+}

@@ -1,0 +1,4 @@
+pub mod Held
+pub mod Looking
+pub mod Moving
+pub mod Lookups

@@ -1,0 +1,266 @@
+//! One try of a Get.
+ghost use Rattle.std.specs.Prelude.{◌≡◌, ◌+◌, ◌++◌, ◌∷◌, ◌<◌, ◌≤◌, ◌^◌, [], Some, None, List, filter, map, not, length, option_copied, option_to_list, IfOk, OnOk};
+ghost use Rattle.client.specs.Requests.{is_same as are_same};
+ghost use Rattle.lookups.specs.Held.{with_fresh};
+ghost use Rattle.lookups.specs.Lookups.{seen, tried_of};
+ghost use Rattle.lookups.specs.Looking.{answer_of, lookup_of};
+ghost use Rattle.model_tables.specs.Getting.{look as looks, try as tries, try_all, places_in as nodes_in, asks_place as asks_of, without as without_read, reads_place as reads_of};
+ghost use Rattle.model_tables.specs.Range.{RangeState, refuses as refuses_of};
+
+use crate::asking::{Asking, places_of};
+use crate::held::{Fresh, Held};
+use crate::requests::{is_same, node_at};
+use blocks::Nodes;
+use bytes::Bytes;
+use cells::{Cell, Place};
+use client::Place as Replica;
+use model_tables::{Desk, PlaceRead, PlaceReads, WaitingGet};
+use std::alloc::{AllocError, Global};
+use wire::{ActorId, AppendBody, Body, Packet, ReadBody, Refusal, ReqNo, TableBody};
+
+/// What a try leaves: the Get, if it still waits, the number of the next request, and the packet, if there is one.
+#[derive(Drop)]
+pub(crate) struct OneTry {
+    pub(crate) waiting: Option<WaitingGet>,
+    pub(crate) count: u64,
+    pub(crate) packet: Option<Packet>,
+}
+
+/// What tries leave: the Gets that still wait, the number of the next request, and the packets.
+#[derive(Drop)]
+pub(crate) struct Tries {
+    pub(crate) waiting: Vec<WaitingGet>,
+    pub(crate) count: u64,
+    pub(crate) packets: Vec<Packet>,
+}
+
+/// What a look-up gives.
+#[derive(Drop)]
+pub(crate) enum Found {
+    /// A value, or that there is none.
+    Is(Option<Bytes>),
+    /// The place of a value that is to be read.
+    Needs(Place),
+}
+
+fn look(held: &Held, fresh: &Option<Fresh>, cell: Option<&Cell>) -> Result<Found, AllocError>
+    ensures { IfOk result (λ found. lookup_of found ≡ looks (with_fresh held.now fresh.now) (option_copied cell.entry)) }
+{
+    match cell {
+        None => Ok(Found::Is(None)),
+        Some(Cell::Deleted) => Ok(Found::Is(None)),
+        Some(Cell::Inline(value)) => Ok(Found::Is(Some(value.clone()?))),
+        Some(Cell::Placed(place)) => match held.value_with(fresh, place)? {
+            None => Ok(Found::Needs(*place)),
+            Some(value) => Ok(Found::Is(Some(value))),
+        },
+    }
+}
+
+/// The packet of a read, at the place that it is for.
+pub(crate) fn reads_place(desk: &Desk, places: &Nodes, read: &PlaceRead) -> Packet
+    ensures { result ≡ reads_of desk.now places.now read.now }
+{
+    Packet {
+        from: ActorId::Server(desk.server),
+        to: ActorId::Node(node_at(places, read.replica)),
+        body: Body::Read(ReadBody::ReadAt {
+            extent: read.place.extent,
+            offset: read.place.offset,
+            length: read.place.length,
+            request: read.request,
+        }),
+    }
+}
+
+fn with_read(alloc: Global, reads: &PlaceReads, read: PlaceRead) -> Result<PlaceReads, AllocError>
+    ensures { IfOk result (λ made. made ≡ reads.now ++ read ∷ []) }
+{
+    let mut items = reads.as_slice().to_vec(alloc)?;
+    items.push(read)?;
+    Ok(PlaceReads::of(items))
+}
+
+/// One read more is sent for what a Get needs, if its extent is known.
+fn asks_place(
+    alloc: Global,
+    asking: &Asking<'_>,
+    count: u64,
+    get: WaitingGet,
+    place: Place,
+) -> Result<OneTry, AllocError>
+    requires { count + 1 < 2 ^ 64 }
+    ensures { IfOk result (λ one. tried_of one ≡ asks_of (record asking.now.desk.now { count = count }) get place
+        (nodes_in (asking.now.log.now ++ (asking.now.blob.now ++ asking.now.rows.now)) place.extent)) }
+{
+    match places_of(asking, place.extent) {
+        None => Ok(OneTry {
+            waiting: Some(get),
+            count,
+            packet: None,
+        }),
+        Some(places) => {
+            let request = ReqNo::Server {
+                server: asking.desk.server,
+                session: asking.desk.session,
+                count,
+            };
+            let read = PlaceRead {
+                request,
+                place,
+                replica: Replica::First,
+            };
+            let reads = with_read(alloc, &get.reads, read)?;
+            let waiting = WaitingGet { reads, ..get };
+            Ok(OneTry {
+                waiting: Some(waiting),
+                count: count + 1,
+                packet: Some(reads_place(asking.desk, &places, &read)),
+            })
+        }
+    }
+}
+
+/// The packet of a value, or that there is none.
+fn answers(desk: &Desk, get: &WaitingGet, value: Option<Bytes>) -> Packet
+    ensures { result ≡ answer_of desk.now get.now value }
+{
+    Packet {
+        from: ActorId::Server(desk.server),
+        to: get.from,
+        body: Body::Table(TableBody::Value {
+            request: get.request,
+            value,
+        }),
+    }
+}
+
+/// The packet of a refusal.
+pub(crate) fn refuses(desk: &Desk, get: &WaitingGet, refusal: Refusal) -> Packet
+    ensures { result ≡ refuses_of desk.now get.now.from get.now.request refusal }
+{
+    Packet {
+        from: ActorId::Server(desk.server),
+        to: get.from,
+        body: Body::Append(AppendBody::Refused {
+            request: get.request,
+            refusal,
+        }),
+    }
+}
+
+/// A Get is tried, with a value that has come beside what is held: refused once the lease has ended, else answered, or one more
+/// read is sent for what is missing.
+pub(crate) fn one_try(
+    alloc: Global,
+    asking: &Asking<'_>,
+    held: &Held,
+    fresh: &Option<Fresh>,
+    count: u64,
+    get: WaitingGet,
+) -> Result<OneTry, AllocError>
+    requires { count + 1 < 2 ^ 64 }
+    ensures value { IfOk result (λ one. (r : RangeState)
+        → tried_of one ≡ tries (record asking.now.desk.now { count = count }) (seen asking.now (with_fresh held.now fresh.now) r) get) }
+    ensures bound { IfOk result (λ one. one.count ≤ count + 1) }
+{
+    if asking.until <= asking.desk.moment {
+        let packet = refuses(asking.desk, &get, Refusal::LeaseEnded);
+        return Ok(OneTry {
+            waiting: None,
+            count,
+            packet: Some(packet),
+        });
+    }
+    match look(held, fresh, asking.table.get(&get.key))? {
+        Found::Is(value) => Ok(OneTry {
+            waiting: None,
+            count,
+            packet: Some(answers(asking.desk, &get, value)),
+        }),
+        Found::Needs(place) => match asks_place(alloc, asking, count, get, place) {
+            Ok(one) => Ok(one),
+            Err(full) => Err(full),
+        },
+    }
+}
+
+fn other_reads(
+    alloc: Global,
+    reads: &[PlaceRead],
+    answered: &ReqNo,
+) -> Result<Vec<PlaceRead>, AllocError>
+    ensures { IfOk result (λ made. made.items ≡ filter (λ read. not (are_same read.request answered.now)) reads.now) }
+{
+    let mut made = Vec::with_capacity(alloc, reads.len())?;
+    for read in reads {
+        if !is_same(&read.request, answered) {
+            made.push(*read)?;
+        }
+    }
+    Ok(made)
+}
+
+/// The Get without the read that was answered. It shares its key.
+fn without(alloc: Global, answered: &ReqNo, get: &WaitingGet) -> Result<WaitingGet, AllocError>
+    ensures { IfOk result (λ made. made ≡ without_read answered.now get.now) }
+{
+    let key = get.key.clone()?;
+    let reads = PlaceReads::of(other_reads(alloc, get.reads.as_slice(), answered)?);
+    Ok(WaitingGet {
+        from: get.from,
+        request: get.request,
+        key,
+        reads,
+    })
+}
+
+/// Each Get in turn is tried without the read that was answered.
+pub(crate) fn try_each(
+    alloc: Global,
+    asking: &Asking<'_>,
+    held: &Held,
+    fresh: &Option<Fresh>,
+    answered: &ReqNo,
+    gets: &[WaitingGet],
+) -> Result<Tries, AllocError>
+    requires room { asking.now.desk.now.count + 1024 < 2 ^ 64 }
+    requires most { length gets.now ≤ 256 }
+    ensures value { IfOk result (λ tries. (r : RangeState)
+        → try_all asking.now.desk.now (seen asking.now (with_fresh held.now fresh.now) r) (map (without_read answered.now) gets.now)
+        ≡ record { waiting = tries.waiting.items; count = tries.count; packets = tries.packets.items }) }
+    ensures waiting { IfOk result (λ tries. length tries.waiting.items ≤ length gets.now) }
+    ensures packets { IfOk result (λ tries. length tries.packets.items ≤ length gets.now) }
+{
+    let mut tries = Tries {
+        waiting: Vec::with_capacity(alloc, gets.len())?,
+        count: asking.desk.count,
+        packets: Vec::with_capacity(alloc, gets.len())?,
+    };
+    for get in gets {
+        let left = without(alloc, answered, get)?;
+        let one = one_try(alloc, asking, held, fresh, tries.count, left)?;
+        take_in(&mut tries, one)?;
+    }
+    Ok(tries)
+}
+
+fn take_in(tries: &mut Tries, one: OneTry) -> Result<(), AllocError>
+    ensures waiting { OnOk result (tries.new.waiting.items ≡ tries.old.waiting.items ++ option_to_list one.waiting) }
+    ensures count { OnOk result (tries.new.count ≡ one.count) }
+    ensures packets { OnOk result (tries.new.packets.items ≡ tries.old.packets.items ++ option_to_list one.packet) }
+{
+    let OneTry {
+        waiting,
+        count,
+        packet,
+    } = one;
+    if let Some(get) = waiting {
+        tries.waiting.push(get)?;
+    }
+    if let Some(sent) = packet {
+        tries.packets.push(sent)?;
+    }
+    tries.count = count;
+    Ok(())
+}
