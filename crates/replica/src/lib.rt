@@ -22,6 +22,7 @@ pub use fault::{FillFault, PastEnd, PutFault, Stale};
 pub use frozen::FrozenReplica;
 pub use open::OpenReplica;
 pub use phase::Phase;
+pub use placed::{part_of_group, part_of_text};
 pub use replica::Replica;
 pub use sealed::SealedReplica;
 

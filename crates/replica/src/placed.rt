@@ -95,6 +95,34 @@ fn copy_groups(
     Ok(())
 }
 
+/// A copy of a group's bytes from an offset on, at most so many. An error is want of memory.
+pub fn part_of_group(
+    alloc: Global,
+    group: &Group,
+    from: usize,
+    most: usize,
+) -> Result<Bytes, AllocError>
+    ensures { IfOk result (λ bytes. bytes ≡ take most (drop from (joined group.now))) }
+{
+    let mut out = Vec::new(alloc);
+    copy_group(&mut out, group, from, most)?;
+    Ok(Bytes::from_vec(out)?)
+}
+
+/// A copy of the bytes of groups from an offset on, at most so many. An error is want of memory.
+pub fn part_of_text(
+    alloc: Global,
+    groups: &[Group],
+    from: usize,
+    most: usize,
+) -> Result<Bytes, AllocError>
+    ensures { IfOk result (λ bytes. bytes ≡ take most (drop from (text groups.now))) }
+{
+    let mut out = Vec::new(alloc);
+    copy_groups(&mut out, groups, from, most)?;
+    Ok(Bytes::from_vec(out)?)
+}
+
 /// Writes a block's bytes from one on into the places from one on, as far as there are any, and says where they end.
 fn write_block(out: &mut [u8], at: usize, block: &Block, from: usize) -> usize
     requires { at ≤ length out.old }

@@ -1,0 +1,218 @@
+//! Answers that a range waits for.
+ghost use Rattle.std.specs.Prelude.{◌≡◌, ◌<◌, ◌≤◌, ◌+◌, ◌^◌, [], Some, false, length, vec_len, vec_capacity, IfOk, OnErr};
+ghost use Rattle.model_tables.specs.Range.{is_serving, refused_users};
+ghost use Rattle.model_tables.specs.Answering.{answer_row, answered_number, gets_reply, load_reply, log_reply, log_taken, metadata_reply, range_awaits};
+ghost use Rattle.loading.specs.Steps as steps;
+ghost use Rattle.range_core.specs.Replies.{IsAwaited};
+ghost use Rattle.range_core.specs.Steps.{outcome, IsShort};
+
+use crate::state::RangeState;
+use crate::taken::{Taken, push_some};
+use group_commit::Queue;
+use loading::{Progress, Service};
+use model_tables::{Desk, TableNote};
+use std::alloc::{AllocError, Global};
+use wire::{Body, Packet, ReadBody, ReqNo};
+
+/// What a step of a load may need of memory: the farewell to those who wait, and room for a packet and an observation.
+#[derive(Drop)]
+struct Prepared {
+    farewell: Vec<Packet>,
+    packets: Vec<Packet>,
+    notes: Vec<TableNote>,
+}
+
+impl RangeState {
+    fn prepared(&self, alloc: Global, desk: &Desk) -> Result<Prepared, AllocError>
+        ensures farewell { IfOk result (λ p. p.farewell.items ≡ refused_users desk.now self.now) }
+        ensures few { IfOk result (λ p. length p.farewell.items ≤ 1280) }
+        ensures packets { IfOk result (λ p. (p.packets.items ≡ []) × (vec_len p.packets < vec_capacity p.packets)) }
+        ensures notes { IfOk result (λ p. (p.notes.items ≡ []) × (vec_len p.notes < vec_capacity p.notes)) }
+    {
+        Ok(Prepared {
+            farewell: self.refusals(alloc, desk)?,
+            packets: Vec::with_capacity(alloc, 1)?,
+            notes: Vec::with_capacity(alloc, 1)?,
+        })
+    }
+
+    /// What a step of the load leaves of the range.
+    fn settle(
+        &mut self,
+        alloc: Global,
+        desk: &Desk,
+        progress: Progress,
+        prepared: Prepared,
+    ) -> Taken
+        requires numbers { desk.now.count + 1024 < 2 ^ 64 }
+        requires farewell { prepared.farewell.items ≡ refused_users desk.now self.old }
+        requires few { length prepared.farewell.items ≤ 1280 }
+        requires packets { (prepared.packets.items ≡ []) × (vec_len prepared.packets < vec_capacity prepared.packets) }
+        requires notes { (prepared.notes.items ≡ []) × (vec_len prepared.notes < vec_capacity prepared.notes) }
+        ensures row { steps.outcome desk.now self.old progress ≡ outcome result self.new }
+        ensures short { IsShort result }
+    {
+        let Prepared {
+            farewell,
+            mut packets,
+            mut notes,
+        } = prepared;
+        match progress {
+            Progress::Rests => Taken::sends(alloc, desk.count, packets),
+            Progress::Goes(packet) => {
+                push_some(&mut packets, packet);
+                Taken::sends(alloc, desk.count + 1, packets)
+            }
+            Progress::Dropped => Taken::drops(alloc, desk.count + 1, farewell),
+            Progress::Serves(
+                Service {
+                    next,
+                    position,
+                    note,
+                },
+            ) => {
+                let mut queue = Queue::new(alloc);
+                queue.set_next(next);
+                self.queue = queue;
+                self.position = position;
+                let _ = notes.push(note);
+                Taken {
+                    dropped: false,
+                    count: desk.count + 1,
+                    packets,
+                    notes,
+                }
+            }
+        }
+    }
+
+    fn load_reply(&mut self, alloc: Global, desk: &Desk, body: &Body) -> Result<Taken, AllocError>
+        requires numbers { desk.now.count + 1024 < 2 ^ 64 }
+        ensures ok { IfOk result (λ t. load_reply desk.now self.old body.now ≡ outcome t self.new) }
+        ensures err { OnErr result (self.new ≡ self.old) }
+        ensures short { IfOk result IsShort }
+    {
+        let prepared = self.prepared(alloc, desk)?;
+        match self.content.load_reply(alloc, desk, body) {
+            Ok(progress) => Ok(self.settle(alloc, desk, progress, prepared)),
+            Err(full) => Err(full),
+        }
+    }
+
+    fn metadata_reply(
+        &mut self,
+        alloc: Global,
+        desk: &Desk,
+        body: &Body,
+    ) -> Result<Taken, AllocError>
+        requires numbers { desk.now.count + 1024 < 2 ^ 64 }
+        ensures ok { IfOk result (λ t. metadata_reply desk.now self.old body.now ≡ outcome t self.new) }
+        ensures err { OnErr result (self.new ≡ self.old) }
+        ensures short { IfOk result IsShort }
+    {
+        let prepared = self.prepared(alloc, desk)?;
+        match self.content.metadata_reply(alloc, desk, body) {
+            Ok(progress) => Ok(self.settle(alloc, desk, progress, prepared)),
+            Err(full) => Err(full),
+        }
+    }
+
+    /// An answer to the log's client while the range is loaded.
+    fn loading_reply(
+        &mut self,
+        alloc: Global,
+        desk: &Desk,
+        body: &Body,
+    ) -> Result<Taken, AllocError>
+        requires numbers { desk.now.count + 1024 < 2 ^ 64 }
+        requires loading { is_serving self.old.stage ≡ false }
+        ensures ok { IfOk result (λ t. log_taken desk.now self.old body.now ≡ outcome t self.new) }
+        ensures err { OnErr result (self.new ≡ self.old) }
+        ensures short { IfOk result IsShort }
+    {
+        let prepared = self.prepared(alloc, desk)?;
+        match self.content.log_load_reply(alloc, desk, body) {
+            Ok(progress) => Ok(self.settle(alloc, desk, progress, prepared)),
+            Err(full) => Err(full),
+        }
+    }
+
+    fn log_reply(&mut self, alloc: Global, desk: &Desk, body: &Body) -> Result<Taken, AllocError>
+        requires numbers { desk.now.count + 1024 < 2 ^ 64 }
+        requires awaited { IsAwaited self.old.log.job body.now }
+        ensures ok { IfOk result (λ t. log_reply desk.now self.old body.now ≡ outcome t self.new) }
+        ensures err { OnErr result (self.new ≡ self.old) }
+        ensures short { IfOk result IsShort }
+    {
+        if !self.is_taken(body) {
+            return Ok(Taken::sends(alloc, desk.count, Vec::new(alloc)));
+        }
+        if self.is_serving() {
+            return self.serving_reply(alloc, desk, body);
+        }
+        self.loading_reply(alloc, desk, body)
+    }
+
+    fn gets_reply(
+        &mut self,
+        alloc: Global,
+        desk: &Desk,
+        request: &ReqNo,
+        body: &Body,
+    ) -> Result<Taken, AllocError>
+        requires numbers { desk.now.count + 1024 < 2 ^ 64 }
+        ensures ok { IfOk result (λ t. gets_reply desk.now self.old request.now body.now self.new.held ≡ outcome t self.new) }
+        ensures err { OnErr result (self.new ≡ self.old) }
+        ensures short { IfOk result IsShort }
+    {
+        match body {
+            Body::Read(
+                ReadBody::Bytes {
+                    extent,
+                    offset,
+                    bytes,
+                    ..
+                },
+            ) => self.bytes(alloc, desk, request, *extent, *offset, bytes),
+            _ => Ok(Taken::sends(alloc, desk.count, Vec::new(alloc))),
+        }
+    }
+
+    /// Whether a job of the range waits for an answer of this number.
+    pub fn awaits(&self, request: &ReqNo) -> bool
+        ensures { result ≡ range_awaits self.now request.now }
+    {
+        self.content.load.awaits(request)
+            || self.content.metadata.awaits(request)
+            || self.content.log.awaits(request)
+            || self.lookups.awaits(request)
+    }
+
+    /// The answer of this number: what the load, the metadata's client, the log's client or the Gets do with it, whichever waits
+    /// for it first. That the body bears the number is the caller's condition. For want of memory (22) nothing has changed.
+    #[tactic(auto, using(crate::proofs::Rows::awaited))]
+    pub fn answer(
+        &mut self,
+        alloc: Global,
+        desk: &Desk,
+        request: &ReqNo,
+        body: &Body,
+    ) -> Result<Taken, AllocError>
+        requires numbers { desk.now.count + 1024 < 2 ^ 64 }
+        requires answer { answered_number body.now ≡ Some request.now }
+        ensures ok { IfOk result (λ t. answer_row desk.now self.old request.now body.now self.new.held ≡ outcome t self.new) }
+        ensures err { OnErr result (self.new ≡ self.old) }
+        ensures short { IfOk result IsShort }
+    {
+        if self.content.load.awaits(request) {
+            return self.load_reply(alloc, desk, body);
+        }
+        if self.content.metadata.awaits(request) {
+            return self.metadata_reply(alloc, desk, body);
+        }
+        if self.content.log.awaits(request) {
+            return self.log_reply(alloc, desk, body);
+        }
+        self.gets_reply(alloc, desk, request, body)
+    }
+}

@@ -1,0 +1,106 @@
+//! A Get comes, or the bytes of a value.
+ghost use Rattle.std.specs.Prelude.{◌≡◌, ◌<◌, ◌≤◌, ◌+◌, ◌^◌, length, None, IfOk, OnErr};
+ghost use Rattle.model_tables.specs.Getting.{bytes_row, get_fault, get_row};
+ghost use Rattle.lookups.specs.Lookups.{Sees};
+ghost use Rattle.range_core.specs.Steps.{outcome, IsShort};
+
+use crate::state::RangeState;
+use crate::taken::Taken;
+use crate::transacting::refused;
+use bytes::Bytes;
+use lookups::{Asking, MAX_GETS};
+use model_tables::Desk;
+use std::alloc::{AllocError, Global};
+use wire::{ActorId, ExtentId, Refusal, ReqNo};
+
+impl RangeState {
+    /// Why a Get is refused: 38, 32, 36, 33 or 35, the first that is met.
+    fn get_fault(&self, desk: &Desk, key: &Bytes) -> Option<Refusal>
+        ensures value { result ≡ get_fault desk.now self.now key.now }
+        ensures room { result ≡ None → length self.now.gets < 256 }
+    {
+        if !self.is_serving() {
+            return Some(Refusal::Loading);
+        }
+        if self.lease_ended(desk) {
+            return Some(Refusal::LeaseEnded);
+        }
+        if key.is_empty() || key.len() > 256 {
+            return Some(Refusal::BadKey);
+        }
+        if !self.content.said.keys().contains(key) {
+            return Some(Refusal::OutOfRange);
+        }
+        if self.lookups.count() >= MAX_GETS {
+            return Some(Refusal::Busy);
+        }
+        None
+    }
+
+    /// A Get of a user is answered from the memory table, or waits for the bytes of a value that stands elsewhere. It is refused
+    /// 38 while the range is loaded, 32 once its lease has ended, 36 where the key has no byte or more than 256, 33 where it is
+    /// not of the range, and 35 where 256 wait, the first of these that is met; nothing changes then. For want of memory (22)
+    /// nothing has changed.
+    pub fn get(
+        &mut self,
+        alloc: Global,
+        desk: &Desk,
+        from: ActorId,
+        request: &ReqNo,
+        key: &Bytes,
+    ) -> Result<Taken, AllocError>
+        requires numbers { desk.now.count + 1024 < 2 ^ 64 }
+        ensures ok { IfOk result (λ t. get_row desk.now self.old from request.now key.now self.new.held ≡ outcome t self.new) }
+        ensures err { OnErr result (self.new ≡ self.old) }
+        ensures short { IfOk result IsShort }
+    {
+        if let Some(refusal) = self.get_fault(desk, key) {
+            return refused(alloc, desk, from, request, refusal);
+        }
+        let key = key.clone()?;
+        let asking = Asking {
+            desk,
+            until: self.until,
+            table: &self.content.table,
+            log: self.content.log.extents(),
+            blob: self.content.blob_data.extents.as_slice(),
+            rows: self.content.row_data.extents.as_slice(),
+        };
+        match self.lookups.get(alloc, &asking, from, *request, key) {
+            Ok(tried) => Ok(Taken::sends(alloc, tried.count, tried.packets)),
+            Err(full) => Err(full),
+        }
+    }
+
+    /// The bytes of a value have come: each Get that waits is tried again.
+    pub(crate) fn bytes(
+        &mut self,
+        alloc: Global,
+        desk: &Desk,
+        request: &ReqNo,
+        extent: ExtentId,
+        offset: u32,
+        bytes: &Bytes,
+    ) -> Result<Taken, AllocError>
+        requires numbers { desk.now.count + 1024 < 2 ^ 64 }
+        ensures ok { IfOk result (λ t. bytes_row desk.now self.old request.now self.new.held ≡ outcome t self.new) }
+        ensures err { OnErr result (self.new ≡ self.old) }
+        ensures short { IfOk result IsShort }
+    {
+        let asking = Asking {
+            desk,
+            until: self.until,
+            table: &self.content.table,
+            log: self.content.log.extents(),
+            blob: self.content.blob_data.extents.as_slice(),
+            rows: self.content.row_data.extents.as_slice(),
+        };
+        match self
+            .lookups
+            .bytes(alloc, &asking, request, extent, offset, bytes)
+        {
+            Ok(tried) => Ok(Taken::sends(alloc, tried.count, tried.packets)),
+            Err(full) => Err(full),
+        }
+    }
+}

@@ -1,0 +1,57 @@
+//! No answer comes.
+ghost use Rattle.std.specs.Prelude.{◌≡◌, ◌<◌, ◌≤◌, ◌+◌, ◌++◌, ◌^◌, length, vec_len, vec_capacity, option_to_list, IfOk, OnErr};
+ghost use Rattle.model_tables.specs.Answering.{give_up_all};
+ghost use Rattle.range_core.specs.Steps.{outcome, IsShort};
+
+use crate::state::RangeState;
+use crate::taken::{Taken, push_some};
+use loading::GivenUp;
+use lookups::{Asking, MAX_GETS};
+use model_tables::Desk;
+use std::alloc::{AllocError, Global};
+use wire::Packet;
+
+/// What the load, the metadata's client and the log's client send, and then the reads, in room that is there.
+fn gathered(packets: Vec<Packet>, given: GivenUp, reads: Vec<Packet>) -> Vec<Packet>
+    requires room { vec_len packets + 259 ≤ vec_capacity packets }
+    requires few { length reads.items ≤ 256 }
+    ensures { result.items ≡ (((packets.items ++ option_to_list given.load) ++ option_to_list given.metadata) ++ option_to_list given.log) ++ reads.items }
+{
+    let GivenUp {
+        load,
+        metadata,
+        log,
+    } = given;
+    let mut packets = packets;
+    let mut reads = reads;
+    push_some(&mut packets, load);
+    push_some(&mut packets, metadata);
+    push_some(&mut packets, log);
+    if let Err(_full) = packets.append(&mut reads) {}
+    packets
+}
+
+impl RangeState {
+    /// What is not answered is sent again, or an extent that does not answer is sealed: the load, the log's job and the Gets, in
+    /// this order. For want of memory (22) nothing has changed.
+    pub fn give_up(&mut self, alloc: Global, desk: &Desk) -> Result<Taken, AllocError>
+        requires numbers { desk.now.count + 1024 < 2 ^ 64 }
+        ensures ok { IfOk result (λ t. give_up_all desk.now self.old ≡ outcome t self.new) }
+        ensures err { OnErr result (self.new ≡ self.old) }
+        ensures short { IfOk result IsShort }
+    {
+        let packets = Vec::with_capacity(alloc, 3 + MAX_GETS)?;
+        let asking = Asking {
+            desk,
+            until: self.until,
+            table: &self.content.table,
+            log: self.content.log.extents(),
+            blob: self.content.blob_data.extents.as_slice(),
+            rows: self.content.row_data.extents.as_slice(),
+        };
+        let reads = self.lookups.give_up(alloc, &asking)?;
+        let given = self.content.give_up(desk);
+        let sent = gathered(packets, given, reads);
+        Ok(Taken::sends(alloc, desk.count + 2, sent))
+    }
+}

@@ -1,0 +1,99 @@
+//! What a server keeps of a range.
+ghost use Rattle.std.specs.Prelude.{◌≡◌, ◌≤◌, length, max, IfOk};
+ghost use Rattle.client.specs.Load.{open_packet};
+ghost use Rattle.model_tables.specs.Range.{request, refused_users};
+ghost use Rattle.model_tables.specs.Server.{new_range};
+
+use group_commit::Queue;
+use loading::RangeContent;
+use lookups::Lookups;
+use model_tables::Desk;
+use std::alloc::{AllocError, Global};
+use std::marker::Model;
+use streams::Position;
+use wire::{Fence, Packet, RangeId};
+
+/// A range at a server: the end of its lease, in ticks; its streams, its metadata and its table; the transactions that wait;
+/// the end of what was appended to its log; and the Gets that wait.
+#[derive(Drop)]
+pub struct RangeState {
+    pub(crate) until: u64,
+    pub(crate) content: RangeContent,
+    pub(crate) queue: Queue,
+    pub(crate) position: Position,
+    pub(crate) lookups: Lookups,
+}
+
+impl Model for RangeState {
+    ghost use Rattle.model_tables.specs.Range as specs;
+
+    ghost Value = { specs.RangeState };
+
+    ghost view = { λ r. record {
+      until = r.until;
+      load = r.content.load;
+      stage = r.content.stage;
+      metadata = r.content.metadata;
+      log = r.content.log;
+      row_data = r.content.row_data;
+      blob_data = r.content.blob_data;
+      said = r.content.said;
+      regions = r.content.regions.items;
+      live = r.content.table.live;
+      fixed = r.content.table.fixed;
+      next = r.queue.next;
+      position = r.position;
+      queue = r.queue.queue;
+      out = r.queue.out;
+      gets = r.lookups.gets;
+      held = r.lookups.held;
+    } };
+}
+
+impl RangeState {
+    /// A range that is loaded under a generation, with the end of its lease, and the packet that opens its streams, which
+    /// bears the next number of the server. An error is want of memory (22).
+    pub fn assign(
+        alloc: Global,
+        desk: &Desk,
+        range: RangeId,
+        generation: Fence,
+        until: u64,
+    ) -> Result<(RangeState, Packet), AllocError>
+        ensures range { IfOk result (λ x. x.0 ≡ new_range desk.now range generation until) }
+        ensures packet { IfOk result (λ x. x.1 ≡ open_packet desk.now.server range generation (request desk.now)) }
+    {
+        let (content, packet) = RangeContent::new(alloc, desk, range, generation)?;
+        let lookups = Lookups::new(alloc)?;
+        let state = RangeState {
+            until,
+            content,
+            queue: Queue::new(alloc),
+            position: Position {
+                index: 0,
+                offset: 0,
+            },
+            lookups,
+        };
+        Ok((state, packet))
+    }
+
+    /// A lease's end never goes back.
+    pub fn renew(&mut self, until: u64)
+        ensures { self.new ≡ record self.old { until = max self.old.until until } }
+    {
+        self.until = self.until.max(until);
+    }
+
+    /// What those who wait are told where the range goes: that this server does not hold it (30). First the transactions,
+    /// those that are being appended before the others, then the Gets, at most 1,280 packets. An error is want of memory (22).
+    pub fn refusals(&self, alloc: Global, desk: &Desk) -> Result<Vec<Packet>, AllocError>
+        ensures packets { IfOk result (λ packets. packets.items ≡ refused_users desk.now self.now) }
+        ensures few { IfOk result (λ packets. length packets.items ≤ 1280) }
+    {
+        let mut packets = self.queue.refusals(alloc, desk)?;
+        let mut others = self.lookups.refusals(alloc, desk)?;
+        packets.append(&mut others)?;
+        Ok(packets)
+    }
+}

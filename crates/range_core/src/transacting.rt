@@ -1,0 +1,125 @@
+//! A transaction comes.
+ghost use Rattle.std.specs.Prelude.{◌≡◌, ◌<◌, ◌+◌, ◌^◌, [], ◌∷◌, length, None, IfOk, OnErr};
+ghost use Rattle.model_tables.specs.Range.{RangeState, answers, refuses, is_serving, waiting_out};
+ghost use Rattle.model_tables.specs.Serving.{transact_fault, transact_row, is_full, lease_ended};
+ghost use Rattle.commitlog.specs.Record.{IsTransaction};
+ghost use Rattle.range_core.specs.Steps.{outcome, IsShort};
+
+use crate::state::RangeState;
+use crate::taken::Taken;
+use group_commit::change_fault;
+use model_tables::{Desk, Stage, WaitingTransaction};
+use std::alloc::{AllocError, Global};
+use wire::{ActorId, AppendBody, Body, Changes, Packet, Refusal, ReqNo};
+
+/// How many transactions of a range wait at most.
+const MAX_WAITING: usize = 1024;
+
+/// From how many bytes on a memory table takes no transaction.
+const MAX_TABLE: u64 = 67_108_864;
+
+/// A refusal goes to the one who asked, and nothing changes.
+pub(crate) fn refused(
+    alloc: Global,
+    desk: &Desk,
+    to: ActorId,
+    request: &ReqNo,
+    refusal: Refusal,
+) -> Result<Taken, AllocError>
+    ensures row { IfOk result (λ t. (r : RangeState) → answers desk.now r (refuses desk.now to request.now refusal ∷ []) ≡ outcome t r) }
+    ensures short { IfOk result IsShort }
+{
+    let mut packets = Vec::with_capacity(alloc, 1)?;
+    packets.push(Packet {
+        from: ActorId::Server(desk.server),
+        to,
+        body: Body::Append(AppendBody::Refused {
+            request: *request,
+            refusal,
+        }),
+    })?;
+    Ok(Taken::sends(alloc, desk.count, packets))
+}
+
+impl RangeState {
+    /// Whether it is served.
+    pub(crate) fn is_serving(&self) -> bool
+        ensures { result ≡ is_serving self.now.stage }
+    {
+        match self.content.stage {
+            Stage::Serving => true,
+            _ => false,
+        }
+    }
+
+    /// Whether its lease has ended.
+    pub(crate) fn lease_ended(&self, desk: &Desk) -> bool
+        ensures { result ≡ lease_ended desk.now self.now }
+    {
+        self.until <= desk.moment
+    }
+
+    /// Whether no more transactions may wait, or the memory table is full.
+    fn is_full(&self) -> bool
+        ensures { result ≡ is_full self.now }
+    {
+        self.queue.count() >= MAX_WAITING || self.content.table.size() >= MAX_TABLE
+    }
+
+    /// Why a transaction is refused: 38, 32, 37, 36, 37, 33 or 35, the first that is met.
+    fn transact_fault(&self, desk: &Desk, changes: &Changes) -> Option<Refusal>
+        ensures value { result ≡ transact_fault desk.now self.now changes.now }
+        ensures room { result ≡ None → length (waiting_out self.now.out) + length self.now.queue < 1024 }
+        ensures fits { result ≡ None → IsTransaction changes.now }
+    {
+        if !self.is_serving() {
+            return Some(Refusal::Loading);
+        }
+        if self.lease_ended(desk) {
+            return Some(Refusal::LeaseEnded);
+        }
+        let fault = change_fault(changes.as_slice(), self.content.said.keys());
+        if fault.is_some() {
+            return fault;
+        }
+        if self.is_full() {
+            return Some(Refusal::Busy);
+        }
+        None
+    }
+
+    /// A transaction of a user waits to be appended, and the next group is formed if none is out. It is refused 38 while the
+    /// range is loaded, 32 once its lease has ended, 37 with no change or more than 32, 36 where a key has no byte or more than
+    /// 256, 37 where a value has more than 65,536 bytes, 33 where a key is not of the range, and 35 where 1,024 wait or the
+    /// memory table is full, the first of these that is met; nothing changes then. For want of memory (22) nothing has changed.
+    pub fn transact(
+        &mut self,
+        alloc: Global,
+        desk: &Desk,
+        from: ActorId,
+        request: &ReqNo,
+        changes: &Changes,
+    ) -> Result<Taken, AllocError>
+        requires numbers { desk.now.count + 1024 < 2 ^ 64 }
+        ensures ok { IfOk result (λ t. transact_row desk.now self.old from request.now changes.now ≡ outcome t self.new) }
+        ensures err { OnErr result (self.new ≡ self.old) }
+        ensures short { IfOk result IsShort }
+    {
+        if let Some(refusal) = self.transact_fault(desk, changes) {
+            return refused(alloc, desk, from, request, refusal);
+        }
+        let changes = changes.copy(alloc)?;
+        self.queue.push(WaitingTransaction {
+            from,
+            request: *request,
+            changes,
+        })?;
+        match self.form(alloc, desk) {
+            Ok(taken) => Ok(taken),
+            Err(full) => {
+                self.queue.take_back();
+                Err(full)
+            }
+        }
+    }
+}
