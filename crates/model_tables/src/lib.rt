@@ -5,7 +5,8 @@
 //! - Story and Log: what the users of one stream see of it, the order that it keeps, and what servers may do to the log of a
 //!   range.
 //! - Extents and Turns: one stream as its manager, the primaries of its extents and its servers make it.
-//! - Range, Loading, Serving, Reading, Answering and Server: the table of a server, as functions of its state.
+//! - Range, Loading, Serving, Getting, Answering and Server: the table of a server, as functions of its state.
+//! - Cluster: whole runs with servers, and what a loaded table shows.
 //!
 //! The laws of `laws_tables` are proved of these functions alone, and the crates of servers prove that their calls are them.
 #![tactic(auto)]

@@ -8,3 +8,6 @@ mod place;
 mod rows;
 
 pub use rows::rows_of;
+
+#[cfg(test)]
+mod tests;
