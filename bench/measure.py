@@ -1,4 +1,4 @@
-"""Measures appends to a node, whole scripts, seals, restarts, checks of observations, streams of many extents, and a record file over a real file, in ratios."""
+"""Measures appends to a node, whole scripts, seals, restarts, checks of observations, streams of many extents, transactions and loads, and a record file over a real file, in ratios."""
 import os
 import subprocess
 import sys
@@ -11,6 +11,9 @@ ROUNDS = 5
 APPENDS_PER_STREAM = 16_000
 # A primary lets at most 256 appends wait.
 APPENDS_PER_SETTLE = 64
+# So many transactions may wait in one settle, and so often is a range loaded.
+TRANSACTIONS_PER_SETTLE = 256
+LOADS = 10
 # The request, two Puts, two Haves and the answer.
 DELIVERIES_PER_APPEND = 6
 
@@ -132,6 +135,36 @@ def streams_of_extents():
     print(f"streams: 2N over N: {found[10_000] / found[5_000]:.2f} (at most 2.3)")
 
 
+def transactions_of(count, loads):
+    """Transactions of one put of 100 bytes on one range, a settle after each 256; then the server stops and the range is loaded
+    again, so many times."""
+    lines = ["setup 3 1 16777216 64", "moment 1", "assign 1 1 1000000", "settle"]
+    for number in range(count):
+        lines.append(f"user 1 tx 1 1 +k{number:06}=100*x")
+        if number % TRANSACTIONS_PER_SETTLE == TRANSACTIONS_PER_SETTLE - 1:
+            lines.append("settle")
+    lines.append("settle")
+    lines += ["stop s1 0 drop", "restart s1", "assign 1 1 1000000", "settle"] * loads
+    return "\n".join(lines).encode()
+
+
+def transactions_on_a_range():
+    found = {}
+    for count in (20_000, 40_000):
+        seconds, peak, out = best([STAMPCTL], transactions_of(count, 0))
+        committed = sum(line.split()[3:4] == [b"committed"] for line in out.splitlines())
+        assert committed == count, (committed, count)
+        more, _, out = best([STAMPCTL], transactions_of(count, LOADS))
+        loaded = f"loaded 1 {LOADS + 1} {count + 1} {count}".encode()
+        assert out.splitlines()[-1] == loaded, out.splitlines()[-1]
+        found[count] = (seconds, peak, (more - seconds) / LOADS)
+        print(f"transactions: {count} of one put of 100 bytes: {seconds:.3f} s, {count / seconds:.0f} a second, "
+              f"peak {peak / (count * 100):.1f} times the values; a load of them: {(more - seconds) / LOADS:.3f} s")
+    (few, little, short), (many, much, long) = found[20_000], found[40_000]
+    print(f"transactions: 2N over N: {many / few:.2f} in time, {much / little:.2f} in memory, {long / short:.2f} for a load "
+          "(at most 2.3 each)")
+
+
 def record_file():
     with tempfile.TemporaryDirectory() as folder:
         ratios = []
@@ -151,4 +184,5 @@ seals_of_extents()
 restarts_of_a_node()
 check_of_observations()
 streams_of_extents()
+transactions_on_a_range()
 record_file()

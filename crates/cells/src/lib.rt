@@ -9,6 +9,3 @@ mod limits;
 
 pub use cell::{Cell, Place, entry_size};
 pub use limits::{MAX_BATCH, MAX_CHANGES, MAX_INLINE, MAX_KEY, MAX_VALUE, is_large};
-
-#[cfg(test)]
-mod tests;

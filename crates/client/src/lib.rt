@@ -23,6 +23,3 @@ pub use client::StreamClient;
 pub use fault::ClientFault;
 pub use job::{Job, News, Place, Reaction};
 pub use load::{LoadPhase, RangeLoad};
-
-#[cfg(test)]
-mod tests;

@@ -32,6 +32,3 @@ pub use reading::{decode, one_spelling};
 pub use replay::Replay;
 pub use sizes::Filling;
 pub use writing::encode;
-
-#[cfg(test)]
-mod tests;

@@ -19,6 +19,3 @@ mod queue;
 pub use faults::change_fault;
 pub use forming::Plan;
 pub use queue::Queue;
-
-#[cfg(test)]
-mod tests;

@@ -34,7 +34,8 @@ pub record TiedLive (g : Ground) (e index : ℕ) (v : Live Group) : Type 0 where
   pub kept_chain : Chain (base index) v.kept v.sure
   pub loose_chain : Chain v.sure v.loose v.end
   pub sized : Sized (v.kept ++ v.loose)
-  pub fence : v.fence ≡ floor_of g e
+  -- no higher than what the primary listens to
+  pub fence : v.fence ≤ floor_of g e
   pub unsealed : g.sealed e ≡ None
   -- what is kept all three places had
   pub had : (at : Nodes) → g.places e ≡ Some at →
@@ -51,7 +52,7 @@ pub record TiedShut (g : Ground) (e index : ℕ) (x : Shut Group) : Type 0 where
 
 -- ---- chains
 
-chain_le : (a : ℕ) (xs : List (Copy Group)) (b : ℕ) → Chain a xs b → a ≤ b
+pub chain_le : (a : ℕ) (xs : List (Copy Group)) (b : ℕ) → Chain a xs b → a ≤ b
 chain_le a [] b e = omega arith
 chain_le a (x ∷ xs) b (e, lt, more) = let le : x.to ≤ b = chain_le x.to xs b more in omega arith
 
@@ -61,7 +62,7 @@ chain_len a (x ∷ xs) b (e, lt, more) (is, s) =
     let l : b ≡ x.to + text_length (map group_of xs) = chain_len x.to xs b more s in
     omega (arith, text_length-cons x.group (map group_of xs))
 
-chain_both : (a : ℕ) (xs ys : List (Copy Group)) (m b : ℕ) → Chain a xs m → Chain m ys b → Chain a (xs ++ ys) b
+pub chain_both : (a : ℕ) (xs ys : List (Copy Group)) (m b : ℕ) → Chain a xs m → Chain m ys b → Chain a (xs ++ ys) b
 chain_both a [] ys m b e c = subst (λ z. Chain z ys b) (sym e) c
 chain_both a (x ∷ xs) ys m b (e, lt, more) c = (e, lt, chain_both x.to xs ys m b more c)
 
@@ -75,11 +76,11 @@ sized_both : (xs ys : List (Copy Group)) → Sized xs → Sized ys → Sized (xs
 sized_both [] ys a b = b
 sized_both (x ∷ xs) ys (e, a) b = (e, sized_both xs ys a b)
 
-sized_front : (xs ys : List (Copy Group)) → Sized (xs ++ ys) → Sized xs
+pub sized_front : (xs ys : List (Copy Group)) → Sized (xs ++ ys) → Sized xs
 sized_front [] ys a = tt
 sized_front (x ∷ xs) ys (e, a) = (e, sized_front xs ys a)
 
-map_both : (xs ys : List (Copy Group)) → map group_of (xs ++ ys) ≡ map group_of xs ++ map group_of ys
+pub map_both : (xs ys : List (Copy Group)) → map group_of (xs ++ ys) ≡ map group_of xs ++ map group_of ys
 map_both [] ys = refl
 map_both (x ∷ xs) ys = ap (λ z. x.group ∷ z) (map_both xs ys)
 
@@ -120,32 +121,43 @@ live_fits g sound e index v tied = let m = live_end g e index v tied in omega (a
 pub floor_low : (g : Ground) (e low : ℕ) → g.fence e ≤ low → g.born e ≤ low → floor_of g e ≤ low
 floor_low g e low a b = if_elim (λ x. x ≤ low) (nat_lt (g.fence e) (g.born e)) (g.born e) (g.fence e) (λ t. b) (λ t. a)
 
-floor_is : (fence born : ℕ) → born ≤ fence → greater fence born ≡ fence
-floor_is fence born l = if_elim (λ x. x ≡ fence) (nat_lt fence born) born fence (λ t. let m = is_below fence born t in omega (arith, l, m)) (λ t. refl)
+-- it is at least the fence of the last check, and at least that of the extent
+pub floor_above : (g : Ground) (e : ℕ) → g.fence e ≤ floor_of g e
+floor_above g e = if_elim (λ x. g.fence e ≤ x) (nat_lt (g.fence e) (g.born e)) (g.born e) (g.fence e) (λ t. let m = is_below (g.fence e) (g.born e) t in omega (arith, m)) (λ t. omega arith)
+
+pub floor_born : (g : Ground) (e : ℕ) → g.born e ≤ floor_of g e
+floor_born g e = if_elim (λ x. g.born e ≤ x) (nat_lt (g.fence e) (g.born e)) (g.born e) (g.fence e) (λ t. omega arith) (λ t. let m = not_below (g.fence e) (g.born e) t in omega (arith, m))
+
+-- it never falls
+pub floor_rises : (g h : Ground) (e : ℕ) → g.fence e ≤ h.fence e → g.born e ≤ h.born e → floor_of g e ≤ floor_of h e
+floor_rises g h e a b =
+    let f = floor_above h e in
+    let k = floor_born h e in
+    floor_low g e (floor_of h e) (omega (arith, a, f)) (omega (arith, b, k))
 
 -- an extent that is made now
-pub new_tied : (g : Ground) (e index fence : ℕ) → g.script e ≡ [] → g.fence e ≡ 0 → g.born e ≡ fence → g.sealed e ≡ None →
+pub new_tied : (g : Ground) (e index fence : ℕ) → g.script e ≡ [] → fence ≤ floor_of g e → g.sealed e ≡ None →
     TiedLive g e index (record { kept = []; sure = base index; loose = []; end = base index; fence = fence })
-new_tied g e index fence script low born unsealed = record {
+new_tied g e index fence script low unsealed = record {
   groups = sym script;
   kept_chain = refl;
   loose_chain = refl;
   sized = tt;
-  fence = rw (low, born) (if_elim (λ x. fence ≡ x) (nat_lt 0 fence) fence 0 (λ t. refl) (λ t. let m = not_below 0 fence t in omega (arith, m)));
+  fence = low;
   unsealed = unsealed;
   had = λ p made. (omega arith, omega arith, omega arith);
 }
 
 -- a check that is answered raises the fence to its generation
 pub check_tied : (g h : Ground) (e index generation : ℕ) (v : Live Group) → TiedLive g e index v → Later g h → h.script e ≡ g.script e →
-    h.sealed e ≡ g.sealed e → ((at : Nodes) → h.places e ≡ Some at → g.places e ≡ Some at) → h.fence e ≡ generation → h.born e ≤ generation →
+    h.sealed e ≡ g.sealed e → ((at : Nodes) → h.places e ≡ Some at → g.places e ≡ Some at) → generation ≤ h.fence e →
     TiedLive h e index (record v { fence = generation })
-check_tied g h e index generation v tied later script length_at places fence born = record {
+check_tied g h e index generation v tied later script length_at places fence = record {
   groups = tied.groups ∙ sym script;
   kept_chain = tied.kept_chain;
   loose_chain = tied.loose_chain;
   sized = tied.sized;
-  fence = sym (floor_is (h.fence e) (h.born e) (omega (arith, fence, born)) ∙ fence);
+  fence = let m = floor_above h e in omega (arith, m, fence);
   unsealed = length_at ∙ tied.unsealed;
   had = λ p made.
       let b = tied.had p (places p made) in (
@@ -159,7 +171,7 @@ check_tied g h e index generation v tied later script length_at places fence bor
 
 -- The row's tests give the guard of TakesAppend; what the primary then has is tied again.
 pub append_tied : (generation : ℕ → ℕ) (g h : Ground) (e index append to : ℕ) (blocks : Group) (v : Live Group) → TiedLive g e index v → Later g h →
-    h.script e ≡ g.script e ++ blocks ∷ [] → floor_of h e ≡ floor_of g e → h.sealed e ≡ g.sealed e → ((at : Nodes) → h.places e ≡ Some at → g.places e ≡ Some at) →
+    h.script e ≡ g.script e ++ blocks ∷ [] → floor_of g e ≤ floor_of h e → h.sealed e ≡ g.sealed e → ((at : Nodes) → h.places e ≡ Some at → g.places e ≡ Some at) →
     0 < size blocks → to ≡ v.end + size blocks →
     (v.end < to) × TiedLive h e index (record v { loose = v.loose ++ new_copy Group generation v to append blocks ∷ []; end = to })
 append_tied generation g h e index append to blocks v tied later script fence length_at places some at =
@@ -170,7 +182,7 @@ append_tied generation g h e index append to blocks v tied later script fence le
         kept_chain = tied.kept_chain;
         loose_chain = chain_both v.sure v.loose (c ∷ []) v.end to tied.loose_chain (refl, omega arith, refl);
         sized = subst Sized (append_assoc v.kept v.loose (c ∷ [])) (sized_both (v.kept ++ v.loose) (c ∷ []) tied.sized (at, tt));
-        fence = tied.fence ∙ sym fence;
+        fence = omega (arith, tied.fence, fence);
         unsealed = length_at ∙ tied.unsealed;
         had = λ p made.
             let b : (v.sure ≤ base index + g.last p.primary e) × (v.sure ≤ base index + g.last p.second e) × (v.sure ≤ base index + g.last p.third e) = tied.had p (places p made) in
@@ -220,7 +232,7 @@ chain_end a [] b c d e = sym d ∙ e
 chain_end a (x ∷ xs) b c d e = chain_end x.to xs b c d.2 e.2
 
 module _ (generation : ℕ → ℕ) where
-  after_chain : (a : ℕ) (xs : List (Copy Group)) (b : ℕ) → Chain a xs b → end_after generation a xs ≡ b
+  pub after_chain : (a : ℕ) (xs : List (Copy Group)) (b : ℕ) → Chain a xs b → end_after generation a xs ≡ b
   after_chain a [] b c = c
   after_chain a (x ∷ xs) b c = after_chain x.to xs b c.2
 

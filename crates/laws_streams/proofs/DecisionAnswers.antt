@@ -28,6 +28,7 @@ pub record FromDecision (b : Book) (decides : ℕ) (after : Book) (to : ActorId)
 
 abbrev pub SealTells : Book → ℕ → Book → ActorId → SealBody → Type 0
 SealTells b e after to (seals.SealedIs q k l) = FromDecision b e after to q k l
+SealTells b e after to (seals.SealExtent k q) = ⊥
 SealTells b e after to _ = Unit {0}
 
 abbrev pub BodyTells : Book → ℕ → Book → ActorId → Body → Type 0

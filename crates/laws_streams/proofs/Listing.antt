@@ -106,7 +106,7 @@ goes_extent b e x y there sealed = record {
 
 -- ---- names
 
-kind_same : (a b : StreamKind) → kind_number a ≡ kind_number b → a ≡ b
+pub kind_same : (a b : StreamKind) → kind_number a ≡ kind_number b → a ≡ b
 kind_same Metadata Metadata e = refl
 kind_same Log Log e = refl
 kind_same RowData RowData e = refl
@@ -124,13 +124,13 @@ kind_same BlobData Metadata e = absurd cc
 kind_same BlobData Log e = absurd cc
 kind_same BlobData RowData e = absurd cc
 
-same_name : (s t : StreamName) → s.range ≡ t.range → s.kind ≡ t.kind → s ≡ t
+pub same_name : (s t : StreamName) → s.range ≡ t.range → s.kind ≡ t.kind → s ≡ t
 same_name s t r k =
     let e : record { range = s.range; kind = s.kind } ≡ record { range = t.range; kind = t.kind } = rw (r, k) refl in
     e
 
 -- one stream is changed at its name, and the others are as they were
-with_stream_elim : (P : Option Stream → Type 0) (streams : Streams) (s : StreamName) (y : Stream) (t : StreamName) →
+pub with_stream_elim : (P : Option Stream → Type 0) (streams : Streams) (s : StreamName) (y : Stream) (t : StreamName) →
     (t ≡ s → P (Some y)) → P (stream_of streams t) → P (stream_of (with_stream streams s y) t)
 with_stream_elim P streams s y t same other =
     if_elim P ((t.range == s.range) && (kind_number t.kind == kind_number s.kind)) (Some y) (streams t.range (kind_number t.kind))

@@ -117,7 +117,7 @@ module _ (w : World) (fresh : w.book.extent (suc w.book.count) ≡ None) where
   happens_goes (Assign range server until) = same_goes
   happens_goes (Moment now) = same_goes
 
-  moved_goes : (move : Move) → GoesTo (moved w move)
+  pub moved_goes : (move : Move) → GoesTo (moved w move)
   moved_goes (Happens event) = happens_goes event
   moved_goes (Asks server to body) = if_elim GoesTo (is_server_call body) _ w (λ _. same_goes) (λ _. same_goes)
   moved_goes (Says from to body) = if_elim GoesTo (is_told body) _ w (λ _. same_goes) (λ _. same_goes)
@@ -136,7 +136,7 @@ get_within [] i e is = absurd cc
 get_within (x ∷ xs) zero e is = omega arith
 get_within (x ∷ xs) (suc i) e is = let m = get_within xs i e is in omega (arith, m)
 
-last_at : (xs : List ℕ) (i e : ℕ) → slice_get xs i ≡ Some e → suc i ≡ length xs → last_of xs ≡ Some e
+pub last_at : (xs : List ℕ) (i e : ℕ) → slice_get xs i ≡ Some e → suc i ≡ length xs → last_of xs ≡ Some e
 last_at [] i e is end = absurd cc
 last_at (x ∷ []) zero e is end = is
 last_at (x ∷ []) (suc i) e is end = absurd cc

@@ -5,9 +5,9 @@ use Rattle.wire.specs.declared.actor.ActorId.{ActorId}
 use Rattle.wire.specs.declared.actor.ActorId.TheVariants.{Manager}
 use Rattle.wire.specs.declared.actor.ReqNo.{ReqNo}
 use Rattle.wire.specs.declared.body.AppendBody.{AppendBody}
-use Rattle.wire.specs.declared.body.AppendBody.TheVariants.{Appended}
+use Rattle.wire.specs.declared.body.AppendBody.TheVariants.{Append, Appended}
 use Rattle.wire.specs.declared.body.ReadBody.{ReadBody}
-use Rattle.wire.specs.declared.body.ReadBody.TheVariants.{Groups}
+use Rattle.wire.specs.declared.body.ReadBody.TheVariants.{ReadAt, ReadGroups, Groups}
 use Rattle.wire.specs.declared.body.SealBody.{SealBody}
 use Rattle.wire.specs.declared.body.SealBody.TheVariants as seals
 use Rattle.wire.specs.declared.body.StreamBody.{StreamBody}
@@ -74,19 +74,27 @@ abbrev pub StreamTells : Book → Packet → ActorId → StreamBody → Type 0
 StreamTells b taken to (Opened q lists) = FromOpening b taken to q lists
 StreamTells b taken to (Confirmed q) = FromConfirm b taken to q
 StreamTells b taken to (Extended q e places) = FromExtend b taken to q e places
+StreamTells b taken to (CreateStream s fence q) = ⊥
+StreamTells b taken to (OpenStreams range generation q) = ⊥
+StreamTells b taken to (Confirm range generation q) = ⊥
+StreamTells b taken to (Extend s generation last pick q) = ⊥
 StreamTells b taken to _ = Unit {0}
 
 abbrev pub SealTells : Book → Packet → ActorId → SealBody → Type 0
 SealTells b taken to (seals.SealedIs q e l) = FromSealed b taken to q e l
+SealTells b taken to (seals.SealExtent e q) = ⊥
 SealTells b taken to _ = Unit {0}
 
--- no answer of a node
+-- no answer of a node, and no request
 abbrev pub AppendTells : AppendBody → Type 0
 AppendTells (Appended q e o) = ⊥
+AppendTells (Append e generation blocks q) = ⊥
 AppendTells _ = Unit {0}
 
 abbrev pub ReadTells : ReadBody → Type 0
 ReadTells (Groups q e groups) = ⊥
+ReadTells (ReadAt e offset l q) = ⊥
+ReadTells (ReadGroups e upto sealed q) = ⊥
 ReadTells _ = Unit {0}
 
 abbrev pub BodyTells : Book → Packet → ActorId → Body → Type 0
@@ -94,6 +102,7 @@ BodyTells b taken to (bodies.Stream body) = StreamTells b taken to body
 BodyTells b taken to (bodies.Seal body) = SealTells b taken to body
 BodyTells b taken to (bodies.Append body) = AppendTells body
 BodyTells b taken to (bodies.Read body) = ReadTells body
+BodyTells b taken to (bodies.Check body) = ⊥
 BodyTells b taken to _ = Unit {0}
 
 -- what the manager sends, having taken a packet

@@ -1,5 +1,5 @@
 -- What each row of a node's table sends: an answer to the packet that asked, or to those whose appends wait.
-use Rattle.std.proofs.Common.{◌≡◌, ℕ, suc, zero, Bool, true, false, not, ◌&&◌, ◌==◌, nat_lt, List, [], ◌∷◌, take, Option, Some, None, Contains, refl, arith, subst}
+use Rattle.std.proofs.Common.{◌≡◌, ℕ, suc, zero, Bool, true, false, not, ◌&&◌, ◌==◌, nat_lt, List, [], ◌∷◌, take, Option, Some, None, Contains, refl, sym, ap, arith, subst}
 use Rattle.blocks.specs.declared.record.Nodes.{Nodes}
 use Rattle.wire.specs.declared.actor.ActorId.{ActorId}
 use Rattle.wire.specs.declared.actor.ActorId.TheVariants.{Node}
@@ -10,7 +10,7 @@ use Rattle.wire.specs.declared.body.AppendBody.TheVariants.{Append, Put, Have, A
 use Rattle.wire.specs.declared.body.SealBody.{SealBody}
 use Rattle.wire.specs.declared.body.SealBody.TheVariants as seals
 use Rattle.wire.specs.declared.body.CheckBody.{CheckBody}
-use Rattle.wire.specs.declared.body.CheckBody.TheVariants.{Check, Probe, Probed}
+use Rattle.wire.specs.declared.body.CheckBody.TheVariants.{Check, Probe, Probed, Checked}
 use Rattle.wire.specs.declared.body.ReadBody.{ReadBody}
 use Rattle.wire.specs.declared.body.ReadBody.TheVariants as reads
 use Rattle.wire.specs.declared.body.Body.{Body}
@@ -29,7 +29,7 @@ use Rattle.model.specs.Actors.{is_node, is_manager, generation_of}
 use Rattle.model.specs.Node as table
 use Rattle.model.specs.Node.{Replica, is_open, is_sealed}
 use Rattle.model.specs.Outcome.{Outcome, all_met, silent, or_refused}
-use Rattle.model.proofs.Tests.{if_elim, none_met}
+use Rattle.model.proofs.Tests.{if_elim, both_parts, none_met}
 use Rattle.laws_streams.proofs.Tests.{Each}
 
 -- ---- what an answer comes from
@@ -58,22 +58,47 @@ pub record FromReading (s : Option Replica) (k : ℕ) (taken : Packet) (to : Act
   pub found : groups_to upto replica.content.groups ≡ Some groups
   pub closed : sealed ≡ true → is_sealed replica.content.phase ≡ true
 
+-- a check of this replica is answered, which is open and of this length
+pub record FromCheck (s : Option Replica) (k : ℕ) (taken : Packet) (to : ActorId) (q : ReqNo) (l : ℕ) : Type 0 where
+  pub replica : Replica
+  pub there : s ≡ Some replica
+  pub check : Checking
+  pub checks : replica.check ≡ Some check
+  pub asker : to ≡ check.asker
+  pub request : q ≡ check.request
+  pub opened : is_open replica.content.phase ≡ true
+  pub length : l ≡ text_length replica.content.groups
+  pub generation : ℕ
+  pub told : ℕ
+  pub body : taken.body ≡ bodies.Check (Probed k generation told)
+
+-- no node asks for an append, a check, a reading or a seal
 abbrev pub AppendTells : Option Replica → ℕ → List Note → ActorId → AppendBody → Type 0
+AppendTells s k notes to (Append e generation blocks q) = ⊥
 AppendTells s k notes to (Appended q e o) = FromWaiting s k notes to q e o
 AppendTells s k notes to _ = Unit {0}
 
 abbrev pub ReadTells : Option Replica → ℕ → Packet → ActorId → ReadBody → Type 0
 ReadTells s k taken to (reads.Groups q e groups) = FromReading s k taken to q e groups
+ReadTells s k taken to (reads.ReadAt e offset l q) = ⊥
+ReadTells s k taken to (reads.ReadGroups e upto sealed q) = ⊥
 ReadTells s k taken to _ = Unit {0}
 
 -- no answer of the manager
 abbrev pub SealTells : SealBody → Type 0
 SealTells (seals.SealedIs q e l) = ⊥
+SealTells (seals.SealExtent e q) = ⊥
 SealTells _ = Unit {0}
+
+abbrev pub CheckTells : Option Replica → ℕ → Packet → ActorId → CheckBody → Type 0
+CheckTells s k taken to (Check e generation q) = ⊥
+CheckTells s k taken to (Checked q (Some l)) = FromCheck s k taken to q l
+CheckTells s k taken to _ = Unit {0}
 
 abbrev pub BodyTells : Option Replica → ℕ → Packet → List Note → ActorId → Body → Type 0
 BodyTells s k taken notes to (bodies.Append body) = AppendTells s k notes to body
 BodyTells s k taken notes to (bodies.Read body) = ReadTells s k taken to body
+BodyTells s k taken notes to (bodies.Check body) = CheckTells s k taken to body
 BodyTells s k taken notes to (bodies.Seal body) = SealTells body
 BodyTells s k taken notes to (bodies.Stream body) = ⊥
 BodyTells s k taken notes to _ = Unit {0}
@@ -163,20 +188,50 @@ module _ (n k : ℕ) (p : Packet) (r : Replica) where
       (λ t. unless_tells n (Some r) k p NoRequest (table.probe_refusal r generation) (Some r) (table.probe_taken n r e generation) (λ none. ((refl, tt), tt)))
       (λ t. tt)
 
-  settled_told : (c : Checking) (a b : Option ℕ) → Told (table.settled n r c a b)
-  settled_told c (Some a) (Some b) = ((refl, tt), tt)
-  settled_told c (Some a) None = tt
-  settled_told c None b = tt
+  module _ (generation l : ℕ) (is : p.body ≡ bodies.Check (Probed k generation l)) (c : Checking) (checks : r.check ≡ Some c) where
+    common_told : (a b : ℕ) → BodyTells (Some r) k p [] c.asker (bodies.Check (Checked c.request (table.common_length r a b)))
+    common_told a b =
+        if_elim (λ z. BodyTells (Some r) k p [] c.asker (bodies.Check (Checked c.request z)))
+        (is_open r.content.phase && ((a == text_length r.content.groups) && (b == text_length r.content.groups))) (Some (text_length r.content.groups)) None
+        (λ t. record {
+          replica = r;
+          there = refl;
+          check = c;
+          checks = checks;
+          asker = refl;
+          request = refl;
+          opened = (both_parts (is_open r.content.phase) _ t).0;
+          length = refl;
+          generation = generation;
+          told = l;
+          body = is;
+        })
+        (λ t. tt)
 
-  probed_by_told : (o : Option Checking) → Told (table.probed_by n r o)
-  probed_by_told None = tt
-  probed_by_told (Some c) = settled_told c c.second c.third
+    settled_told : (d : Checking) → d.asker ≡ c.asker → d.request ≡ c.request → (a b : Option ℕ) → Told (table.settled n r d a b)
+    settled_told d asker request (Some a) (Some b) =
+        let told = common_told a b in
+        ((refl, rw (asker, request) told), tt)
+    settled_told d asker request (Some a) None = tt
+    settled_told d asker request None b = tt
 
-  probed_told : (generation l : ℕ) (o : Option Checking) → Told (table.probed_for n r p generation l o)
-  probed_told generation l None = tt
-  probed_told generation l (Some c) =
+    probed_by_told : (o : Option Checking) → ((d : Checking) → o ≡ Some d → (d.asker ≡ c.asker) × (d.request ≡ c.request)) → Told (table.probed_by n r o)
+    probed_by_told None same = tt
+    probed_by_told (Some d) same = settled_told d (same d refl).0 (same d refl).1 d.second d.third
+
+    with_probed_same : (from : ActorId) (at : Nodes) (d : Checking) → table.with_probed c at from l ≡ Some d → (d.asker ≡ c.asker) × (d.request ≡ c.request)
+    with_probed_same from at d =
+        if_elim (λ o. o ≡ Some d → (d.asker ≡ c.asker) × (d.request ≡ c.request)) (is_node at.second from) (Some (record c { second = Some l })) _
+        (λ t k. let e : record c { second = Some l } ≡ d = cc in (ap (λ (x : Checking). x.asker) (sym e), ap (λ (x : Checking). x.request) (sym e)))
+        (λ _. if_elim (λ o. o ≡ Some d → (d.asker ≡ c.asker) × (d.request ≡ c.request)) (is_node at.third from) (Some (record c { third = Some l })) None
+        (λ t k. let e : record c { third = Some l } ≡ d = cc in (ap (λ (x : Checking). x.asker) (sym e), ap (λ (x : Checking). x.request) (sym e)))
+        (λ _ k. absurd cc))
+
+  probed_told : (generation l : ℕ) → p.body ≡ bodies.Check (Probed k generation l) → (o : Option Checking) → r.check ≡ o → Told (table.probed_for n r p generation l o)
+  probed_told generation l is None checks = tt
+  probed_told generation l is (Some c) checks =
       if_elim Told (c.generation == generation) (table.probed_by n r (table.with_probed c r.content.places p.from l)) (silent (Some r))
-      (λ t. probed_by_told (table.with_probed c r.content.places p.from l)) (λ t. tt)
+      (λ t. probed_by_told generation l is c checks (table.with_probed c r.content.places p.from l) (with_probed_same generation l is c checks p.from r.content.places)) (λ t. tt)
 
   read_told : (e offset l : ℕ) (q : ReqNo) → Told (table.read_row n r p e offset l q)
   read_told e offset l q =
@@ -267,14 +322,14 @@ module _ (n : ℕ) (p : Packet) where
   append_tells None (Have e l) = ((refl, tt), tt)
   append_tells s b = tt
 
-  check_tells : (s : Option Replica) (b : CheckBody) → Tells n s (table.check_extent b) p (table.check_body_row n s p b)
-  check_tells (Some r) (Check e generation q) = check_told n e p r e (generation_of p.from generation) q
-  check_tells None (Check e generation q) = ((refl, tt), tt)
-  check_tells (Some r) (Probe e generation) = probe_told n e p r e generation
-  check_tells None (Probe e generation) = ((refl, tt), tt)
-  check_tells (Some r) (Probed e generation l) = probed_told n e p r generation l r.check
-  check_tells None (Probed e generation l) = ((refl, tt), tt)
-  check_tells s b = tt
+  check_tells : (s : Option Replica) (b : CheckBody) → p.body ≡ bodies.Check b → Tells n s (table.check_extent b) p (table.check_body_row n s p b)
+  check_tells (Some r) (Check e generation q) is = check_told n e p r e (generation_of p.from generation) q
+  check_tells None (Check e generation q) is = ((refl, tt), tt)
+  check_tells (Some r) (Probe e generation) is = probe_told n e p r e generation
+  check_tells None (Probe e generation) is = ((refl, tt), tt)
+  check_tells (Some r) (Probed e generation l) is = probed_told n e p r generation l is r.check refl
+  check_tells None (Probed e generation l) is = ((refl, tt), tt)
+  check_tells s b is = tt
 
   missing_tells : (k : ℕ) → Tells n None k p (table.missing n p)
   missing_tells k = if_elim (Tells n None k p) (is_manager p.from) _ (silent None) (λ t. ((refl, tt), tt)) (λ t. tt)
@@ -304,7 +359,7 @@ module _ (n : ℕ) (p : Packet) where
 
   row_tells : (s : Option Replica) (b : Body) → p.body ≡ b → Tells n s (table.extent_of b) p (table.node_row n s p b)
   row_tells s (bodies.Append b) is = append_tells s b
-  row_tells s (bodies.Check b) is = check_tells s b
+  row_tells s (bodies.Check b) is = check_tells s b is
   row_tells s (bodies.Seal b) is = seal_tells s b
   row_tells s (bodies.Read b) is = read_tells s b is
   row_tells s b is = tt

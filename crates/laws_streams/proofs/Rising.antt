@@ -104,7 +104,7 @@ passed_by : (test : Stream → Bool) (o : Option Stream) (x : Stream) → passes
 passed_by test None x t is = absurd cc
 passed_by test (Some y) x t is = let c : y ≡ x = cc in subst (λ z. test z ≡ true) c t
 
-four_pass : (a b c d : Bool) → (a && (b && (c && d))) ≡ true → (a ≡ true) × (b ≡ true) × (c ≡ true) × (d ≡ true)
+pub four_pass : (a b c d : Bool) → (a && (b && (c && d))) ≡ true → (a ≡ true) × (b ≡ true) × (c ≡ true) × (d ≡ true)
 four_pass a b c d t =
     let k = both_parts a (b && (c && d)) t in
     let m = both_parts b (c && d) k.1 in

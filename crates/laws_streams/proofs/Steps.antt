@@ -62,7 +62,7 @@ recelled w cell desk g a = record {
   book = a.book;
 }
 
-sent_holds : (w : World) (packets : List Packet) (g : Ground) → Holds w g → Each (FinePacket g) packets → Holds (sent_more w packets) g
+pub sent_holds : (w : World) (packets : List Packet) (g : Ground) → Holds w g → Each (FinePacket g) packets → Holds (sent_more w packets) g
 sent_holds w packets g a fine = record {
   sound = a.sound;
   packets = each-append (FinePacket g) w.post packets a.packets fine;
@@ -90,7 +90,7 @@ apart_from_all : (notes : List Note) (note : Note) → is_table_note note ≡ tr
 apart_from_all [] note t = tt
 apart_from_all (x ∷ notes) note t = ((shown_apart x note t, tt), apart_from_all notes note t)
 
-shown_holds : (w : World) (note : Note) → is_table_note note ≡ true → (g : Ground) → Holds w g → Holds (record w { notes = w.notes ++ note ∷ [] }) g
+pub shown_holds : (w : World) (note : Note) → is_table_note note ≡ true → (g : Ground) → Holds w g → Holds (record w { notes = w.notes ++ note ∷ [] }) g
 shown_holds w note t g a = record {
   sound = a.sound;
   packets = a.packets;
@@ -120,13 +120,13 @@ asked_seal g from (seals.Seal e l) t = absurd cc
 asked_seal g from (seals.Tail e k l groups) t = absurd cc
 asked_seal g from b t = tt
 
-user_fine : (g : Ground) (from to : ActorId) (b : Body) → is_request b ≡ true → FineBody g from to b
+pub user_fine : (g : Ground) (from to : ActorId) (b : Body) → is_request b ≡ true → FineBody g from to b
 user_fine g from to (bodies.Append b) t = asked_append g from b t
 user_fine g from to (bodies.Check b) t = absurd cc
 user_fine g from to (bodies.Seal b) t = asked_seal g from b t
 user_fine g from to b t = tt
 
-server_fine : (g : Ground) (from to : ActorId) (b : Body) → is_server_call b ≡ true → FineBody g from to b
+pub server_fine : (g : Ground) (from to : ActorId) (b : Body) → is_server_call b ≡ true → FineBody g from to b
 server_fine g from to (bodies.Append b) t = asked_append g from b t
 server_fine g from to (bodies.Check b) t = asked_check g from to b t
 server_fine g from to (bodies.Seal b) t = asked_seal g from b t
@@ -137,7 +137,7 @@ told_append g from (Put e o group) t = absurd cc
 told_append g from (Have e l) t = absurd cc
 told_append g from b t = tt
 
-told_fine : (g : Ground) (from to : ActorId) (b : Body) → is_told b ≡ true → FineBody g from to b
+pub told_fine : (g : Ground) (from to : ActorId) (b : Body) → is_told b ≡ true → FineBody g from to b
 told_fine g from to (bodies.Append b) t = told_append g from b t
 told_fine g from to (bodies.Check b) t = absurd cc
 told_fine g from to (bodies.Seal b) t = absurd cc

@@ -85,7 +85,7 @@ may_grow b x last (Some e) end is =
     there (Some length) k t = (length, k)
 
 -- where another is the last
-is_other : (sealed : ℕ → Option ℕ) (last : Option ℕ) (o : Option ℕ) (f : ℕ) → behind sealed o last ≡ Ok (Some f) → (o ≡ Some f) × (last ≢ Some f)
+pub is_other : (sealed : ℕ → Option ℕ) (last : Option ℕ) (o : Option ℕ) (f : ℕ) → behind sealed o last ≡ Ok (Some f) → (o ≡ Some f) × (last ≢ Some f)
 is_other sealed last None f is = absurd cc
 is_other sealed last (Some e) f is =
     if_elim (λ y. y ≡ Ok (Some f) → (Some e ≡ Some f) × (last ≢ Some f)) (is_number e last) _ (Ok (Some e))

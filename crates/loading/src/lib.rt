@@ -27,6 +27,3 @@ mod progress;
 pub use content::RangeContent;
 pub use giving_up::GivenUp;
 pub use progress::{Progress, Service};
-
-#[cfg(test)]
-mod tests;

@@ -22,6 +22,3 @@ mod trying;
 pub use asking::Asking;
 pub use held::MAX_HELD;
 pub use lookups::{Lookups, MAX_GETS, Tried};
-
-#[cfg(test)]
-mod tests;

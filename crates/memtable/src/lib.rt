@@ -16,6 +16,3 @@ mod layer;
 mod mem_table;
 
 pub use mem_table::MemTable;
-
-#[cfg(test)]
-mod tests;

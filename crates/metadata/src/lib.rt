@@ -21,6 +21,3 @@ pub use lists::{IndexRanges, Regions};
 pub use reading::{decode, one_spelling};
 pub use record::{IndexRange, KeyRange, MetaItem, MetaRecord, Region};
 pub use writing::encode;
-
-#[cfg(test)]
-mod tests;

@@ -17,6 +17,3 @@ mod regions;
 pub use groups::replayed;
 pub use reading::folded;
 pub use regions::open_region;
-
-#[cfg(test)]
-mod tests;

@@ -8,6 +8,3 @@ mod place;
 mod rows;
 
 pub use rows::rows_of;
-
-#[cfg(test)]
-mod tests;

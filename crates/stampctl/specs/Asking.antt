@@ -9,6 +9,8 @@ use Rattle.wire.specs.declared.body.ReadBody.{ReadBody}
 use Rattle.wire.specs.declared.body.ReadBody.TheVariants as reads
 use Rattle.wire.specs.declared.body.SealBody.TheVariants as seals
 use Rattle.wire.specs.declared.body.StreamBody.TheVariants as streams
+use Rattle.wire.specs.declared.body.TableBody.{TableBody}
+use Rattle.wire.specs.declared.body.TableBody.TheVariants as tables
 use Rattle.wire.specs.declared.streams.StreamKind.{StreamKind}
 use Rattle.wire.specs.declared.streams.StreamName.{StreamName}
 use Rattle.model.specs.declared.event.Event.{Event}
@@ -26,6 +28,9 @@ call_by user body = Submit user actors.Manager body
 abbrev pub read_by : ℕ → ℕ → ReadBody → Event
 read_by user node body = Submit user (actors.Node node) (bodies.Read body)
 
+abbrev pub ask_by : ℕ → ℕ → TableBody → Event
+ask_by user server body = Submit user (actors.Server server) (bodies.Table body)
+
 -- what a user's request submits; the generation of a user is 0, and content is asked of sealed replicas alone
 abbrev pub asked : ℕ → ReqNo → Request → Event
 asked user number (requests.Create kind) = call_by user (bodies.Stream (streams.CreateStream (stream_of kind) 0 number))
@@ -34,4 +39,6 @@ asked user number (requests.Append node extent blocks) =
     Submit user (actors.Node node) (bodies.Append (appends.Append extent 0 blocks.items number))
 asked user number (requests.Read node extent offset length) = read_by user node (reads.ReadAt extent offset length number)
 asked user number (requests.Content node extent upto) = read_by user node (reads.ReadGroups extent upto true number)
+asked user number (requests.Transact server range changes) = ask_by user server (tables.Transact range changes.items number)
+asked user number (requests.Get server range key) = ask_by user server (tables.Get range key number)
 asked user number (requests.Seal extent) = call_by user (bodies.Seal (seals.SealExtent extent number))

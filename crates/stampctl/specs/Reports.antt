@@ -21,6 +21,9 @@ answer_text (answers.Appended offset) = codes "appended " ++ decimal offset
 answer_text (answers.Bytes text) = codes "bytes " ++ text
 answer_text (answers.Content size) = codes "content " ++ decimal size
 answer_text (answers.Sealed extent size) = codes "sealedis " ++ decimal extent ++ 32 ∷ decimal size
+answer_text (answers.Committed number) = codes "committed " ++ decimal number
+answer_text (answers.Value text) = codes "value " ++ text
+answer_text answers.NoValue = codes "value none"
 answer_text (answers.Refused refusal) = codes "refused " ++ text_of refusal
 
 abbrev pub standing_text : Standing → List ℕ
@@ -37,6 +40,12 @@ report_text (reports.Content extent node size groups) =
     codes "content " ++ decimal extent ++ 32 ∷ decimal node ++ 32 ∷ decimal size ++ 32 ∷ decimal groups
 report_text (reports.Seen extent node offset count) =
     codes "seen " ++ decimal extent ++ 32 ∷ decimal node ++ 32 ∷ decimal offset ++ 32 ∷ decimal count
+report_text (reports.Began range generation number) =
+    codes "began " ++ decimal range ++ 32 ∷ decimal generation ++ 32 ∷ decimal number
+report_text (reports.Done range generation number) =
+    codes "done " ++ decimal range ++ 32 ∷ decimal generation ++ 32 ∷ decimal number
+report_text (reports.Loaded range generation next rows) =
+    codes "loaded " ++ decimal range ++ 32 ∷ decimal generation ++ 32 ∷ decimal next ++ 32 ∷ decimal rows
 report_text (reports.Refused refusal) = codes "refused " ++ text_of refusal
 report_text (reports.Told user ticket answer) =
     codes "user " ++ decimal user ++ 32 ∷ decimal ticket ++ 32 ∷ answer_text answer

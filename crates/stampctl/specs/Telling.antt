@@ -15,6 +15,8 @@ use Rattle.wire.specs.declared.body.SealBody.{SealBody}
 use Rattle.wire.specs.declared.body.SealBody.TheVariants as seals
 use Rattle.wire.specs.declared.body.StreamBody.{StreamBody}
 use Rattle.wire.specs.declared.body.StreamBody.TheVariants as streams
+use Rattle.wire.specs.declared.body.TableBody.{TableBody}
+use Rattle.wire.specs.declared.body.TableBody.TheVariants as tables
 use Rattle.wire.specs.declared.note.Note.{Note}
 use Rattle.wire.specs.declared.note.Note.TheVariants as notes
 use Rattle.stampctl.specs.declared.report.Answer.{Answer}
@@ -44,11 +46,18 @@ read_answer (reads.Bytes number extent offset bytes) = Some (number, answers.Byt
 read_answer (reads.Groups number extent groups) = Some (number, answers.Content (groups_size groups))
 read_answer other = None
 
+abbrev pub table_answer : TableBody → Option (ReqNo × Answer)
+table_answer (tables.Committed number given) = Some (number, answers.Committed given)
+table_answer (tables.Value number None) = Some (number, answers.NoValue)
+table_answer (tables.Value number (Some bytes)) = Some (number, answers.Value (shown_bytes bytes))
+table_answer other = None
+
 abbrev pub answer_of : Body → Option (ReqNo × Answer)
 answer_of (bodies.Append body) = append_answer body
 answer_of (bodies.Seal body) = seal_answer body
 answer_of (bodies.Read body) = read_answer body
 answer_of (bodies.Stream body) = stream_answer body
+answer_of (bodies.Table body) = table_answer body
 answer_of other = None
 
 -- an answer is printed with the ticket of the request
@@ -63,10 +72,17 @@ abbrev pub told_to : ActorId → Body → Option Report
 told_to (actors.User user) body = told_with user (answer_of body)
 told_to other body = None
 
+-- the line of an observation of a table
+abbrev pub table_observed : Note → Option Report
+table_observed (notes.Began range generation number changes) = Some (reports.Began range generation number)
+table_observed (notes.Done range generation number) = Some (reports.Done range generation number)
+table_observed (notes.Loaded range generation rows next) = Some (reports.Loaded range generation next (length rows))
+table_observed other = None
+
 -- the line of an observation
 abbrev pub observed : Note → Option Report
 observed (notes.Acked extent offset group) = Some (reports.Acked extent offset (group_size group))
 observed (notes.SealedAt extent size) = Some (reports.SealedAt extent size)
 observed (notes.Content extent node groups) = Some (reports.Content extent node (groups_size groups) (length groups))
 observed (notes.Seen extent node offset bytes) = Some (reports.Seen extent node offset (length bytes))
-observed other = None
+observed other = table_observed other

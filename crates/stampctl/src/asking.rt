@@ -1,12 +1,12 @@
 //! The requests of users, as events.
 ghost use Rattle.std.specs.Prelude.{◌≡◌};
-ghost use Rattle.stampctl.specs.Asking.{asked, call_by, read_by, stream_of};
+ghost use Rattle.stampctl.specs.Asking.{ask_by, asked, call_by, read_by, stream_of};
 
 use crate::line::Request;
 use model::Event;
 use wire::{
-    ActorId, AppendBody, Blocks, Body, ExtentId, Fence, RangeId, ReadBody, ReqNo, SealBody,
-    StreamBody, StreamKind, StreamName,
+    ActorId, AppendBody, Blocks, Body, Changes, ExtentId, Fence, RangeId, ReadBody, ReqNo,
+    SealBody, ServerNo, StreamBody, StreamKind, StreamName, TableBody,
 };
 
 /// A stream that users work on.
@@ -38,6 +38,17 @@ fn read(user: u64, node: u8, body: ReadBody) -> Event
         user,
         to: ActorId::Node(node),
         body: Body::Read(body),
+    }
+}
+
+/// A user's call of a server.
+fn ask(user: u64, server: ServerNo, body: TableBody) -> Event
+    ensures { result ≡ ask_by user server body }
+{
+    Event::Submit {
+        user,
+        to: ActorId::Server(server),
+        body: Body::Table(body),
     }
 }
 
@@ -110,6 +121,28 @@ pub fn event_of(user: u64, number: ReqNo, task: Request) -> Event
                 extent: ExtentId::new(extent),
                 upto,
                 sealed: true,
+                request: number,
+            },
+        ),
+        Request::Transact {
+            server,
+            range,
+            changes,
+        } => ask(
+            user,
+            server,
+            TableBody::Transact {
+                range: RangeId::new(range),
+                changes: Changes::of(changes),
+                request: number,
+            },
+        ),
+        Request::Get { server, range, key } => ask(
+            user,
+            server,
+            TableBody::Get {
+                range: RangeId::new(range),
+                key,
                 request: number,
             },
         ),

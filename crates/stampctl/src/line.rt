@@ -10,8 +10,9 @@ ghost use Rattle.stampctl.specs.Values.{AsksCopies, IsNumber, IsTooMany, IsValue
 
 use blocks::Nodes;
 use bytes::Bytes;
+use model::Event;
 use std::alloc::{AllocError, Global};
-use wire::{ActorId, ServerNo, StreamKind};
+use wire::{ActorId, Change, ExtentId, RangeId, ServerNo, StreamKind};
 
 /// What a user asks for.
 #[derive(Drop)]
@@ -45,16 +46,25 @@ pub enum Request {
     Seal {
         extent: u64,
     },
+    /// That a server applies these changes to a range, all or none.
+    Transact {
+        server: ServerNo,
+        range: u64,
+        changes: Vec<Change>,
+    },
+    /// What a range has under a key.
+    Get {
+        server: ServerNo,
+        range: u64,
+        key: Bytes,
+    },
 }
 
 /// A line of a script.
 #[derive(Drop)]
 pub enum Line {
     /// A user sends a packet.
-    Submit {
-        user: u64,
-        request: Request,
-    },
+    Submit { user: u64, request: Request },
     /// Delivers the packet of this number.
     Deliver(u64),
     /// Delivers the packet that was sent last.
@@ -66,20 +76,9 @@ pub enum Line {
     /// And from here on it does not.
     Heal(ActorId),
     /// Shows the replica of an extent at a node.
-    Show {
-        node: u8,
-        extent: u64,
-    },
-    /// An actor stops, at once or in one of its next device calls.
-    Stop {
-        actor: ActorId,
-        call: u64,
-        keep: bool,
-    },
-    /// A stopped actor comes back.
-    Restart(ActorId),
-    /// The manager decides the length of an extent.
-    Decide(u64),
+    Show { node: u8, extent: u64 },
+    /// An actor stops or comes back, the operator has something done, or the clock shows a moment.
+    Happens(Event),
 }
 
 /// The most copies that a word may ask for.
@@ -201,11 +200,25 @@ pub fn parse(alloc: Global, words: &[&str]) -> Result<Option<Line>, AllocError> 
         ["cut", word] => actor(word).map(Line::Cut),
         ["heal", word] => actor(word).map(Line::Heal),
         ["show", node, extent] => show(node, extent),
-        ["stop", word, call, bytes] => stop(word, call, bytes),
-        ["restart", word] => actor(word).map(Line::Restart),
-        ["decide", extent] => number(extent).map(Line::Decide),
-        _ => None,
+        _ => event(words).map(Line::Happens),
     })
+}
+
+/// Reads the words of a line that is one event.
+fn event(words: &[&str]) -> Option<Event> {
+    match words {
+        ["stop", word, call, bytes] => stop(word, call, bytes),
+        ["restart", word] => Some(Event::Restart {
+            actor: actor(word)?,
+        }),
+        ["decide", extent] => Some(Event::Decide {
+            extent: ExtentId::new(number(extent)?),
+        }),
+        ["giveup", server, range, a, b, c] => give_up(server, range, [a, b, c]),
+        ["assign", range, server, until] => assign(range, server, until),
+        ["moment", now] => Some(Event::Moment { now: number(now)? }),
+        _ => None,
+    }
 }
 
 /// A node above 255 is in no setup, so nothing shows it.
@@ -227,6 +240,8 @@ fn submit(alloc: Global, user: &str, words: &[&str]) -> Result<Option<Line>, All
         ["read", node, extent, offset, length] => read(node, extent, offset, length),
         ["content", node, extent, upto] => content(node, extent, upto),
         ["seal", extent] => seal(extent),
+        ["tx", server, range, changes @ ..] => transact(alloc, server, range, changes)?,
+        ["get", server, range, key] => get(alloc, server, range, key)?,
         _ => None,
     };
     Ok(request.map(|request| Line::Submit { user, request }))
@@ -236,7 +251,16 @@ fn create(word: &str) -> Option<Request> {
     Some(Request::Create { kind: kind(word)? })
 }
 
-fn extend(word: &str, last: &str, [primary, second, third]: [&str; 3]) -> Option<Request> {
+/// The three places of an extent, the primary first.
+fn nodes([primary, second, third]: [&str; 3]) -> Option<Nodes> {
+    Some(Nodes {
+        primary: node(primary)?,
+        second: node(second)?,
+        third: node(third)?,
+    })
+}
+
+fn extend(word: &str, last: &str, places: [&str; 3]) -> Option<Request> {
     let last = match last {
         "none" => None,
         _ => Some(number(last)?),
@@ -244,11 +268,7 @@ fn extend(word: &str, last: &str, [primary, second, third]: [&str; 3]) -> Option
     Some(Request::Extend {
         kind: kind(word)?,
         last,
-        pick: Nodes {
-            primary: node(primary)?,
-            second: node(second)?,
-            third: node(third)?,
-        },
+        pick: nodes(places)?,
     })
 }
 
@@ -281,14 +301,89 @@ fn seal(extent: &str) -> Option<Request> {
     })
 }
 
+/// The number of a server. No stamp has a server 255, which stands for all greater numbers.
+fn server(word: &str) -> Option<ServerNo> {
+    Some(ServerNo::new(node(word)?))
+}
+
+fn give_up(word: &str, range: &str, places: [&str; 3]) -> Option<Event> {
+    Some(Event::GiveUp {
+        server: server(word)?,
+        range: RangeId::new(number(range)?),
+        pick: nodes(places)?,
+    })
+}
+
+fn assign(range: &str, word: &str, until: &str) -> Option<Event> {
+    Some(Event::Assign {
+        range: RangeId::new(number(range)?),
+        server: server(word)?,
+        until: number(until)?,
+    })
+}
+
+/// A change: `+KEY=WORD` puts the value of the word under the key, and `-KEY` deletes the key.
+fn change(alloc: Global, word: &str) -> Result<Option<Change>, AllocError> {
+    if let Some(key) = word.strip_prefix('-') {
+        return Ok(Some(Change {
+            key: Bytes::from_vec(key.as_bytes().to_vec(alloc)?)?,
+            value: None,
+        }));
+    }
+    let Some(put) = word.strip_prefix('+') else {
+        return Ok(None);
+    };
+    let Some((key, word)) = put.split_once('=') else {
+        return Ok(None);
+    };
+    match value(alloc, word)? {
+        Some(bytes) => Ok(Some(Change {
+            key: Bytes::from_vec(key.as_bytes().to_vec(alloc)?)?,
+            value: Some(Bytes::from_vec(bytes)?),
+        })),
+        None => Ok(None),
+    }
+}
+
+fn transact(
+    alloc: Global,
+    word: &str,
+    range: &str,
+    words: &[&str],
+) -> Result<Option<Request>, AllocError> {
+    let (Some(server), Some(range)) = (server(word), number(range)) else {
+        return Ok(None);
+    };
+    let mut changes = Vec::with_capacity(alloc, words.len())?;
+    for word in words {
+        match change(alloc, word)? {
+            Some(change) => changes.push(change)?,
+            None => return Ok(None),
+        }
+    }
+    Ok(Some(Request::Transact {
+        server,
+        range,
+        changes,
+    }))
+}
+
+fn get(alloc: Global, word: &str, range: &str, key: &str) -> Result<Option<Request>, AllocError> {
+    let (Some(server), Some(range)) = (server(word), number(range)) else {
+        return Ok(None);
+    };
+    let key = Bytes::from_vec(key.as_bytes().to_vec(alloc)?)?;
+    Ok(Some(Request::Get { server, range, key }))
+}
+
 /// A stop: whose, in which device call, and whether the bytes of that call are kept.
-fn stop(word: &str, call: &str, bytes: &str) -> Option<Line> {
+fn stop(word: &str, call: &str, bytes: &str) -> Option<Event> {
     let keep = match bytes {
         "keep" => true,
         "drop" => false,
         _ => return None,
     };
-    Some(Line::Stop {
+    Some(Event::Stop {
         actor: actor(word)?,
         call: number(call)?,
         keep,

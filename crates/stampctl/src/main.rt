@@ -20,6 +20,8 @@ mod asking;
 mod command;
 mod deliveries;
 mod error;
+#[cfg(test)]
+mod failover_tests;
 mod hex_text;
 mod line;
 mod plan;

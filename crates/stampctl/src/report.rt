@@ -20,6 +20,12 @@ pub enum Answer {
     /// How many bytes the groups have together.
     Content(u128),
     Sealed { extent: u64, length: u32 },
+    /// The transaction has this number.
+    Committed(u64),
+    /// What stands under the key.
+    Value(HexText),
+    /// Nothing stands under the key.
+    NoValue,
     Refused(Refusal),
 }
 
@@ -58,6 +64,25 @@ pub enum Report {
         node: u8,
         offset: u32,
         count: u64,
+    },
+    /// A server gave a transaction its number.
+    Began {
+        range: u64,
+        generation: u64,
+        number: u64,
+    },
+    /// A server answered that a transaction is done.
+    Done {
+        range: u64,
+        generation: u64,
+        number: u64,
+    },
+    /// A server loaded a range: the number of its next transaction, and how many rows it has.
+    Loaded {
+        range: u64,
+        generation: u64,
+        next: u64,
+        rows: u64,
     },
     /// The event was refused.
     Refused(Refusal),
@@ -99,6 +124,9 @@ impl fmt::Display for Answer {
             Answer::Bytes(bytes) => write!(f, "bytes {bytes}"),
             Answer::Content(size) => write!(f, "content {size}"),
             Answer::Sealed { extent, length } => write!(f, "sealedis {extent} {length}"),
+            Answer::Committed(number) => write!(f, "committed {number}"),
+            Answer::Value(bytes) => write!(f, "value {bytes}"),
+            Answer::NoValue => write!(f, "value none"),
             Answer::Refused(refusal) => write!(f, "refused {refusal}"),
         }
     }
@@ -145,6 +173,22 @@ impl fmt::Display for Report {
                 offset,
                 count,
             } => write!(f, "seen {extent} {node} {offset} {count}"),
+            Report::Began {
+                range,
+                generation,
+                number,
+            } => write!(f, "began {range} {generation} {number}"),
+            Report::Done {
+                range,
+                generation,
+                number,
+            } => write!(f, "done {range} {generation} {number}"),
+            Report::Loaded {
+                range,
+                generation,
+                next,
+                rows,
+            } => write!(f, "loaded {range} {generation} {next} {rows}"),
             Report::Refused(refusal) => write!(f, "refused {refusal}"),
             Report::Told {
                 user,

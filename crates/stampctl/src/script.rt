@@ -47,4 +47,6 @@ pub fn script<R: Read + Drop, W: Write>(
 }
 
 #[cfg(test)]
+mod table_tests;
+#[cfg(test)]
 mod tests;

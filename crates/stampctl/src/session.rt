@@ -126,16 +126,7 @@ impl Session {
                 Ok(())
             }
             Line::Show { node, extent } => print(look(&self.run, node, extent), writer),
-            Line::Stop { actor, call, keep } => {
-                self.observe(&Event::Stop { actor, call, keep }, writer)
-            }
-            Line::Restart(actor) => self.observe(&Event::Restart { actor }, writer),
-            Line::Decide(extent) => self.observe(
-                &Event::Decide {
-                    extent: ExtentId::new(extent),
-                },
-                writer,
-            ),
+            Line::Happens(event) => self.observe(&event, writer),
         }
     }
 

@@ -1,13 +1,15 @@
 //! What deliveries and observations print.
 ghost use Rattle.std.specs.Prelude.{◌≡◌, Some, IfOk};
 ghost use Rattle.blocks.specs.Limits.{groups_size};
-ghost use Rattle.stampctl.specs.Telling.{answer_of, append_answer, observed, read_answer, seal_answer, stream_answer, told_to, told_with};
+ghost use Rattle.stampctl.specs.Telling.{answer_of, append_answer, observed, read_answer, seal_answer, stream_answer, table_answer, table_observed, told_to, told_with};
 
 use crate::hex_text::HexText;
 use crate::report::{Answer, Report};
 use blocks::Group;
 use std::alloc::{AllocError, Global};
-use wire::{ActorId, AppendBody, Body, Note, Packet, ReadBody, ReqNo, SealBody, StreamBody};
+use wire::{
+    ActorId, AppendBody, Body, Note, Packet, ReadBody, ReqNo, SealBody, StreamBody, TableBody,
+};
 
 fn append_answer(body: &AppendBody) -> Option<(ReqNo, Answer)>
     ensures { result ≡ append_answer body.now }
@@ -89,6 +91,28 @@ fn read_answer(alloc: Global, body: &ReadBody) -> Result<Option<(ReqNo, Answer)>
     }
 }
 
+fn table_answer(alloc: Global, body: &TableBody) -> Result<Option<(ReqNo, Answer)>, AllocError>
+    ensures { IfOk result (λ told. told ≡ table_answer body.now) }
+{
+    match body {
+        TableBody::Committed { request, number } => {
+            Ok(Some((*request, Answer::Committed(*number))))
+        }
+        TableBody::Value {
+            request,
+            value: None,
+        } => Ok(Some((*request, Answer::NoValue))),
+        TableBody::Value {
+            request,
+            value: Some(bytes),
+        } => match HexText::of(alloc, bytes.as_slice()) {
+            Ok(text) => Ok(Some((*request, Answer::Value(text)))),
+            Err(refused) => Err(refused),
+        },
+        _ => Ok(None),
+    }
+}
+
 /// The answer that a body brings, and the request that it answers.
 fn answer_of(alloc: Global, body: &Body) -> Result<Option<(ReqNo, Answer)>, AllocError>
     ensures { IfOk result (λ told. told ≡ answer_of body.now) }
@@ -98,6 +122,7 @@ fn answer_of(alloc: Global, body: &Body) -> Result<Option<(ReqNo, Answer)>, Allo
         Body::Seal(body) => Ok(seal_answer(body)),
         Body::Read(body) => read_answer(alloc, body),
         Body::Stream(body) => Ok(stream_answer(body)),
+        Body::Table(body) => table_answer(alloc, body),
         _ => Ok(None),
     }
 }
@@ -127,6 +152,45 @@ pub fn report_answer(alloc: Global, packet: &Packet) -> Result<Option<Report>, A
         Ok(Some((number, answer))) => Ok(told(user, number, answer)),
         Ok(None) => Ok(None),
         Err(refused) => Err(refused),
+    }
+}
+
+/// The line of an observation of a table, if it has one.
+fn report_table(note: &Note) -> Option<Report>
+    ensures { result ≡ table_observed note.now }
+{
+    match note {
+        Note::Began {
+            range,
+            generation,
+            number,
+            changes: _,
+        } => Some(Report::Began {
+            range: range.number(),
+            generation: generation.number(),
+            number: *number,
+        }),
+        Note::Done {
+            range,
+            generation,
+            number,
+        } => Some(Report::Done {
+            range: range.number(),
+            generation: generation.number(),
+            number: *number,
+        }),
+        Note::Loaded {
+            range,
+            generation,
+            rows,
+            next,
+        } => Some(Report::Loaded {
+            range: range.number(),
+            generation: generation.number(),
+            next: *next,
+            rows: rows.as_slice().len() as u64,
+        }),
+        _ => None,
     }
 }
 
@@ -169,6 +233,6 @@ pub fn report_note(note: &Note) -> Option<Report>
             offset: *offset,
             count: bytes.len() as u64,
         }),
-        _ => None,
+        _ => report_table(note),
     }
 }

@@ -1,10 +1,2 @@
-pub mod Choices
-pub mod Seen
-pub mod Giving
-pub mod Going
-pub mod Stopping
-pub mod Quiet
-pub mod Desking
-pub mod Ruling
-pub mod Happening
+pub mod Coming
 pub mod Honest

@@ -1,5 +1,1 @@
-pub mod Limits
-pub mod Nodes
-pub mod Desk
-pub mod Stopping
-pub mod Run
+pub mod Cluster

@@ -1,63 +1,51 @@
-//! A run: real actors, the packets sent, and what was observed.
-ghost use Rattle.std.specs.Prelude.{◌≡◌, ◌++◌, [], ◌∷◌, None, IfOk, OnOk, OnErr, option_map};
-ghost use Rattle.model.specs.World.{World, happens, moved, delivered, start};
-ghost use Rattle.model.specs.World.Move.{Asks};
+//! A cluster: the stream layer, the servers above it, the map, and the clock of leases.
+ghost use Rattle.std.specs.Prelude.{◌≡◌, None, Some, IfOk, OnOk, OnErr, option_map, slice_get};
 ghost use Rattle.model.specs.declared.event.Event.TheVariants as events;
-ghost use Rattle.model.specs.Outcome.{packet};
-ghost use Rattle.world.specs.Desk.{DeskMirrors, refusal_in};
-ghost use Rattle.world.specs.Nodes.{NodesMirror, seen_of, running_at};
-ghost use Rattle.world.specs.Run.{IsFew, Mirrors, Moved, refusal_of};
+ghost use Rattle.model.specs.Maps.{entry_at};
+ghost use Rattle.model_tables.specs.Cluster.{first_cluster, give_up_refusal};
+ghost use Rattle.layer.specs.Desk.{refusal_in};
+ghost use Rattle.layer.specs.Nodes.{seen_of, running_at};
+ghost use Rattle.world.specs.Cluster.{Assigned, Came, ClusterMirrors, map_fault, refusal_of, server_of, to_server};
 
-use crate::calls::is_call;
-use crate::desk::{Decision, Desk};
-use crate::fault::WorldFault;
-use crate::nodes::NodeList;
-use crate::post::{make_room, move_in};
-use crate::setup::Setup;
-use crate::submitting::request;
+use crate::map_cell::MapCell;
+use blocks::Nodes;
 use disk::MemDisk;
 use enode::Node;
+use layer::{Layer, Setup, WorldFault};
 use model::Event;
+use servers::Servers;
 use std::alloc::Global;
 use std::marker::Model;
-use wire::{ActorId, Body, ExtentId, Note, Packet, Refusal, ServerNo, Step};
+use wire::{ActorId, Body, ExtentId, Note, Packet, RangeId, Refusal, ServerNo};
 
-/// Real extent nodes and the stream manager on disks in memory, all packets that were sent, numbered from 0, and all
-/// observations. The packets stay, since each may be delivered any number of times.
+/// Real actors: nodes and the manager in the stream layer, which has all packets and observations; the servers; the map;
+/// the last moment of the clock; and how many transactions a group may hold.
 #[derive(Drop)]
 pub(crate) struct Cluster {
-    nodes: NodeList,
-    desk: Desk,
-    post: Vec<Packet>,
-    notes: Vec<Note>,
+    layer: Layer,
+    servers: Servers,
+    map: MapCell,
+    moment: u64,
+    batch: u16,
 }
 
 impl Model for Cluster {
-    ghost use Rattle.world.specs.Run.{RunState};
+    ghost use Rattle.world.specs.Cluster.{ClusterState};
 
-    ghost Value = { RunState };
+    ghost Value = { ClusterState };
 
-    ghost view = { λ run. record { nodes = run.nodes; desk = run.desk; post = run.post.items; notes = run.notes.items } };
+    ghost view = { λ c. record { layer = c.layer; servers = c.servers; map = c.map; moment = c.moment; batch = c.batch } };
 }
 
-/// What the addressee does with a packet. Nothing comes of one to a stopped or absent actor, or to a user.
-fn take(
-    nodes: &mut NodeList,
-    desk: &mut Desk,
-    alloc: Global,
-    packet: &Packet,
-) -> Result<Step, WorldFault>
-    ensures ok { IfOk result (λ step. (w : World) → NodesMirror nodes.old w → DeskMirrors desk.old w → Moved nodes.new desk.new w (delivered w packet.now packet.now.to) step) }
-    ensures nodes { OnErr result (nodes.new ≡ nodes.old) }
-    ensures desk { OnErr result (desk.new ≡ desk.old) }
-    ensures few { IfOk result IsFew }
+fn server_of(packet: &Packet) -> Option<ServerNo>
+    ensures { result ≡ to_server packet.now.to }
 {
     match packet.to {
-        ActorId::Node(number) => nodes.give(alloc, number, packet),
-        ActorId::Manager => desk.give(alloc, packet),
-        ActorId::Map => Ok(Step::silent(alloc)),
-        ActorId::Server(_) => Ok(Step::silent(alloc)),
-        ActorId::User(_) => Ok(Step::silent(alloc)),
+        ActorId::Server(server) => Some(server),
+        ActorId::Node(_) => None,
+        ActorId::Manager => None,
+        ActorId::Map => None,
+        ActorId::User(_) => None,
     }
 }
 
@@ -65,20 +53,21 @@ impl Cluster {
     /// The actors of this setup, with nothing on their disks, and nothing sent or observed. An error is want of memory
     /// (22).
     pub(crate) fn start(alloc: Global, setup: &Setup) -> Result<Cluster, WorldFault>
-        ensures mirrors { IfOk result (λ run. Mirrors run (start setup.now.nodes setup.now.target)) }
+        ensures { IfOk result (λ run. ClusterMirrors run (first_cluster setup.now.nodes setup.now.servers setup.now.target setup.now.batch)) }
     {
-        let nodes = match NodeList::start(alloc, setup.nodes) {
-            Ok(nodes) => nodes,
+        let layer = match Layer::start(alloc, setup) {
+            Ok(layer) => layer,
             Err(fault) => return Err(fault),
         };
-        match Desk::start(alloc, setup.nodes, setup.target) {
-            Ok(desk) => Ok(Cluster {
-                nodes,
-                desk,
-                post: Vec::new(alloc),
-                notes: Vec::new(alloc),
+        match Servers::start(alloc, setup.servers, setup.batch) {
+            Ok(servers) => Ok(Cluster {
+                layer,
+                servers,
+                map: MapCell::first(),
+                moment: 0,
+                batch: setup.batch,
             }),
-            Err(fault) => Err(fault),
+            Err(_full) => Err(WorldFault::Memory),
         }
     }
 
@@ -90,133 +79,148 @@ impl Cluster {
         body: &Body,
     ) -> Result<Option<Refusal>, WorldFault>
         ensures none { IfOk result (λ refusal. refusal ≡ None) }
-        ensures ok { OnOk result ((w : World) → Mirrors self.old w → Mirrors self.new (happens w (events.Submit user to body.now))) }
+        ensures ok { OnOk result (Came self.old self.new (events.Submit user to body.now)) }
         ensures err { OnErr result (self.new ≡ self.old) }
     {
-        match request(alloc, body) {
-            Err(_full) => Err(WorldFault::Memory),
-            Ok(None) => Ok(None),
-            Ok(Some(body)) => match self.send(ActorId::User(user), to, body) {
+        self.layer.submit(alloc, user, to, body)
+    }
+
+    /// The server that the packet of a number goes to, if it goes to one.
+    fn addressee(&self, number: usize) -> Option<ServerNo>
+        ensures { result ≡ server_of (slice_get self.now.layer.post number) }
+    {
+        match self.layer.sent().get(number) {
+            None => None,
+            Some(packet) => server_of(packet),
+        }
+    }
+
+    /// The server takes the packet of this number, which goes to it.
+    fn give(&mut self, alloc: Global, server: ServerNo, number: usize) -> Result<(), WorldFault>
+        requires { server_of (slice_get self.old.layer.post number) ≡ Some server }
+        ensures ok { OnOk result (Came self.old self.new (events.Deliver number)) }
+        ensures err { OnErr result (self.new ≡ self.old) }
+    {
+        self.layer.give(alloc, &mut self.servers, server, number)
+    }
+
+    fn deliver(&mut self, alloc: Global, number: usize) -> Result<Option<Refusal>, WorldFault>
+        ensures none { IfOk result (λ refusal. refusal ≡ None) }
+        ensures ok { OnOk result (Came self.old self.new (events.Deliver number)) }
+        ensures err { OnErr result (self.new ≡ self.old) }
+    {
+        match self.addressee(number) {
+            None => self.layer.deliver(alloc, number),
+            Some(server) => match self.give(alloc, server, number) {
                 Ok(()) => Ok(None),
                 Err(fault) => Err(fault),
             },
         }
     }
 
-    /// A server asks what servers may ask. Nothing comes of another body.
-    pub(crate) fn ask(
+    fn stop(&mut self, actor: ActorId, call: u64, keep: bool)
+        ensures { Came self.old self.new (events.Stop actor call keep) }
+    {
+        match actor {
+            ActorId::Server(server) => self.servers.stop(server, call),
+            ActorId::Node(_) => self.layer.stop(actor, call, keep),
+            ActorId::Manager => self.layer.stop(actor, call, keep),
+            ActorId::Map => {}
+            ActorId::User(_) => {}
+        }
+    }
+
+    fn restart(&mut self, alloc: Global, actor: ActorId) -> Result<(), WorldFault>
+        ensures ok { OnOk result (Came self.old self.new (events.Restart actor)) }
+        ensures err { OnErr result (self.new ≡ self.old) }
+    {
+        match actor {
+            ActorId::Server(server) => {
+                self.servers.restart(alloc, server, self.moment, self.batch);
+                Ok(())
+            }
+            ActorId::Node(_) => self.layer.restart(alloc, actor),
+            ActorId::Manager => self.layer.restart(alloc, actor),
+            ActorId::Map => Ok(()),
+            ActorId::User(_) => Ok(()),
+        }
+    }
+
+    fn decide(&mut self, alloc: Global, extent: ExtentId) -> Result<Option<Refusal>, WorldFault>
+        ensures refusal { IfOk result (λ refusal. refusal ≡ refusal_in self.old.layer.desk extent) }
+        ensures ok { OnOk result (Came self.old self.new (events.Decide extent)) }
+        ensures err { OnErr result (self.new ≡ self.old) }
+    {
+        self.layer.decide(alloc, extent)
+    }
+
+    fn give_up(
         &mut self,
+        alloc: Global,
         server: ServerNo,
-        to: ActorId,
-        body: Body,
-    ) -> Result<(), WorldFault>
-        ensures ok { OnOk result ((w : World) → Mirrors self.old w → Mirrors self.new (moved w (Asks server to body))) }
+        range: RangeId,
+        pick: &Nodes,
+    ) -> Result<Option<Refusal>, WorldFault>
+        ensures refusal { IfOk result (λ refusal. refusal ≡ give_up_refusal range pick.now (entry_at self.old.servers server)) }
+        ensures ok { OnOk result (Came self.old self.new (events.GiveUp server range pick.now)) }
         ensures err { OnErr result (self.new ≡ self.old) }
     {
-        if !is_call(&body) {
-            return Ok(());
-        }
-        match self.send(ActorId::Server(server), to, body) {
-            Ok(()) => Ok(()),
-            Err(fault) => Err(fault),
-        }
+        self.layer
+            .give_up(alloc, &mut self.servers, server, range, pick)
     }
 
-    fn send(&mut self, from: ActorId, to: ActorId, body: Body) -> Result<(), WorldFault>
-        ensures ok { OnOk result (self.new ≡ record self.old { post = self.old.post ++ packet from to body ∷ [] }) }
-        ensures err { OnErr result (self.new ≡ self.old) }
-    {
-        match self.post.push(Packet { from, to, body }) {
-            Ok(()) => Ok(()),
-            Err(_full) => Err(WorldFault::Memory),
-        }
-    }
-
-    // The room for what the step may give is made before an actor is called.
-    fn deliver(&mut self, alloc: Global, number: usize) -> Result<Option<Refusal>, WorldFault>
+    // The map changes once its packet is sent: it is the packet that may find no memory.
+    fn assign_now(&mut self, server: ServerNo, until: u64) -> Result<Option<Refusal>, WorldFault>
         ensures none { IfOk result (λ refusal. refusal ≡ None) }
-        ensures ok { OnOk result ((w : World) → Mirrors self.old w → Mirrors self.new (happens w (events.Deliver number))) }
+        ensures ok { OnOk result (Assigned self.old self.new server until) }
         ensures err { OnErr result (self.new ≡ self.old) }
     {
-        if number >= self.post.len() {
+        let Some(next) = self.map.next(server, until) else {
             return Ok(None);
-        }
-        if let Err(_full) = make_room(&mut self.post) {
-            return Err(WorldFault::Memory);
-        }
-        if let Err(_full) = make_room(&mut self.notes) {
-            return Err(WorldFault::Memory);
-        }
-        match take(&mut self.nodes, &mut self.desk, alloc, &self.post[number]) {
-            Ok(step) => {
-                let Step { packets, notes } = step;
-                move_in(&mut self.post, packets.into_vec());
-                move_in(&mut self.notes, notes.into_vec());
+        };
+        match self.layer.tell(server, next.told()) {
+            Ok(()) => {
+                self.map = next;
                 Ok(None)
             }
             Err(fault) => Err(fault),
         }
     }
 
-    fn stop(&mut self, actor: ActorId, call: u64, keep: bool)
-        ensures { (w : World) → Mirrors self.old w → Mirrors self.new (happens w (events.Stop actor call keep)) }
+    fn assign(
+        &mut self,
+        range: RangeId,
+        server: ServerNo,
+        until: u64,
+    ) -> Result<Option<Refusal>, WorldFault>
+        ensures refusal { IfOk result (λ refusal. refusal ≡ map_fault self.old.map self.old.moment range server) }
+        ensures ok { OnOk result (Came self.old self.new (events.Assign range server until)) }
+        ensures err { OnErr result (self.new ≡ self.old) }
     {
-        match actor {
-            ActorId::Node(number) => self.nodes.stop(number, call, keep),
-            ActorId::Manager => self.desk.stop(call, keep),
-            ActorId::Map => {}
-            ActorId::Server(_) => {}
-            ActorId::User(_) => {}
+        match self.map.refusal(range, server, self.moment) {
+            None => self.assign_now(server, until),
+            Some(refusal) => Ok(Some(refusal)),
         }
     }
 
-    fn restart(&mut self, alloc: Global, actor: ActorId) -> Result<(), WorldFault>
-        ensures ok { OnOk result ((w : World) → Mirrors self.old w → Mirrors self.new (happens w (events.Restart actor))) }
-        ensures err { OnErr result (self.new ≡ self.old) }
+    fn show_moment(&mut self, moment: u64)
+        ensures { Came self.old self.new (events.Moment moment) }
     {
-        match actor {
-            ActorId::Node(number) => self.nodes.restart(alloc, number),
-            ActorId::Manager => self.desk.restart(alloc),
-            ActorId::Map => Ok(()),
-            ActorId::Server(_) => Ok(()),
-            ActorId::User(_) => Ok(()),
+        if moment < self.moment {
+            return;
         }
-    }
-
-    fn decide(&mut self, alloc: Global, extent: ExtentId) -> Result<Option<Refusal>, WorldFault>
-        ensures refusal { IfOk result (λ refusal. refusal ≡ refusal_in self.old.desk extent) }
-        ensures ok { OnOk result ((w : World) → Mirrors self.old w → Mirrors self.new (happens w (events.Decide extent))) }
-        ensures err { OnErr result (self.new ≡ self.old) }
-    {
-        if let Err(_short) = make_room(&mut self.post) {
-            return Err(WorldFault::Memory);
-        }
-        if let Err(_short) = make_room(&mut self.notes) {
-            return Err(WorldFault::Memory);
-        }
-        match self.desk.decide(alloc, extent) {
-            Ok(decision) => {
-                let Decision { step, refusal } = decision;
-                let Step {
-                    packets: sent,
-                    notes: shown,
-                } = step;
-                move_in(&mut self.post, sent.into_vec());
-                move_in(&mut self.notes, shown.into_vec());
-                Ok(refusal)
-            }
-            Err(fault) => Err(fault),
-        }
+        self.moment = moment;
+        self.servers.moment(moment);
     }
 
     /// The next event. What it refuses besides want of memory (22, which leaves all as it was) is answered: a decision is
-    /// refused 1 or 10, and nothing else is.
+    /// refused 1 or 10, giving up 30, and an assignment 30 or 31; nothing else is.
     pub(crate) fn step(
         &mut self,
         alloc: Global,
         event: &Event,
     ) -> Result<Option<Refusal>, WorldFault>
-        ensures ok { OnOk result ((w : World) → Mirrors self.old w → Mirrors self.new (happens w event.now)) }
+        ensures ok { OnOk result (Came self.old self.new event.now) }
         ensures err { OnErr result (self.new ≡ self.old) }
         ensures refusal { IfOk result (λ refusal. refusal ≡ refusal_of self.old event.now) }
     {
@@ -232,30 +236,41 @@ impl Cluster {
                 Err(fault) => Err(fault),
             },
             Event::Decide { extent } => self.decide(alloc, *extent),
-            Event::GiveUp { .. } => Ok(None),
-            Event::Assign { .. } => Ok(None),
-            Event::Moment { .. } => Ok(None),
+            Event::GiveUp {
+                server,
+                range,
+                pick,
+            } => self.give_up(alloc, *server, *range, pick),
+            Event::Assign {
+                range,
+                server,
+                until,
+            } => self.assign(*range, *server, *until),
+            Event::Moment { now } => {
+                self.show_moment(*now);
+                Ok(None)
+            }
         }
     }
 
     /// All packets that were sent, in order.
     pub(crate) fn sent(&self) -> &[Packet]
-        ensures { result.now ≡ self.now.post }
+        ensures { result.now ≡ self.now.layer.post }
     {
-        self.post.as_slice()
+        self.layer.sent()
     }
 
     /// All observations, in order.
     pub(crate) fn observations(&self) -> &[Note]
-        ensures { result.now ≡ self.now.notes }
+        ensures { result.now ≡ self.now.layer.notes }
     {
-        self.notes.as_slice()
+        self.layer.observations()
     }
 
     /// The node of a number, from 1; none where it is stopped, or there is none.
     pub(crate) fn node(&self, number: u8) -> Option<&Node<MemDisk>>
-        ensures { option_map (λ node. seen_of node.now) result ≡ running_at self.now.nodes number }
+        ensures { option_map (λ node. seen_of node.now) result ≡ running_at self.now.layer.nodes number }
     {
-        self.nodes.node(number)
+        self.layer.node(number)
     }
 }

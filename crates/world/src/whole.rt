@@ -1,23 +1,26 @@
 //! Whole runs.
 ghost use Rattle.std.specs.Prelude.{IfOk};
 ghost use Rattle.model.specs.Honest.{Agree, Kept};
-ghost use Rattle.model.specs.World.{run as run_of, start};
-ghost use Rattle.world.specs.Run.{Mirrors};
+ghost use Rattle.model_tables.specs.Cluster.{first_cluster};
+ghost use Rattle.model_tables.specs.Past.{Replays, table_notes};
+ghost use Rattle.world.specs.Cluster.{Led};
 
-use crate::fault::WorldFault;
 // A function and a type of one module may not differ in case alone.
 use crate::running::Run as Finished;
-use crate::setup::Setup;
+use layer::{Setup, WorldFault};
 use model::Event;
 use std::alloc::Global;
 
-/// The run of these events, from the start of a setup. An error is want of memory (22). What is observed is honest: all
-/// that is shown of an extent agrees, and every acknowledged append stands in it at its answered offset, whatever was
-/// delivered, again and in any order (after Calder et al., SOSP 2011, section 4.3).
+/// The run of these events, from the start of a setup. An error is want of memory (22). It is the run of the model that they
+/// lead to, whatever caches of servers hold; and what is observed is honest, whatever was delivered, again and in any order:
+/// all that is shown of an extent agrees, every acknowledged append stands in it at its answered offset, and each table that
+/// is loaded is that of a line of transactions that has every one that was acknowledged under an earlier generation, in order,
+/// each once.
 pub fn run(alloc: Global, setup: &Setup, events: &[Event]) -> Result<Finished, WorldFault>
-    ensures mirrors { IfOk result (λ r. Mirrors r (run_of events.now (start setup.now.nodes setup.now.target))) }
-    ensures agree { IfOk result (λ r. Agree r.notes) }
-    ensures kept { IfOk result (λ r. Kept r.notes) }
+    ensures led { IfOk result (λ r. Led events.now (first_cluster setup.now.nodes setup.now.servers setup.now.target setup.now.batch) r) }
+    ensures agree { IfOk result (λ r. Agree r.layer.notes) }
+    ensures kept { IfOk result (λ r. Kept r.layer.notes) }
+    ensures replays { IfOk result (λ r. Replays (table_notes r.layer.notes)) }
 {
     let mut made = Finished::start(alloc, setup)?;
     for event in events {

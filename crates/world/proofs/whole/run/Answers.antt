@@ -1,16 +1,21 @@
-use Rattle.model.specs.World.{run as run_of, start}
-use Rattle.std.proofs.Common.{take, sym, subst}
-use Rattle.model.specs.Honest.{Agree, Kept}
-use Rattle.laws_streams.proofs.Law.{agree_always, kept_always}
-use Rattle.world.proofs.Happening.{ran_next}
+use Rattle.std.proofs.Common.{take}
+use Rattle.model_tables.specs.Cluster.{first_cluster}
+use Rattle.world.proofs.Honest.{led_next, led_agree, led_keep, led_replays}
 use Rattle.world.proofs.whole.run.Goals as goal
 
 pub loop-event-preserved : goal.loop-event-preserved
-loop-event-preserved c = ran_next c.step.new.self c.args.events.now c.loop-event.event-index c.event-item.result (start c.args.setup.now.nodes c.args.setup.now.target) c.event-item.is c.loop-event-test.true
-    (c.in_ok-step.ensures.ok (run_of (take c.loop-event.event-index c.args.events.now) (start c.args.setup.now.nodes c.args.setup.now.target)) c.loop-event.invariant)
+loop-event-preserved c =
+    led_next c.loop-event.made c.step.new.self (first_cluster c.args.setup.now.nodes c.args.setup.now.servers c.args.setup.now.target c.args.setup.now.batch) c.args.events.now
+    c.loop-event.event-index c.event-item.result c.event-item.is c.loop-event-test.true c.loop-event.invariant c.in_ok-step.ensures.ok
 
 pub returns-clause-agree : goal.returns-clause-agree
-returns-clause-agree c = subst Agree (sym c.loop-event.invariant.notes) (agree_always c.args.setup.now.nodes c.args.setup.now.target (take c.loop-event.event-index c.args.events.now))
+returns-clause-agree c =
+    led_agree c.args.setup.now.nodes c.args.setup.now.servers c.args.setup.now.target c.args.setup.now.batch (take c.loop-event.event-index c.args.events.now) c.loop-event.made c.loop-event.invariant
 
 pub returns-clause-kept : goal.returns-clause-kept
-returns-clause-kept c = subst Kept (sym c.loop-event.invariant.notes) (kept_always c.args.setup.now.nodes c.args.setup.now.target (take c.loop-event.event-index c.args.events.now))
+returns-clause-kept c =
+    led_keep c.args.setup.now.nodes c.args.setup.now.servers c.args.setup.now.target c.args.setup.now.batch (take c.loop-event.event-index c.args.events.now) c.loop-event.made c.loop-event.invariant
+
+pub returns-clause-replays : goal.returns-clause-replays
+returns-clause-replays c =
+    led_replays c.args.setup.now.nodes c.args.setup.now.servers c.args.setup.now.target c.args.setup.now.batch (take c.loop-event.event-index c.args.events.now) c.loop-event.made c.loop-event.invariant

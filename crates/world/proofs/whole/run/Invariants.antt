@@ -1,7 +1,8 @@
 use Rattle.std.proofs.Common.{take}
-use Rattle.model.specs.World.{run as run_of, start}
-use Rattle.world.specs.Run.{Mirrors}
+use Rattle.model_tables.specs.Cluster.{first_cluster}
+use Rattle.world.specs.Cluster.{Led}
 use Rattle.world.proofs.whole.run.Given as goal
 
 abbrev pub invariant-loop-event : goal.invariant-loop-event
-invariant-loop-event l = Mirrors l.made (run_of (take l.event-index l.events) (start l.setup.nodes l.setup.target))
+invariant-loop-event l =
+    Led (take l.event-index l.events) (first_cluster l.setup.nodes l.setup.servers l.setup.target l.setup.batch) l.made

@@ -1,22 +1,13 @@
-use Rattle.std.proofs.Common.{◌++◌, ◌∙◌, ap, subst, arith, slice_index_or}
+use Rattle.std.proofs.Common.{◌≡◌, None, sym, ◌∙◌, subst, OnOk, slice_get}
 use Rattle.model.specs.declared.event.Event.TheVariants.{Deliver}
-use Rattle.model.specs.World.{World, happens}
-use Rattle.world.specs.Run.{RunState, Mirrors}
-use Rattle.world.proofs.Happening.{state, undelivered, delivered_one}
+use Rattle.world.specs.Cluster.{ClusterState, Came, server_of}
+use Rattle.world.proofs.Coming.{if_ok, state, deliver_came, goes_elsewhere}
 use Rattle.world.proofs.cluster.Cluster.deliver.Goals as goal
 
-pub returns-then-number-len-clause-ok : goal.returns-then-number-len-clause-ok
-returns-then-number-len-clause-ok c =
-    subst (λ (r : RunState). (w : World) → Mirrors r w → Mirrors r (happens w (Deliver c.args.number))) c.self.view_is
-    (undelivered (state c.self.inside.nodes c.self.inside.desk c.self.inside.post.items c.self.inside.notes.items) c.args.number (omega (arith, c.self.inside.post.ok, c.len.ensures, c.if-number-len.true)))
-
-pub returns-in-Ok-clause-ok : goal.returns-in-Ok-clause-ok
-returns-in-Ok-clause-ok c =
-    subst (λ (r : RunState). (w : World) → Mirrors r w → Mirrors (state c.take.new.nodes c.take.new.desk c.move_in.new.list.items c.move_in-in-Ok.new.list.items) (happens w (Deliver c.args.number))) c.self.view_is
-    (delivered_one (state c.self.inside.nodes c.self.inside.desk c.self.inside.post.items c.self.inside.notes.items) (state c.take.new.nodes c.take.new.desk c.move_in.new.list.items c.move_in-in-Ok.new.list.items)
-    c.args.number c.index.result.now c.in-Ok.step
-    (omega (arith, c.self.inside.post.ok, c.len.ensures, c.if-number-len.false))
-    (c.index.ensures ∙ ap (λ l. slice_index_or l c.args.number c.index.result.now) c.make_room.ensures.same)
-    c.in-Ok.ensures.ok
-    (c.move_in.ensures ∙ (λ i. c.make_room.ensures.same i ++ c.into_vec.ensures i))
-    (c.move_in-in-Ok.ensures ∙ (λ i. c.make_room-2.ensures.same i ++ c.into_vec-in-Ok.ensures i)))
+pub returns-in-None-clause-ok : goal.returns-in-None-clause-ok
+returns-in-None-clause-ok c =
+    let was : ClusterState = state c.self.inside.layer c.self.inside.servers c.self.inside.map c.self.inside.moment c.self.inside.batch in
+    subst (λ (x : ClusterState). server_of (slice_get x.layer.post c.args.number) ≡ None →
+    OnOk c.deliver.result (Came x (record was { layer = c.deliver.new.self }) (Deliver c.args.number))) c.self.view_is
+    (λ is. if_ok c.deliver.result (deliver_came was c.deliver.new.self c.args.number (goes_elsewhere (slice_get was.layer.post c.args.number) is)) c.deliver.ensures.ok)
+    (sym c.addressee.ensures ∙ c.in-None.is)

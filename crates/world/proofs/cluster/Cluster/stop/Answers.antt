@@ -1,15 +1,17 @@
 use Rattle.std.proofs.Common.{sym, subst}
-use Rattle.wire.specs.declared.actor.ActorId.{ActorId}
-use Rattle.model.specs.World.{World, stop}
-use Rattle.world.specs.Desk.{DeskMirrors, Served}
-use Rattle.world.specs.Nodes.{nothing}
-use Rattle.world.specs.Run.{RunState, Mirrors}
-use Rattle.world.proofs.Happening.{state, desk_goes}
+use Rattle.world.specs.Cluster.{ClusterState, Came}
+use Rattle.model.specs.declared.event.Event.TheVariants.{Stop}
+use Rattle.world.proofs.Coming.{IsBelow, state, stop_came}
 use Rattle.world.proofs.cluster.Cluster.stop.Goals as goal
+
+pub returns-in-Node : goal.returns-in-Node
+returns-in-Node c =
+    let was : ClusterState = state c.self.inside.layer c.self.inside.servers c.self.inside.map c.self.inside.moment c.self.inside.batch in
+    subst (λ (x : ClusterState). Came x (record was { layer = c.stop-in-Node.new.self }) (Stop c.args.actor c.args.call c.args.keep)) c.self.view_is
+    (stop_came was c.stop-in-Node.new.self c.args.actor c.args.call c.args.keep (subst IsBelow (sym c.in-Node.is) tt) c.stop-in-Node.ensures)
 
 pub returns-in-Manager : goal.returns-in-Manager
 returns-in-Manager c =
-    let was : RunState = state c.self.inside.nodes c.self.inside.desk c.self.inside.post.items c.self.inside.notes.items in
-    subst (λ (r : RunState). (w : World) → Mirrors r w → Mirrors (record was { desk = c.stop-in-Manager.new.self }) (stop w c.args.actor c.args.call c.args.keep)) c.self.view_is
-    (desk_goes was c.stop-in-Manager.new.self (λ w. stop w c.args.actor c.args.call c.args.keep)
-    (subst (λ (a : ActorId). (w : World) → DeskMirrors c.self.inside.desk w → Served c.stop-in-Manager.new.self w (stop w a c.args.call c.args.keep) nothing) (sym c.in-Manager.is) c.stop-in-Manager.ensures))
+    let was : ClusterState = state c.self.inside.layer c.self.inside.servers c.self.inside.map c.self.inside.moment c.self.inside.batch in
+    subst (λ (x : ClusterState). Came x (record was { layer = c.stop-in-Manager.new.self }) (Stop c.args.actor c.args.call c.args.keep)) c.self.view_is
+    (stop_came was c.stop-in-Manager.new.self c.args.actor c.args.call c.args.keep (subst IsBelow (sym c.in-Manager.is) tt) c.stop-in-Manager.ensures)

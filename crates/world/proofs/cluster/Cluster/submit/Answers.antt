@@ -1,15 +1,11 @@
-use Rattle.std.proofs.Common.{sym, ◌∙◌, ap, [], ◌∷◌}
-use Rattle.wire.specs.declared.actor.ActorId.TheVariants.{User}
-use Rattle.model.specs.Outcome.{packet}
-use Rattle.model.specs.World.{is_request}
-use Rattle.world.proofs.Happening.{sent_in, submitted, unsubmitted, is_asked, is_unasked}
+use Rattle.std.proofs.Common.{subst, OnOk}
+use Rattle.world.specs.Cluster.{ClusterState, Came}
+use Rattle.model.specs.declared.event.Event.TheVariants.{Submit}
+use Rattle.world.proofs.Coming.{if_ok, state, submit_came}
 use Rattle.world.proofs.cluster.Cluster.submit.Goals as goal
 
-pub returns-in-Ok-None-clause-ok : goal.returns-in-Ok-None-clause-ok
-returns-in-Ok-None-clause-ok c = unsubmitted c.args.self.now c.args.user c.args.to c.args.body.now (is_unasked (is_request c.args.body.now) c.args.body.now (sym c.in-Ok-None.field-0-is ∙ c.in-Ok-None.ensures))
-
-pub returns-in-Ok-clause-ok : goal.returns-in-Ok-clause-ok
-returns-in-Ok-clause-ok c =
-    let asked = is_asked (is_request c.args.body.now) c.args.body.now c.in-Ok-Some.body (sym c.in-Ok-Some.field-0-is ∙ c.in-Ok-Some.ensures) in
-    submitted c.args.self.now c.send.new.self c.args.user c.args.to c.args.body.now asked.0
-    (c.in-Ok.ensures.ok ∙ ap (λ b. sent_in c.args.self.now (packet (User c.args.user) c.args.to b ∷ [])) asked.1)
+pub returns-clause-ok : goal.returns-clause-ok
+returns-clause-ok c =
+    let was : ClusterState = state c.self.inside.layer c.self.inside.servers c.self.inside.map c.self.inside.moment c.self.inside.batch in
+    subst (λ (x : ClusterState). OnOk c.submit.result (Came x (record was { layer = c.submit.new.self }) (Submit c.args.user c.args.to c.args.body.now))) c.self.view_is
+    (if_ok c.submit.result (submit_came was c.submit.new.self c.args.user c.args.to c.args.body.now) c.submit.ensures.ok)

@@ -1,6 +1,7 @@
 use Rattle.std.proofs.Common.{sym, subst}
 use Rattle.model.specs.Honest.{Agree, Kept}
-use Rattle.world.proofs.Honest.{agrees, keeps}
+use Rattle.model_tables.specs.Past.{Replays, table_notes}
+use Rattle.world.proofs.Honest.{agrees, keeps, tables_replay}
 use Rattle.world.proofs.running.Run.observations.Goals as goal
 
 pub returns-clause-agree : goal.returns-clause-agree
@@ -8,3 +9,6 @@ returns-clause-agree c = subst Agree (sym c.observations.ensures) (agrees c.self
 
 pub returns-clause-kept : goal.returns-clause-kept
 returns-clause-kept c = subst Kept (sym c.observations.ensures) (keeps c.self.inside.cluster c.self.invariant)
+
+pub returns-clause-replays : goal.returns-clause-replays
+returns-clause-replays c = subst (λ notes. Replays (table_notes notes)) (sym c.observations.ensures) (tables_replay c.self.inside.cluster c.self.invariant)

@@ -1,0 +1,237 @@
+-- What stands in a stream, and what a check has found there, is of groups that were formed.
+use Rattle.std.proofs.Common.{◌≡◌, ℕ, zero, suc, Bool, true, false, List, [], ◌∷◌, ◌++◌, length, map, Option, Some, None, refl, sym, subst, inl, inr, if◌then◌else◌, ◌==◌}
+use Rattle.replica.specs.Groups.{Group}
+use Rattle.model_tables.specs.Story.{Copy, StreamEvent, Made, Story, event_at}
+use Rattle.model_tables.specs.Extents.{In, Shut, Live, Core, all_shut, all_copies, shut_at, Fact, Checked as Found_there, State, Step, TakesOpen, TakesExtend, TakesConfirm, TakesCheck, AnswersCheck, AnswersLate, TakesAppend, Keeps, AnswersAppend, Seals, Opens, Checks, ReadsSealed, ReadsChecked, Begins, Appends, Extends, TakesConfirmed, TakesAppended, Extended, extend_facts, May, next}
+use Rattle.model_tables.specs.Turns.{Phase, Idle, Opening, Checking, Sealing, Confirming, Serving, Sent, Closing, Growing, Turn, Assigned, AllSealed, LastOpen, Found, Fails, IsShut, ConfirmedIs, Forms, AppendedAt, ExtendedTo, IsTurn, does, forms, all_next, Whole, Move, Below, Above, is_layer, moved, after_all, AreMoves}
+use Rattle.laws_tables.proofs.Range.{older}
+use Rattle.laws_tables.proofs.Fenced.{sound}
+use Rattle.laws_tables.proofs.Extents.{Inv, followed}
+use Rattle.laws_tables.proofs.Turns.{all_good}
+use Rattle.laws_runs.proofs.Asking.{turn_upper}
+use Rattle.laws_serving.proofs.Moves.{moves_of}
+use Rattle.laws_serving.specs.Serves.{IsUnformed, AreUnformed}
+use Rattle.laws_clusters.specs.Fitting.{AreUnformedMoves}
+
+abbrev pub IsMade : Story Group → Copy Group → Type 0
+IsMade story c = (g : ℕ) × (event_at story c.append ≡ Some (Made g c.group))
+
+abbrev pub AllMade : Story Group → List (Copy Group) → Type 0
+AllMade story cs = (c : Copy Group) → In c cs → IsMade story c
+
+in_first : {X : Type 0} (x : X) (us vs : List X) → In x us → In x (us ++ vs)
+in_first x [] vs h = absurd h
+in_first x (u ∷ us) vs (inl e) = inl e
+in_first x (u ∷ us) vs (inr h) = inr (in_first x us vs h)
+
+in_second : {X : Type 0} (x : X) (us vs : List X) → In x vs → In x (us ++ vs)
+in_second x [] vs h = h
+in_second x (u ∷ us) vs h = inr (in_second x us vs h)
+
+-- what stands in a sealed extent stands in the stream
+in_shut : (e : ℕ) (shut : List (Shut Group)) (y : Shut Group) → shut_at e shut ≡ Some y → (c : Copy Group) → In c y.copies → In c (all_shut shut)
+in_shut e [] y is c there = absurd cc
+in_shut e (x ∷ older) y is c there = go (e == length older) is (λ t. in_shut e older y t c there)
+  where
+    go : (b : Bool) → (if b then Some x else shut_at e older) ≡ Some y → (shut_at e older ≡ Some y → In c (all_shut older)) → In c (all_shut older ++ x.copies)
+    go true t deeper = let same : x ≡ y = cc in in_second c (all_shut older) x.copies (subst (λ (z : Shut Group). In c z.copies) (sym same) there)
+    go false t deeper = in_first c (all_shut older) x.copies (deeper t)
+
+module _ (generation : ℕ → ℕ) where
+  in_all : (k : Core Group) (o : Option (Live Group)) (c : Copy Group) → In c (all_shut k.shut) → In c (all_copies Group generation k o)
+  in_all k None c there = there
+  in_all k (Some v) c there = in_first c (all_shut k.shut) v.kept there
+
+  -- what stands in the stream
+  pub record Stands (s : State Group) : Type 0 where
+    pub all : AllMade s.story (all_copies Group generation s.core s.core.live)
+
+  stands_of : (s : State Group) (run : _) → Inv Group generation s run → Stands s
+  stands_of s run v = record {
+    all = λ c there.
+        let k = sound Group run v.is_run c (subst (In c) (sym v.kept) there) in
+        (k.generation, subst (λ z. event_at z c.append ≡ Some (Made k.generation c.group)) v.seen k.made);
+  }
+
+  pub stands : (moves : List (Move Group generation)) → AreMoves Group generation moves → Stands (after_all Group generation moves).state
+  stands moves ok =
+      let ran = (all_good Group generation moves ok).0 in
+      let f = followed Group generation ran.0 ran.1 in
+      subst Stands (sym ran.2) (stands_of _ f.0 f.1)
+
+  pub shut_made : (s : State Group) → Stands s → (e : ℕ) (y : Shut Group) → shut_at e s.core.shut ≡ Some y → AllMade s.story y.copies
+  shut_made s k e y is c there = k.all c (in_all s.core s.core.live c (in_shut e s.core.shut y is c there))
+
+  -- what checks have found
+  abbrev CheckedMade : State Group → Type 0
+  CheckedMade s = (i e : ℕ) (stood : List (Copy Group)) (end : ℕ) → In (Found_there i e stood end) s.facts → AllMade s.story stood
+
+  live_made : (s : State Group) (v : Live Group) → Stands s → s.core.live ≡ Some v → AllMade s.story v.kept
+  live_made s v k is c there = k.all c (subst (λ o. In c (all_copies Group generation s.core o)) (sym is) (in_second c (all_shut s.core.shut) v.kept there))
+
+  -- a fact that is none of a check
+  one_more : (s : State Group) (f : Fact Group) → ((i e : ℕ) (stood : List (Copy Group)) (end : ℕ) → Found_there i e stood end ≡ f → ⊥) → CheckedMade s →
+      (i e : ℕ) (stood : List (Copy Group)) (end : ℕ) → In (Found_there i e stood end) (f ∷ s.facts) → AllMade s.story stood
+  one_more s f other old i e stood end (inl is) = absurd (other i e stood end is)
+  one_more s f other old i e stood end (inr there) = old i e stood end there
+
+  extend_made : (s : State Group) (j n : ℕ) (o : Option (Live Group)) → CheckedMade s → (i e : ℕ) (stood : List (Copy Group)) (end : ℕ) →
+      In (Found_there i e stood end) (extend_facts Group generation j n s.core o s.facts) → AllMade s.story stood
+  extend_made s j n None old i e stood end there = one_more s (Extended j n (if n == length s.core.shut then suc n else length s.core.shut)) (λ i e stood end is. cc) old i e stood end there
+  extend_made s j n (Some v) old i e stood end there = go (n == suc (length s.core.shut)) there
+    where
+      go : (b : Bool) → In (Found_there i e stood end) (if b then s.facts else Extended j n (suc (length s.core.shut)) ∷ s.facts) → AllMade s.story stood
+      go true m = old i e stood end m
+      go false m = one_more s (Extended j n (suc (length s.core.shut))) (λ i e stood end is. cc) old i e stood end m
+
+  below_made : (s : State Group) (x : Step Group) → is_layer Group generation x ≡ true → May Group generation s x → Stands s → CheckedMade s → CheckedMade (next Group generation s x)
+  below_made s (TakesOpen j) t may k old = one_more s _ (λ i e stood end is. cc) old
+  below_made s (TakesExtend j n) t may k old = extend_made s j n s.core.live old
+  below_made s (TakesConfirm j read end) t may k old = one_more s _ (λ i e stood end is. cc) old
+  below_made s (TakesCheck j v) t may k old = old
+  below_made s (AnswersCheck j v) t may k old = go
+    where
+      go : (i e : ℕ) (stood : List (Copy Group)) (end : ℕ) → In (Found_there i e stood end) (Found_there j (length s.core.shut) v.kept v.sure ∷ s.facts) → AllMade s.story stood
+      go i e stood end (inl is) = let same : v.kept ≡ stood = cc in subst (AllMade s.story) same (live_made s v k may.1)
+      go i e stood end (inr there) = old i e stood end there
+  below_made s (AnswersLate j n x) t may k old = go
+    where
+      go : (i e : ℕ) (stood : List (Copy Group)) (end : ℕ) → In (Found_there i e stood end) (Found_there j n x.copies x.end ∷ s.facts) → AllMade s.story stood
+      go i e stood end (inl is) = let same : x.copies ≡ stood = cc in subst (AllMade s.story) same (shut_made s k n x may.1)
+      go i e stood end (inr there) = old i e stood end there
+  below_made s (TakesAppend j append group to v) t may k old = old
+  below_made s (Keeps c rest v) t may k old = old
+  below_made s (AnswersAppend j append from to group) t may k old = one_more s _ (λ i e stood end is. cc) old
+  below_made s (Seals v) t may k old = old
+  below_made s (Opens j) t may k old = absurd cc
+  below_made s (Checks j e) t may k old = absurd cc
+  below_made s (ReadsSealed j n) t may k old = absurd cc
+  below_made s (ReadsChecked j e stood end) t may k old = absurd cc
+  below_made s (Begins j group) t may k old = absurd cc
+  below_made s (Appends j e append group) t may k old = absurd cc
+  below_made s (Extends j n) t may k old = absurd cc
+  below_made s (TakesConfirmed j start end read) t may k old = absurd cc
+  below_made s (TakesAppended j append from to) t may k old = absurd cc
+
+  -- ---- the story only grows
+
+  abbrev pub Longer : Story Group → Story Group → Type 0
+  Longer old new = (n : ℕ) (x : StreamEvent Group) → event_at old n ≡ Some x → event_at new n ≡ Some x
+
+  forms_longer : (s : State Group) (i n append : ℕ) (group : Group) (live : Bool) → Longer s.story (all_next Group generation s (forms Group generation i n append group live ++ Begins i group ∷ [])).story
+  forms_longer s i zero append group live k x at = older Group _ s.story k x at
+  forms_longer s i (suc e) append group true k x at = older Group _ s.story k x at
+  forms_longer s i (suc e) append group false k x at = older Group _ s.story k x at
+
+  pub turn_longer : (s : State Group) (i : ℕ) (p : Phase Group) (t : Turn Group) → IsTurn Group generation s i p t → Longer s.story (all_next Group generation s (does Group generation s i p t)).story
+  turn_longer s i Idle Assigned may k x at = at
+  turn_longer s i Opening (AllSealed m) may k x at = at
+  turn_longer s i Opening (LastOpen e) may k x at = at
+  turn_longer s i (Checking e) (Found stood end) may k x at = at
+  turn_longer s i (Checking e) Fails may k x at = at
+  turn_longer s i (Sealing e) IsShut may k x at = at
+  turn_longer s i (Confirming m live) (ConfirmedIs start end read) may k x at = older Group _ s.story k x at
+  turn_longer s i (Serving m live) (Forms group) may k x at = forms_longer s i m (length s.story) group live k x at
+  turn_longer s i (Sent m append group) (AppendedAt from to) may k x at = older Group _ s.story k x at
+  turn_longer s i (Sent m append group) Fails may k x at = at
+  turn_longer s i (Closing m append group) IsShut may k x at = at
+  turn_longer s i (Growing m append group) (ExtendedTo e) may k x at = at
+  turn_longer s i p t may k x at = absurd may
+
+  made_longer : (old new : Story Group) → Longer old new → (cs : List (Copy Group)) → AllMade old cs → AllMade new cs
+  made_longer old new more cs made c there = let k = made c there in (k.0, more c.append (Made k.0 c.group) k.1)
+
+  pub layer_same : (s : State Group) (x : Step Group) → is_layer Group generation x ≡ true → (next Group generation s x).story ≡ s.story
+  layer_same s (TakesOpen i) t = refl
+  layer_same s (TakesExtend i n) t = refl
+  layer_same s (TakesConfirm i read end) t = refl
+  layer_same s (TakesCheck i v) t = refl
+  layer_same s (AnswersCheck i v) t = refl
+  layer_same s (AnswersLate i e x) t = refl
+  layer_same s (TakesAppend i append group to v) t = refl
+  layer_same s (Keeps c rest v) t = refl
+  layer_same s (AnswersAppend i append from to group) t = refl
+  layer_same s (Seals v) t = refl
+  layer_same s (Opens i) t = absurd cc
+  layer_same s (Checks i e) t = absurd cc
+  layer_same s (ReadsSealed i n) t = absurd cc
+  layer_same s (ReadsChecked i e stood end) t = absurd cc
+  layer_same s (Begins i group) t = absurd cc
+  layer_same s (Appends i e append group) t = absurd cc
+  layer_same s (Extends i n) t = absurd cc
+  layer_same s (TakesConfirmed i start end read) t = absurd cc
+  layer_same s (TakesAppended i append from to) t = absurd cc
+
+  -- what checks have found, in each run
+  pub checked_made : (moves : List (Move Group generation)) → AreMoves Group generation moves → CheckedMade (after_all Group generation moves).state
+  checked_made [] ok i e stood end there = absurd there
+  checked_made (Below x ∷ earlier) ok i e stood end there =
+      let s : State Group = (after_all Group generation earlier).state in
+      subst (λ z. AllMade z stood) (sym (layer_same s x ok.0.0))
+      (subst (λ z. AllMade z stood) (layer_same s x ok.0.0) (below_made s x ok.0.0 ok.0.1 (stands earlier ok.1) (checked_made earlier ok.1) i e stood end there))
+  checked_made (Above j t ∷ earlier) ok i e stood end there =
+      let w : Whole Group generation = after_all Group generation earlier in
+      let u = turn_upper generation w.state j (w.phase j) t in
+      made_longer w.state.story (moved Group generation w (Above j t)).state.story (turn_longer w.state j (w.phase j) t ok.0) stood
+      (checked_made earlier ok.1 i e stood end (u.checked i e stood end there))
+
+  -- ---- where no group is formed
+
+  abbrev NoneMade : Story Group → Type 0
+  NoneMade story = (n g : ℕ) (group : Group) → event_at story n ≡ Some (Made g group) → ⊥
+
+  none_more : (e : StreamEvent Group) (story : Story Group) → ((g : ℕ) (group : Group) → e ≡ Made g group → ⊥) → NoneMade story → NoneMade (e ∷ story)
+  none_more e story other none n g group at = go (n == length story) at
+    where
+      go : (b : Bool) → (if b then Some e else event_at story n) ≡ Some (Made g group) → ⊥
+      go true t = let same : e ≡ Made g group = cc in other g group same
+      go false t = none n g group t
+
+  none_turn : (s : State Group) (i : ℕ) (p : Phase Group) (t : Turn Group) → IsTurn Group generation s i p t → IsUnformed t → NoneMade s.story → NoneMade (all_next Group generation s (does Group generation s i p t)).story
+  none_turn s i Idle Assigned may un none = none
+  none_turn s i Opening (AllSealed m) may un none = none
+  none_turn s i Opening (LastOpen e) may un none = none
+  none_turn s i (Checking e) (Found stood end) may un none = none
+  none_turn s i (Checking e) Fails may un none = none
+  none_turn s i (Sealing e) IsShut may un none = none
+  none_turn s i (Confirming m live) (ConfirmedIs start end read) may un none = none_more _ s.story (λ g group is. cc) none
+  none_turn s i (Serving m live) (Forms group) may un none = absurd un
+  none_turn s i (Sent m append group) (AppendedAt from to) may un none = none_more _ s.story (λ g group is. cc) none
+  none_turn s i (Sent m append group) Fails may un none = none
+  none_turn s i (Closing m append group) IsShut may un none = none
+  none_turn s i (Growing m append group) (ExtendedTo e) may un none = none
+  none_turn s i p t may un none = absurd may
+
+  none_made : (moves : List (Move Group generation)) → AreMoves Group generation moves → AreUnformedMoves generation moves → NoneMade (after_all Group generation moves).state.story
+  none_made [] ok un = λ n g group at. cc
+  none_made (Below x ∷ earlier) ok un =
+      let s : State Group = (after_all Group generation earlier).state in
+      subst NoneMade (sym (layer_same s x ok.0.0)) (none_made earlier ok.1 un)
+  none_made (Above j t ∷ earlier) ok un =
+      let w : Whole Group generation = after_all Group generation earlier in
+      none_turn w.state j (w.phase j) t ok.0 un.0 (none_made earlier ok.1 un.1)
+
+  empty_of : (story : Story Group) → NoneMade story → (cs : List (Copy Group)) → AllMade story cs → cs ≡ []
+  empty_of story none [] made = refl
+  empty_of story none (c ∷ cs) made = let k = made c (inl refl) in absurd (none c.append k.0 c.group k.1)
+
+  -- nothing stands there, and no check finds anything
+  pub shut_empty : (moves : List (Move Group generation)) → AreMoves Group generation moves → AreUnformedMoves generation moves → (e : ℕ) (y : Shut Group) →
+      shut_at e (after_all Group generation moves).state.core.shut ≡ Some y → y.copies ≡ []
+  shut_empty moves ok un e y is =
+      let s : State Group = (after_all Group generation moves).state in
+      empty_of s.story (none_made moves ok un) y.copies (shut_made s (stands moves ok) e y is)
+
+  pub checked_empty : (moves : List (Move Group generation)) → AreMoves Group generation moves → AreUnformedMoves generation moves → (i e : ℕ) (stood : List (Copy Group)) (end : ℕ) →
+      In (Found_there i e stood end) (after_all Group generation moves).state.facts → stood ≡ []
+  checked_empty moves ok un i e stood end there =
+      empty_of (after_all Group generation moves).state.story (none_made moves ok un) stood (checked_made moves ok i e stood end there)
+
+  -- turns of an incarnation
+  pub unformed_moves : (i : ℕ) (ts : List (Turn Group)) (earlier : List (Move Group generation)) → AreUnformed ts → AreUnformedMoves generation earlier → AreUnformedMoves generation (moves_of generation i ts ++ earlier)
+  unformed_moves i [] earlier un old = old
+  unformed_moves i (t ∷ ts) earlier un old = (un.0, unformed_moves i ts earlier un.1 old)
+
+  pub unformed_below : (steps : List (Step Group)) (earlier : List (Move Group generation)) → AreUnformedMoves generation earlier → AreUnformedMoves generation (map Below steps ++ earlier)
+  unformed_below [] earlier un = un
+  unformed_below (x ∷ steps) earlier un = unformed_below steps earlier un

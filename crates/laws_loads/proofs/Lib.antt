@@ -1,0 +1,4 @@
+pub mod Cells
+pub mod Renaming
+pub mod Replaying
+pub mod Rows

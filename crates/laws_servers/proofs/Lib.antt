@@ -1,0 +1,4 @@
+pub mod Calling
+pub mod Stepping
+pub mod Serving
+pub mod Moving

@@ -1,0 +1,24 @@
+-- What servers may send, and runs with servers as moves of the stream layer.
+use Rattle.std.specs.Prelude.{◌≡◌, ◌⊎◌, ℕ, true, List, [], ◌∷◌}
+use Rattle.wire.specs.declared.actor.ActorId.TheVariants.{Server}
+use Rattle.wire.specs.declared.packet.Packet.{Packet}
+use Rattle.model.specs.World.{World, Move, run_moves, is_server_call, is_told}
+
+-- a server asks what servers may ask
+pub record Asked (p : Packet) : Type 0 where
+  pub server : ℕ
+  pub from : p.from ≡ Server server
+  pub call : is_server_call p.body ≡ true
+
+-- it asks, or tells what no node takes
+abbrev pub MaySend : Packet → Type 0
+MaySend p = Asked p ⊎ (is_told p.body ≡ true)
+
+abbrev pub MaySendAll : List Packet → Type 0
+MaySendAll [] = Unit {0}
+MaySendAll (p ∷ packets) = MaySend p × MaySendAll packets
+
+-- some moves lead from one world to the other
+pub record ByMoves (v w : World) : Type 0 where
+  pub moves : List Move
+  pub is : run_moves moves v ≡ w

@@ -1,0 +1,251 @@
+-- A step of a real node is the step of the world's node.
+use Rattle.std.proofs.Common.{◌≡◌, ◌≢◌, ◌⊎◌, ℕ, zero, suc, ◌<◌, Bool, true, false, not, ◌==◌, ◌&&◌, nat_lt, nat_le, if◌then◌else◌, List, [], ◌∷◌, ◌++◌, Option, Some, None, Result, Ok, Err, refl, sym, ap, ◌∙◌, inl, inr, ⊎_elim, arith, subst, append-nil}
+use Rattle.disk.specs.declared.device.DiskFault.{DiskFault}
+use Rattle.disk.specs.declared.device.DiskFault.TheVariants.{Failed, Memory}
+use Rattle.disk.specs.declared.memory.MemDisk.{MemDisk}
+use Rattle.disk.specs.Memory.{memory_state}
+use Rattle.disk.specs.Filed.{Filed}
+use Rattle.disk.specs.Appends.{Records}
+use Rattle.blocks.specs.declared.record.Record.{Record}
+use Rattle.wire.specs.declared.packet.Packet.{Packet}
+use Rattle.wire.specs.declared.packet.Step.{Step}
+use Rattle.replica.specs.Content.{Content}
+use Rattle.replica.specs.Replay.{applied, replay}
+use Rattle.replica.proofs.Replaying.{replay-here, replay-elsewhere}
+use Rattle.model.specs.Maps.{changed_at}
+use Rattle.model.specs.Outcome.{Outcome}
+use Rattle.model.specs.Node.{Replica, contents, stopped, node_row, extent_of}
+use Rattle.model.specs.World.{World, Cell, burnt, stops_in, stands_in, stopped_at, halted, unsent, after_row, node_does, node_takes, down}
+use Rattle.model.proofs.Tests.{if_elim, both_parts}
+use Rattle.model.proofs.Replay.{Replays, IsWritten, applied_if, row_replays}
+use Rattle.enode.specs.Node.{NodeState, IsReplay, find, fresh_of}
+use Rattle.disk.specs.Appends.{listed}
+use Rattle.enode.specs.Took.{Took}
+use Rattle.layer.specs.Nodes.{NodeSeen, seen_of, plan_of, NodeMirrors, Gave}
+use Rattle.layer.proofs.Choices.{neither, is_below, not_below, at_most, above, tested, untested, changed_at_elim, changed_at-other, changed-same, changed-other}
+use Rattle.layer.proofs.Seen.{sorted_same, shown_up, shown_down}
+
+zero_or : (k : ℕ) → (k ≡ 0) ⊎ (0 < k)
+zero_or zero = inl refl
+zero_or (suc k) = inr (omega arith)
+
+plan_zero : (c : Cell) → c.fuse ≡ 0 → plan_of c ≡ None
+plan_zero c z = ap (λ (k : ℕ). if k == 0 then None else Some (k, c.keep)) z
+
+pub plan_some : (c : Cell) → 0 < c.fuse → plan_of c ≡ Some (c.fuse, c.keep)
+plan_some c l = if_elim (λ z. z ≡ Some (c.fuse, c.keep)) (c.fuse == 0) None (Some (c.fuse, c.keep)) (λ t. absurd (let z = tested c.fuse 0 t in omega arith)) (λ f. refl)
+
+pub burnt_up : (c : Cell) (k : Option Record) → (burnt c k).up ≡ c.up
+burnt_up c None = refl
+burnt_up c (Some r) = refl
+
+-- a row's record, where there is one: the file runs on
+pub up_ok : (old new : Filed MemDisk) (k : Option Record) (s : Step) → Records memory_state old new (listed k) (Ok s) → old.stopped ≡ false → new.stopped ≡ false
+up_ok old new None s h up = ap (λ (f : Filed MemDisk). f.stopped) h.0 ∙ up
+up_ok old new (Some r) s h up = h.ok.0
+
+-- and its disk is told what the world says
+pub plan_ok : (old new : Filed MemDisk) (k : Option Record) (s : Step) (c : Cell) → Records memory_state old new (listed k) (Ok s) → (memory_state old.disk).stop ≡ plan_of c → stops_in c k ≡ false →
+    (memory_state new.disk).stop ≡ plan_of (burnt c k)
+plan_ok old new None s c h told f = ap (λ (x : Filed MemDisk). (memory_state x.disk).stop) h.0 ∙ told
+plan_ok old new (Some r) s c h told f =
+    ⊎_elim
+    (λ z. (h.steady (refl, told ∙ plan_zero c z)).1.1 ∙ sym (plan_zero (burnt c (Some r)) (omega (arith, z))))
+    (λ l. let far : 4 < c.fuse = ⊎_elim (λ a. absurd (let b = not_below 0 c.fuse a in omega arith)) (λ b. above c.fuse 4 b) (neither (nat_lt 0 c.fuse) (nat_le c.fuse 4) f) in
+    (h.later c.fuse c.keep (told ∙ plan_some c l) far).1 ∙ sym (plan_some (burnt c (Some r)) (omega arith)))
+    (zero_or c.fuse)
+
+pub no_stop : (old new : Filed MemDisk) (k : Option Record) (s : Step) (c : Cell) → Records memory_state old new (listed k) (Ok s) → (memory_state old.disk).stop ≡ plan_of c → stops_in c k ≡ true → ⊥
+no_stop old new None s c h told t = absurd cc
+no_stop old new (Some r) s c h told t =
+    let b = both_parts (nat_lt 0 c.fuse) (nat_le c.fuse 4) t in
+    let l = is_below 0 c.fuse b.0 in
+    (h.stop c.fuse c.keep (told ∙ plan_some c l) (omega arith) (at_most c.fuse 4 b.1)).0 refl
+
+pub broken_stops : (old new : Filed MemDisk) (k : Option Record) (c : Cell) → Records {T = Step} memory_state old new (listed k) (Err Failed) → (memory_state old.disk).stop ≡ plan_of c → stops_in c k ≡ false → ⊥
+broken_stops old new None c h told f = h.1 refl
+broken_stops old new (Some r) c h told f =
+    ⊎_elim
+    (λ z. (h.steady (refl, told ∙ plan_zero c z)).0 refl)
+    (λ l. let far : 4 < c.fuse = ⊎_elim (λ a. absurd (let b = not_below 0 c.fuse a in omega arith)) (λ b. above c.fuse 4 b) (neither (nat_lt 0 c.fuse) (nat_le c.fuse 4) f) in
+    (h.later c.fuse c.keep (told ∙ plan_some c l) far).0 refl)
+    (zero_or c.fuse)
+
+swapped : (a b : Bool) {A : Type 0} (x y : A) → (if a && b then x else y) ≡ (if b && a then x else y)
+swapped true true x y = refl
+swapped true false x y = refl
+swapped false true x y = refl
+swapped false false x y = refl
+
+pub broken_down : (old new : Filed MemDisk) (k : Option Record) → Records {T = Step} memory_state old new (listed k) (Err Failed) → new.stopped ≡ true
+broken_down old new None h = absurd (h.1 refl)
+broken_down old new (Some r) h = (h.failed refl).0
+
+pub broken_records : (old new : Filed MemDisk) (k : Option Record) (c : Cell) → Records {T = Step} memory_state old new (listed k) (Err Failed) → (memory_state old.disk).stop ≡ plan_of c → stops_in c k ≡ true →
+    new.records ≡ (if stands_in c then old.records ++ listed k else old.records)
+broken_records old new None c h told t = absurd (h.1 refl)
+broken_records old new (Some r) c h told t =
+    let b = both_parts (nat_lt 0 c.fuse) (nat_le c.fuse 4) t in
+    let l = is_below 0 c.fuse b.0 in
+    ((h.stop c.fuse c.keep (told ∙ plan_some c l) (omega arith) (at_most c.fuse 4 b.1)).1 refl).1
+    ∙ swapped c.keep (nat_le 3 c.fuse) (old.records ++ r ∷ []) old.records
+
+-- nothing of the file has changed where no memory was left
+pub short_same : (old new : Filed MemDisk) (k : Option Record) → Records {T = Step} memory_state old new (listed k) (Err Memory) →
+    (new.records ≡ old.records) × (new.stopped ≡ old.stopped) × ((memory_state new.disk).stop ≡ (memory_state old.disk).stop)
+short_same old new None h = (ap (λ (f : Filed MemDisk). f.records) h.0, ap (λ (f : Filed MemDisk). f.stopped) h.0, ap (λ (f : Filed MemDisk). (memory_state f.disk).stop) h.0)
+short_same old new (Some r) h = ((h.memory refl).records, (h.memory refl).stopped, (h.memory refl).disk.stop)
+
+pub stopped_here : (n : ℕ) (g : ℕ → ℕ → Option Replica) (f : ℕ) → stopped_at n g n f ≡ stopped (g n f)
+stopped_here n g f = if_elim (λ z. z ≡ stopped (g n f)) (n == n) (stopped (g n f)) (g n f) (λ t. refl) (λ u. absurd (untested n n u refl))
+
+pub stopped_there : (n m : ℕ) (g : ℕ → ℕ → Option Replica) (f : ℕ) → m ≢ n → stopped_at n g m f ≡ g m f
+stopped_there n m g f apart = if_elim (λ z. z ≡ g m f) (m == n) (stopped (g m f)) (g m f) (λ t. absurd (apart (tested m n t))) (λ u. refl)
+
+-- what a stop leaves is what its records make
+pub fresh-contents : (s : Option Replica) → fresh_of (contents s) ≡ stopped s
+fresh-contents None = refl
+fresh-contents (Some r) = refl
+
+nil : {A : Type 0} (xs : List A) {ys : List A} → ys ≡ [] → xs ≡ xs ++ ys
+nil xs is = sym (ap (λ l. xs ++ l) is ∙ append-nil xs)
+
+nil_end : {A : Type 0} (xs : List A) {ys : List A} → ys ≡ [] → xs ++ [] ≡ xs ++ ys
+nil_end xs is = ap (λ l. xs ++ l) (sym is)
+
+-- what the records make, with the row's record
+made_here : (n e : ℕ) (rs : List Record) (was : Option Replica) (o : Outcome (Option Replica)) → contents was ≡ replay e rs → (k : Option Record) → IsWritten n e (contents was) k → contents o.after ≡ applied_if (contents was) k →
+    replay e (rs ++ listed k) ≡ contents o.after
+made_here n e rs was o before None about is = ap (replay e) (append-nil rs) ∙ sym before ∙ sym is
+made_here n e rs was o before (Some r) about is = replay-here e rs r about.0 ∙ ap (λ (c : Option Content). applied c r) (sym before) ∙ sym is
+
+made_there : (n e f : ℕ) (rs : List Record) (c : Option Content) → f ≢ e → (k : Option Record) → IsWritten n e c k → replay f (rs ++ listed k) ≡ replay f rs
+made_there n e f rs c apart None about = ap (replay f) (append-nil rs)
+made_there n e f rs c apart (Some r) about = replay-elsewhere f e rs r about.0 apart
+
+pub gave_ok : (n e : ℕ) (o : Outcome (Option Replica)) (x y : NodeState MemDisk) (w : World) (s : Step) → x.file.stopped ≡ false → NodeMirrors n (seen_of x) w → y.number ≡ x.number →
+    Took memory_state x.replicas y.replicas x.file y.file e o (Ok s) → Gave n (seen_of y) w (node_does w n e o) s
+gave_ok n e o x y w s up m num h =
+    if_elim (λ v. Gave n (seen_of y) w v s) (stops_in (w.cell n) o.written) _ _
+    (λ t. absurd (no_stop x.file y.file o.written s (w.cell n) h.file (m.plan up) t))
+    (λ f. record {
+      post = ap (λ l. w.post ++ l) (sym h.packets);
+      notes = ap (λ l. w.notes ++ l) (sym h.notes);
+      node = record {
+        number = num ∙ m.number;
+        replica = λ j. shown_up y yup j ∙ changed_at_elim (λ z. find y.replicas j ≡ z) n e o.after w.replica n j (λ q r. rw r h.here)
+            (λ other. ⊎_elim (λ a. absurd (a refl)) (λ b. h.elsewhere j b ∙ sym (shown_up x up j) ∙ m.replica j) other);
+        up = ap (λ (c : Cell). c.up) (changed-same n (burnt (w.cell n) o.written) w.cell) ∙ burnt_up (w.cell n) o.written ∙ m.up ∙ ap not (up ∙ sym yup);
+        plan = λ _. plan_ok x.file y.file o.written s (w.cell n) h.file (m.plan up) f ∙ ap plan_of (sym (changed-same n (burnt (w.cell n) o.written) w.cell));
+      };
+      others = λ j apart. ((λ k. changed_at-other n e o.after w.replica j k (inl apart)), changed-other n (burnt (w.cell n) o.written) w.cell j apart);
+      nodes = refl;
+      book = refl;
+      desk = refl;
+    })
+  where
+    yup : y.file.stopped ≡ false
+    yup = up_ok x.file y.file o.written s h.file up
+
+pub gave_broken : (n e : ℕ) (o : Outcome (Option Replica)) (x y : NodeState MemDisk) (w : World) (s : Step) → x.file.stopped ≡ false → NodeMirrors n (seen_of x) w → y.number ≡ x.number →
+    IsReplay x.number x.replicas x.file.records → Replays n e (find x.replicas e) o → s.packets ≡ [] → s.notes ≡ [] →
+    Took memory_state x.replicas y.replicas x.file y.file e o (Err Failed) → Gave n (seen_of y) w (node_does w n e o) s
+gave_broken n e o x y w s up m num before row sent told h =
+    if_elim (λ v. Gave n (seen_of y) w v s) (stops_in (w.cell n) o.written) _ _
+    (λ t. let is = broken_records x.file y.file o.written (w.cell n) h.file (m.plan up) t in
+    if_elim2 (stands_in (w.cell n)) (λ c. y.file.records ≡ (if c then x.file.records ++ listed o.written else x.file.records))
+    (λ c. Gave n (seen_of y) w (if c then halted (after_row w n e (unsent o)) n else halted w n) s) is
+    (λ more. ended (after_row w n e (unsent o)) (nil_end w.post sent) (ap (λ l. w.notes ++ l) (h.shows refl ∙ sym told))
+    (λ j. ap (λ (rs : List Record). fresh_of (replay j rs)) more ∙ stood j) (λ j apart k. changed_at-other n e o.after w.replica j k (inl apart)) (λ j. refl) refl refl refl)
+    (λ less. ended w (nil w.post sent) (nil w.notes told)
+    (λ j. ap (λ (rs : List Record). fresh_of (replay j rs)) less ∙ ap fresh_of (sym (before.each j)) ∙ fresh-contents (find x.replicas j) ∙ ap stopped (was j)) (λ j apart k. refl) (λ j. refl) refl refl refl))
+    (λ f. absurd (broken_stops x.file y.file o.written (w.cell n) h.file (m.plan up) f))
+  where
+    if_elim2 : (b : Bool) (Q P : Bool → Type 0) → Q b → (Q true → P true) → (Q false → P false) → P b
+    if_elim2 true Q P q f g = f q
+    if_elim2 false Q P q f g = g q
+
+    ydown : y.file.stopped ≡ true
+    ydown = broken_down x.file y.file o.written h.file
+
+    was : (j : ℕ) → find x.replicas j ≡ w.replica n j
+    was j = sym (shown_up x up j) ∙ m.replica j
+
+    stood : (j : ℕ) → fresh_of (replay j (x.file.records ++ listed o.written)) ≡ stopped (changed_at n e o.after w.replica n j)
+    stood j = changed_at_elim (λ z. fresh_of (replay j (x.file.records ++ listed o.written)) ≡ stopped z) n e o.after w.replica n j
+        (λ q r. rw r (ap fresh_of (made_here n e x.file.records (find x.replicas e) o (before.each e) o.written row.written row.is) ∙ fresh-contents o.after))
+        (λ other. ⊎_elim (λ a. absurd (a refl))
+        (λ b. ap fresh_of (made_there n e j x.file.records (contents (find x.replicas e)) b o.written row.written ∙ sym (before.each j)) ∙ fresh-contents (find x.replicas j) ∙ ap stopped (was j)) other)
+
+    ended : (u : World) → u.post ≡ w.post ++ s.packets → u.notes ≡ w.notes ++ s.notes → ((j : ℕ) → fresh_of (replay j y.file.records) ≡ stopped (u.replica n j)) →
+        ((j : ℕ) → j ≢ n → (k : ℕ) → u.replica j k ≡ w.replica j k) → ((j : ℕ) → u.cell j ≡ w.cell j) → u.nodes ≡ w.nodes → u.book ≡ w.book → u.desk ≡ w.desk → Gave n (seen_of y) w (halted u n) s
+    ended u p q r others cells count book desk = record {
+      post = p;
+      notes = q;
+      node = record {
+        number = num ∙ m.number;
+        replica = λ j. shown_down y ydown j ∙ r j ∙ sym (stopped_here n u.replica j);
+        up = ap (λ (c : Cell). c.up) (changed-same n down u.cell) ∙ ap not (sym ydown);
+        plan = λ yup. absurd (let d = ydown in cc);
+      };
+      others = λ j apart. ((λ k. stopped_there n j u.replica k apart ∙ others j apart k), changed-other n down u.cell j apart ∙ cells j);
+      nodes = count;
+      book = book;
+      desk = desk;
+    }
+
+-- a node that has stopped does nothing
+pub gave_down : (n : ℕ) (p : Packet) (x : NodeSeen) (w : World) (s : Step) → x.stopped ≡ true → NodeMirrors n x w → s.packets ≡ [] → s.notes ≡ [] → Gave n x w (node_takes w n p) s
+gave_down n p x w s isdown m sent told =
+    if_elim (λ v. Gave n x w v s) (w.cell n).up _ w
+    (λ t. absurd (let a = m.up ∙ ap not isdown in cc))
+    (λ f. record {
+      post = nil w.post sent;
+      notes = nil w.notes told;
+      node = m;
+      others = λ j apart. ((λ k. refl), refl);
+      nodes = refl;
+      book = refl;
+      desk = refl;
+    })
+
+row_same : (n : ℕ) (p : Packet) (x : NodeState MemDisk) (w : World) → x.file.stopped ≡ false → NodeMirrors n (seen_of x) w →
+    node_row x.number (find x.replicas (extent_of p.body)) p p.body ≡ node_row n (w.replica n (extent_of p.body)) p p.body
+row_same n p x w up m = ap (λ k. node_row k (find x.replicas (extent_of p.body)) p p.body) m.number
+    ∙ ap (λ r. node_row n r p p.body) (sym (shown_up x up (extent_of p.body)) ∙ m.replica (extent_of p.body))
+
+-- what `handle` says of a row
+abbrev pub TookRow : NodeState MemDisk → NodeState MemDisk → Packet → Result Step DiskFault → Type 0
+TookRow x y p result = Took memory_state x.replicas y.replicas x.file y.file (extent_of p.body) (node_row x.number (find x.replicas (extent_of p.body)) p p.body) result
+
+pub takes_ok : (n : ℕ) (p : Packet) (x y : NodeState MemDisk) (w : World) (s : Step) → x.file.stopped ≡ false → NodeMirrors n (seen_of x) w → y.number ≡ x.number →
+    TookRow x y p (Ok s) → Gave n (seen_of y) w (node_takes w n p) s
+takes_ok n p x y w s up m num h =
+    if_elim (λ v. Gave n (seen_of y) w v s) (w.cell n).up _ w
+    (λ t. gave_ok n (extent_of p.body) (node_row n (w.replica n (extent_of p.body)) p p.body) x y w s up m num
+    (subst (λ o. Took memory_state x.replicas y.replicas x.file y.file (extent_of p.body) o (Ok s)) (row_same n p x w up m) h))
+    (λ f. absurd (let a = m.up ∙ ap not up in cc))
+
+takes_broken : (n : ℕ) (p : Packet) (x y : NodeState MemDisk) (w : World) (s : Step) → x.file.stopped ≡ false → NodeMirrors n (seen_of x) w → y.number ≡ x.number →
+    IsReplay x.number x.replicas x.file.records → s.packets ≡ [] → s.notes ≡ [] →
+    TookRow x y p (Err Failed) → Gave n (seen_of y) w (node_takes w n p) s
+takes_broken n p x y w s up m num before sent told h =
+    if_elim (λ v. Gave n (seen_of y) w v s) (w.cell n).up _ w
+    (λ t. gave_broken n (extent_of p.body) (node_row n (w.replica n (extent_of p.body)) p p.body) x y w s up m num before
+    (subst (λ o. Replays n (extent_of p.body) (find x.replicas (extent_of p.body)) o) (ap (λ r. node_row n r p p.body) (sym (shown_up x up (extent_of p.body)) ∙ m.replica (extent_of p.body))) (row_replays n (find x.replicas (extent_of p.body)) p p.body)) sent told
+    (subst (λ o. Took memory_state x.replicas y.replicas x.file y.file (extent_of p.body) o (Err Failed)) (row_same n p x w up m) h))
+    (λ f. absurd (let a = m.up ∙ ap not up in cc))
+
+pub takes_failed : (n : ℕ) (p : Packet) (x y : NodeState MemDisk) (w : World) (s : Step) (fault : DiskFault) → fault ≡ Failed → x.file.stopped ≡ false → NodeMirrors n (seen_of x) w → y.number ≡ x.number →
+    IsReplay x.number x.replicas x.file.records → s.packets ≡ [] → s.notes ≡ [] →
+    TookRow x y p (Err fault) → Gave n (seen_of y) w (node_takes w n p) s
+takes_failed n p x y w s fault is up m num before sent told h =
+    takes_broken n p x y w s up m num before sent told (subst (λ z. TookRow x y p (Err z)) is h)
+
+-- where no memory was left all that is seen of it is as it was
+pub stays_same : (p : Packet) (x y : NodeState MemDisk) (fault : DiskFault) → fault ≡ Memory → y.number ≡ x.number → TookRow x y p (Err fault) → seen_of y ≡ seen_of x
+stays_same p x y fault is num h =
+    let k : TookRow x y p (Err Memory) = subst (λ z. TookRow x y p (Err z)) is h in
+    let f = short_same x.file y.file (node_row x.number (find x.replicas (extent_of p.body)) p p.body).written k.file in
+    let replicas = sorted_same y.replicas x.replicas k.same in
+    λ i. record { number = num i; replicas = replicas i; records = f.0 i; stopped = f.1 i; stop = f.2 i }

@@ -1,0 +1,161 @@
+-- A node that stops or comes back is the world's node that does.
+use Rattle.std.proofs.Common.{◌≡◌, ◌≢◌, ◌⊎◌, ℕ, zero, suc, ◌<◌, ◌≤◌, Bool, true, false, not, ◌==◌, ◌&&◌, ◌||◌, nat_lt, nat_le, if◌then◌else◌, List, [], ◌∷◌, ◌++◌, Option, Some, None, refl, sym, ap, ◌∙◌, inl, inr, ⊎_elim, arith, subst, slice_index_or, slice_set, length, append-nil}
+use Rattle.std.proofs.lemmas.Bool.Decides.{nat_tests}
+use Rattle.disk.specs.declared.memory.MemDisk.{MemDisk}
+use Rattle.disk.specs.Memory.{memory_state}
+use Rattle.blocks.specs.declared.record.Record.{Record}
+use Rattle.wire.specs.declared.actor.ActorId.TheVariants.{Node}
+use Rattle.wire.specs.declared.packet.Step.{Step}
+use Rattle.replica.specs.Replay.{replay}
+use Rattle.model.specs.Maps.{changed, entry_at}
+use Rattle.model.specs.Node.{Replica, stopped}
+use Rattle.model.specs.World.{World, Cell, armed, down, halted, is_present, node_stops, restart, running, stop}
+use Rattle.model.proofs.Tests.{if_elim, both_parts, both_true}
+use Rattle.enode.specs.Node.{NodeState, IsReplay, IsRestart, find, fresh_of}
+use Rattle.layer.specs.Nodes.{NodeSeen, seen_of, all_seen, plan_of, NodeMirrors, NodesMirror, Gave, Went, nothing}
+use Rattle.layer.proofs.Choices.{either, none_of, not_true, changed-same, changed-other, is_below, at_most, tested}
+use Rattle.layer.proofs.Giving.{fresh-contents, stopped_here, stopped_there}
+use Rattle.layer.proofs.Seen.{shown_up, shown_down, entry_below, entry_here, entry_none}
+use Rattle.layer.proofs.Going.{went}
+
+-- nothing has happened to it
+pub gave_nothing : (n : ℕ) (x : NodeSeen) (w : World) → NodeMirrors n x w → Gave n x w w nothing
+gave_nothing n x w m = record {
+  post = sym (append-nil w.post);
+  notes = sym (append-nil w.notes);
+  node = m;
+  others = λ j apart. ((λ k. refl), refl);
+  nodes = refl;
+  book = refl;
+  desk = refl;
+}
+
+-- one that has stopped is not stopped again
+pub stop_down : (n call : ℕ) (keep : Bool) (x : NodeSeen) (w : World) → x.stopped ≡ true → NodeMirrors n x w → Gave n x w (stop w (Node n) call keep) nothing
+stop_down n call keep x w isdown m =
+    if_elim (λ v. Gave n x w v nothing) (w.cell n).up (node_stops w n call keep) w
+    (λ t. absurd (let a = m.up ∙ ap not isdown in cc))
+    (λ f. gave_nothing n x w m)
+
+-- it stops at once
+halts : (n : ℕ) (x y : NodeState MemDisk) (w : World) → x.file.stopped ≡ false → NodeMirrors n (seen_of x) w → IsReplay x.number x.replicas x.file.records →
+    y.number ≡ x.number → y.file.records ≡ x.file.records → y.file.stopped ≡ true → Gave n (seen_of y) w (halted w n) nothing
+halts n x y w up m before num same isdown = record {
+  post = sym (append-nil w.post);
+  notes = sym (append-nil w.notes);
+  node = record {
+    number = num ∙ m.number;
+    replica = λ j. shown_down y isdown j ∙ ap (λ (rs : List Record). fresh_of (replay j rs)) same ∙ ap fresh_of (sym (before.each j)) ∙ fresh-contents (find x.replicas j)
+        ∙ ap stopped (sym (shown_up x up j) ∙ m.replica j) ∙ sym (stopped_here n w.replica j);
+    up = ap (λ (c : Cell). c.up) (changed-same n down w.cell) ∙ ap not (sym isdown);
+    plan = λ yup. absurd (let d = isdown in cc);
+  };
+  others = λ j apart. ((λ k. stopped_there n j w.replica k apart), changed-other n down w.cell j apart);
+  nodes = refl;
+  book = refl;
+  desk = refl;
+}
+
+pub stop_now : (n call : ℕ) (keep : Bool) (x y : NodeState MemDisk) (w : World) → x.file.stopped ≡ false → call ≡ 0 → NodeMirrors n (seen_of x) w → IsReplay x.number x.replicas x.file.records →
+    y.number ≡ x.number → y.file.records ≡ x.file.records → y.file.stopped ≡ true → Gave n (seen_of y) w (stop w (Node n) call keep) nothing
+stop_now n call keep x y w up now m before num same isdown =
+    if_elim (λ v. Gave n (seen_of y) w v nothing) (w.cell n).up (node_stops w n call keep) w
+    (λ t. if_elim (λ v. Gave n (seen_of y) w v nothing) (call == 0) (halted w n) _
+    (λ z. halts n x y w up m before num same isdown)
+    (λ z. absurd (let f = subst (λ k. (k == 0) ≡ false) now z in cc)))
+    (λ f. absurd (let a = m.up ∙ ap not up in cc))
+
+pub plan_armed : (call : ℕ) (keep : Bool) → call ≢ 0 → plan_of (armed call keep) ≡ Some (call, keep)
+plan_armed call keep some = if_elim (λ z. z ≡ Some (call, keep)) (call == 0) None (Some (call, keep)) (λ t. absurd (some (tested call 0 t))) (λ f. refl)
+
+-- it is to stop later
+pub stop_later : (n call : ℕ) (keep : Bool) (x y : NodeState MemDisk) (w : World) → x.file.stopped ≡ false → call ≢ 0 → NodeMirrors n (seen_of x) w →
+    y.number ≡ x.number → y.replicas ≡ x.replicas → y.file.stopped ≡ x.file.stopped → (memory_state y.file.disk).stop ≡ Some (call, keep) → Gave n (seen_of y) w (stop w (Node n) call keep) nothing
+stop_later n call keep x y w up later m num kept same told =
+    if_elim (λ v. Gave n (seen_of y) w v nothing) (w.cell n).up (node_stops w n call keep) w
+    (λ t. if_elim (λ v. Gave n (seen_of y) w v nothing) (call == 0) (halted w n) _
+    (λ z. absurd (later (tested call 0 z)))
+    (λ z. record {
+      post = sym (append-nil w.post);
+      notes = sym (append-nil w.notes);
+      node = record {
+        number = num ∙ m.number;
+        replica = λ j. shown_up y (same ∙ up) j ∙ ap (λ (es : List (ℕ × Replica)). find es j) kept ∙ sym (shown_up x up j) ∙ m.replica j;
+        up = ap (λ (c : Cell). c.up) (changed-same n (armed call keep) w.cell) ∙ ap not (sym (same ∙ up));
+        plan = λ yup. told ∙ sym (plan_armed call keep later) ∙ ap plan_of (sym (changed-same n (armed call keep) w.cell));
+      };
+      others = λ j apart. ((λ k. refl), changed-other n (armed call keep) w.cell j apart);
+      nodes = refl;
+      book = refl;
+      desk = refl;
+    }))
+    (λ f. absurd (let a = m.up ∙ ap not up in cc))
+
+-- one that runs does not come back
+pub restart_up : (n : ℕ) (x : NodeSeen) (w : World) → x.stopped ≡ false → NodeMirrors n x w → Gave n x w (restart w (Node n)) nothing
+restart_up n x w isup m =
+    if_elim (λ v. Gave n x w v nothing) ((w.cell n).up || not (is_present w n)) w (record w { cell = changed n running w.cell })
+    (λ t. gave_nothing n x w m)
+    (λ f. absurd (let a = m.up ∙ ap not isup in let b = (none_of (w.cell n).up (not (is_present w n)) f).0 in cc))
+
+-- it comes back with what its records make
+pub restarts : (n : ℕ) (x y : NodeState MemDisk) (w : World) → x.file.stopped ≡ true → is_present w n ≡ true → NodeMirrors n (seen_of x) w →
+    y.number ≡ x.number → y.file.stopped ≡ false → y.file.records ≡ x.file.records → (memory_state y.file.disk).stop ≡ None → IsRestart x.number y.replicas y.file.records →
+    Gave n (seen_of y) w (restart w (Node n)) nothing
+restarts n x y w isdown there m num yup same untold h =
+    if_elim (λ v. Gave n (seen_of y) w v nothing) ((w.cell n).up || not (is_present w n)) w (record w { cell = changed n running w.cell })
+    (λ t. absurd (⊎_elim (λ a. let b = m.up ∙ ap not isdown in cc) (λ a. let b = ap not there in cc) (either (w.cell n).up (not (is_present w n)) t)))
+    (λ f. record {
+      post = sym (append-nil w.post);
+      notes = sym (append-nil w.notes);
+      node = record {
+        number = num ∙ m.number;
+        replica = λ j. shown_up y yup j ∙ h.each j ∙ ap (λ (rs : List Record). fresh_of (replay j rs)) same ∙ sym (shown_down x isdown j) ∙ m.replica j;
+        up = ap (λ (c : Cell). c.up) (changed-same n running w.cell) ∙ ap not (sym yup);
+        plan = λ _. untold ∙ sym (ap plan_of (changed-same n running w.cell));
+      };
+      others = λ j apart. ((λ k. refl), changed-other n running w.cell j apart);
+      nodes = refl;
+      book = refl;
+      desk = refl;
+    })
+
+-- ---- a number that is no node's
+
+went_still : (xs : List NodeSeen) (w : World) → NodesMirror xs w → Went xs w w nothing
+went_still xs w m = record { post = sym (append-nil w.post); notes = sym (append-nil w.notes); nodes = m; book = refl; desk = refl }
+
+pub stop_nobody : (n call : ℕ) (keep : Bool) (xs : List NodeSeen) → entry_at xs n ≡ None → (w : World) → NodesMirror xs w → Went xs w (stop w (Node n) call keep) nothing
+stop_nobody n call keep xs none w m =
+    if_elim (λ v. Went xs w v nothing) (w.cell n).up (node_stops w n call keep) w
+    (λ t. absurd (let a = m.absent n none in cc))
+    (λ f. went_still xs w m)
+
+pub restart_nobody : (n : ℕ) (xs : List NodeSeen) → entry_at xs n ≡ None → (w : World) → NodesMirror xs w → Went xs w (restart w (Node n)) nothing
+restart_nobody n xs none w m =
+    if_elim (λ v. Went xs w v nothing) ((w.cell n).up || not (is_present w n)) w (record w { cell = changed n running w.cell })
+    (λ t. went_still xs w m)
+    (λ f. absurd (is_nobody (not_true (is_present w n) (none_of (w.cell n).up (not (is_present w n)) f).1)))
+  where
+    is_nobody : is_present w n ≡ true → ⊥
+    is_nobody t = let k = both_parts (nat_lt 0 n) (nat_le n w.nodes) t in
+        let far = entry_none xs n none (is_below 0 n k.0) in
+        let near = at_most n w.nodes k.1 in
+        omega (arith, far, near, m.count)
+
+below_is : (n : ℕ) → 0 < n → nat_lt 0 n ≡ true
+below_is n l = grind (arith, nat_tests)
+
+reaches : (n many count : ℕ) → n ≤ many → count ≡ many → nat_le n count ≡ true
+reaches n many count l is = grind (arith, nat_tests)
+
+-- a node of the list is there
+pub is_there : (xs : List NodeSeen) (n : ℕ) (x : NodeSeen) (w : World) → NodesMirror xs w → entry_at xs n ≡ Some x → is_present w n ≡ true
+is_there xs n x w m e = let l = entry_below xs n x e in both_true (nat_lt 0 n) (nat_le n w.nodes) (below_is n l.0) (reaches n (length xs) w.nodes l.1 m.count)
+
+pub restarted_from : (n : ℕ) (xs : List (NodeState MemDisk)) (d y : NodeState MemDisk) → n < length xs → d ≡ slice_index_or xs n d →
+    ((k : ℕ) (w : World) → is_present w k ≡ true → NodeMirrors k (seen_of d) w → Gave k (seen_of y) w (restart w (Node k)) nothing) →
+    (w : World) → NodesMirror (all_seen xs) w → Went (all_seen (slice_set xs n y)) w (restart w (Node (suc n))) nothing
+restarted_from n xs d y l is f w m =
+    let here = entry_here xs n d l ∙ ap (λ (x : NodeState MemDisk). Some (seen_of x)) (sym is) in
+    went n xs y w (restart w (Node (suc n))) nothing l m (f (suc n) w (is_there (all_seen xs) (suc n) (seen_of d) w m here) (m.each (suc n) (seen_of d) here))

@@ -1,0 +1,363 @@
+//! The stream layer: real nodes and the real manager, the packets sent, and what was observed.
+ghost use Rattle.std.specs.Prelude.{◌≡◌, ◌++◌, ◌<◌, [], ◌∷◌, None, Some, IfOk, OnOk, OnErr, length, option_map, slice_get};
+ghost use Rattle.wire.specs.declared.actor.ActorId.TheVariants as actors;
+ghost use Rattle.wire.specs.declared.body.Body.TheVariants as bodies;
+ghost use Rattle.wire.specs.declared.packet.Packet.{Packet};
+ghost use Rattle.model.specs.Maps.{entry_at};
+ghost use Rattle.model.specs.World.{World, happens, moved, delivered, start};
+ghost use Rattle.model.specs.World.Move.{Asks};
+ghost use Rattle.model.specs.declared.event.Event.TheVariants as events;
+ghost use Rattle.model.specs.Outcome.{packet};
+ghost use Rattle.model_tables.specs.Cluster.{give_up_refusal, server_gives_up};
+ghost use Rattle.layer.specs.Desk.{DeskMirrors, refusal_in};
+ghost use Rattle.layer.specs.Nodes.{NodesMirror, seen_of, running_at};
+ghost use Rattle.layer.specs.Run.{IsFew, Mirrors, Moved, refusal_of};
+ghost use Rattle.layer.specs.Told.{Took, TookPacket};
+
+use crate::calls::is_call;
+use crate::desk::{Decision, Desk};
+use crate::fault::WorldFault;
+use crate::nodes::NodeList;
+use crate::post::{make_room, move_in};
+use crate::setup::Setup;
+use crate::showing::{Given, give, show};
+use crate::submitting::request;
+use blocks::Nodes;
+use disk::MemDisk;
+use enode::Node;
+use model::Event;
+use range::Sent;
+use servers::{Servers, Surrender};
+use std::alloc::Global;
+use std::marker::Model;
+use wire::{
+    ActorId, Body, ExtentId, MapBody, Note, Packet, RangeId, Refusal, Rows, ServerNo, Step,
+};
+
+/// Real extent nodes and the stream manager on disks in memory, all packets that were sent, numbered from 0, and all
+/// observations. The packets stay, since each may be delivered any number of times.
+#[derive(Drop)]
+pub struct Layer {
+    nodes: NodeList,
+    desk: Desk,
+    post: Vec<Packet>,
+    notes: Vec<Note>,
+}
+
+impl Model for Layer {
+    ghost use Rattle.layer.specs.Run.{RunState};
+
+    ghost Value = { RunState };
+
+    ghost view = { λ run. record { nodes = run.nodes; desk = run.desk; post = run.post.items; notes = run.notes.items } };
+}
+
+/// What the addressee does with a packet. Nothing comes of one to a stopped or absent actor, or to a user.
+fn take(
+    nodes: &mut NodeList,
+    desk: &mut Desk,
+    alloc: Global,
+    packet: &Packet,
+) -> Result<Step, WorldFault>
+    ensures ok { IfOk result (λ step. (w : World) → NodesMirror nodes.old w → DeskMirrors desk.old w → Moved nodes.new desk.new w (delivered w packet.now packet.now.to) step) }
+    ensures nodes { OnErr result (nodes.new ≡ nodes.old) }
+    ensures desk { OnErr result (desk.new ≡ desk.old) }
+    ensures few { IfOk result IsFew }
+{
+    match packet.to {
+        ActorId::Node(number) => nodes.give(alloc, number, packet),
+        ActorId::Manager => desk.give(alloc, packet),
+        ActorId::Map => Ok(Step::silent(alloc)),
+        ActorId::Server(_) => Ok(Step::silent(alloc)),
+        ActorId::User(_) => Ok(Step::silent(alloc)),
+    }
+}
+
+impl Layer {
+    /// The actors of this setup, with nothing on their disks, and nothing sent or observed. An error is want of memory
+    /// (22).
+    pub fn start(alloc: Global, setup: &Setup) -> Result<Layer, WorldFault>
+        ensures mirrors { IfOk result (λ run. Mirrors run (start setup.now.nodes setup.now.target)) }
+    {
+        let nodes = match NodeList::start(alloc, setup.nodes) {
+            Ok(nodes) => nodes,
+            Err(fault) => return Err(fault),
+        };
+        match Desk::start(alloc, setup.nodes, setup.target) {
+            Ok(desk) => Ok(Layer {
+                nodes,
+                desk,
+                post: Vec::new(alloc),
+                notes: Vec::new(alloc),
+            }),
+            Err(fault) => Err(fault),
+        }
+    }
+
+    /// A user asks something. Nothing comes of a body that users may not ask. An error is want of memory (22), and nothing has
+    /// changed.
+    pub fn submit(
+        &mut self,
+        alloc: Global,
+        user: u64,
+        to: ActorId,
+        body: &Body,
+    ) -> Result<Option<Refusal>, WorldFault>
+        ensures none { IfOk result (λ refusal. refusal ≡ None) }
+        ensures ok { OnOk result ((w : World) → Mirrors self.old w → Mirrors self.new (happens w (events.Submit user to body.now))) }
+        ensures err { OnErr result (self.new ≡ self.old) }
+    {
+        match request(alloc, body) {
+            Err(_full) => Err(WorldFault::Memory),
+            Ok(None) => Ok(None),
+            Ok(Some(body)) => match self.send(ActorId::User(user), to, body) {
+                Ok(()) => Ok(None),
+                Err(fault) => Err(fault),
+            },
+        }
+    }
+
+    /// A server asks a node or the manager: an append, a check, a seal, a read, or a call for streams, under any generation.
+    /// Nothing comes of another body. The packet is the next of those sent, and its answer is sent to the server. An error
+    /// is want of memory (22), and nothing has changed.
+    pub fn ask(&mut self, server: ServerNo, to: ActorId, body: Body) -> Result<(), WorldFault>
+        ensures ok { OnOk result ((w : World) → Mirrors self.old w → Mirrors self.new (moved w (Asks server to body))) }
+        ensures err { OnErr result (self.new ≡ self.old) }
+    {
+        if !is_call(&body) {
+            return Ok(());
+        }
+        match self.send(ActorId::Server(server), to, body) {
+            Ok(()) => Ok(()),
+            Err(fault) => Err(fault),
+        }
+    }
+
+    fn send(&mut self, from: ActorId, to: ActorId, body: Body) -> Result<(), WorldFault>
+        ensures ok { OnOk result (self.new ≡ record self.old { post = self.old.post ++ packet from to body ∷ [] }) }
+        ensures err { OnErr result (self.new ≡ self.old) }
+    {
+        match self.post.push(Packet { from, to, body }) {
+            Ok(()) => Ok(()),
+            Err(_full) => Err(WorldFault::Memory),
+        }
+    }
+
+    /// The packet of a number comes to its node, or to the manager; nothing comes of one to somebody else, or that was never
+    /// sent. The room for what the step may give is made before an actor is called. An error is want of memory (22), and
+    /// nothing has changed.
+    pub fn deliver(&mut self, alloc: Global, number: usize) -> Result<Option<Refusal>, WorldFault>
+        ensures none { IfOk result (λ refusal. refusal ≡ None) }
+        ensures ok { OnOk result ((w : World) → Mirrors self.old w → Mirrors self.new (happens w (events.Deliver number))) }
+        ensures err { OnErr result (self.new ≡ self.old) }
+    {
+        if number >= self.post.len() {
+            return Ok(None);
+        }
+        if let Err(_full) = make_room(&mut self.post) {
+            return Err(WorldFault::Memory);
+        }
+        if let Err(_full) = make_room(&mut self.notes) {
+            return Err(WorldFault::Memory);
+        }
+        match take(&mut self.nodes, &mut self.desk, alloc, &self.post[number]) {
+            Ok(step) => {
+                let Step { packets, notes } = step;
+                move_in(&mut self.post, packets.into_vec());
+                move_in(&mut self.notes, notes.into_vec());
+                Ok(None)
+            }
+            Err(fault) => Err(fault),
+        }
+    }
+
+    /// A node or the manager stops, at once or in a device call.
+    pub fn stop(&mut self, actor: ActorId, call: u64, keep: bool)
+        ensures { (w : World) → Mirrors self.old w → Mirrors self.new (happens w (events.Stop actor call keep)) }
+    {
+        match actor {
+            ActorId::Node(number) => self.nodes.stop(number, call, keep),
+            ActorId::Manager => self.desk.stop(call, keep),
+            ActorId::Map => {}
+            ActorId::Server(_) => {}
+            ActorId::User(_) => {}
+        }
+    }
+
+    /// A node or the manager comes back with nothing but its records. An error is want of memory (22), and nothing has changed.
+    pub fn restart(&mut self, alloc: Global, actor: ActorId) -> Result<(), WorldFault>
+        ensures ok { OnOk result ((w : World) → Mirrors self.old w → Mirrors self.new (happens w (events.Restart actor))) }
+        ensures err { OnErr result (self.new ≡ self.old) }
+    {
+        match actor {
+            ActorId::Node(number) => self.nodes.restart(alloc, number),
+            ActorId::Manager => self.desk.restart(alloc),
+            ActorId::Map => Ok(()),
+            ActorId::Server(_) => Ok(()),
+            ActorId::User(_) => Ok(()),
+        }
+    }
+
+    /// The manager seals an extent. It answers why it does not: there is no such extent (1), or no place has told a length
+    /// (10). An error is want of memory (22), and nothing has changed.
+    pub fn decide(&mut self, alloc: Global, extent: ExtentId) -> Result<Option<Refusal>, WorldFault>
+        ensures refusal { IfOk result (λ refusal. refusal ≡ refusal_in self.old.desk extent) }
+        ensures ok { OnOk result ((w : World) → Mirrors self.old w → Mirrors self.new (happens w (events.Decide extent))) }
+        ensures err { OnErr result (self.new ≡ self.old) }
+    {
+        if let Err(_short) = make_room(&mut self.post) {
+            return Err(WorldFault::Memory);
+        }
+        if let Err(_short) = make_room(&mut self.notes) {
+            return Err(WorldFault::Memory);
+        }
+        match self.desk.decide(alloc, extent) {
+            Ok(decision) => {
+                let Decision { step, refusal } = decision;
+                let Step {
+                    packets: sent,
+                    notes: shown,
+                } = step;
+                move_in(&mut self.post, sent.into_vec());
+                move_in(&mut self.notes, shown.into_vec());
+                Ok(refusal)
+            }
+            Err(fault) => Err(fault),
+        }
+    }
+
+    /// The next event. What it refuses besides want of memory (22, which leaves all as it was) is answered: a decision is
+    /// refused 1 or 10, and nothing else is.
+    pub fn step(&mut self, alloc: Global, event: &Event) -> Result<Option<Refusal>, WorldFault>
+        ensures ok { OnOk result ((w : World) → Mirrors self.old w → Mirrors self.new (happens w event.now)) }
+        ensures err { OnErr result (self.new ≡ self.old) }
+        ensures refusal { IfOk result (λ refusal. refusal ≡ refusal_of self.old event.now) }
+    {
+        match event {
+            Event::Submit { user, to, body } => self.submit(alloc, *user, *to, body),
+            Event::Deliver { number } => self.deliver(alloc, *number),
+            Event::Stop { actor, call, keep } => {
+                self.stop(*actor, *call, *keep);
+                Ok(None)
+            }
+            Event::Restart { actor } => match self.restart(alloc, *actor) {
+                Ok(()) => Ok(None),
+                Err(fault) => Err(fault),
+            },
+            Event::Decide { extent } => self.decide(alloc, *extent),
+            Event::GiveUp { .. } => Ok(None),
+            Event::Assign { .. } => Ok(None),
+            Event::Moment { .. } => Ok(None),
+        }
+    }
+
+    /// The map tells a server something. The packet is the next of those sent. An error is want of memory (22), and nothing
+    /// has changed.
+    pub fn tell(&mut self, server: ServerNo, body: MapBody) -> Result<(), WorldFault>
+        ensures ok { OnOk result (self.new ≡ record self.old { post = self.old.post ++ packet actors.Map (actors.Server server) (bodies.Map body) ∷ [] }) }
+        ensures err { OnErr result (self.new ≡ self.old) }
+    {
+        match self.send(ActorId::Map, ActorId::Server(server), Body::Map(body)) {
+            Ok(()) => Ok(()),
+            Err(fault) => Err(fault),
+        }
+    }
+
+    /// A server takes the packet of this number. The room for what it sends and shows, and the rows of a table that it shows,
+    /// are made before it makes its step. An error is want of memory (22), and nothing has changed.
+    pub fn give(
+        &mut self,
+        alloc: Global,
+        servers: &mut Servers,
+        server: ServerNo,
+        number: usize,
+    ) -> Result<(), WorldFault>
+        requires { number < length self.old.post }
+        ensures ok { OnOk result ((p : Packet) → slice_get self.old.post number ≡ Some p → TookPacket self.old self.new servers.old servers.new server p) }
+        ensures err { OnErr result (self.new ≡ self.old) }
+        ensures servers_err { OnErr result (servers.new ≡ servers.old) }
+    {
+        if let Err(_short) = make_room(&mut self.post) {
+            return Err(WorldFault::Memory);
+        }
+        if let Err(_short) = make_room(&mut self.notes) {
+            return Err(WorldFault::Memory);
+        }
+        match give(
+            servers,
+            alloc,
+            server,
+            &self.post[number],
+            self.notes.as_slice(),
+        ) {
+            Ok(given) => {
+                let Given { sent, rows } = given;
+                let Sent { packets, notes } = sent;
+                move_in(&mut self.post, packets);
+                show(alloc, &mut self.notes, notes, rows);
+                Ok(())
+            }
+            Err(_full) => Err(WorldFault::Memory),
+        }
+    }
+
+    /// A server gives up on what a range waits for. It answers why it does not: it does not hold the range (30). An error is
+    /// want of memory (22), and nothing has changed.
+    pub fn give_up(
+        &mut self,
+        alloc: Global,
+        servers: &mut Servers,
+        server: ServerNo,
+        range: RangeId,
+        pick: &Nodes,
+    ) -> Result<Option<Refusal>, WorldFault>
+        ensures ok { OnOk result (Took self.old self.new servers.new (server_gives_up servers.old server range pick.now)) }
+        ensures refusal { IfOk result (λ refusal. refusal ≡ give_up_refusal range pick.now (entry_at servers.old server)) }
+        ensures err { OnErr result (self.new ≡ self.old) }
+        ensures servers_err { OnErr result (servers.new ≡ servers.old) }
+    {
+        if let Err(_short) = make_room(&mut self.post) {
+            return Err(WorldFault::Memory);
+        }
+        if let Err(_short) = make_room(&mut self.notes) {
+            return Err(WorldFault::Memory);
+        }
+        match servers.give_up(alloc, server, range, pick) {
+            Ok(done) => {
+                let Surrender {
+                    sent: given,
+                    refusal,
+                } = done;
+                let Sent {
+                    packets: sent,
+                    notes: shown,
+                } = given;
+                move_in(&mut self.post, sent);
+                show(alloc, &mut self.notes, shown, Rows::of(Vec::new(alloc)));
+                Ok(refusal)
+            }
+            Err(_full) => Err(WorldFault::Memory),
+        }
+    }
+
+    /// All packets that were sent, in order: their places, from 0, are their numbers.
+    pub fn sent(&self) -> &[Packet]
+        ensures { result.now ≡ self.now.post }
+    {
+        self.post.as_slice()
+    }
+
+    /// All observations, in order.
+    pub fn observations(&self) -> &[Note]
+        ensures { result.now ≡ self.now.notes }
+    {
+        self.notes.as_slice()
+    }
+
+    /// The node of a number, from 1; none where it is stopped, or there is none.
+    pub fn node(&self, number: u8) -> Option<&Node<MemDisk>>
+        ensures { option_map (λ node. seen_of node.now) result ≡ running_at self.now.nodes number }
+    {
+        self.nodes.node(number)
+    }
+}

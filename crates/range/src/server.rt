@@ -1,0 +1,410 @@
+//! A partition server.
+ghost use Rattle.std.specs.Prelude.{◌≡◌, ◌<◌, ◌≤◌, ◌+◌, ◌^◌, ◌++◌, [], ◌∷◌, Some, None, Err, length, option_map, IfOk, OnErr};
+ghost use Rattle.model_tables.specs.Server.{map_row, new_range, table_row, numbered_row, has_numbers, moment_row, give_up_row, started, users_of, assign_row, renew_row, range_of, transacts_in, gets_in, answer_of, awaiting};
+ghost use Rattle.model_tables.specs.Answering as answering;
+ghost use Rattle.model_tables.specs.Cluster.{loads};
+ghost use Rattle.client.specs.Load.{open_packet};
+ghost use Rattle.model_tables.specs.Range.{refuses, request};
+ghost use Rattle.wire.specs.declared.refusal.Refusal.TheVariants.{NotOwner};
+ghost use Rattle.range.specs.Handled.{Handles, Step, IsShort, outcome};
+ghost use Rattle.range.specs.declared.fault.RangeFault.TheVariants as faults;
+
+use crate::answers::{answered_number, is_answerer};
+use crate::fault::RangeFault;
+use crate::sent::Sent;
+use crate::steps::{awaiting, put, refusal, settle};
+use blocks::Nodes;
+use bytes::Bytes;
+use cells::Cell;
+use model_tables::Desk;
+use range_core::RangeState;
+use std::alloc::{AllocError, Global};
+use std::collections::BTreeMap;
+use std::marker::Model;
+use wire::{
+    ActorId, Body, Changes, Fence, MapBody, Packet, RangeId, Refusal, ReqNo, ServerNo, StreamBody,
+    TableBody,
+};
+
+/// A partition server, from one start to the next stop.
+#[derive(Drop)]
+pub struct RangeServer {
+    desk: Desk,
+    ranges: BTreeMap<u64, RangeState>,
+}
+
+impl Model for RangeServer {
+    ghost use Rattle.model_tables.specs.Server.{ServerState};
+
+    ghost Value = { ServerState };
+
+    ghost view = { λ s. record { desk = s.desk; ranges = s.ranges.entries } };
+}
+
+/// Whether there are numbers for the requests of any one step.
+fn has_numbers(desk: &Desk) -> bool
+    ensures { result ≡ has_numbers desk.now }
+{
+    desk.count < u64::MAX - 1023
+}
+
+impl RangeServer {
+    /// A server that starts: it holds no range. `session` was never used by it before, `now` is the last moment, new extents
+    /// are made on the nodes of `pick`, the primary first, and a group holds at most `batch` transactions.
+    pub fn start(
+        alloc: Global,
+        server: ServerNo,
+        session: u64,
+        now: u64,
+        pick: Nodes,
+        batch: u16,
+    ) -> RangeServer
+        ensures { result ≡ started server session now pick batch }
+    {
+        RangeServer {
+            desk: Desk {
+                server,
+                session,
+                moment: now,
+                pick,
+                batch,
+                count: 1,
+            },
+            ranges: BTreeMap::new(alloc),
+        }
+    }
+
+    /// The clock of leases shows this. A moment that goes back changes nothing.
+    pub fn moment(&mut self, now: u64)
+        ensures { self.new ≡ moment_row self.old now }
+    {
+        self.desk.moment = self.desk.moment.max(now);
+    }
+
+    /// The entries of the table that an answer is about to show: those of the range whose load it confirms.
+    pub fn loading(&self, body: &Body) -> Option<&BTreeMap<Bytes, Cell>>
+        ensures { option_map (λ entries. entries.now.entries) result ≡ loads self.now body.now }
+    {
+        match body {
+            Body::Stream(StreamBody::Confirmed { request }) => {
+                let Some(range) = awaiting(&self.ranges, request) else {
+                    return None;
+                };
+                match self.ranges.get(&range) {
+                    None => None,
+                    Some(state) => Some(state.table().live()),
+                }
+            }
+            _ => None,
+        }
+    }
+
+    /// A transaction of a user.
+    #[tactic(auto, using(crate::proofs::Entries::removed_after, crate::proofs::Entries::set_same))]
+    fn transact(
+        &mut self,
+        alloc: Global,
+        packet: &Packet,
+        range: RangeId,
+        changes: &Changes,
+        request: &ReqNo,
+    ) -> Result<Sent, AllocError>
+        requires numbers { self.old.desk.count + 1024 < 2 ^ 64 }
+        ensures ok { IfOk result (λ t. transacts_in self.old packet.now range changes.now request.now (range_of self.old.ranges range) ≡ outcome t self.new) }
+        ensures err { OnErr result (self.new ≡ self.old) }
+        ensures short { IfOk result IsShort }
+    {
+        match self.ranges.get_mut(&range.number()) {
+            None => self.refuse(alloc, packet.from, request),
+            Some(state) => {
+                match state.transact(alloc, &self.desk, packet.from, request, changes) {
+                    Ok(taken) => Ok(settle(
+                        &mut self.ranges,
+                        &mut self.desk,
+                        range.number(),
+                        taken,
+                    )),
+                    Err(full) => Err(full),
+                }
+            }
+        }
+    }
+
+    /// A Get of a user.
+    #[tactic(auto, using(crate::proofs::Entries::removed_after, crate::proofs::Entries::set_same))]
+    fn get(
+        &mut self,
+        alloc: Global,
+        packet: &Packet,
+        range: RangeId,
+        key: &Bytes,
+        request: &ReqNo,
+    ) -> Result<Sent, AllocError>
+        requires numbers { self.old.desk.count + 1024 < 2 ^ 64 }
+        ensures ok { IfOk result (λ t. Step self.old self.new t (λ held. gets_in self.old packet.now range key.now request.now held (range_of self.old.ranges range))) }
+        ensures err { OnErr result (self.new ≡ self.old) }
+        ensures short { IfOk result IsShort }
+    {
+        match self.ranges.get_mut(&range.number()) {
+            None => self.refuse(alloc, packet.from, request),
+            Some(state) => {
+                match state.get(alloc, &self.desk, packet.from, request, key) {
+                    Ok(taken) => Ok(settle(
+                        &mut self.ranges,
+                        &mut self.desk,
+                        range.number(),
+                        taken,
+                    )),
+                    Err(full) => Err(full),
+                }
+            }
+        }
+    }
+
+    /// The answer of this number, which the range waits for.
+    #[tactic(auto, using(crate::proofs::Entries::removed_after, crate::proofs::Entries::set_same))]
+    fn answer(
+        &mut self,
+        alloc: Global,
+        packet: &Packet,
+        request: &ReqNo,
+    ) -> Result<Sent, AllocError>
+        requires numbers { self.old.desk.count + 1024 < 2 ^ 64 }
+        requires answer { answering.answered_number packet.now.body ≡ Some request.now }
+        ensures ok { IfOk result (λ t. Step self.old self.new t (λ held. answer_of self.old packet.now request.now held (awaiting self.old.ranges request.now))) }
+        ensures err { OnErr result (self.new ≡ self.old) }
+        ensures short { IfOk result IsShort }
+    {
+        let Some(range) = awaiting(&self.ranges, request) else {
+            return Ok(Sent::nothing(alloc));
+        };
+        match self.ranges.get_mut(&range) {
+            None => Ok(Sent::nothing(alloc)),
+            Some(state) => match state.answer(alloc, &self.desk, request, &packet.body) {
+                Ok(taken) => Ok(settle(&mut self.ranges, &mut self.desk, range, taken)),
+                Err(full) => Err(full),
+            },
+        }
+    }
+
+    /// An answer, or a packet that is none.
+    fn answered(&mut self, alloc: Global, packet: &Packet) -> Result<Sent, AllocError>
+        requires numbers { self.old.desk.count + 1024 < 2 ^ 64 }
+        ensures ok { IfOk result (λ t. Step self.old self.new t (λ held. numbered_row self.old packet.now held (answering.answered_number packet.now.body))) }
+        ensures err { OnErr result (self.new ≡ self.old) }
+        ensures short { IfOk result IsShort }
+    {
+        match answered_number(&packet.body) {
+            None => Ok(Sent::nothing(alloc)),
+            Some(request) => {
+                if !is_answerer(&packet.from, &packet.body) {
+                    return Ok(Sent::nothing(alloc));
+                }
+                self.answer(alloc, packet, &request)
+            }
+        }
+    }
+
+    /// What a user asks.
+    fn asked(
+        &mut self,
+        alloc: Global,
+        packet: &Packet,
+        body: &TableBody,
+    ) -> Result<Sent, AllocError>
+        requires numbers { self.old.desk.count + 1024 < 2 ^ 64 }
+        ensures ok { IfOk result (λ t. Step self.old self.new t (λ held. table_row self.old packet.now body.now held)) }
+        ensures err { OnErr result (self.new ≡ self.old) }
+        ensures short { IfOk result IsShort }
+    {
+        match body {
+            TableBody::Transact {
+                range,
+                changes,
+                request,
+            } => self.transact(alloc, packet, *range, changes, request),
+            TableBody::Get {
+                range,
+                key,
+                request,
+            } => self.get(alloc, packet, *range, key, request),
+            TableBody::Committed { .. } => Ok(Sent::nothing(alloc)),
+            TableBody::Value { .. } => Ok(Sent::nothing(alloc)),
+        }
+    }
+
+    /// The generation that is known of a range.
+    fn generation(&self, range: RangeId) -> Option<Fence>
+        ensures { result ≡ option_map (λ r. r.load.generation) (range_of self.now.ranges range) }
+    {
+        match self.ranges.get(&range.number()) {
+            None => None,
+            Some(state) => Some(state.generation()),
+        }
+    }
+
+    /// What those who wait for a range are told where it goes.
+    fn farewell(&self, alloc: Global, range: RangeId) -> Result<Vec<Packet>, AllocError>
+        ensures packets { IfOk result (λ packets. packets.items ≡ users_of self.now.desk (range_of self.now.ranges range)) }
+        ensures few { IfOk result (λ packets. length packets.items ≤ 1400) }
+    {
+        match self.ranges.get(&range.number()) {
+            None => Ok(Vec::new(alloc)),
+            Some(state) => match state.refusals(alloc, &self.desk) {
+                Ok(packets) => Ok(packets),
+                Err(full) => Err(full),
+            },
+        }
+    }
+
+    /// The range as it is once its streams are asked for, and what is sent: what those who waited are told, and the asking.
+    fn opening(
+        &self,
+        alloc: Global,
+        range: RangeId,
+        generation: Fence,
+        until: u64,
+    ) -> Result<(RangeState, Vec<Packet>), AllocError>
+        ensures state { IfOk result (λ x. x.0 ≡ new_range self.now.desk range generation until) }
+        ensures packets { IfOk result (λ x. x.1.items ≡ users_of self.now.desk (range_of self.now.ranges range)
+            ++ open_packet self.now.desk.server range generation (request self.now.desk) ∷ []) }
+        ensures few { IfOk result (λ x. length x.1.items ≤ 1401) }
+    {
+        let mut packets = self.farewell(alloc, range)?;
+        let (state, packet) = RangeState::assign(alloc, &self.desk, range, generation, until)?;
+        packets.push(packet)?;
+        Ok((state, packets))
+    }
+
+    /// What was known of the range goes, and its streams are opened.
+    fn assign(
+        &mut self,
+        alloc: Global,
+        range: RangeId,
+        generation: Fence,
+        until: u64,
+    ) -> Result<Sent, AllocError>
+        requires numbers { self.old.desk.count + 1024 < 2 ^ 64 }
+        ensures ok { IfOk result (λ t. assign_row self.old range generation until (range_of self.old.ranges range) ≡ outcome t self.new) }
+        ensures err { OnErr result (self.new ≡ self.old) }
+        ensures short { IfOk result IsShort }
+    {
+        if let Some(known) = self.generation(range) {
+            if known >= generation {
+                return Ok(Sent::nothing(alloc));
+            }
+        }
+        let (state, packets) = self.opening(alloc, range, generation, until)?;
+        put(&mut self.ranges, range.number(), state)?;
+        self.desk.count += 1;
+        Ok(Sent {
+            packets,
+            notes: Vec::new(alloc),
+        })
+    }
+
+    /// A lease's end never goes back.
+    #[tactic(auto, using(crate::proofs::Entries::set_same))]
+    fn renew(&mut self, range: RangeId, generation: Fence, until: u64)
+        ensures { renew_row self.old range generation until (range_of self.old.ranges range) ≡ record { after = self.new; packets = []; notes = [] } }
+    {
+        if let Some(state) = self.ranges.get_mut(&range.number()) {
+            if state.generation() == generation {
+                state.renew(until);
+            }
+        }
+    }
+
+    /// What the map tells.
+    fn told(&mut self, alloc: Global, from: ActorId, body: &MapBody) -> Result<Sent, AllocError>
+        requires numbers { self.old.desk.count + 1024 < 2 ^ 64 }
+        ensures ok { IfOk result (λ t. map_row self.old from body.now ≡ outcome t self.new) }
+        ensures err { OnErr result (self.new ≡ self.old) }
+        ensures short { IfOk result IsShort }
+    {
+        match from {
+            ActorId::Map => match body {
+                MapBody::Assign {
+                    range,
+                    generation,
+                    until,
+                } => self.assign(alloc, *range, *generation, *until),
+                MapBody::Renew {
+                    range,
+                    generation,
+                    until,
+                } => {
+                    self.renew(*range, *generation, *until);
+                    Ok(Sent::nothing(alloc))
+                }
+                _ => Ok(Sent::nothing(alloc)),
+            },
+            _ => Ok(Sent::nothing(alloc)),
+        }
+    }
+
+    /// What is done with a packet: the row of its body. An error is want of memory (22), and nothing has changed.
+    pub fn handle(&mut self, alloc: Global, packet: &Packet) -> Result<Sent, AllocError>
+        ensures ok { IfOk result (λ t. Handles self.old self.new packet.now t) }
+        ensures err { OnErr result (self.new ≡ self.old) }
+        ensures short { IfOk result IsShort }
+    {
+        if !has_numbers(&self.desk) {
+            return Ok(Sent::nothing(alloc));
+        }
+        match &packet.body {
+            Body::Append(_) => self.answered(alloc, packet),
+            Body::Check(_) => self.answered(alloc, packet),
+            Body::Seal(_) => self.answered(alloc, packet),
+            Body::Read(_) => self.answered(alloc, packet),
+            Body::Stream(_) => self.answered(alloc, packet),
+            Body::Map(body) => self.told(alloc, packet.from, body),
+            Body::Table(body) => self.asked(alloc, packet, body),
+        }
+    }
+
+    /// The jobs of a range give up on the answers that they wait for, and new extents are made on these nodes from now on.
+    /// 22: no memory. 30: the server does not hold the range. After a refusal nothing has changed.
+    #[tactic(auto, using(crate::proofs::Entries::removed_after, crate::proofs::Entries::set_same))]
+    pub fn give_up(
+        &mut self,
+        alloc: Global,
+        range: RangeId,
+        pick: &Nodes,
+    ) -> Result<Sent, RangeFault>
+        ensures ok { IfOk result (λ t. give_up_row self.old range pick.now ≡ Some (outcome t self.new)) }
+        ensures unknown { result ≡ Err faults.NotOwner → give_up_row self.old range pick.now ≡ None }
+        ensures err { OnErr result (self.new ≡ self.old) }
+        ensures short { IfOk result IsShort }
+    {
+        let told = Desk {
+            pick: *pick,
+            ..self.desk
+        };
+        match self.ranges.get_mut(&range.number()) {
+            None => Err(RangeFault::NotOwner),
+            Some(state) => {
+                if !has_numbers(&told) {
+                    self.desk = told;
+                    return Ok(Sent::nothing(alloc));
+                }
+                match state.give_up(alloc, &told) {
+                    Ok(taken) => {
+                        self.desk = told;
+                        Ok(settle(&mut self.ranges, &mut self.desk, range.number(), taken))
+                    }
+                    Err(_full) => Err(RangeFault::Memory),
+                }
+            }
+        }
+    }
+
+    fn refuse(&self, alloc: Global, to: ActorId, request: &ReqNo) -> Result<Sent, AllocError>
+        ensures packets { IfOk result (λ t. t ≡ record { packets = refuses self.now.desk to request.now NotOwner ∷ []; notes = [] }) }
+    {
+        let mut sent = Sent::nothing(alloc);
+        sent.packets
+            .push(refusal(&self.desk, to, request, Refusal::NotOwner))?;
+        Ok(sent)
+    }
+}

@@ -1,0 +1,14 @@
+//! What no clause of the formats of tables and of a server's client says: that their calls succeed where there is memory, and
+//! bytes written by hand. They stand here, so that no crate is proved a second time for its tests.
+#![tactic(auto)]
+
+#[cfg(test)]
+mod clients;
+#[cfg(test)]
+mod logs;
+#[cfg(test)]
+mod metadata_records;
+#[cfg(test)]
+mod tables;
+#[cfg(test)]
+mod values;

@@ -1,0 +1,38 @@
+//! What no clause says: that copies succeed, and the sizes of one cell of each kind.
+use bytes::Bytes;
+use cells::{Cell, Place, entry_size, is_large};
+use std::alloc::Global;
+use std::test::Fail;
+use wire::ExtentId;
+
+fn inline(alloc: Global, count: usize) -> Result<Cell, Fail> {
+    Ok(Cell::Inline(Bytes::from_vec(vec![in alloc; b'x'; count]?)?))
+}
+
+fn size_of_copy(cell: &Cell) -> Result<u64, Fail> {
+    Ok(cell.copy()?.size())
+}
+
+#[test]
+fn cells_have_their_sizes(rt: HostRuntime) -> Result<(), Fail> {
+    let place = Place {
+        extent: ExtentId::new(3),
+        offset: 4_096,
+        length: 5_000,
+    };
+    assert_eq!(rt; size_of_copy(&Cell::Deleted)?, 1);
+    assert_eq!(rt; size_of_copy(&Cell::Placed(place))?, 17);
+    assert_eq!(rt; size_of_copy(&inline(rt.alloc(), 4_096)?)?, 4_101);
+    Ok(())
+}
+
+#[test]
+fn an_entry_has_its_key_too(rt: HostRuntime) {
+    assert_eq!(rt; entry_size(b"abc", &Cell::Deleted), 6);
+}
+
+#[test]
+fn large_is_more_than_4096(rt: HostRuntime) {
+    assert!(rt; !is_large(&[0; 4_096]));
+    assert!(rt; is_large(&[0; 4_097]));
+}

@@ -1,0 +1,17 @@
+//! The partition servers of a stamp, each over its starts and stops.
+//!
+//! This crate touches memory only. `Servers` is the list of the servers as model_tables/specs/Cluster has it, and each call is
+//! a row of it exactly, but for what caches hold:
+//! - `start`: so many servers that run; `stop` and `restart`: what a server holds goes, and it comes back under another number.
+//! - `give` and `give_up`: what one server does; nothing where there is none of the number, or where it has stopped.
+//! - `loading`: the table that an answer to a server is about to show.
+//! - `moment`: the clock of leases, told to all.
+//!
+//! For want of memory (22) nothing has changed; that is the one error that no clause limits.
+#![tactic(auto)]
+
+mod cell;
+mod list;
+
+pub use cell::Surrender;
+pub use list::Servers;
