@@ -10,7 +10,7 @@ use Rattle.model.specs.Maps.{entry_at}
 use Rattle.model.specs.World.{delivered, delivered_if}
 use Rattle.model_tables.specs.Cluster.{Cluster, Held, ServerCell, goes_to, delivers, stops, restarts, comes, assign_fault, LeadTo, first_pick, first_server, first_servers, first_cluster}
 use Rattle.model_tables.specs.Log.{IsServed}
-use Rattle.model_tables.specs.Past.{Replays, Transaction, table_notes}
+use Rattle.model_tables.specs.Past.{Replays, Transaction}
 use Rattle.model_tables.specs.Server.{ServerState, started}
 use Rattle.model_tables.specs.Story.{KeepsOrder, Story}
 use Rattle.model_tables.specs.Turns.{after_all}
@@ -20,8 +20,10 @@ use Rattle.laws_loads.proofs.Renaming.{renamed_keeps}
 use Rattle.laws_runs.proofs.Below.{below_start}
 use Rattle.laws_serving.specs.Serves.{metadata_of, log_of}
 use Rattle.laws_streams.proofs.Tests.{contains_get}
+use Rattle.laws_tables.proofs.Others.{with_others}
 use Rattle.laws_tables.proofs.Theorem.{replays}
 use Rattle.laws_tables.proofs.Turns.{clients_keep_order}
+use Rattle.laws_clusters.specs.Orders.{ComesOfStreams}
 use Rattle.laws_clusters.proofs.Generations.{generation_at, plenty}
 use Rattle.laws_clusters.proofs.Layering.{happens_stands}
 use Rattle.laws_clusters.proofs.Resting.{stops_stand, starts_stand, moment_stands, assigns_stand}
@@ -143,16 +145,32 @@ module _ (nodes target : ℕ) where
 
   -- ---- what is shown
 
-  -- the tables that a cluster shows replay
-  stands_replays : (c : Cluster) → Stands c → Replays (table_notes c.world.notes)
+  -- what a cluster shows of tables comes of streams that keep their order
+  stands_ordered : (c : Cluster) → Stands c → ComesOfStreams c.world.notes
+  stands_ordered c x = record {
+    metadata = (after_all Group generation_at x.streams.m).state.story;
+    log = (after_all Group generation_at x.streams.l).state.story;
+    metadata_order = clients_keep_order Group generation_at x.streams.m x.streams.m_are;
+    log_order = clients_keep_order Group generation_at x.streams.l x.streams.l_are;
+    rows = x.rows;
+    told = x.tells;
+  }
+
+  -- what a cluster shows replays
+  stands_replays : (c : Cluster) → Stands c → Replays c.world.notes
   stands_replays c x =
       let raw : Story Group = (after_all Group generation_at x.streams.l).state.story in
       let story : Story (Numbered Transaction) = renamed decoded raw in
       let order : KeepsOrder story = renamed_keeps decoded raw (clients_keep_order Group generation_at x.streams.l x.streams.l_are) in
       let served : IsServed story = story_is_served generation_at x.streams.l x.streams.l_are x.streams.fit in
-      subst Replays (sym x.tells) (replays x.rows story x.shows served order)
+      with_others c.world.notes (subst Replays (sym x.tells) (replays x.rows story x.shows served order))
 
--- whatever happens, what a run with servers shows of tables replays
-pub led_replays : (nodes servers target batch : ℕ) (events : List Event) (c : Cluster) → LeadTo events (first_cluster nodes servers target batch) c → Replays (table_notes c.world.notes)
+-- whatever happens, what a run with servers shows replays
+pub led_replays : (nodes servers target batch : ℕ) (events : List Event) (c : Cluster) → LeadTo events (first_cluster nodes servers target batch) c → Replays c.world.notes
 led_replays nodes servers target batch events c led =
     stands_replays nodes target c (led_stands nodes target events (first_cluster nodes servers target batch) c led (first_stands nodes target servers batch))
+
+-- and comes of streams that keep their order
+pub led_ordered : (nodes servers target batch : ℕ) (events : List Event) (c : Cluster) → LeadTo events (first_cluster nodes servers target batch) c → ComesOfStreams c.world.notes
+led_ordered nodes servers target batch events c led =
+    stands_ordered nodes target c (led_stands nodes target events (first_cluster nodes servers target batch) c led (first_stands nodes target servers batch))

@@ -20,6 +20,3 @@ mod submitting;
 pub use fault::WorldFault;
 pub use setup::Setup;
 pub use stream_layer::Layer;
-
-#[cfg(test)]
-mod tests;

@@ -1,10 +1,10 @@
--- A run stays a run; what it shows of extents is honest, and what it shows of tables replays.
+-- A run stays a run; what it shows is honest, and replays.
 use Rattle.std.proofs.Common.{◌≡◌, ◌<◌, ◌+◌, ℕ, suc, List, [], ◌∷◌, ◌++◌, Result, Ok, Err, OnOk, OnErr, refl, sym, ap, ◌∙◌, subst, take, length, slice_index_or, arith}
 use Rattle.std.proofs.Math.Seq.{take-suc}
 use Rattle.model.specs.declared.event.Event.{Event}
 use Rattle.model.specs.Honest.{Agree, Kept}
 use Rattle.model_tables.specs.Cluster.{Cluster, Held, LeadTo, comes, first_cluster}
-use Rattle.model_tables.specs.Past.{Replays, table_notes}
+use Rattle.model_tables.specs.Past.{Replays}
 use Rattle.laws_servers.proofs.Moving.{led_by, moves_agree, moves_keep}
 use Rattle.laws_clusters.proofs.Whole.{led_replays as all_replays}
 use Rattle.layer.specs.declared.fault.WorldFault.{WorldFault}
@@ -42,9 +42,9 @@ pub led_keep : (nodes servers target batch : ℕ) (events : List Event) (x : Clu
 led_keep nodes servers target batch events x h =
     subst Kept (sym h.mirrors.layer.notes) (moves_keep nodes target h.cluster.world (led_by events (first_cluster nodes servers target batch) h.cluster h.led))
 
-pub led_replays : (nodes servers target batch : ℕ) (events : List Event) (x : ClusterState) → Led events (first_cluster nodes servers target batch) x → Replays (table_notes x.layer.notes)
+pub led_replays : (nodes servers target batch : ℕ) (events : List Event) (x : ClusterState) → Led events (first_cluster nodes servers target batch) x → Replays x.layer.notes
 led_replays nodes servers target batch events x h =
-    subst (λ notes. Replays (table_notes notes)) (sym h.mirrors.layer.notes) (all_replays nodes servers target batch events h.cluster h.led)
+    subst Replays (sym h.mirrors.layer.notes) (all_replays nodes servers target batch events h.cluster h.led)
 
 -- ---- runs
 
@@ -79,5 +79,5 @@ agrees x h = led_agree h.nodes h.servers h.target h.batch h.events x h.led
 pub keeps : (x : ClusterState) → IsRun x → Kept x.layer.notes
 keeps x h = led_keep h.nodes h.servers h.target h.batch h.events x h.led
 
-pub tables_replay : (x : ClusterState) → IsRun x → Replays (table_notes x.layer.notes)
+pub tables_replay : (x : ClusterState) → IsRun x → Replays x.layer.notes
 tables_replay x h = led_replays h.nodes h.servers h.target h.batch h.events x h.led

@@ -2,7 +2,7 @@
 ghost use Rattle.std.specs.Prelude.{◌≡◌, IfOk, OnOk, OnErr, option_map};
 ghost use Rattle.model.specs.Honest.{Agree, Kept};
 ghost use Rattle.model_tables.specs.Cluster.{first_cluster};
-ghost use Rattle.model_tables.specs.Past.{Replays, table_notes};
+ghost use Rattle.model_tables.specs.Past.{Replays};
 ghost use Rattle.layer.specs.Nodes.{seen_of, running_at};
 ghost use Rattle.world.specs.Cluster.{Came, ClusterMirrors, refusal_of};
 
@@ -71,7 +71,7 @@ impl Run {
         ensures notes { result.now ≡ self.now.layer.notes }
         ensures agree { Agree result.now }
         ensures kept { Kept result.now }
-        ensures replays { Replays (table_notes result.now) }
+        ensures replays { Replays result.now }
     {
         self.cluster.observations()
     }

@@ -2,7 +2,7 @@
 ghost use Rattle.std.specs.Prelude.{IfOk};
 ghost use Rattle.model.specs.Honest.{Agree, Kept};
 ghost use Rattle.model_tables.specs.Cluster.{first_cluster};
-ghost use Rattle.model_tables.specs.Past.{Replays, table_notes};
+ghost use Rattle.model_tables.specs.Past.{Replays};
 ghost use Rattle.world.specs.Cluster.{Led};
 
 // A function and a type of one module may not differ in case alone.
@@ -20,7 +20,7 @@ pub fn run(alloc: Global, setup: &Setup, events: &[Event]) -> Result<Finished, W
     ensures led { IfOk result (λ r. Led events.now (first_cluster setup.now.nodes setup.now.servers setup.now.target setup.now.batch) r) }
     ensures agree { IfOk result (λ r. Agree r.layer.notes) }
     ensures kept { IfOk result (λ r. Kept r.layer.notes) }
-    ensures replays { IfOk result (λ r. Replays (table_notes r.layer.notes)) }
+    ensures replays { IfOk result (λ r. Replays r.layer.notes) }
 {
     let mut made = Finished::start(alloc, setup)?;
     for event in events {

@@ -1,6 +1,6 @@
 use Rattle.std.proofs.Common.{sym, subst}
 use Rattle.model.specs.Honest.{Agree, Kept}
-use Rattle.model_tables.specs.Past.{Replays, table_notes}
+use Rattle.model_tables.specs.Past.{Replays}
 use Rattle.world.proofs.Honest.{agrees, keeps, tables_replay}
 use Rattle.world.proofs.running.Run.observations.Goals as goal
 
@@ -11,4 +11,4 @@ pub returns-clause-kept : goal.returns-clause-kept
 returns-clause-kept c = subst Kept (sym c.observations.ensures) (keeps c.self.inside.cluster c.self.invariant)
 
 pub returns-clause-replays : goal.returns-clause-replays
-returns-clause-replays c = subst (λ notes. Replays (table_notes notes)) (sym c.observations.ensures) (tables_replay c.self.inside.cluster c.self.invariant)
+returns-clause-replays c = subst Replays (sym c.observations.ensures) (tables_replay c.self.inside.cluster c.self.invariant)

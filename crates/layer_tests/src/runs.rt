@@ -1,11 +1,10 @@
-mod clients;
-
-use crate::{Layer, Setup};
+//! Runs of the stream layer: what is sent, decided and shown, and that each run is honest.
 use blocks::Nodes;
 use bytes::Bytes;
 use checker::check;
 use disk::MemDisk;
 use enode::Node;
+use layer::{Layer, Setup};
 use model::Event;
 use std::alloc::Global;
 use std::test::Fail;
@@ -14,7 +13,7 @@ use wire::{
     SealBody, StreamBody, StreamKind, StreamName,
 };
 
-const PLACES: Nodes = Nodes {
+pub(crate) const PLACES: Nodes = Nodes {
     primary: 1,
     second: 2,
     third: 3,
@@ -75,14 +74,14 @@ fn append(alloc: Global, to: ActorId) -> Result<Event, Fail> {
 }
 
 // These calls pass no contract on, so that a test is proved from what it reads alone.
-fn step(alloc: Global, run: &mut Layer, event: &Event) -> Result<Option<Refusal>, Fail> {
+pub(crate) fn step(alloc: Global, run: &mut Layer, event: &Event) -> Result<Option<Refusal>, Fail> {
     match run.step(alloc, event) {
         Ok(refusal) => Ok(refusal),
         Err(_fault) => Err(Fail::from("no memory was left")),
     }
 }
 
-fn started(alloc: Global) -> Result<Layer, Fail> {
+pub(crate) fn started(alloc: Global) -> Result<Layer, Fail> {
     let Some(setup) = Setup::new(3, 1, 4096, 1) else {
         return Err(Fail::from("no setup"));
     };
@@ -100,7 +99,11 @@ fn whole(alloc: Global, events: &[Event]) -> Result<Layer, Fail> {
     Ok(run)
 }
 
-fn deliver(alloc: Global, run: &mut Layer, number: usize) -> Result<Option<Refusal>, Fail> {
+pub(crate) fn deliver(
+    alloc: Global,
+    run: &mut Layer,
+    number: usize,
+) -> Result<Option<Refusal>, Fail> {
     let event = Event::Deliver { number };
     step(alloc, run, &event)
 }

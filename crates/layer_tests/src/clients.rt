@@ -1,8 +1,8 @@
 //! Clients of servers, driven by hand over real nodes and the real manager.
-use super::{PLACES, deliver, started, step};
-use crate::Layer;
+use crate::runs::{PLACES, deliver, started, step};
 use bytes::Bytes;
 use client::{LoadPhase, News, RangeLoad, Reaction, StreamClient};
+use layer::Layer;
 use model::Event;
 use std::alloc::Global;
 use std::test::Fail;
