@@ -1,4 +1,8 @@
-"""Measures appends to a node, whole scripts, seals, restarts, checks of observations, streams of many extents, transactions and loads, and a record file over a real file, in ratios."""
+"""Measures stampctl and bench, each figure for some size and for twice that size, and prints one table of ratios.
+
+Times are the least of several runs. A row is what was measured, the figure at N and at 2N, their ratio, and the most that the
+ratio may be. Nothing is tested here but that each run did what it was asked to do.
+"""
 import os
 import subprocess
 import sys
@@ -46,56 +50,31 @@ def told_micros(words, told):
     return min(found)
 
 
-def appends_to_a_node():
-    found = {}
-    for count in (10_000, 20_000):
-        seconds, peak, out = best([BENCH, "node", str(count)])
-        assert out.split()[1] == str(count).encode(), out
-        found[count] = seconds
-        print(f"node: {count} appends of 1 KiB: {seconds:.3f} s, peak {peak / (count * 1024):.2f} times the payload")
-    print(f"node: 2N over N: {found[20_000] / found[10_000]:.2f} (at most 2.3)")
+def answers(out, word):
+    """How many answers of a kind a script's output tells to its users: lines `user U TICKET WORD ..`."""
+    return sum(line.split()[3:4] == [word] for line in out.splitlines())
 
 
-def script_of(count):
-    """Appends of 1 KiB to extents on three nodes that all answer: a settle after each 64, an extent for each 16,000."""
-    lines = ["setup 3 1 16777216 1"]
-    for ticket in range(count):
+def settled(lines, requests, each):
+    """Lines of requests, each made of its number, with a settle behind so many of them and at the end."""
+    for number in range(requests):
+        yield from lines(number)
+        if number % each == each - 1:
+            yield "settle"
+    yield "settle"
+
+
+def appends_to_three_nodes(count):
+    """Appends of 1 KiB to extents on three nodes that all answer, an extent for each 16,000."""
+    def lines(ticket):
         stream, before = divmod(ticket, APPENDS_PER_STREAM)
         if before == 0:
-            lines += [f"user 1 create {stream}", "settle", f"user 1 extend {stream} none 1 2 3", "settle"]
-        lines.append(f"user 1 append 1 {stream + 1} 1024*a")
-        if ticket % APPENDS_PER_SETTLE == APPENDS_PER_SETTLE - 1:
-            lines.append("settle")
-    lines.append("settle")
-    return "\n".join(lines).encode()
+            yield from (f"user 1 create {stream}", "settle", f"user 1 extend {stream} none 1 2 3", "settle")
+        yield f"user 1 append 1 {stream + 1} 1024*a"
+    return "\n".join(["setup 3 1 16777216 1", *settled(lines, count, APPENDS_PER_SETTLE)]).encode()
 
 
-def answered(out):
-    """How many appends a script's output tells to its users: lines `user U TICKET appended O`."""
-    return sum(line.split()[3:4] == [b"appended"] for line in out.splitlines())
-
-
-def appends_to_three_nodes():
-    found = {}
-    for count in (10_000, 20_000):
-        seconds, peak, out = best([STAMPCTL], script_of(count))
-        assert answered(out) == count, (answered(out), count)
-        found[count] = seconds
-        print(f"script: {count} appends of 1 KiB, all answered: {seconds:.3f} s, "
-              f"{DELIVERIES_PER_APPEND * count / seconds:.0f} events delivered a second, "
-              f"peak {peak / (count * 1024):.2f} times the payload (at most 16)")
-    print(f"script: 2N over N: {found[20_000] / found[10_000]:.2f} (at most 2.3)")
-
-
-def restarts_of_a_node():
-    found = {}
-    for count in (100_000, 200_000):
-        found[count] = told_micros(["restart", str(count)], f"taken {count}")
-        print(f"restart: a node with {count} records of 1 KiB: {found[count] / 1e6:.3f} s")
-    print(f"restart: 2N over N: {found[200_000] / found[100_000]:.2f} (at most 2.3)")
-
-
-def seals_of(count):
+def seals_of_extents(count):
     """Extents of one stream, each filled with 64 appends of 1 KiB and sealed while the third place is cut off."""
     lines = ["setup 3 1 16777216 1", "user 1 create 0", "settle"]
     for extent in range(1, count + 1):
@@ -107,82 +86,93 @@ def seals_of(count):
     return "\n".join(lines).encode()
 
 
-def seals_of_extents():
-    found = {}
-    for count in (1_000, 2_000):
-        seconds, peak, out = best([STAMPCTL], seals_of(count))
-        sealed = sum(line.startswith(b"sealed ") and line.endswith(b" 65536") for line in out.splitlines())
-        assert sealed == count and answered(out) == 64 * count, (sealed, answered(out))
-        found[count] = (seconds, peak)
-        print(f"seals: {count} extents of 64 appends of 1 KiB: {seconds:.3f} s, peak {peak / (count * 65536):.2f} times the payload")
-    (few, little), (many, much) = found[1_000], found[2_000]
-    print(f"seals: 2N over N: {many / few:.2f} in time, {much / little:.2f} in memory (at most 2.3 each)")
-
-
-def check_of_observations():
-    found = {}
-    for count in (10_000, 20_000):
-        found[count] = told_micros(["check", str(count)], f"check {count} found none")
-        print(f"check: observations of {count} appends of 1 KiB: {found[count] / 1e6:.4f} s")
-    print(f"check: 2N over N: {found[20_000] / found[10_000]:.2f} (at most 2.5)")
-
-
-def streams_of_extents():
-    found = {}
-    for count in (5_000, 10_000):
-        found[count] = told_micros(["streams", str(count)], f"found {100 * count}")
-        print(f"streams: 100 streams of {count} extents, each extended and located: {found[count] / 1e6:.4f} s")
-    print(f"streams: 2N over N: {found[10_000] / found[5_000]:.2f} (at most 2.3)")
-
-
-def transactions_of(count, loads):
-    """Transactions of one put of 100 bytes on one range, a settle after each 256; then the server stops and the range is loaded
-    again, so many times."""
+def transactions_on_a_range(count, loads):
+    """Transactions of one put of 100 bytes on one range; then the server stops and the range is loaded again, so many times."""
     lines = ["setup 3 1 16777216 64", "moment 1", "assign 1 1 1000000", "settle"]
-    for number in range(count):
-        lines.append(f"user 1 tx 1 1 +k{number:06}=100*x")
-        if number % TRANSACTIONS_PER_SETTLE == TRANSACTIONS_PER_SETTLE - 1:
-            lines.append("settle")
-    lines.append("settle")
+    lines += settled(lambda number: [f"user 1 tx 1 1 +k{number:06}=100*x"], count, TRANSACTIONS_PER_SETTLE)
     lines += ["stop s1 0 drop", "restart s1", "assign 1 1 1000000", "settle"] * loads
     return "\n".join(lines).encode()
 
 
-def transactions_on_a_range():
-    found = {}
-    for count in (20_000, 40_000):
-        seconds, peak, out = best([STAMPCTL], transactions_of(count, 0))
-        committed = sum(line.split()[3:4] == [b"committed"] for line in out.splitlines())
-        assert committed == count, (committed, count)
-        more, _, out = best([STAMPCTL], transactions_of(count, LOADS))
-        loaded = f"loaded 1 {LOADS + 1} {count + 1} {count}".encode()
-        assert out.splitlines()[-1] == loaded, out.splitlines()[-1]
-        found[count] = (seconds, peak, (more - seconds) / LOADS)
-        print(f"transactions: {count} of one put of 100 bytes: {seconds:.3f} s, {count / seconds:.0f} a second, "
-              f"peak {peak / (count * 100):.1f} times the values; a load of them: {(more - seconds) / LOADS:.3f} s")
-    (few, little, short), (many, much, long) = found[20_000], found[40_000]
-    print(f"transactions: 2N over N: {many / few:.2f} in time, {much / little:.2f} in memory, {long / short:.2f} for a load "
-          "(at most 2.3 each)")
+def node(count):
+    seconds, peak, out = best([BENCH, "node", str(count)])
+    assert out.split()[1] == str(count).encode(), out
+    return [seconds, peak / (count * 1024)]
+
+
+def script(count):
+    seconds, peak, out = best([STAMPCTL], appends_to_three_nodes(count))
+    assert answers(out, b"appended") == count, out[-80:]
+    return [seconds, DELIVERIES_PER_APPEND * count / seconds, peak / (count * 1024)]
+
+
+def seals(count):
+    seconds, peak, out = best([STAMPCTL], seals_of_extents(count))
+    sealed = sum(line.startswith(b"sealed ") and line.endswith(b" 65536") for line in out.splitlines())
+    assert sealed == count and answers(out, b"appended") == 64 * count, sealed
+    return [seconds, peak / (count * 65536)]
+
+
+def restart(count):
+    return [told_micros(["restart", str(count)], f"taken {count}") / 1e6]
+
+
+def check(count):
+    return [told_micros(["check", str(count)], f"check {count} found none") / 1e6]
+
+
+def streams(count):
+    return [told_micros(["streams", str(count)], f"found {100 * count}") / 1e6]
+
+
+def transactions(count):
+    seconds, peak, out = best([STAMPCTL], transactions_on_a_range(count, 0))
+    assert answers(out, b"committed") == count, out[-80:]
+    more, _, out = best([STAMPCTL], transactions_on_a_range(count, LOADS))
+    assert out.splitlines()[-1] == f"loaded 1 {LOADS + 1} {count + 1} {count}".encode(), out[-80:]
+    return [seconds, count / seconds, peak / (count * 100), (more - seconds) / LOADS]
+
+
+# What is measured, N, and of each figure its name, its unit, and the most that the ratio of 2N to N may be, where it has one.
+MEASURES = [
+    (node, "appends of 1 KiB to one node", 10_000, [("time", "s", 2.3), ("peak over payload", "", None)]),
+    (script, "appends of 1 KiB to three nodes, by a script", 10_000,
+     [("time", "s", 2.3), ("deliveries a second", "", None), ("peak over payload", "", None)]),
+    (seals, "extents of 64 appends, sealed with a node cut off", 1_000, [("time", "s", 2.3), ("peak over payload", "", None)]),
+    (restart, "records of 1 KiB at a node's restart", 100_000, [("time", "s", 2.3)]),
+    (check, "acknowledged appends whose observations are checked", 10_000, [("time", "s", 2.5)]),
+    (streams, "extents in each of 100 streams, added and found", 5_000, [("time", "s", 2.3)]),
+    (transactions, "transactions of one put of 100 bytes on one range", 20_000,
+     [("time", "s", 2.3), ("transactions a second", "", None), ("peak over values", "", None), ("time of a load", "s", 2.3)]),
+]
+
+
+def figure(value, unit):
+    return f"{value:,.0f}" if value >= 1_000 else f"{value:.3g} {unit}".strip()
+
+
+def table():
+    yield "| What | N | Figure | at N | at 2N | 2N over N | at most |"
+    yield "|---|---|---|---|---|---|---|"
+    for measure, what, count, figures in MEASURES:
+        once, twice = measure(count), measure(2 * count)
+        for (name, unit, most), small, great in zip(figures, once, twice):
+            limit = most if most else "-"
+            yield f"| {what} | {count:,} | {name} | {figure(small, unit)} | {figure(great, unit)} | {great / small:.2f} | {limit} |"
+    yield record_file()
 
 
 def record_file():
+    """A record file over a real file, over a plain write and two syncs of the same bytes, by turns: the middle of some."""
+    ratios = []
     with tempfile.TemporaryDirectory() as folder:
-        ratios = []
         for turn in range(ROUNDS):
-            path = os.path.join(folder, f"records{turn}")
-            _, _, out = run([BENCH, "file", "500", path])
-            words = out.split()
+            words = run([BENCH, "file", "500", os.path.join(folder, f"records{turn}")])[2].split()
             ratios.append(int(words[1]) / int(words[3]))
-        ratios.sort()
-        print(f"file: appends over a plain write and two syncs: {ratios[len(ratios) // 2]:.2f} (at most 1.3); all: "
-              + " ".join(f"{r:.2f}" for r in ratios))
+    ratios.sort()
+    return (f"| records of 1 KiB over a real file, over a plain write and two syncs | 500 | time | "
+            f"{ratios[0]:.2f} to {ratios[-1]:.2f} | - | {ratios[len(ratios) // 2]:.2f} | 1.3 |")
 
 
-appends_to_a_node()
-appends_to_three_nodes()
-seals_of_extents()
-restarts_of_a_node()
-check_of_observations()
-streams_of_extents()
-transactions_on_a_range()
-record_file()
+for row in table():
+    print(row, flush=True)

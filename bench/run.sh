@@ -1,5 +1,5 @@
 #!/usr/bin/env bash
-# Runs all measurements and prints ratios. Times vary; nothing is tested here.
+# Proves and builds what is measured where that is not done yet, runs all measurements, and prints one table of ratios.
 set -euo pipefail
 cd "$(dirname "$0")/.."
 (cd crates/bench && rt run > /dev/null)

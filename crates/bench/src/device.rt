@@ -82,6 +82,27 @@ fn write_plainly(file: &fs::File, text: &[u8], from: u64, count: u64) -> io::Res
     Ok(())
 }
 
+/// Appends and writes plainly by turns, so many of each a turn; the microseconds of all appends, and of all plain writes.
+fn by_turns<R: AllocGlobal + Clock>(
+    rt: &R,
+    records: &mut RecordFile<FileDisk>,
+    plain: &fs::File,
+    text: &[u8],
+    turn: u64,
+) -> Result<(u128, u128), Failure> {
+    let mut appends = 0u128;
+    let mut writes = 0u128;
+    for done in 0..TURNS {
+        let start = Instant::now(rt)?;
+        append_records(rt.alloc(), turn, records)?;
+        appends = appends.saturating_add(start.elapsed(rt)?.as_micros());
+        let start = Instant::now(rt)?;
+        write_plainly(plain, text, done.wrapping_mul(turn), turn)?;
+        writes = writes.saturating_add(start.elapsed(rt)?.as_micros());
+    }
+    Ok((appends, writes))
+}
+
 /// Appends and writes plainly by turns, a tenth of the count each, so that both meet the same device. Prints how long the
 /// appends took in all, and the plain writes.
 pub fn measure<R: AllocGlobal + Clock + Files<File = fs::File> + Print>(
@@ -93,16 +114,7 @@ pub fn measure<R: AllocGlobal + Clock + Files<File = fs::File> + Print>(
     let text = text_of(rt.alloc())?;
     let plain = fs::create(rt, &format!(in rt.alloc(); "{path}.plain")?)?;
     let turn = count / TURNS;
-    let mut appends = 0u128;
-    let mut writes = 0u128;
-    for done in 0..TURNS {
-        let start = Instant::now(rt)?;
-        append_records(rt.alloc(), turn, &mut records)?;
-        appends = appends.saturating_add(start.elapsed(rt)?.as_micros());
-        let start = Instant::now(rt)?;
-        write_plainly(&plain, &text, done.wrapping_mul(turn), turn)?;
-        writes = writes.saturating_add(start.elapsed(rt)?.as_micros());
-    }
+    let (appends, writes) = by_turns(rt, &mut records, &plain, text.as_slice(), turn)?;
     rt.println(format_args!("appends {appends} plain {writes}"))?;
     Ok(())
 }

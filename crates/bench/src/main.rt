@@ -30,7 +30,15 @@ fn run<R: AllocGlobal + Env + Files<File = fs::File> + Clock + Print>(
     for word in &words {
         texts.push(word.as_str())?;
     }
-    match texts.as_slice() {
+    measured(rt, texts.as_slice())
+}
+
+/// Measures what the words name.
+fn measured<R: AllocGlobal + Files<File = fs::File> + Clock + Print>(
+    rt: &R,
+    words: &[&str],
+) -> Result<ExitCode, Failure> {
+    match words {
         [_] => {
             let taken = node::appended(rt.alloc(), 10)?;
             rt.println(format_args!("taken {taken}"))?;

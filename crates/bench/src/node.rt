@@ -2,12 +2,12 @@
 use crate::error::Failure;
 use blocks::{Nodes, Version};
 use bytes::Bytes;
-use disk::{MemDisk, RecordFile};
+use disk::{DiskFault, MemDisk, RecordFile};
 use enode::Node;
 use std::alloc::Global;
 use std::rt::Clock;
 use std::time::Instant;
-use wire::{ActorId, AppendBody, Blocks, Body, ExtentId, Fence, Packet, ReqNo, SealBody};
+use wire::{ActorId, AppendBody, Blocks, Body, ExtentId, Fence, Packet, ReqNo, SealBody, Step};
 
 /// So many appends wait at a primary for its secondaries, and no more.
 const WAITING: u64 = 256;
@@ -45,6 +45,15 @@ fn append(alloc: Global, extent: ExtentId, ticket: u64) -> Result<Packet, Failur
     })
 }
 
+/// How many packets the node sends for this one, which is handed over whole: a local that lives on is dropped at each exit.
+fn given(node: &mut Node<MemDisk>, alloc: Global, packet: Packet) -> Result<usize, DiskFault> {
+    Ok(packets_of(node.handle(alloc, &packet)?))
+}
+
+fn packets_of(step: Step) -> usize {
+    step.packets.as_slice().len()
+}
+
 /// A new node to which groups of 1 KiB were appended, and how many were taken: so many sent their Puts.
 fn filled(alloc: Global, count: u64) -> Result<(Node<MemDisk>, u64), Failure> {
     let disk = RecordFile::format(Version::V1, MemDisk::new(alloc))?.into_disk();
@@ -53,10 +62,9 @@ fn filled(alloc: Global, count: u64) -> Result<(Node<MemDisk>, u64), Failure> {
     for ticket in 0..count {
         let extent = ExtentId::new(ticket / WAITING);
         if ticket % WAITING == 0 {
-            node.handle(alloc, &make(extent))?;
+            given(&mut node, alloc, make(extent))?;
         }
-        let step = node.handle(alloc, &append(alloc, extent, ticket)?)?;
-        if step.packets.as_slice().len() == 2 {
+        if given(&mut node, alloc, append(alloc, extent, ticket)?)? == 2 {
             taken = taken.saturating_add(1);
         }
     }

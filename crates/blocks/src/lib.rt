@@ -31,6 +31,3 @@ pub use limits::{MAX_BLOCK, MAX_BLOCKS, MAX_GROUP, MAX_NODE, MAX_TARGET, MIN_TAR
 pub use reading::{decode, decode_as, one_spelling};
 pub use record::{Nodes, Record, Version};
 pub use writing::{encode, encode_as};
-
-#[cfg(test)]
-mod tests;

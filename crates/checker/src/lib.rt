@@ -10,6 +10,3 @@ mod search;
 mod texts;
 
 pub use search::check;
-
-#[cfg(test)]
-mod tests;

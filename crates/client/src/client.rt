@@ -56,12 +56,7 @@ pub(crate) fn is_idle(job: Job) -> bool
 {
     match job {
         Job::Idle => true,
-        Job::Sent { .. } => false,
-        Job::Closing { .. } => false,
-        Job::Growing { .. } => false,
-        Job::Checking { .. } => false,
-        Job::Shutting { .. } => false,
-        Job::Reading { .. } => false,
+        _ => false,
     }
 }
 

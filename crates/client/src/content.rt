@@ -18,12 +18,7 @@ fn reading(job: Job) -> Option<(ExtentId, u32)>
 {
     match job {
         Job::Reading { extent, upto, .. } => Some((extent, upto)),
-        Job::Idle => None,
-        Job::Sent { .. } => None,
-        Job::Closing { .. } => None,
-        Job::Growing { .. } => None,
-        Job::Checking { .. } => None,
-        Job::Shutting { .. } => None,
+        _ => None,
     }
 }
 

@@ -1,12 +1,12 @@
 //! What a client does with an answer.
-ghost use Rattle.std.specs.Prelude.{◌≡◌, Some, None, true, IfOk, OnErr};
+ghost use Rattle.std.specs.Prelude.{◌≡◌, Some, None, true, IfOk, OnOk, OnErr};
 ghost use Rattle.client.specs.Client.{awaits, needs_memory, stream_needs_memory, sealed_last, refused_job, append_reply, check_reply, seal_reply, read_reply, stream_reply, reply_row, appended_job, checked_job, sealed_job, groups_job, extended_job, appends_again, ends, waits};
 ghost use Rattle.wire.specs.declared.refusal.Refusal.TheVariants as refusals;
 
 use crate::client::StreamClient;
 use crate::job::{Job, News, Reaction};
 use crate::requests::is_same;
-use crate::sending::append_packet;
+use crate::sending::sent_append;
 use blocks::Nodes;
 use std::alloc::{AllocError, Global};
 use wire::{
@@ -88,12 +88,7 @@ fn left(client: &mut StreamClient, request: &ReqNo) -> Reaction
     let job = client.job;
     match job {
         Job::Sent { extent, .. } => asks(client.close(extent, request)),
-        Job::Idle => stays(client),
-        Job::Closing { .. } => stays(client),
-        Job::Growing { .. } => stays(client),
-        Job::Checking { .. } => stays(client),
-        Job::Shutting { .. } => stays(client),
-        Job::Reading { .. } => stays(client),
+        _ => stays(client),
     }
 }
 
@@ -114,12 +109,7 @@ fn appended(client: &mut StreamClient, alloc: Global, offset: u32) -> Reaction
     let job = client.job;
     match job {
         Job::Sent { extent, .. } => end(client, alloc, News::Appended { extent, offset }),
-        Job::Idle => stays(client),
-        Job::Closing { .. } => stays(client),
-        Job::Growing { .. } => stays(client),
-        Job::Checking { .. } => stays(client),
-        Job::Shutting { .. } => stays(client),
-        Job::Reading { .. } => stays(client),
+        _ => stays(client),
     }
 }
 
@@ -151,9 +141,7 @@ fn append_reply(
             }
             refused(client, alloc, request, *refusal)
         }
-        AppendBody::Append { .. } => stays(client),
-        AppendBody::Put { .. } => stays(client),
-        AppendBody::Have { .. } => stays(client),
+        _ => stays(client),
     }
 }
 
@@ -175,12 +163,7 @@ fn checked(
                 end(client, alloc, News::Checked { extent, length })
             }
         },
-        Job::Idle => stays(client),
-        Job::Sent { .. } => stays(client),
-        Job::Closing { .. } => stays(client),
-        Job::Growing { .. } => stays(client),
-        Job::Shutting { .. } => stays(client),
-        Job::Reading { .. } => stays(client),
+        _ => stays(client),
     }
 }
 
@@ -202,9 +185,7 @@ fn check_reply(
             }
             checked(client, alloc, request, *length)
         }
-        CheckBody::Check { .. } => stays(client),
-        CheckBody::Probe { .. } => stays(client),
-        CheckBody::Probed { .. } => stays(client),
+        _ => stays(client),
     }
 }
 
@@ -222,11 +203,7 @@ fn sealed(client: &mut StreamClient, alloc: Global, request: &ReqNo, length: u32
             seal_last(&mut client.extents, length);
             end(client, alloc, News::Sealed { extent, length })
         }
-        Job::Idle => stays(client),
-        Job::Sent { .. } => stays(client),
-        Job::Growing { .. } => stays(client),
-        Job::Checking { .. } => stays(client),
-        Job::Reading { .. } => stays(client),
+        _ => stays(client),
     }
 }
 
@@ -249,15 +226,7 @@ fn seal_reply(
             }
             sealed(client, alloc, request, *length)
         }
-        SealBody::Make { .. } => stays(client),
-        SealBody::SealExtent { .. } => stays(client),
-        SealBody::Freeze { .. } => stays(client),
-        SealBody::Frozen { .. } => stays(client),
-        SealBody::Seal { .. } => stays(client),
-        SealBody::IsSealed { .. } => stays(client),
-        SealBody::Short { .. } => stays(client),
-        SealBody::SendTail { .. } => stays(client),
-        SealBody::Tail { .. } => stays(client),
+        _ => stays(client),
     }
 }
 
@@ -267,12 +236,7 @@ fn groups(client: &mut StreamClient, alloc: Global) -> Reaction
     let job = client.job;
     match job {
         Job::Reading { extent, upto, .. } => end(client, alloc, News::Content { extent, upto }),
-        Job::Idle => stays(client),
-        Job::Sent { .. } => stays(client),
-        Job::Closing { .. } => stays(client),
-        Job::Growing { .. } => stays(client),
-        Job::Checking { .. } => stays(client),
-        Job::Shutting { .. } => stays(client),
+        _ => stays(client),
     }
 }
 
@@ -289,35 +253,20 @@ fn read_reply(client: &mut StreamClient, alloc: Global, body: &ReadBody) -> Reac
             }
             groups(client, alloc)
         }
-        ReadBody::ReadAt { .. } => stays(client),
-        ReadBody::Bytes { .. } => stays(client),
-        ReadBody::ReadGroups { .. } => stays(client),
+        _ => stays(client),
     }
 }
 
-/// The group goes to the extent that was made for it. What takes memory comes first.
-fn append_again(
+/// The extent that was made stands last, of it nothing was checked, and the append is out to it.
+fn sends_to(
     client: &mut StreamClient,
-    alloc: Global,
     request: &ReqNo,
     extent: ExtentId,
     places: &Nodes,
-) -> Result<Reaction, AllocError>
-    ensures ok { IfOk result (λ r. appends_again client.old request.now extent places.now ≡ record { after = client.new; packet = r.packet; news = r.news }) }
+) -> Result<(), AllocError>
+    ensures ok { OnOk result (client.new ≡ (appends_again client.old request.now extent places.now).after) }
     ensures err { OnErr result (client.new ≡ client.old) }
 {
-    let packet = match append_packet(
-        alloc,
-        client.server,
-        places.primary,
-        extent,
-        client.generation,
-        &client.group,
-        request,
-    ) {
-        Ok(packet) => packet,
-        Err(full) => return Err(full),
-    };
     let added = StreamExtent {
         extent,
         places: *places,
@@ -332,7 +281,35 @@ fn append_again(
         extent,
         request: *request,
     };
-    Ok(asks(packet))
+    Ok(())
+}
+
+/// The group goes to the extent that was made for it, and shares its bytes. What takes memory comes first.
+fn append_again(
+    client: &mut StreamClient,
+    alloc: Global,
+    request: &ReqNo,
+    extent: ExtentId,
+    places: &Nodes,
+) -> Result<Reaction, AllocError>
+    ensures ok { IfOk result (λ r. appends_again client.old request.now extent places.now ≡ record { after = client.new; packet = r.packet; news = r.news }) }
+    ensures err { OnErr result (client.new ≡ client.old) }
+{
+    let blocks = match client.group.copy(alloc) {
+        Ok(blocks) => blocks,
+        Err(full) => return Err(full),
+    };
+    match sends_to(client, request, extent, places) {
+        Ok(()) => Ok(asks(sent_append(
+            client.server,
+            places.primary,
+            extent,
+            client.generation,
+            blocks,
+            request,
+        ))),
+        Err(full) => Err(full),
+    }
 }
 
 fn extended(
@@ -348,12 +325,7 @@ fn extended(
     let job = client.job;
     match job {
         Job::Growing { .. } => append_again(client, alloc, request, extent, places),
-        Job::Idle => Ok(stays(client)),
-        Job::Sent { .. } => Ok(stays(client)),
-        Job::Closing { .. } => Ok(stays(client)),
-        Job::Checking { .. } => Ok(stays(client)),
-        Job::Shutting { .. } => Ok(stays(client)),
-        Job::Reading { .. } => Ok(stays(client)),
+        _ => Ok(stays(client)),
     }
 }
 
@@ -378,17 +350,7 @@ fn stream_reply(
             }
             extended(client, alloc, request, *extent, places)
         }
-        StreamBody::CreateStream { .. } => Ok(stays(client)),
-        StreamBody::Created { .. } => Ok(stays(client)),
-        StreamBody::OpenStreams { .. } => Ok(stays(client)),
-        StreamBody::Opened { .. } => Ok(stays(client)),
-        StreamBody::Confirm { .. } => Ok(stays(client)),
-        StreamBody::Confirmed { .. } => Ok(stays(client)),
-        StreamBody::Extend { .. } => Ok(stays(client)),
-        StreamBody::Trim { .. } => Ok(stays(client)),
-        StreamBody::Trimmed { .. } => Ok(stays(client)),
-        StreamBody::MultiModify { .. } => Ok(stays(client)),
-        StreamBody::Modified { .. } => Ok(stays(client)),
+        _ => Ok(stays(client)),
     }
 }
 
@@ -409,7 +371,6 @@ pub(crate) fn reply(
         Body::Seal(body) => Ok(seal_reply(client, alloc, request, body)),
         Body::Read(body) => Ok(read_reply(client, alloc, body)),
         Body::Stream(body) => stream_reply(client, alloc, request, body),
-        Body::Map(_body) => Ok(stays(client)),
-        Body::Table(_body) => Ok(stays(client)),
+        _ => Ok(stays(client)),
     }
 }

@@ -19,21 +19,18 @@ pub(crate) fn is_same(one: &ReqNo, other: &ReqNo) -> bool
                 session: of,
                 count: number,
             } => server.number() == to.number() && *session == *of && *count == *number,
-            ReqNo::User { .. } => false,
-            ReqNo::NoRequest => false,
+            _ => false,
         },
         ReqNo::User { user, ticket } => match other {
-            ReqNo::Server { .. } => false,
             ReqNo::User {
                 user: of,
                 ticket: number,
             } => *user == *of && *ticket == *number,
-            ReqNo::NoRequest => false,
+            _ => false,
         },
         ReqNo::NoRequest => match other {
-            ReqNo::Server { .. } => false,
-            ReqNo::User { .. } => false,
             ReqNo::NoRequest => true,
+            _ => false,
         },
     }
 }

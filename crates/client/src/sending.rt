@@ -1,5 +1,5 @@
 //! What a server sends for a stream.
-ghost use Rattle.std.specs.Prelude.{◌≡◌, IfOk};
+ghost use Rattle.std.specs.Prelude.{◌≡◌};
 ghost use Rattle.wire.specs.declared.actor.ActorId.TheVariants.{Node, Manager};
 ghost use Rattle.wire.specs.declared.body.AppendBody.TheVariants as appends;
 ghost use Rattle.wire.specs.declared.body.CheckBody.TheVariants as checks;
@@ -12,7 +12,6 @@ ghost use Rattle.client.specs.Requests.{from_server};
 
 use crate::job::Place;
 use blocks::Nodes;
-use std::alloc::{AllocError, Global};
 use wire::{
     ActorId, AppendBody, Blocks, Body, CheckBody, ExtentId, Fence, Packet, ReadBody, ReqNo,
     SealBody, ServerNo, StreamBody, StreamName,
@@ -47,22 +46,6 @@ pub(crate) fn sent_append(
         request: *request,
     });
     sent(server, ActorId::Node(primary), body)
-}
-
-/// An append to the primary. It shares the bytes of the blocks.
-pub(crate) fn append_packet(
-    alloc: Global,
-    server: ServerNo,
-    primary: u8,
-    extent: ExtentId,
-    generation: Fence,
-    group: &Blocks,
-    request: &ReqNo,
-) -> Result<Packet, AllocError>
-    ensures { IfOk result (λ p. p ≡ from_server server (Node primary) (bodies.Append (appends.Append extent generation group.now request.now))) }
-{
-    let blocks = group.copy(alloc)?;
-    Ok(sent_append(server, primary, extent, generation, blocks, request))
 }
 
 /// The check of an extent's length, to its primary.

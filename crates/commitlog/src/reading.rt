@@ -1,6 +1,6 @@
 //! Reading a record from a group. Each reader is the function on lists of specs/Reading.antt that its clause cites.
 ghost use Rattle.std.specs.Prelude.{◌≡◌, ◌<◌, ℕ, List, Some, slice_index, IfOk, MatchResult};
-ghost use Rattle.blocks.specs.Format.{Gives, many_at};
+ghost use Rattle.blocks.specs.Format.{Gives, bytes_at, many_at};
 ghost use Rattle.blocks.specs.Reading.{is_within};
 ghost use Rattle.commitlog.specs.declared.log_record.LogRecord.{LogRecord};
 ghost use Rattle.commitlog.specs.Record.{piece_count, spelling, Fits};
@@ -9,42 +9,62 @@ ghost use Rattle.commitlog.specs.Reading.{counted_at, is_small, large_at, fields
 use crate::log_record::{LogRecord, Transactions};
 use crate::text_cell::{TextCell, TextChanges};
 use crate::values::transactions_of;
-use blocks::reader::{bytes_of, ended, u8_at, u16_at, u32_at, u64_at};
+use blocks::reader::{ended, u8_at, u16_at, u32_at, u64_at};
 use blocks::{Block, BlockFault, Group, MAX_BLOCK};
 use bytes::Bytes;
 use cells::{MAX_BATCH, MAX_CHANGES, MAX_INLINE, MAX_KEY, MAX_VALUE};
 use std::alloc::Global;
 
+/// A copy of so many bytes, and the bytes behind them.
+fn copied_of(alloc: Global, len: usize, bytes: &[u8]) -> Result<(Bytes, &[u8]), BlockFault>
+    ensures { Gives (λ x. (x.0, x.1.now)) result (bytes_at len bytes.now) }
+{
+    if bytes.len() < len {
+        return Err(BlockFault::Damaged);
+    }
+    let (front, rest) = bytes.split_at(len);
+    match Bytes::copy_from_slice(alloc, front) {
+        Ok(copy) => Ok((copy, rest)),
+        Err(_full) => Err(BlockFault::Memory),
+    }
+}
+
 #[tactic(auto, unfolding(crate::specs::Reading::counted_at))]
 fn key_of(alloc: Global, bytes: &[u8]) -> Result<(Bytes, &[u8]), BlockFault>
     ensures { Gives (λ x. (x.0, x.1.now)) result (counted_at 2 (is_within 1 256) bytes.now) }
 {
-    let (len, rest) = u16_at(bytes)?;
+    let Ok((len, rest)) = u16_at(bytes) else {
+        return Err(BlockFault::Damaged);
+    };
     if !(1..=MAX_KEY).contains(&(len as usize)) {
         return Err(BlockFault::Damaged);
     }
-    let (key, rest) = bytes_of(len as usize, rest)?;
-    Ok((Bytes::copy_from_slice(alloc, key)?, rest))
+    copied_of(alloc, len as usize, rest)
 }
 
 #[tactic(auto, unfolding(crate::specs::Reading::counted_at))]
 fn inline_of(alloc: Global, bytes: &[u8]) -> Result<(Bytes, &[u8]), BlockFault>
     ensures { Gives (λ x. (x.0, x.1.now)) result (counted_at 4 is_small bytes.now) }
 {
-    let (len, rest) = u32_at(bytes)?;
+    let Ok((len, rest)) = u32_at(bytes) else {
+        return Err(BlockFault::Damaged);
+    };
     if len as usize > MAX_INLINE {
         return Err(BlockFault::Damaged);
     }
-    let (value, rest) = bytes_of(len as usize, rest)?;
-    Ok((Bytes::copy_from_slice(alloc, value)?, rest))
+    copied_of(alloc, len as usize, rest)
 }
 
 #[tactic(auto, unfolding(crate::specs::Reading::large_at))]
 fn large_of(bytes: &[u8]) -> Result<((u8, u32), &[u8]), BlockFault>
     ensures { Gives (λ x. (x.0, x.1.now)) result (large_at bytes.now) }
 {
-    let (number, rest) = u8_at(bytes)?;
-    let (size, rest) = u32_at(rest)?;
+    let Ok((number, rest)) = u8_at(bytes) else {
+        return Err(BlockFault::Damaged);
+    };
+    let Ok((size, rest)) = u32_at(rest) else {
+        return Err(BlockFault::Damaged);
+    };
     if !(MAX_INLINE + 1..=MAX_VALUE).contains(&(size as usize)) {
         return Err(BlockFault::Damaged);
     }
@@ -110,7 +130,9 @@ fn all_changes_of(
 fn transaction_of(alloc: Global, bytes: &[u8]) -> Result<(TextChanges, &[u8]), BlockFault>
     ensures { Gives (λ x. (x.0, x.1.now)) result (transaction_at bytes.now) }
 {
-    let (count, rest) = u8_at(bytes)?;
+    let Ok((count, rest)) = u8_at(bytes) else {
+        return Err(BlockFault::Damaged);
+    };
     if !(1..=MAX_CHANGES).contains(&(count as usize)) {
         return Err(BlockFault::Damaged);
     }
@@ -139,7 +161,9 @@ fn many_transactions_of(
 fn all_transactions_of(alloc: Global, bytes: &[u8]) -> Result<(Vec<TextChanges>, &[u8]), BlockFault>
     ensures { Gives (λ x. (x.0.items, x.1.now)) result (transactions_at bytes.now) }
 {
-    let (count, rest) = u16_at(bytes)?;
+    let Ok((count, rest)) = u16_at(bytes) else {
+        return Err(BlockFault::Damaged);
+    };
     if !(1..=MAX_BATCH).contains(&(count as usize)) {
         return Err(BlockFault::Damaged);
     }
@@ -150,7 +174,9 @@ fn all_transactions_of(alloc: Global, bytes: &[u8]) -> Result<(Vec<TextChanges>,
 fn body_of(alloc: Global, bytes: &[u8]) -> Result<((u64, Vec<TextChanges>), &[u8]), BlockFault>
     ensures { Gives (λ x. ((x.0.0, x.0.1.items), x.1.now)) result (body_at bytes.now) }
 {
-    let (first, rest) = u64_at(bytes)?;
+    let Ok((first, rest)) = u64_at(bytes) else {
+        return Err(BlockFault::Damaged);
+    };
     let (transactions, rest) = all_transactions_of(alloc, rest)?;
     if first < 1 || transactions.len() as u64 > u64::MAX - first {
         return Err(BlockFault::Damaged);
@@ -163,7 +189,9 @@ fn text_of(alloc: Global, bytes: &[u8]) -> Result<(u64, Vec<TextChanges>), Block
     ensures read { Gives (λ x. (x.0, x.1.items)) result (text_at bytes.now) }
     ensures bytes { (i : ℕ) → slice_index bytes.now i < 256 }
 {
-    let (size, rest) = u32_at(bytes)?;
+    let Ok((size, rest)) = u32_at(bytes) else {
+        return Err(BlockFault::Damaged);
+    };
     if size as usize != bytes.len() {
         return Err(BlockFault::Damaged);
     }
@@ -211,7 +239,9 @@ fn joined_of(alloc: Global, blocks: &[Block]) -> Result<(Vec<u8>, &[Block]), Blo
     match blocks {
         [] => Err(BlockFault::Damaged),
         [first, ..] => {
-            let (size, _) = u32_at(first.as_slice())?;
+            let Ok((size, _)) = u32_at(first.as_slice()) else {
+                return Err(BlockFault::Damaged);
+            };
             pieces_of(alloc, size, blocks)
         }
     }

@@ -17,8 +17,6 @@ mod memory;
 mod opening;
 mod real;
 mod scan;
-#[cfg(test)]
-mod tests;
 
 pub use device::{Disk, DiskFault};
 pub use fault::FileFault;

@@ -14,6 +14,3 @@ mod recovery;
 mod rows;
 
 pub use node::Node;
-
-#[cfg(test)]
-mod tests;

@@ -25,7 +25,7 @@ use Rattle.laws_streams.proofs.ContentAnswers.{content_answered}
 use Rattle.laws_streams.proofs.StreamAnswers.{openings_answered, confirmations_answered, extensions_answered}
 use Rattle.model_tables.specs.declared.table_note.TableNote.{TableNote}
 use Rattle.model_tables.specs.declared.table_note.TableNote.TheVariants as notes
-use Rattle.model_tables.specs.Cluster.{told, noted, with_told}
+use Rattle.model_tables.specs.Servers.{told, noted, with_told}
 use Rattle.model_tables.specs.Turns.{Turn, Whole, Above, after_all, AreMoves}
 use Rattle.model_tables.specs.Turns as machine
 use Rattle.laws_runs.specs.Ties.{Purpose, Sent, purpose_of, asked_number, meant_number, IsAsked}

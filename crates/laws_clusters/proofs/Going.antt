@@ -9,7 +9,7 @@ use Rattle.streams.specs.Streams.{stream_of}
 use Rattle.model.specs.Manager.{Book}
 use Rattle.model.specs.World.{World, Move}
 use Rattle.model_tables.specs.declared.desk.Desk.{Desk}
-use Rattle.model_tables.specs.Cluster.{with_told}
+use Rattle.model_tables.specs.Servers.{with_told}
 use Rattle.model_tables.specs.Extents as extents
 use Rattle.model_tables.specs.Range.{RangeOutcome}
 use Rattle.model_tables.specs.Turns.{Turn, Whole, after_all, AreMoves}

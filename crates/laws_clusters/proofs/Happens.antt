@@ -31,7 +31,7 @@ use Rattle.replica.specs.Reading.{groups_to, groups_from}
 use Rattle.streams.specs.Streams.{stream_of, extending}
 use Rattle.model.specs.declared.checking.Checking.{Checking}
 use Rattle.model.specs.declared.event.Event.{Event}
-use Rattle.model.specs.declared.event.Event.TheVariants.{Submit, Deliver, Stop, Restart, Decide, GiveUp, Assign, Moment}
+use Rattle.model.specs.declared.event.Event.TheVariants.{Submit, Deliver, Stop, Restart, Decide, GiveUp, Assign, Renew, Moment}
 use Rattle.model.specs.declared.extent.Extent.{Extent}
 use Rattle.model.specs.declared.waiting.Waiting.{Waiting}
 use Rattle.model.specs.Actors.{is_node, is_manager, is_user, generation_of}
@@ -428,6 +428,7 @@ happens_leaves w (Decide e) =
     (λ up. unsent_leaves w w refl refl)
 happens_leaves w (GiveUp server range pick) = unsent_leaves w w refl refl
 happens_leaves w (Assign range server until) = unsent_leaves w w refl refl
+happens_leaves w (Renew range server until) = unsent_leaves w w refl refl
 happens_leaves w (Moment now) = unsent_leaves w w refl refl
 
 -- ---- what follows

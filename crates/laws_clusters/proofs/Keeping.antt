@@ -14,7 +14,7 @@ use Rattle.model.specs.World.{World, Move}
 use Rattle.model_tables.specs.declared.desk.Desk.{Desk}
 use Rattle.model_tables.specs.declared.stage.Stage.TheVariants as stages
 use Rattle.model_tables.specs.declared.table_note.TableNote.{TableNote}
-use Rattle.model_tables.specs.Cluster.{told, noted}
+use Rattle.model_tables.specs.Servers.{told, noted}
 use Rattle.model_tables.specs.Extents as extents
 use Rattle.model_tables.specs.Log.{next_number}
 use Rattle.model_tables.specs.Range.{RangeState, RangeOutcome}

@@ -5,10 +5,12 @@ pub mod Going
 pub mod Happens
 pub mod Keeping
 pub mod Layering
+pub mod Mapping
 pub mod Numbers
 pub mod Others
 pub mod Resting
 pub mod Rowing
+pub mod Ruling
 pub mod Senders
 pub mod Served
 pub mod Spelled

@@ -6,7 +6,7 @@ use Rattle.wire.specs.declared.actor.ReqNo.TheVariants as requests
 use Rattle.client.specs.Requests.{is_same}
 use Rattle.model.specs.Maps.{entry_at}
 use Rattle.model_tables.specs.Server.{ServerState, moment_row, started}
-use Rattle.model_tables.specs.Cluster.{ServerCell, cell_stops, cell_starts, first_pick, told_moment}
+use Rattle.model_tables.specs.Servers.{ServerCell, cell_stops, cell_starts, first_pick, told_moment}
 use Rattle.laws_runs.specs.Ties.{Purpose, Sent, purpose_of}
 use Rattle.laws_serving.specs.Serves.{sent_with, AreUnused}
 use Rattle.laws_serving.proofs.Steps.{same_request}

@@ -19,10 +19,12 @@ use Rattle.wire.specs.declared.refusal.Refusal.{Refusal}
 use Rattle.replica.specs.Groups.{Group}
 use Rattle.model.specs.Maps.{entry_at}
 use Rattle.model.specs.Outcome.{packet}
-use Rattle.model.specs.World.{World, Move, sent_more, start, is_told}
+use Rattle.model.specs.World.{Cell as MapCell, World, Move, sent_more, start, is_told}
 use Rattle.model.specs.World.Move.{Says}
 use Rattle.laws_streams.proofs.Law.{run_moves_push}
-use Rattle.model_tables.specs.Cluster.{Cluster, ServerCell, MapState, with_told, does, cell_rests, cell_does, cell_stops, cell_starts, first_pick, at_server, server_stops, server_starts, told_moment, shows_moment, assigned, assigns}
+use Rattle.model_tables.specs.Servers.{ServerCell, with_told, cell_rests, cell_does, cell_stops, cell_starts, first_pick, at_server, server_stops, server_starts, told_moment}
+use Rattle.model_clusters.specs.Cluster.{Cluster, does, shows_moment}
+use Rattle.model_map.specs.Map.{MapState}
 use Rattle.model_tables.specs.Range.{RangeState}
 use Rattle.model_tables.specs.Server.{ServerState, ServerOutcome, range_of, set_range, rests, renew_row, moment_row, started}
 use Rattle.model_tables.specs.Extents as extents
@@ -36,8 +38,9 @@ use Rattle.laws_reads.proofs.Growing.{has_read_on}
 use Rattle.laws_reads.proofs.Turning.{grown_wider}
 use Rattle.laws_clusters.proofs.Beside.{AllKnown}
 use Rattle.laws_clusters.proofs.Keeping.{wider_same}
+use Rattle.laws_clusters.proofs.Mapping.{IsWord, AreFirst, word_told}
 use Rattle.laws_clusters.proofs.Numbers.{PastAt, IsPast, entry_set, entry_other, entry_unmapped, past_on, past_step, past_stops, past_starts, past_moment}
-use Rattle.laws_clusters.proofs.Standing.{Streams, here, m_side, l_side, Holds, HeldAs, Runs, Standing, IsAssign}
+use Rattle.laws_clusters.proofs.Standing.{Streams, here, m_side, l_side, Holds, HeldAs, Runs, Standing}
 use Rattle.laws_clusters.proofs.Step.{held_on}
 use Rattle.laws_clusters.proofs.Telling.{Tells}
 
@@ -164,15 +167,16 @@ module _ (generation : ℕ → ℕ) (nodes target : ℕ) where
   }
 
   -- the same world, and the same streams
-  pub rests_as : (c d : Cluster) (x : Standing generation nodes target c) → d.world ≡ c.world → ((q : ReqNo) → IsPast c.servers q → IsPast d.servers q) →
+  pub rests_as : (c d : Cluster) (x : Standing generation nodes target c) → d.world ≡ c.world → AreFirst d.map.ranges → ((q : ReqNo) → IsPast c.servers q → IsPast d.servers q) →
       ((s : ℕ) (cell : ServerCell) (st : ServerState) → entry_at d.servers s ≡ Some cell → cell.state ≡ Some st → RunsAs c.servers s cell st) → Standing generation nodes target d
-  rests_as c d x same past runs = record {
+  rests_as c d x same first past runs = record {
     moves = x.moves;
     leads = x.leads ∙ sym same;
     streams = x.streams;
     m_past = λ q p e. past q (x.m_past q p e);
     l_past = λ q p e. past q (x.l_past q p e);
     from_map = λ to body there. x.from_map to body (subst (λ (z : World). Contains z.post (packet Map to body)) same there);
+    first_range = first;
     incarnation = x.incarnation;
     bound = x.bound;
     own = x.own;
@@ -183,11 +187,6 @@ module _ (generation : ℕ → ℕ) (nodes target : ℕ) where
     tells = subst (λ (z : World). Tells x.rows z.notes (after_all Group generation x.streams.l).state.story) (sym same) x.tells;
     shows = x.shows;
   }
-
-  pub rests_stand : (c : Cluster) (servers : List ServerCell) (told : MapState) (now : ℕ) (x : Standing generation nodes target c) → ((q : ReqNo) → IsPast c.servers q → IsPast servers q) →
-      ((s : ℕ) (cell : ServerCell) (st : ServerState) → entry_at servers s ≡ Some cell → cell.state ≡ Some st → RunsAs c.servers s cell st) →
-      Standing generation nodes target (record c { servers = servers; map = told; now = now })
-  rests_stand c servers told now x past runs = rests_as c (record c { servers = servers; map = told; now = now }) x refl past runs
 
   -- ---- one server
 
@@ -205,7 +204,7 @@ module _ (generation : ℕ → ℕ) (nodes target : ℕ) where
         go false e = still_runs c.servers u other z (sym (entry_other c.servers s cell next at u (λ q. grind (arith, nat_tests))) ∙ there) up
 
     pub one_stands : (w : World) → w ≡ c.world → Standing generation nodes target c → Standing generation nodes target (record c { world = w; servers = slice_set c.servers (s - 1) next })
-    one_stands w same x = rests_as c (record c { world = w; servers = slice_set c.servers (s - 1) next }) x same (past_on c.servers s cell next at past) all_run
+    one_stands w same x = rests_as c (record c { world = w; servers = slice_set c.servers (s - 1) next }) x same x.first_range (past_on c.servers s cell next at past) all_run
 
   -- what the server of a number does, if there is one
   pub cell_stands : (c : Cluster) (s : ℕ) (row : ServerCell → ServerCell) → ((cell : ServerCell) (n k : ℕ) → PastAt cell n k → PastAt (row cell) n k) →
@@ -214,7 +213,7 @@ module _ (generation : ℕ → ℕ) (nodes target : ℕ) where
   cell_stands c s row past runs x = go (entry_at c.servers s) refl
     where
       go : (o : Option ServerCell) → entry_at c.servers s ≡ o → Standing generation nodes target (does c (at_server c.servers s (λ cell. cell_rests (row cell)) o))
-      go None at = rests_as c (record c { world = with_told c.world [] [] }) x (told_nothing c.world) (λ q p. p) (still_runs c.servers)
+      go None at = rests_as c (record c { world = with_told c.world [] [] }) x (told_nothing c.world) x.first_range (λ q p. p) (still_runs c.servers)
       go (Some cell) at = one_stands c s cell (row cell) at (past cell) (λ st up. runs cell st at up) (with_told c.world [] []) (told_nothing c.world) x
 
   -- a server stops
@@ -262,7 +261,7 @@ module _ (generation : ℕ → ℕ) (nodes target : ℕ) where
 
       go : (b : Bool) → Standing generation nodes target (if b then c else record c { now = now; servers = map (told_moment now) c.servers })
       go true = x
-      go false = rests_as c (record c { now = now; servers = map (told_moment now) c.servers }) x refl (past_moment c.servers now) runs
+      go false = rests_as c (record c { now = now; servers = map (told_moment now) c.servers }) x refl x.first_range (past_moment c.servers now) runs
 
   -- ---- leases, and the nodes for new extents
 
@@ -300,7 +299,7 @@ module _ (generation : ℕ → ℕ) (nodes target : ℕ) where
 
   -- ---- what the map tells
 
-  module _ (c : Cluster) (x : Standing generation nodes target c) (to : ActorId) (told : Body) (assign : IsAssign told) where
+  module _ (c : Cluster) (x : Standing generation nodes target c) (to : ActorId) (told : Body) (word : IsWord told) where
     abbrev w : World
     w = here generation nodes target x.moves
 
@@ -314,13 +313,10 @@ module _ (generation : ℕ → ℕ) (nodes target : ℕ) where
     only_one p (zero, less, is) = is
     only_one p (suc k, less, is) = absurd (omega arith)
 
-    is_said : (body : Body) → IsAssign body → is_told body ≡ true
-    is_said body a = ap is_told a.2
-
     said : v ≡ sent_more w (packet Map to told ∷ [])
     said =
         run_moves_push x.moves (Says Map to told) (start nodes target)
-        ∙ ap (λ (t : Bool). if t then sent_more w (packet Map to told ∷ []) else w) (is_said told assign)
+        ∙ ap (λ (t : Bool). if t then sent_more w (packet Map to told ∷ []) else w) (word_told told word)
 
     same_book : v.book ≡ w.book
     same_book = ap (λ (z : World). z.book) said
@@ -377,23 +373,25 @@ module _ (generation : ℕ → ℕ) (nodes target : ℕ) where
           held = held_on generation nodes target x.moves later x.streams streams (x.incarnation s) (x.incarnation s) refl st.ranges (λ j r mine h. still_holds j r h) before.held;
         }
 
-    still_from_map : (other : ActorId) (body : Body) → Contains (c.world.post ++ packet Map to told ∷ []) (packet Map other body) → IsAssign body
+    still_from_map : (other : ActorId) (body : Body) → Contains (c.world.post ++ packet Map to told ∷ []) (packet Map other body) → IsWord body
     still_from_map other body there =
         elim (Contains-append_cases c.world.post (packet Map to told ∷ []) (packet Map other body) there) [
           | inl old ↦ x.from_map other body old
-          | inr new ↦ subst IsAssign (ap (λ (p : Packet). p.body) (only_one (packet Map other body) new)) assign
+          | inr new ↦ subst IsWord (ap (λ (p : Packet). p.body) (only_one (packet Map other body) new)) word
         ]
 
-    -- the map tells of range 1
-    pub map_says_stands : (told_map : MapState) → Standing generation nodes target (record c { map = told_map; world = sent_more c.world (packet Map to told ∷ []) })
+    -- the map tells of range 1 alone
+    pub map_says_stands : (told_map : MapState) (map_cell : MapCell) → AreFirst told_map.ranges →
+        Standing generation nodes target (record c { map = told_map; map_cell = map_cell; world = sent_more c.world (packet Map to told ∷ []) })
     unfolding streams
-    map_says_stands told_map = record {
+    map_says_stands told_map map_cell first = record {
       moves = later;
       leads = said ∙ ap (λ z. sent_more z (packet Map to told ∷ [])) x.leads;
       streams = streams;
       m_past = x.m_past;
       l_past = x.l_past;
       from_map = still_from_map;
+      first_range = first;
       incarnation = x.incarnation;
       bound = x.bound;
       own = x.own;
@@ -404,20 +402,3 @@ module _ (generation : ℕ → ℕ) (nodes target : ℕ) where
       tells = x.tells;
       shows = x.shows;
     }
-
-  pub assigned_stands : (c : Cluster) (server until : ℕ) → Standing generation nodes target c → Standing generation nodes target (assigned c server until)
-  assigned_stands c server until x = go (nat_lt (suc c.map.generation) (2 ^ 64))
-    where
-      go : (b : Bool) → Standing generation nodes target
-          (if b then record c {
-            map = record { generation = suc c.map.generation; holder = Some server; until = max c.map.until until };
-            world = sent_more c.world (packet Map (Server server) (bodies.Map (maps.Assign 1 (suc c.map.generation) (max c.map.until until))) ∷ []);
-          } else c)
-      go true =
-          map_says_stands c x (Server server) (bodies.Map (maps.Assign 1 (suc c.map.generation) (max c.map.until until))) (suc c.map.generation, max c.map.until until, refl)
-          (record { generation = suc c.map.generation; holder = Some server; until = max c.map.until until })
-      go false = x
-
-  pub assigns_stand : (c : Cluster) (server until : ℕ) (fault : Option Refusal) → Standing generation nodes target c → Standing generation nodes target (assigns c server until fault)
-  assigns_stand c server until (Some refusal) x = x
-  assigns_stand c server until None x = assigned_stands c server until x

@@ -4,14 +4,13 @@ use Rattle.std.proofs.Common.{◌≡◌, ℕ, ◌<◌, ◌≤◌, List, [], ◌�
 use Rattle.wire.specs.declared.actor.ActorId.{ActorId}
 use Rattle.wire.specs.declared.actor.ActorId.TheVariants.{Map}
 use Rattle.wire.specs.declared.body.Body.{Body}
-use Rattle.wire.specs.declared.body.Body.TheVariants as bodies
-use Rattle.wire.specs.declared.body.MapBody.TheVariants as maps
 use Rattle.wire.specs.declared.rows.Row.{Row}
 use Rattle.replica.specs.Groups.{Group}
 use Rattle.model.specs.Maps.{entry_at}
 use Rattle.model.specs.Outcome.{packet}
 use Rattle.model.specs.World.{World, Move}
-use Rattle.model_tables.specs.Cluster.{Cluster, ServerCell}
+use Rattle.model_tables.specs.Servers.{ServerCell}
+use Rattle.model_clusters.specs.Cluster.{Cluster}
 use Rattle.model_tables.specs.Log.{ShowsTables}
 use Rattle.model_tables.specs.Range.{RangeState}
 use Rattle.model_tables.specs.Server.{ServerState}
@@ -25,14 +24,9 @@ use Rattle.laws_serving.proofs.Moves.{stand_of}
 use Rattle.laws_reads.specs.Reads.{HasRead}
 use Rattle.laws_clusters.specs.Fitting.{AreFitMoves, AreUnformedMoves}
 use Rattle.laws_clusters.proofs.Beside.{world, Beside}
+use Rattle.laws_clusters.proofs.Mapping.{IsWord, AreFirst}
 use Rattle.laws_clusters.proofs.Numbers.{AllPast}
 use Rattle.laws_clusters.proofs.Telling.{Tells}
-
--- ---- the map
-
--- it tells of range 1 alone
-abbrev pub IsAssign : Body → Type 0
-IsAssign body = (g : ℕ) × (until : ℕ) × (body ≡ bodies.Map (maps.Assign 1 g until))
 
 module _ (generation : ℕ → ℕ) (nodes target : ℕ) where
   -- the machines of both streams, after these moves of the world
@@ -83,7 +77,8 @@ module _ (generation : ℕ → ℕ) (nodes target : ℕ) where
     pub streams : Streams moves
     pub m_past : AllPast c.servers streams.m_sent
     pub l_past : AllPast c.servers streams.l_sent
-    pub from_map : (to : ActorId) (body : Body) → Contains c.world.post (packet Map to body) → IsAssign body
+    pub from_map : (to : ActorId) (body : Body) → Contains c.world.post (packet Map to body) → IsWord body
+    pub first_range : AreFirst c.map.ranges
     -- the incarnation that a server's range is of, if it has one; those from a bound on have done nothing
     pub incarnation : ℕ → Option ℕ
     pub bound : ℕ

@@ -15,7 +15,8 @@ use Rattle.model.specs.Maps.{entry_at}
 use Rattle.model.specs.Outcome.{packet}
 use Rattle.model.specs.World.{World, Move}
 use Rattle.model_tables.specs.declared.desk.Desk.{Desk}
-use Rattle.model_tables.specs.Cluster.{Cluster, ServerCell, noted, with_told}
+use Rattle.model_tables.specs.Servers.{ServerCell, noted, with_told}
+use Rattle.model_clusters.specs.Cluster.{Cluster}
 use Rattle.model_tables.specs.Log.{ShowsTables}
 use Rattle.model_tables.specs.Range.{RangeState, RangeOutcome}
 use Rattle.model_tables.specs.Server.{ServerState}
@@ -31,7 +32,8 @@ use Rattle.laws_servers.specs.Sending.{MaySendAll}
 use Rattle.laws_clusters.proofs.Going.{Next, goes_on, m_after, l_after}
 use Rattle.laws_clusters.proofs.Keeping.{others_hold, own_if}
 use Rattle.laws_clusters.proofs.Numbers.{PastAt, IsPast, AllPast, entry_set, entry_other, past_on, past_step, unused_of, new_past, all_past_adds}
-use Rattle.laws_clusters.proofs.Standing.{Streams, here, m_side, l_side, Holds, HeldAs, Runs, Standing, IsAssign}
+use Rattle.laws_clusters.proofs.Mapping.{IsWord}
+use Rattle.laws_clusters.proofs.Standing.{Streams, here, m_side, l_side, Holds, HeldAs, Runs, Standing}
 use Rattle.laws_clusters.proofs.Telling.{Tells}
 
 -- the number of a request that has a purpose is below the next one
@@ -131,9 +133,9 @@ module _ (generation : ℕ → ℕ) (nodes target : ℕ) where
 
       -- ---- packets of the map
 
-      map_tells : (to : ActorId) (body : Body) → Contains (c.world.post ++ ps) (packet Map to body) → IsAssign body
+      map_tells : (to : ActorId) (body : Body) → Contains (c.world.post ++ ps) (packet Map to body) → IsWord body
       map_tells to body there =
-          ⊎_elim {C = IsAssign body} (λ old. x.from_map to body old) (λ new. absurd (senders (packet Map to body) new refl)) (Contains-append_cases c.world.post ps (packet Map to body) there)
+          ⊎_elim {C = IsWord body} (λ old. x.from_map to body old) (λ new. absurd (senders (packet Map to body) new refl)) (Contains-append_cases c.world.post ps (packet Map to body) there)
 
       -- ---- incarnations
 
@@ -215,6 +217,7 @@ module _ (generation : ℕ → ℕ) (nodes target : ℕ) where
             m_past = subst (λ z. AllPast (slice_set c.servers (s - 1) next_cell) z) (sym (ap (λ (z : Side). z.sent) next.m_side_is)) (past_adds x.streams.m_sent t.goes.metadata_sent x.m_past t.goes.sent_by.metadata t.goes.metadata_adds);
             l_past = subst (λ z. AllPast (slice_set c.servers (s - 1) next_cell) z) (sym (ap (λ (z : Side). z.sent) next.l_side_is)) (past_adds x.streams.l_sent t.goes.log_sent x.l_past t.goes.sent_by.log t.goes.log_adds);
             from_map = map_tells;
+            first_range = x.first_range;
             incarnation = inc;
             bound = x.bound + suc i;
             own = own_one;

@@ -26,7 +26,8 @@ use Rattle.model.specs.Maps.{entry_at}
 use Rattle.model.specs.Outcome.{packet}
 use Rattle.model.specs.World.{World}
 use Rattle.model_tables.specs.Answering.{answered_number, is_answerer, range_awaits, answer_row, give_up_all}
-use Rattle.model_tables.specs.Cluster.{Cluster, Held, ServerCell, cell_takes, cell_rests, cell_does, cell_gives_up, cell_given_up, at_server, server_takes, server_gives_up, with_told, does}
+use Rattle.model_tables.specs.Servers.{Held, ServerCell, cell_takes, cell_rests, cell_does, cell_gives_up, cell_given_up, at_server, server_takes, server_gives_up, with_told}
+use Rattle.model_clusters.specs.Cluster.{Cluster, does}
 use Rattle.model_tables.specs.Getting.{get_row}
 use Rattle.model_tables.specs.Range.{RangeState, RangeOutcome, request, used, refuses, waiting_out}
 use Rattle.model_tables.specs.Server.{ServerState, ServerOutcome, set_range, range_of, awaiting, rests, sends_one, stepped, new_range, users_of, is_newer, assign_row, told_by_map, map_row, transacts_in, gets_in, table_row, answer_in, answer_of, numbered_row, taken_row, has_numbers, server_row, gives_up, give_up_row}
@@ -44,10 +45,11 @@ use Rattle.laws_servers.proofs.Calling as calling
 use Rattle.laws_servers.proofs.Stepping.{refused_all, transact_tidy, get_tidy, answer_shows, give_up_tidy}
 use Rattle.laws_clusters.proofs.Going as going
 use Rattle.laws_clusters.proofs.Numbers.{entry_set}
-use Rattle.laws_clusters.proofs.Resting.{told_nothing, row_done, rests_quiet, quiet_stands, picks_stand, still_runs, cell_stands}
+use Rattle.laws_clusters.proofs.Resting.{renew_stands, told_nothing, row_done, rests_quiet, quiet_stands, picks_stand, still_runs, cell_stands}
 use Rattle.laws_clusters.proofs.Rowing.{Done, both, unloading, transact_done, get_done, give_up_done, answer_done, assigned_done}
 use Rattle.laws_clusters.proofs.Senders.{AllFromServers, all_both, transact_sends, get_sends, answer_sends, give_up_all_sends, users_sends, none_from_map}
-use Rattle.laws_clusters.proofs.Standing.{here, m_side, l_side, Holds, HeldAs, Standing, IsAssign}
+use Rattle.laws_clusters.proofs.Mapping.{IsWord, IsMapWord}
+use Rattle.laws_clusters.proofs.Standing.{here, m_side, l_side, Holds, HeldAs, Standing}
 use Rattle.laws_clusters.proofs.Step as steps
 
 -- ---- one range
@@ -279,16 +281,18 @@ module _ (generation : ℕ → ℕ) (plenty : (g n : ℕ) → (i : ℕ) × (n �
             (λ r only i mine h. answer_good r only i mine h p there gives v e held)
         go false gives = rests_good
 
-    -- what comes of the map is an Assign of range 1
+    -- what the map tells of leases is of range 1
+    word_good : (body : MapBody) → IsMapWord body → Good (told_by_map st body)
+    word_good (maps.Assign range g until) first = subst (λ k. Good (assign_row st k g until (range_of st.ranges k))) (sym first) (map_good g until)
+    word_good (maps.Renew range g until) word = renew_stands generation nodes target c s cell st at is range g until x
+    word_good body word = rests_good
+
     from_map_good : (p : Packet) (body : MapBody) → p.body ≡ bodies.Map body → Contains c.world.post p → Good (map_row st p.from body)
     from_map_good p body e there = go p.from refl
       where
         told : p.from ≡ Map → Good (told_by_map st body)
         told from_it =
-            let a : IsAssign p.body = x.from_map p.to p.body (subst (λ z. Contains c.world.post (packet z p.to p.body)) from_it there) in
-            let same : bodies.Map body ≡ bodies.Map (maps.Assign 1 a.0 a.1) = sym e ∙ a.2 in
-            let body_is : body ≡ maps.Assign 1 a.0 a.1 = cc in
-            subst (λ z. Good (told_by_map st z)) (sym body_is) (map_good a.0 a.1)
+            word_good body (subst IsWord e (x.from_map p.to p.body (subst (λ z. Contains c.world.post (packet z p.to p.body)) from_it there)))
 
         go : (f : ActorId) → p.from ≡ f → Good (map_row st f body)
         go Map from_it = told from_it

@@ -10,7 +10,7 @@ use Rattle.replica.specs.Groups.{Group}
 use Rattle.commitlog.specs.Replay.{Numbered}
 use Rattle.model_tables.specs.declared.table_note.TableNote.{TableNote}
 use Rattle.model_tables.specs.declared.table_note.TableNote.TheVariants as tables
-use Rattle.model_tables.specs.Cluster.{told, noted, rows_of}
+use Rattle.model_tables.specs.Servers.{told, noted, rows_of}
 use Rattle.model_tables.specs.Past.{Bytes, Transaction, table_notes, stored, after_line, empty_table}
 use Rattle.model_tables.specs.Log.{line_shown, begins_of, dones_of, dones_at, notes, observed, ShowsTables}
 use Rattle.model_tables.specs.Story.{Copy, Placed, StreamEvent, Made, Answered, Showed, Story, event_at, placed, from_place}

@@ -5,10 +5,11 @@ use Rattle.wire.specs.declared.actor.ActorId.TheVariants.{Node, Manager, Map, Se
 use Rattle.wire.specs.declared.packet.Packet.{Packet}
 use Rattle.replica.specs.Groups.{Group}
 use Rattle.model.specs.declared.event.Event.{Event}
-use Rattle.model.specs.declared.event.Event.TheVariants.{Submit, Deliver, Stop, Restart, Decide, GiveUp, Assign, Moment}
+use Rattle.model.specs.declared.event.Event.TheVariants.{Submit, Deliver, Stop, Restart, Decide, GiveUp, Assign, Renew, Moment}
 use Rattle.model.specs.Maps.{entry_at}
 use Rattle.model.specs.World.{delivered, delivered_if}
-use Rattle.model_tables.specs.Cluster.{Cluster, Held, ServerCell, goes_to, delivers, stops, restarts, comes, assign_fault, LeadTo, first_pick, first_server, first_servers, first_cluster}
+use Rattle.model_tables.specs.Servers.{Held, ServerCell, first_pick, first_server, first_servers}
+use Rattle.model_clusters.specs.Cluster.{Cluster, goes_to, delivers, stops, restarts, comes, LeadTo, first_cluster}
 use Rattle.model_tables.specs.Log.{IsServed}
 use Rattle.model_tables.specs.Past.{Replays, Transaction}
 use Rattle.model_tables.specs.Server.{ServerState, started}
@@ -26,7 +27,8 @@ use Rattle.laws_tables.proofs.Turns.{clients_keep_order}
 use Rattle.laws_clusters.specs.Orders.{ComesOfStreams}
 use Rattle.laws_clusters.proofs.Generations.{generation_at, plenty}
 use Rattle.laws_clusters.proofs.Layering.{happens_stands}
-use Rattle.laws_clusters.proofs.Resting.{stops_stand, starts_stand, moment_stands, assigns_stand}
+use Rattle.laws_clusters.proofs.Resting.{stops_stand, starts_stand, moment_stands}
+use Rattle.laws_clusters.proofs.Ruling.{map_takes_stand, assigns_stand, renews_stand, map_stops_stand, map_starts_stand}
 use Rattle.laws_clusters.proofs.Served.{story_is_served}
 use Rattle.laws_clusters.proofs.Standing.{Streams, Runs, HeldAs, Standing}
 use Rattle.laws_clusters.proofs.Taking.{takes_stands, gives_up_stands}
@@ -73,6 +75,7 @@ module _ (nodes target : ℕ) where
     m_past = λ q p e. absurd cc;
     l_past = λ q p e. absurd cc;
     from_map = λ to body there. absurd (let l = there.1 in omega (arith, l));
+    first_range = (refl, tt);
     incarnation = λ s. None;
     bound = 0;
     own = λ s t i e f. absurd cc;
@@ -111,21 +114,21 @@ module _ (nodes target : ℕ) where
       go (Server s) is = takes_stands generation_at plenty nodes target c x s p held (contains_get c.world.post number p at) is
       go (Node n) is = layer (Node n) is
       go Manager is = layer Manager is
-      go Map is = layer Map is
+      go Map is = map_takes_stand generation_at nodes target c p x
       go (User u) is = layer (User u) is
 
   stops_all : (c : Cluster) → Stands c → (actor : ActorId) (call : ℕ) (keep : Bool) → Stands (stops c actor call keep)
   stops_all c x (Server s) call keep = stops_stand generation_at nodes target c s call x
   stops_all c x (Node n) call keep = happens_stands generation_at nodes target c x (Stop (Node n) call keep)
   stops_all c x Manager call keep = happens_stands generation_at nodes target c x (Stop Manager call keep)
-  stops_all c x Map call keep = happens_stands generation_at nodes target c x (Stop Map call keep)
+  stops_all c x Map call keep = map_stops_stand generation_at nodes target c call keep x
   stops_all c x (User u) call keep = happens_stands generation_at nodes target c x (Stop (User u) call keep)
 
   restarts_all : (c : Cluster) → Stands c → (actor : ActorId) → Stands (restarts c actor)
   restarts_all c x (Server s) = starts_stand generation_at nodes target c s c.now c.batch x
   restarts_all c x (Node n) = happens_stands generation_at nodes target c x (Restart (Node n))
   restarts_all c x Manager = happens_stands generation_at nodes target c x (Restart Manager)
-  restarts_all c x Map = happens_stands generation_at nodes target c x (Restart Map)
+  restarts_all c x Map = map_starts_stand generation_at nodes target c x
   restarts_all c x (User u) = happens_stands generation_at nodes target c x (Restart (User u))
 
   -- whatever comes
@@ -136,7 +139,8 @@ module _ (nodes target : ℕ) where
   comes_stands c (Restart actor) held x = restarts_all c x actor
   comes_stands c (Decide e) held x = happens_stands generation_at nodes target c x (Decide e)
   comes_stands c (GiveUp server range pick) held x = gives_up_stands generation_at plenty nodes target c x server range pick
-  comes_stands c (Assign range server until) held x = assigns_stand generation_at nodes target c server until (assign_fault c range server) x
+  comes_stands c (Assign range server until) held x = assigns_stand generation_at nodes target c range server until x
+  comes_stands c (Renew range server until) held x = renews_stand generation_at nodes target c range server until x
   comes_stands c (Moment now) held x = moment_stands generation_at nodes target c now x
 
   led_stands : (events : List Event) (c d : Cluster) → LeadTo events c d → Stands c → Stands d

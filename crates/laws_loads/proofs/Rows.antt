@@ -16,7 +16,7 @@ use Rattle.cells.specs.declared.cell.Cell.TheVariants.{Deleted, Inline, Placed}
 use Rattle.cells.specs.declared.cell.Place.{Place}
 use Rattle.memtable.specs.Entries.{Entries, key_cmp, found, put_all}
 use Rattle.replica.specs.Groups.{joined, text}
-use Rattle.model_tables.specs.Cluster.{part, shown_in, first_shown, or_later, row_if, row_of, rows_of}
+use Rattle.model_tables.specs.Servers.{part, shown_in, first_shown, or_later, row_if, row_of, rows_of}
 use Rattle.model_tables.specs.Past.{Bytes, stored}
 use Rattle.laws_loads.specs.Standing.{StandsAt, value_in, value_of, table_in}
 use Rattle.laws_loads.proofs.Cells.{same_key}

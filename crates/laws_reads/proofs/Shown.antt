@@ -10,7 +10,7 @@ use Rattle.cells.specs.declared.cell.Place.{Place}
 use Rattle.client.specs.Client.{ClientState}
 use Rattle.memtable.specs.Entries.{Entries}
 use Rattle.model.specs.World.{World}
-use Rattle.model_tables.specs.Cluster.{part, shown_in, rows_of}
+use Rattle.model_tables.specs.Servers.{part, shown_in, rows_of}
 use Rattle.model_tables.specs.Log.{line_shown}
 use Rattle.model_tables.specs.Past.{Bytes, stored, after_line, empty_table}
 use Rattle.model_tables.specs.Range.{RangeState}

@@ -18,7 +18,7 @@ use Rattle.wire.specs.declared.streams.StreamName.{StreamName}
 use Rattle.replica.specs.Groups.{Group, text_length}
 use Rattle.streams.specs.Streams.{Stream, stream_of}
 use Rattle.model.specs.declared.event.Event.{Event}
-use Rattle.model.specs.declared.event.Event.TheVariants.{Submit, Deliver, Stop, Restart, Decide, GiveUp, Assign, Moment}
+use Rattle.model.specs.declared.event.Event.TheVariants.{Submit, Deliver, Stop, Restart, Decide, GiveUp, Assign, Renew, Moment}
 use Rattle.model.specs.Maps.{changed}
 use Rattle.model.specs.Outcome.{packet}
 use Rattle.model.specs.World.{World, Cell, running, armed, halted, desk_halted, delivered, delivered_if, node_stops, manager_stops, stop, is_present, restart, happens, start, Move, run_moves}
@@ -110,6 +110,7 @@ module _ (generation : ℕ → ℕ) (name : StreamName) (sent : List Sent) (w : 
         by_event (Decide e) goes = decide_event generation name sent w s a e goes
         by_event (GiveUp server range pick) goes = stays
         by_event (Assign range server until) goes = stays
+        by_event (Renew range server until) goes = stays
         by_event (Moment now) goes = stays
 
 -- ---- what answers mean

@@ -1,22 +1,28 @@
 -- Each event of a run with servers is some moves of the stream layer.
-use Rattle.std.proofs.Common.{◌≡◌, ℕ, suc, ◌^◌, max, Bool, true, nat_lt, List, [], ◌∷◌, ◌++◌, Option, Some, None, refl, sym, ap, ◌∙◌, subst, append_assoc, append-nil, slice_get, if◌then◌else◌, inl, inr}
+use Rattle.std.proofs.Common.{◌≡◌, ℕ, suc, ◌^◌, Bool, true, nat_lt, ◌==◌, List, [], ◌∷◌, ◌++◌, Option, Some, None, refl, sym, ap, ◌∙◌, subst, append_assoc, append-nil, slice_get, if◌then◌else◌, inl, inr}
 use Rattle.wire.specs.declared.actor.ActorId.{ActorId}
 use Rattle.wire.specs.declared.actor.ActorId.TheVariants.{Node, Manager, Map, Server, User}
+use Rattle.wire.specs.declared.actor.ReqNo.{ReqNo}
+use Rattle.wire.specs.declared.body.Body.{Body}
 use Rattle.wire.specs.declared.body.Body.TheVariants as bodies
+use Rattle.wire.specs.declared.body.MapBody.{MapBody}
 use Rattle.wire.specs.declared.body.MapBody.TheVariants as maps
 use Rattle.wire.specs.declared.note.Note.{Note}
 use Rattle.wire.specs.declared.packet.Packet.{Packet}
 use Rattle.wire.specs.declared.refusal.Refusal.{Refusal}
 use Rattle.model.specs.declared.event.Event.{Event}
-use Rattle.model.specs.declared.event.Event.TheVariants.{Submit, Deliver, Stop, Restart, Decide, GiveUp, Assign, Moment}
+use Rattle.model.specs.declared.event.Event.TheVariants.{Submit, Deliver, Stop, Restart, Decide, GiveUp, Assign, Renew, Moment}
 use Rattle.model.specs.Honest.{Agree, Kept}
-use Rattle.model.specs.Outcome.{packet}
-use Rattle.model.specs.World.{World, happens, moved, sent_more, delivered, delivered_if, is_table_note, start, Move, run_moves}
+use Rattle.model.specs.Outcome.{Outcome, packet}
+use Rattle.model.specs.World.{World, happens, moved, sent_more, stops_in, stands_in, delivered, delivered_if, is_table_note, start, Move, run_moves}
 use Rattle.model.specs.World.Move.{Happens, Asks, Says, Observes}
 use Rattle.model.proofs.Tests.{if_elim}
+use Rattle.model_map.specs.declared.range_entry.RangeEntry.{RangeEntry}
+use Rattle.model_map.specs.Map.{MapState, range_at, range_of_key, assign_fault, assign_row, renew_fault, renew_row, route_row, told as map_told, map_row}
 use Rattle.model_tables.specs.declared.table_note.TableNote.{TableNote}
 use Rattle.model_tables.specs.declared.table_note.TableNote.TheVariants.{Began, Done, Loaded}
-use Rattle.model_tables.specs.Cluster.{Cluster, Held, ServersOutcome, told, noted, with_told, goes_to, delivers, stops, restarts, comes, assigned, assigns, assign_fault, shows_moment, server_takes, server_gives_up, server_stops, server_starts, LeadTo}
+use Rattle.model_tables.specs.Servers.{Held, ServersOutcome, told, noted, with_told, server_takes, server_gives_up, server_stops, server_starts}
+use Rattle.model_clusters.specs.Cluster.{Cluster, map_does, map_does_if, map_takes, goes_to, delivers, stops, restarts, comes, assigns, renews, shows_moment, LeadTo}
 use Rattle.laws_streams.proofs.Law.{agree_in_moves, kept_in_moves}
 use Rattle.laws_servers.specs.Sending.{MaySend, MaySendAll, ByMoves}
 use Rattle.laws_servers.proofs.Serving.{IsStill, server_takes_shows, server_gives_up_tidy, server_stops_still, server_starts_still}
@@ -78,12 +84,48 @@ told_by w packets notes h = both w (sent_more w packets) (with_told w packets no
 still_by : (w : World) (o : ServersOutcome) → IsStill o → ByMoves w (with_told w o.packets o.notes)
 still_by w o h = told_by w o.packets o.notes (subst MaySendAll (sym h.0) tt)
 
+-- ---- the map
+
+-- the map tells no node anything
+assign_says : (m : MapState) (range server until : ℕ) (o : Option RangeEntry) → MaySendAll (assign_row m range server until o).packets
+assign_says m range server until None = tt
+assign_says m range server until (Some r) = if_elim (λ (o : Outcome MapState). MaySendAll o.packets) (nat_lt (suc r.generation) (2 ^ 64)) _ _ (λ t. (inr refl, tt)) (λ f. tt)
+
+renew_says : (m : MapState) (range server until : ℕ) (o : Option RangeEntry) → MaySendAll (renew_row m range server until o).packets
+renew_says m range server until None = tt
+renew_says m range server until (Some r) = (inr refl, tt)
+
+route_says : (m : MapState) (p : Packet) (q : ReqNo) (o : Option RangeEntry) → MaySendAll (route_row m p q o).packets
+route_says m p q None = tt
+route_says m p q (Some r) = (inr refl, tt)
+
+told_says : (m : MapState) (p : Packet) (body : MapBody) → MaySendAll (map_told m p body).packets
+told_says m p (maps.Route key q) = route_says m p q (range_of_key m.ranges key)
+told_says m p body = tt
+
+map_says : (m : MapState) (p : Packet) (body : Body) → MaySendAll (map_row m p body).packets
+map_says m p (bodies.Map body) = told_says m p body
+map_says m p body = tt
+
+does_by : (c : Cluster) (o : Outcome MapState) → MaySendAll o.packets → ByMoves c.world (map_does c o).world
+does_by c o may =
+    if_elim (λ (d : Cluster). ByMoves c.world d.world) (stops_in c.map_cell o.written) _ _
+    (λ t. if_elim (λ (d : Cluster). ByMoves c.world d.world) (stands_in c.map_cell) _ _ (λ s. none c.world) (λ s. none c.world))
+    (λ f. sent_by c.world o.packets may)
+
+does_if_by : (c : Cluster) (refusal : Option Refusal) (o : Outcome MapState) → MaySendAll o.packets → ByMoves c.world (map_does_if c refusal o).world
+does_if_by c (Some refusal) o may = none c.world
+does_if_by c None o may = does_by c o may
+
+map_takes_by : (c : Cluster) (p : Packet) → ByMoves c.world (map_takes c p).world
+map_takes_by c p = if_elim (λ (d : Cluster). ByMoves c.world d.world) c.map_cell.up _ _ (λ up. does_by c (map_row c.map p p.body) (map_says c.map p p.body)) (λ up. none c.world)
+
 -- ---- events
 
 goes_by : (c : Cluster) (held : Held) (number : ℕ) (p : Packet) (to : ActorId) → happens c.world (Deliver number) ≡ delivered c.world p to → ByMoves c.world (goes_to c p held to).world
 goes_by c held number p (Node n) is = subst (ByMoves c.world) is (one c.world (Happens (Deliver number)))
 goes_by c held number p Manager is = subst (ByMoves c.world) is (one c.world (Happens (Deliver number)))
-goes_by c held number p Map is = none c.world
+goes_by c held number p Map is = map_takes_by c p
 goes_by c held number p (Server s) is =
     let o : ServersOutcome = server_takes c.servers s p held in
     told_by c.world o.packets o.notes (server_takes_shows c.servers s p held).0
@@ -96,26 +138,28 @@ delivers_by c held number (Some p) is = goes_by c held number p p.to (ap (delive
 stops_by : (c : Cluster) (actor : ActorId) (call : ℕ) (keep : Bool) → ByMoves c.world (stops c actor call keep).world
 stops_by c (Node n) call keep = one c.world (Happens (Stop (Node n) call keep))
 stops_by c Manager call keep = one c.world (Happens (Stop Manager call keep))
-stops_by c Map call keep = none c.world
+stops_by c Map call keep = if_elim (λ (d : Cluster). ByMoves c.world d.world) c.map_cell.up _ _ (λ up. if_elim (λ (d : Cluster). ByMoves c.world d.world) (call == 0) _ _ (λ now. none c.world) (λ later. none c.world)) (λ up. none c.world)
 stops_by c (Server s) call keep = still_by c.world (server_stops c.servers s call) (server_stops_still c.servers s call)
 stops_by c (User u) call keep = none c.world
 
 restarts_by : (c : Cluster) (actor : ActorId) → ByMoves c.world (restarts c actor).world
 restarts_by c (Node n) = one c.world (Happens (Restart (Node n)))
 restarts_by c Manager = one c.world (Happens (Restart Manager))
-restarts_by c Map = none c.world
+restarts_by c Map = if_elim (λ (d : Cluster). ByMoves c.world d.world) c.map_cell.up _ _ (λ up. none c.world) (λ up. none c.world)
 restarts_by c (Server s) = still_by c.world (server_starts c.servers s c.now c.batch) (server_starts_still c.servers s c.now c.batch)
 restarts_by c (User u) = none c.world
 
-assigned_by : (c : Cluster) (server until : ℕ) → ByMoves c.world (assigned c server until).world
-assigned_by c server until =
-    if_elim (λ (d : Cluster). ByMoves c.world d.world) (nat_lt (suc c.map.generation) (2 ^ 64)) _ _
-    (λ t. one c.world (Says Map (Server server) (bodies.Map (maps.Assign 1 (suc c.map.generation) (max c.map.until until)))))
-    (λ f. none c.world)
+assigns_by : (c : Cluster) (range server until : ℕ) → ByMoves c.world (assigns c range server until).world
+assigns_by c range server until =
+    let found = range_at c.map.ranges range in
+    if_elim (λ (d : Cluster). ByMoves c.world d.world) c.map_cell.up _ _
+    (λ up. does_if_by c (assign_fault server c.now found) (assign_row c.map range server until found) (assign_says c.map range server until found)) (λ up. none c.world)
 
-assigns_by : (c : Cluster) (server until : ℕ) (fault : Option Refusal) → ByMoves c.world (assigns c server until fault).world
-assigns_by c server until (Some refusal) = none c.world
-assigns_by c server until None = assigned_by c server until
+renews_by : (c : Cluster) (range server until : ℕ) → ByMoves c.world (renews c range server until).world
+renews_by c range server until =
+    let found = range_at c.map.ranges range in
+    if_elim (λ (d : Cluster). ByMoves c.world d.world) c.map_cell.up _ _
+    (λ up. does_if_by c (renew_fault server found) (renew_row c.map range server until found) (renew_says c.map range server until found)) (λ up. none c.world)
 
 moment_by : (c : Cluster) (now : ℕ) → ByMoves c.world (shows_moment c now).world
 moment_by c now = if_elim (λ (d : Cluster). ByMoves c.world d.world) (nat_lt now c.now) _ _ (λ t. none c.world) (λ f. none c.world)
@@ -129,7 +173,8 @@ comes_by c (Decide e) held = one c.world (Happens (Decide e))
 comes_by c (GiveUp server range pick) held =
     let o : ServersOutcome = server_gives_up c.servers server range pick in
     told_by c.world o.packets o.notes (server_gives_up_tidy c.servers server range pick).0
-comes_by c (Assign range server until) held = assigns_by c server until (assign_fault c range server)
+comes_by c (Assign range server until) held = assigns_by c range server until
+comes_by c (Renew range server until) held = renews_by c range server until
 comes_by c (Moment now) held = moment_by c now
 
 -- ---- whole runs

@@ -22,7 +22,7 @@ use Rattle.model_tables.specs.declared.desk.Desk.{Desk}
 use Rattle.model_tables.specs.Range.{RangeState}
 use Rattle.model_tables.specs.Answering.{answered_number, is_answerer, answer_row}
 use Rattle.model_tables.specs.Server.{ServerState, ServerOutcome, range_of, awaiting, users_of, is_newer, assign_row, renew_row, told_by_map, map_row, transacts_in, gets_in, table_row, answer_in, answer_of, numbered_row, taken_row, has_numbers, server_row, gives_up}
-use Rattle.model_tables.specs.Cluster.{Held, ArePlain, ShowsLoad, ServerCell, ServersOutcome, live_of, live_at, loads, cell_loads, server_loads, cell_takes, cell_given_up, cell_gives_up, cell_stops, cell_starts, at_server, server_takes, server_gives_up, server_stops, server_starts}
+use Rattle.model_tables.specs.Servers.{Held, ArePlain, ShowsLoad, ServerCell, ServersOutcome, live_of, live_at, loads, cell_loads, server_loads, cell_takes, cell_given_up, cell_gives_up, cell_stops, cell_starts, at_server, server_takes, server_gives_up, server_stops, server_starts}
 use Rattle.laws_servers.specs.Sending.{MaySendAll}
 use Rattle.laws_servers.proofs.Calling.{all_both}
 use Rattle.laws_servers.proofs.Stepping.{ShowsFrom, live_with, refused_all, transact_tidy, get_tidy, answer_shows, give_up_tidy}

@@ -45,7 +45,7 @@ use Rattle.model_tables.specs.Serving.{record_of, group_count, began, appends as
 use Rattle.model_tables.specs.Loading.{Group, said_after, replayed, read_by, read_of, reads_log, first_position, reads_log_from, checks_log, begins_log, reads_metadata, begins_metadata, opens, says, metadata_news, replays, log_read, log_news, open_region, serves_from, serves, are_counted}
 use Rattle.model_tables.specs.Getting.{Lookup, Is, Needs, Tried, asks_place, answered, try, try_all, get_fault, gets, get_row, bytes_row, gives_up_read, gives_up_get, asks_again, moved_on, places_of, look, standing, without}
 use Rattle.model_tables.specs.Answering.{load_refused, load_told, load_reply, metadata_reply, serving_news, is_taken, log_taken, log_reply, bytes_reply, gets_reply, answer_row, give_up_all, groups_of}
-use Rattle.model_tables.specs.Cluster.{ArePlain, ShowsLoad}
+use Rattle.model_tables.specs.Servers.{ArePlain, ShowsLoad}
 use Rattle.laws_servers.specs.Sending.{MaySendAll}
 use Rattle.laws_servers.proofs.Calling.{all_both, all_map, all_flat, listed, Calls, given_calls, append_row_calls, check_row_calls, read_sealed_calls, read_checked_calls, reply_calls, give_up_calls, again_calls}
 

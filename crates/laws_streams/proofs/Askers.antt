@@ -16,7 +16,7 @@ use Rattle.wire.specs.declared.refusal.Refusal.TheVariants.{Stale, BadPick}
 use Rattle.wire.specs.declared.streams.StreamName.{StreamName}
 use Rattle.streams.specs.Streams.{stream_of, extending}
 use Rattle.model.specs.declared.event.Event.{Event}
-use Rattle.model.specs.declared.event.Event.TheVariants.{Submit, Deliver, Stop, Restart, Decide, GiveUp, Assign, Moment}
+use Rattle.model.specs.declared.event.Event.TheVariants.{Submit, Deliver, Stop, Restart, Decide, GiveUp, Assign, Renew, Moment}
 use Rattle.model.specs.declared.extent.Asker.{Asker}
 use Rattle.model.specs.declared.extent.Extent.{Extent}
 use Rattle.model.specs.declared.extent.PlaceReport.{PlaceReport}
@@ -238,6 +238,7 @@ module _ (post : List Packet) where
         (λ t. manager_asked w (decide_row w.book e (w.book.extent e)) (decide_asked w.book e (w.book.extent e) asked)) (λ t. asked)
     happens_asked (GiveUp server range pick) = asked
     happens_asked (Assign range server until) = asked
+    happens_asked (Renew range server until) = asked
     happens_asked (Moment now) = asked
 
     moved_asked : (move : Move) → HaveAsked post (moved w move).book

@@ -15,7 +15,7 @@ use Rattle.wire.specs.declared.actor.ActorId.{ActorId}
 use Rattle.wire.specs.declared.actor.ActorId.TheVariants.{Node, Manager, Map, Server, User}
 use Rattle.wire.specs.declared.packet.Packet.{Packet}
 use Rattle.model.specs.declared.event.Event.{Event}
-use Rattle.model.specs.declared.event.Event.TheVariants.{Submit, Deliver, Stop, Restart, Decide, GiveUp, Assign, Moment}
+use Rattle.model.specs.declared.event.Event.TheVariants.{Submit, Deliver, Stop, Restart, Decide, GiveUp, Assign, Renew, Moment}
 use Rattle.model.specs.Node.{extent_of, node_row}
 use Rattle.model.specs.Outcome.{Outcome}
 use Rattle.model.specs.World.Move.{Happens, Asks, Says, Observes}
@@ -115,6 +115,7 @@ module _ (w : World) (fresh : w.book.extent (suc w.book.count) ≡ None) where
       (λ t. manager_goes (decide_row w.book e (w.book.extent e)) (decide_goes w.book e (w.book.extent e) refl)) (λ f. same_goes)
   happens_goes (GiveUp server range pick) = same_goes
   happens_goes (Assign range server until) = same_goes
+  happens_goes (Renew range server until) = same_goes
   happens_goes (Moment now) = same_goes
 
   pub moved_goes : (move : Move) → GoesTo (moved w move)

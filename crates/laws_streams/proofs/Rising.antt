@@ -18,7 +18,7 @@ use Rattle.wire.specs.declared.streams.StreamKind.TheVariants.{Metadata, Log, Ro
 use Rattle.wire.specs.declared.streams.StreamName.{StreamName}
 use Rattle.streams.specs.Streams.{kind_number, Stream, Streams, empty_stream, stream_of, with_stream, passes, all_pass, fenced_at, behind, extending, last_of, longer, extended_if, extended as extended_streams}
 use Rattle.model.specs.declared.event.Event.{Event}
-use Rattle.model.specs.declared.event.Event.TheVariants.{Submit, Deliver, Stop, Restart, Decide, GiveUp, Assign}
+use Rattle.model.specs.declared.event.Event.TheVariants.{Submit, Deliver, Stop, Restart, Decide, GiveUp, Assign, Renew}
 use Rattle.model.specs.declared.event.Event.TheVariants as events
 use Rattle.model.specs.declared.extent.Extent.{Extent}
 use Rattle.model.specs.declared.extent.PlaceReport.{PlaceReport}
@@ -346,6 +346,7 @@ happens_goes w (Decide e) =
     (λ t. manager_goes w (decide_row w.book e (w.book.extent e)) (decide_onward w.book e (w.book.extent e) refl)) (λ f. onward_refl w.book)
 happens_goes w (GiveUp server range pick) = onward_refl w.book
 happens_goes w (Assign range server until) = onward_refl w.book
+happens_goes w (Renew range server until) = onward_refl w.book
 happens_goes w (events.Moment now) = onward_refl w.book
 
 moved_goes : (w : World) (move : Move) → Goes w (moved w move)

@@ -7,7 +7,7 @@ use Rattle.wire.specs.declared.body.Body.{Body}
 use Rattle.wire.specs.declared.note.Note.{Note}
 use Rattle.wire.specs.declared.packet.Packet.{Packet}
 use Rattle.model.specs.declared.event.Event.{Event}
-use Rattle.model.specs.declared.event.Event.TheVariants.{Submit, Deliver, Stop, Restart, Decide, GiveUp, Assign, Moment}
+use Rattle.model.specs.declared.event.Event.TheVariants.{Submit, Deliver, Stop, Restart, Decide, GiveUp, Assign, Renew, Moment}
 use Rattle.model.specs.Manager.{Book, manager_row, decide_row}
 use Rattle.model.specs.Node.{Replica, extent_of, node_row}
 use Rattle.model.specs.Outcome.{Outcome, packet}
@@ -176,6 +176,7 @@ happens_gains w (Decide e) =
     (λ up. unmoved_gains w move w refl refl)
 happens_gains w (GiveUp server range pick) = unmoved_gains w (Happens (GiveUp server range pick)) w refl refl
 happens_gains w (Assign range server until) = unmoved_gains w (Happens (Assign range server until)) w refl refl
+happens_gains w (Renew range server until) = unmoved_gains w (Happens (Renew range server until)) w refl refl
 happens_gains w (Moment now) = unmoved_gains w (Happens (Moment now)) w refl refl
 
 pub moved_gains : (w : World) (move : Move) → Gains w move (moved w move)

@@ -15,7 +15,7 @@ use Rattle.wire.specs.declared.note.Note.TheVariants.{Acked, SealedAt, Content, 
 use Rattle.wire.specs.declared.packet.Packet.{Packet}
 use Rattle.replica.specs.Groups.{Group}
 use Rattle.model.specs.declared.event.Event.{Event}
-use Rattle.model.specs.declared.event.Event.TheVariants.{Submit, Deliver, Stop, Restart, Decide, GiveUp, Assign}
+use Rattle.model.specs.declared.event.Event.TheVariants.{Submit, Deliver, Stop, Restart, Decide, GiveUp, Assign, Renew}
 use Rattle.model.specs.declared.event.Event.TheVariants as events
 use Rattle.model.specs.Honest.{Apart}
 use Rattle.model.specs.Maps.{changed}
@@ -278,6 +278,7 @@ module _ (C : ℕ → Group → Origin → Type 0) (D : ℕ → ℕ → Type 0) 
   happens_good w (Decide e) k a comes new = decides_good w e k a (λ f l. new e f l refl)
   happens_good w (GiveUp server range pick) k a comes new = passed k w w a a.holds
   happens_good w (Assign range server until) k a comes new = passed k w w a a.holds
+  happens_good w (Renew range server until) k a comes new = passed k w w a a.holds
   happens_good w (events.Moment now) k a comes new = passed k w w a a.holds
 
   pub moved_good : (w : World) (move : Move) (k : ℕ) → (a : Good C D k w) →

@@ -3,67 +3,7 @@
 //! lets a lower generation add to an extent behind the length that a higher one was answered; and no answer tells its asker
 //! what was not so.
 //!
-//! This crate has no code. It proves of the tables of the actors, as the crate `model` defines them, what holds of the
-//! observations of every run; the crates that run the actors cite its lemmas.
+//! This crate has no code, and touches nothing. Its lemmas prove of the tables of the actors, as the crate `model` defines
+//! them, what holds of the observations of every run. The crate `laws` states them as contracts, and the crates that run the
+//! actors cite them.
 #![tactic(auto)]
-
-ghost use Rattle.std.specs.Prelude.{ℕ, List, ◌++◌, ◌<◌};
-ghost use Rattle.model.specs.declared.event.Event.{Event};
-ghost use Rattle.model.specs.World.{run, start, Move, moved, run_moves};
-ghost use Rattle.model.specs.Honest.{Agree, Kept};
-ghost use Rattle.laws_streams.specs.Origins.{Origins, OriginsOfMoves};
-ghost use Rattle.laws_streams.specs.Fences.{FencesRise, MadeWithFences, Confirms, OpensIn, Settles, FencesHold};
-ghost use Rattle.laws_streams.specs.Answers.{OpeningsAnswered, ConfirmationsAnswered, ExtensionsAnswered, SealsAnswered, ContentAnswered};
-ghost use Rattle.laws_streams.specs.Listings.{ListsGrow};
-
-/// Whatever is lost, repeated or reordered, and wherever nodes and the manager stop and restart, also while they write a
-/// record: all that is shown of an extent agrees, and what is acknowledged is kept where it was acknowledged, also in what
-/// is sealed. Nothing of it is made up: the groups of an extent were appended one after the other, each by one delivery of
-/// an append that had been sent, and each sealed length was the least that a place had told when it was decided. The same
-/// holds whatever servers ask besides, under any generation.
-pub fn honest()
-    ensures agree { (nodes target : ℕ) (events : List Event) → Agree (run events (start nodes target)).notes }
-    ensures kept { (nodes target : ℕ) (events : List Event) → Kept (run events (start nodes target)).notes }
-    ensures origins { (nodes target : ℕ) (events : List Event) → Origins events (start nodes target) }
-    ensures agree_moves { (nodes target : ℕ) (moves : List Move) → Agree (run_moves moves (start nodes target)).notes }
-    ensures kept_moves { (nodes target : ℕ) (moves : List Move) → Kept (run_moves moves (start nodes target)).notes }
-    ensures origins_moves { (nodes target : ℕ) (moves : List Move) → OriginsOfMoves moves (start nodes target) }
-{}
-
-/// Whatever servers ask, under any generation, and whatever is lost, repeated, reordered or stopped: the fence of a stream
-/// never falls; each extent is made with the fence of its stream, and takes no append of a lower generation. Each opening
-/// of a range is for a higher generation than those before it, so that none opens a range twice; and what opens a range
-/// before a generation is confirmed is no higher than it, what opens it afterwards is. The length that answers a check
-/// covers, for good, all that is ever acknowledged in the extent under a lower generation: each place has so much, the
-/// extent is never sealed at less, and no lower generation adds a group after the answer.
-pub fn fences()
-    ensures streams { (nodes target : ℕ) (moves more : List Move) →
-        FencesRise (run_moves moves (start nodes target)) (run_moves (moves ++ more) (start nodes target)) }
-    ensures extents { (nodes target : ℕ) (moves : List Move) (move : Move) →
-        MadeWithFences (run_moves moves (start nodes target)) (moved (run_moves moves (start nodes target)) move) }
-    ensures opened_once { (nodes target range first second : ℕ) (before after : List Move) →
-        OpensIn before (start nodes target) range first → OpensIn after (run_moves before (start nodes target)) range second → first < second }
-    ensures confirmed { (nodes target range generation : ℕ) (before after : List Move) (confirming : Move) →
-        Confirms (run_moves before (start nodes target)) confirming range generation → Settles before after confirming (start nodes target) range generation }
-    ensures checked { (nodes target : ℕ) (before after : List Move) → FencesHold before after (start nodes target) }
-{}
-
-/// Whatever is lost, repeated, reordered or stopped, each answer belongs to a request that was asked under the same number by
-/// the one who is answered, and tells what was so when it was answered: streams as they were when this request opened them,
-/// a generation that this request confirmed, the extent that was last then or was added for this request, and the length at
-/// which an extent is sealed for good. Groups that were read begin what was appended to the extent, up to where it was asked.
-/// Blocks that were appended stand at the answered offset, as the ones of this request and its generation, and are
-/// acknowledged there: each place has them from then on, and no seal cuts them off.
-pub fn answers()
-    ensures opened { (nodes target : ℕ) (moves : List Move) → OpeningsAnswered moves (start nodes target) }
-    ensures confirmed { (nodes target : ℕ) (moves : List Move) → ConfirmationsAnswered moves (start nodes target) }
-    ensures extended { (nodes target : ℕ) (moves : List Move) → ExtensionsAnswered moves (start nodes target) }
-    ensures sealed { (nodes target : ℕ) (before after : List Move) → SealsAnswered before after (start nodes target) }
-    ensures content { (nodes target : ℕ) (before after : List Move) → ContentAnswered before after (start nodes target) }
-{}
-
-/// Whatever is lost, repeated, reordered or stopped: each extent of a stream is in the manager's book and stands in one list,
-/// once, in the order in which extents are made; each but the last of its list is sealed; and a list only grows.
-pub fn listed()
-    ensures grow { (nodes target : ℕ) (before after : List Move) → ListsGrow before after (start nodes target) }
-{}

@@ -24,77 +24,7 @@ use Rattle.enode.specs.Took.{Took}
 use Rattle.layer.specs.Nodes.{NodeSeen, seen_of, plan_of, NodeMirrors, Gave}
 use Rattle.layer.proofs.Choices.{neither, is_below, not_below, at_most, above, tested, untested, changed_at_elim, changed_at-other, changed-same, changed-other}
 use Rattle.layer.proofs.Seen.{sorted_same, shown_up, shown_down}
-
-zero_or : (k : ℕ) → (k ≡ 0) ⊎ (0 < k)
-zero_or zero = inl refl
-zero_or (suc k) = inr (omega arith)
-
-plan_zero : (c : Cell) → c.fuse ≡ 0 → plan_of c ≡ None
-plan_zero c z = ap (λ (k : ℕ). if k == 0 then None else Some (k, c.keep)) z
-
-pub plan_some : (c : Cell) → 0 < c.fuse → plan_of c ≡ Some (c.fuse, c.keep)
-plan_some c l = if_elim (λ z. z ≡ Some (c.fuse, c.keep)) (c.fuse == 0) None (Some (c.fuse, c.keep)) (λ t. absurd (let z = tested c.fuse 0 t in omega arith)) (λ f. refl)
-
-pub burnt_up : (c : Cell) (k : Option Record) → (burnt c k).up ≡ c.up
-burnt_up c None = refl
-burnt_up c (Some r) = refl
-
--- a row's record, where there is one: the file runs on
-pub up_ok : (old new : Filed MemDisk) (k : Option Record) (s : Step) → Records memory_state old new (listed k) (Ok s) → old.stopped ≡ false → new.stopped ≡ false
-up_ok old new None s h up = ap (λ (f : Filed MemDisk). f.stopped) h.0 ∙ up
-up_ok old new (Some r) s h up = h.ok.0
-
--- and its disk is told what the world says
-pub plan_ok : (old new : Filed MemDisk) (k : Option Record) (s : Step) (c : Cell) → Records memory_state old new (listed k) (Ok s) → (memory_state old.disk).stop ≡ plan_of c → stops_in c k ≡ false →
-    (memory_state new.disk).stop ≡ plan_of (burnt c k)
-plan_ok old new None s c h told f = ap (λ (x : Filed MemDisk). (memory_state x.disk).stop) h.0 ∙ told
-plan_ok old new (Some r) s c h told f =
-    ⊎_elim
-    (λ z. (h.steady (refl, told ∙ plan_zero c z)).1.1 ∙ sym (plan_zero (burnt c (Some r)) (omega (arith, z))))
-    (λ l. let far : 4 < c.fuse = ⊎_elim (λ a. absurd (let b = not_below 0 c.fuse a in omega arith)) (λ b. above c.fuse 4 b) (neither (nat_lt 0 c.fuse) (nat_le c.fuse 4) f) in
-    (h.later c.fuse c.keep (told ∙ plan_some c l) far).1 ∙ sym (plan_some (burnt c (Some r)) (omega arith)))
-    (zero_or c.fuse)
-
-pub no_stop : (old new : Filed MemDisk) (k : Option Record) (s : Step) (c : Cell) → Records memory_state old new (listed k) (Ok s) → (memory_state old.disk).stop ≡ plan_of c → stops_in c k ≡ true → ⊥
-no_stop old new None s c h told t = absurd cc
-no_stop old new (Some r) s c h told t =
-    let b = both_parts (nat_lt 0 c.fuse) (nat_le c.fuse 4) t in
-    let l = is_below 0 c.fuse b.0 in
-    (h.stop c.fuse c.keep (told ∙ plan_some c l) (omega arith) (at_most c.fuse 4 b.1)).0 refl
-
-pub broken_stops : (old new : Filed MemDisk) (k : Option Record) (c : Cell) → Records {T = Step} memory_state old new (listed k) (Err Failed) → (memory_state old.disk).stop ≡ plan_of c → stops_in c k ≡ false → ⊥
-broken_stops old new None c h told f = h.1 refl
-broken_stops old new (Some r) c h told f =
-    ⊎_elim
-    (λ z. (h.steady (refl, told ∙ plan_zero c z)).0 refl)
-    (λ l. let far : 4 < c.fuse = ⊎_elim (λ a. absurd (let b = not_below 0 c.fuse a in omega arith)) (λ b. above c.fuse 4 b) (neither (nat_lt 0 c.fuse) (nat_le c.fuse 4) f) in
-    (h.later c.fuse c.keep (told ∙ plan_some c l) far).0 refl)
-    (zero_or c.fuse)
-
-swapped : (a b : Bool) {A : Type 0} (x y : A) → (if a && b then x else y) ≡ (if b && a then x else y)
-swapped true true x y = refl
-swapped true false x y = refl
-swapped false true x y = refl
-swapped false false x y = refl
-
-pub broken_down : (old new : Filed MemDisk) (k : Option Record) → Records {T = Step} memory_state old new (listed k) (Err Failed) → new.stopped ≡ true
-broken_down old new None h = absurd (h.1 refl)
-broken_down old new (Some r) h = (h.failed refl).0
-
-pub broken_records : (old new : Filed MemDisk) (k : Option Record) (c : Cell) → Records {T = Step} memory_state old new (listed k) (Err Failed) → (memory_state old.disk).stop ≡ plan_of c → stops_in c k ≡ true →
-    new.records ≡ (if stands_in c then old.records ++ listed k else old.records)
-broken_records old new None c h told t = absurd (h.1 refl)
-broken_records old new (Some r) c h told t =
-    let b = both_parts (nat_lt 0 c.fuse) (nat_le c.fuse 4) t in
-    let l = is_below 0 c.fuse b.0 in
-    ((h.stop c.fuse c.keep (told ∙ plan_some c l) (omega arith) (at_most c.fuse 4 b.1)).1 refl).1
-    ∙ swapped c.keep (nat_le 3 c.fuse) (old.records ++ r ∷ []) old.records
-
--- nothing of the file has changed where no memory was left
-pub short_same : (old new : Filed MemDisk) (k : Option Record) → Records {T = Step} memory_state old new (listed k) (Err Memory) →
-    (new.records ≡ old.records) × (new.stopped ≡ old.stopped) × ((memory_state new.disk).stop ≡ (memory_state old.disk).stop)
-short_same old new None h = (ap (λ (f : Filed MemDisk). f.records) h.0, ap (λ (f : Filed MemDisk). f.stopped) h.0, ap (λ (f : Filed MemDisk). (memory_state f.disk).stop) h.0)
-short_same old new (Some r) h = ((h.memory refl).records, (h.memory refl).stopped, (h.memory refl).disk.stop)
+pub use Rattle.stopping.proofs.Breaking.{plan_some, burnt_up, up_ok, plan_ok, no_stop, broken_stops, broken_down, broken_records, short_same}
 
 pub stopped_here : (n : ℕ) (g : ℕ → ℕ → Option Replica) (f : ℕ) → stopped_at n g n f ≡ stopped (g n f)
 stopped_here n g f = if_elim (λ z. z ≡ stopped (g n f)) (n == n) (stopped (g n f)) (g n f) (λ t. refl) (λ u. absurd (untested n n u refl))

@@ -13,6 +13,7 @@ use Rattle.model.specs.World.{World, Cell, armed, down, halted, is_present, node
 use Rattle.model.proofs.Tests.{if_elim, both_parts, both_true}
 use Rattle.enode.specs.Node.{NodeState, IsReplay, IsRestart, find, fresh_of}
 use Rattle.layer.specs.Nodes.{NodeSeen, seen_of, all_seen, plan_of, NodeMirrors, NodesMirror, Gave, Went, nothing}
+pub use Rattle.stopping.proofs.Breaking.{plan_armed}
 use Rattle.layer.proofs.Choices.{either, none_of, not_true, changed-same, changed-other, is_below, at_most, tested}
 use Rattle.layer.proofs.Giving.{fresh-contents, stopped_here, stopped_there}
 use Rattle.layer.proofs.Seen.{shown_up, shown_down, entry_below, entry_here, entry_none}
@@ -64,9 +65,6 @@ stop_now n call keep x y w up now m before num same isdown =
     (λ z. halts n x y w up m before num same isdown)
     (λ z. absurd (let f = subst (λ k. (k == 0) ≡ false) now z in cc)))
     (λ f. absurd (let a = m.up ∙ ap not up in cc))
-
-pub plan_armed : (call : ℕ) (keep : Bool) → call ≢ 0 → plan_of (armed call keep) ≡ Some (call, keep)
-plan_armed call keep some = if_elim (λ z. z ≡ Some (call, keep)) (call == 0) None (Some (call, keep)) (λ t. absurd (some (tested call 0 t))) (λ f. refl)
 
 -- it is to stop later
 pub stop_later : (n call : ℕ) (keep : Bool) (x y : NodeState MemDisk) (w : World) → x.file.stopped ≡ false → call ≢ 0 → NodeMirrors n (seen_of x) w →

@@ -9,7 +9,7 @@ use Rattle.memtable.specs.Entries.{Entries}
 use Rattle.model.specs.World.{World, sent_more}
 use Rattle.model_tables.specs.declared.table_note.TableNote.{TableNote}
 use Rattle.model_tables.specs.declared.table_note.TableNote.TheVariants as tables
-use Rattle.model_tables.specs.Cluster.{ArePlain, IsLoad, ShowsLoad, ServerCell, ServersOutcome, noted, rows_of, server_takes, told, with_told}
+use Rattle.model_tables.specs.Servers.{ArePlain, IsLoad, ShowsLoad, ServerCell, ServersOutcome, noted, rows_of, server_takes, told, with_told}
 use Rattle.layer.specs.Run.{RunState, Mirrors}
 use Rattle.range.specs.Handled.{Sent}
 use Rattle.servers.specs.Servers.{ServersGave, outcome}

@@ -11,6 +11,7 @@ use Rattle.model.specs.Node.{Replica}
 use Rattle.model.specs.World.{World, Cell}
 use Rattle.enode.specs.Node.{NodeState, find, fresh_of}
 use Rattle.model.specs.Maps.{entry_at}
+pub use Rattle.stopping.specs.Plan.{plan_of}
 
 -- what is seen of a node: its replicas in order of their extents, the records of its file, whether it has stopped, and
 -- what its disk was told
@@ -50,10 +51,6 @@ running_at xs n = if_running (entry_at xs n)
 -- the replica of an extent: of a node that has stopped, what its records make
 abbrev pub shown : NodeSeen → ℕ → Option Replica
 shown x e = if x.stopped then fresh_of (replay e x.records) else find x.replicas e
-
--- what the disk of a node was told
-abbrev pub plan_of : Cell → Option (ℕ × Bool)
-plan_of c = if c.fuse == 0 then None else Some (c.fuse, c.keep)
 
 -- node n of the world is this one
 pub record NodeMirrors (n : ℕ) (x : NodeSeen) (w : World) : Type 0 where

@@ -8,7 +8,7 @@ use Rattle.memtable.specs.Entries.{Entries}
 use Rattle.metadata.specs.declared.record.IndexRange.{IndexRange}
 use Rattle.model_tables.specs.declared.table_note.TableNote.{TableNote}
 use Rattle.model_tables.specs.declared.table_note.TableNote.TheVariants as tables
-use Rattle.model_tables.specs.Cluster.{ArePlain, Held, ServerCell, ServersOutcome, noted, rows_of, server_takes}
+use Rattle.model_tables.specs.Servers.{ArePlain, Held, ServerCell, ServersOutcome, noted, rows_of, server_takes}
 use Rattle.layer.specs.Run.{RunState}
 
 -- the layer with what servers send and show
@@ -44,3 +44,9 @@ abbrev pub told_with : TableNote → List Row → Note
 told_with (tables.Began range generation number changes) rows = notes.Began range generation number changes
 told_with (tables.Done range generation number) rows = notes.Done range generation number
 told_with (tables.Loaded range generation entries indexes next) rows = notes.Loaded range generation rows next
+
+-- the layer with what the map sends in a step, of which this holds
+pub record Ordered (r x : RunState) (steps : List Packet → Type 0) : Type 0 where
+  pub packets : List Packet
+  pub layer : x ≡ record r { post = r.post ++ packets }
+  pub steps_are : steps packets

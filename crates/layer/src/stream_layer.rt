@@ -1,18 +1,19 @@
 //! The stream layer: real nodes and the real manager, the packets sent, and what was observed.
 ghost use Rattle.std.specs.Prelude.{◌≡◌, ◌++◌, ◌<◌, [], ◌∷◌, None, Some, IfOk, OnOk, OnErr, length, option_map, slice_get};
 ghost use Rattle.wire.specs.declared.actor.ActorId.TheVariants as actors;
-ghost use Rattle.wire.specs.declared.body.Body.TheVariants as bodies;
 ghost use Rattle.wire.specs.declared.packet.Packet.{Packet};
 ghost use Rattle.model.specs.Maps.{entry_at};
 ghost use Rattle.model.specs.World.{World, happens, moved, delivered, start};
 ghost use Rattle.model.specs.World.Move.{Asks};
 ghost use Rattle.model.specs.declared.event.Event.TheVariants as events;
 ghost use Rattle.model.specs.Outcome.{packet};
-ghost use Rattle.model_tables.specs.Cluster.{give_up_refusal, server_gives_up};
+ghost use Rattle.model_tables.specs.Servers.{give_up_refusal, server_gives_up};
 ghost use Rattle.layer.specs.Desk.{DeskMirrors, refusal_in};
 ghost use Rattle.layer.specs.Nodes.{NodesMirror, seen_of, running_at};
 ghost use Rattle.layer.specs.Run.{IsFew, Mirrors, Moved, refusal_of};
-ghost use Rattle.layer.specs.Told.{Took, TookPacket};
+ghost use Rattle.layer.specs.Told.{Ordered, Took, TookPacket};
+ghost use Rattle.map_desk.specs.Seen.{Steps, StepsAt, assign_refusal, renew_refusal};
+ghost use Rattle.model_clusters.specs.Cluster.{assigns, map_takes, renews};
 
 use crate::calls::is_call;
 use crate::desk::{Decision, Desk};
@@ -25,14 +26,13 @@ use crate::submitting::request;
 use blocks::Nodes;
 use disk::MemDisk;
 use enode::Node;
+use map_desk::{MapDesk, Ruling};
 use model::Event;
 use range::Sent;
 use servers::{Servers, Surrender};
 use std::alloc::Global;
 use std::marker::Model;
-use wire::{
-    ActorId, Body, ExtentId, MapBody, Note, Packet, RangeId, Refusal, Rows, ServerNo, Step,
-};
+use wire::{ActorId, Body, ExtentId, Note, Packet, RangeId, Refusal, Rows, ServerNo, Step};
 
 /// Real extent nodes and the stream manager on disks in memory, all packets that were sent, numbered from 0, and all
 /// observations. The packets stay, since each may be delivered any number of times.
@@ -247,19 +247,91 @@ impl Layer {
             Event::Decide { extent } => self.decide(alloc, *extent),
             Event::GiveUp { .. } => Ok(None),
             Event::Assign { .. } => Ok(None),
+            Event::Renew { .. } => Ok(None),
             Event::Moment { .. } => Ok(None),
         }
     }
 
-    /// The map tells a server something. The packet is the next of those sent. An error is want of memory (22), and nothing
-    /// has changed.
-    pub fn tell(&mut self, server: ServerNo, body: MapBody) -> Result<(), WorldFault>
-        ensures ok { OnOk result (self.new ≡ record self.old { post = self.old.post ++ packet actors.Map (actors.Server server) (bodies.Map body) ∷ [] }) }
+    /// The map takes the packet of this number. The room for what it sends is made before it makes its step. An error is want of
+    /// memory (22), and nothing has changed.
+    pub fn route(
+        &mut self,
+        alloc: Global,
+        map: &mut MapDesk,
+        number: usize,
+    ) -> Result<(), WorldFault>
+        requires { number < length self.old.post }
+        ensures ok { OnOk result ((p : Packet) → slice_get self.old.post number ≡ Some p →
+            Ordered self.old self.new (Steps map.old map.new (λ c. map_takes c p))) }
         ensures err { OnErr result (self.new ≡ self.old) }
+        ensures map_err { OnErr result (map.new ≡ map.old) }
     {
-        match self.send(ActorId::Map, ActorId::Server(server), Body::Map(body)) {
-            Ok(()) => Ok(()),
-            Err(fault) => Err(fault),
+        if let Err(_short) = make_room(&mut self.post) {
+            return Err(WorldFault::Memory);
+        }
+        match map.give(alloc, &self.post[number]) {
+            Ok(packets) => {
+                move_in(&mut self.post, packets.into_vec());
+                Ok(())
+            }
+            Err(_full) => Err(WorldFault::Memory),
+        }
+    }
+
+    /// The map assigns a range. It answers why it does not: the range is unknown (30), or another server holds it at this moment
+    /// (31). An error is want of memory (22), and nothing has changed.
+    pub fn assign(
+        &mut self,
+        alloc: Global,
+        map: &mut MapDesk,
+        range: RangeId,
+        server: ServerNo,
+        now: u64,
+        until: u64,
+    ) -> Result<Option<Refusal>, WorldFault>
+        ensures ok { OnOk result (Ordered self.old self.new (StepsAt now map.old map.new (λ c. assigns c range server until))) }
+        ensures refusal { IfOk result (λ refusal. refusal ≡ assign_refusal map.old now range server) }
+        ensures err { OnErr result (self.new ≡ self.old) }
+        ensures map_err { OnErr result (map.new ≡ map.old) }
+    {
+        if let Err(_short) = make_room(&mut self.post) {
+            return Err(WorldFault::Memory);
+        }
+        match map.assign(alloc, range, server, now, until) {
+            Ok(ruling) => {
+                let Ruling { packets, refusal } = ruling;
+                move_in(&mut self.post, packets.into_vec());
+                Ok(refusal)
+            }
+            Err(_full) => Err(WorldFault::Memory),
+        }
+    }
+
+    /// The map renews the lease of a range. It answers why it does not: the server does not hold the range (30). An error is want
+    /// of memory (22), and nothing has changed.
+    pub fn renew(
+        &mut self,
+        alloc: Global,
+        map: &mut MapDesk,
+        range: RangeId,
+        server: ServerNo,
+        until: u64,
+    ) -> Result<Option<Refusal>, WorldFault>
+        ensures ok { OnOk result (Ordered self.old self.new (Steps map.old map.new (λ c. renews c range server until))) }
+        ensures refusal { IfOk result (λ refusal. refusal ≡ renew_refusal map.old range server) }
+        ensures err { OnErr result (self.new ≡ self.old) }
+        ensures map_err { OnErr result (map.new ≡ map.old) }
+    {
+        if let Err(_short) = make_room(&mut self.post) {
+            return Err(WorldFault::Memory);
+        }
+        match map.renew(alloc, range, server, until) {
+            Ok(ruling) => {
+                let Ruling { packets, refusal } = ruling;
+                move_in(&mut self.post, packets.into_vec());
+                Ok(refusal)
+            }
+            Err(_full) => Err(WorldFault::Memory),
         }
     }
 

@@ -1,9 +1,8 @@
 //! Clients of servers, driven by hand over real nodes and the real manager.
-use crate::runs::{PLACES, deliver, started, step};
+use crate::runs::{PLACES, decide, deliver, started};
 use bytes::Bytes;
 use client::{LoadPhase, News, RangeLoad, Reaction, StreamClient};
 use layer::Layer;
-use model::Event;
 use std::alloc::Global;
 use std::test::Fail;
 use wire::{
@@ -80,6 +79,26 @@ fn take(
     }
 }
 
+/// One request, and what its answer has the client do: nothing where none comes.
+fn turn(
+    alloc: Global,
+    run: &mut Layer,
+    client: &mut StreamClient,
+    server: u8,
+    count: u64,
+    packet: Packet,
+    cut: u8,
+) -> Result<Reaction, Fail> {
+    let before = asks(alloc, run, server, packet, cut)?;
+    match answer_from(run, server, before) {
+        None => Ok(Reaction {
+            packet: None,
+            news: None,
+        }),
+        Some(answer) => take(alloc, run, client, server, count, answer),
+    }
+}
+
 /// Goes on with a request until its client is told something, or waits for an answer that does not come.
 fn goes_on(
     alloc: Global,
@@ -91,18 +110,28 @@ fn goes_on(
 ) -> Result<Option<News>, Fail> {
     let mut next = packet;
     for count in 100..110 {
-        let before = asks(alloc, run, server, next, cut)?;
-        let answer = match answer_from(run, server, before) {
-            None => return Ok(None),
-            Some(answer) => answer,
-        };
-        let Reaction { packet, news } = take(alloc, run, client, server, count, answer)?;
+        let Reaction { packet, news } = turn(alloc, run, client, server, count, next, cut)?;
         next = match packet {
             None => return Ok(news),
             Some(packet) => packet,
         };
     }
     Ok(None)
+}
+
+/// Goes on with what an answer had the client do.
+fn follows(
+    alloc: Global,
+    run: &mut Layer,
+    client: &mut StreamClient,
+    server: u8,
+    reaction: Reaction,
+) -> Result<Option<News>, Fail> {
+    let Reaction { packet, news } = reaction;
+    match packet {
+        None => Ok(news),
+        Some(packet) => goes_on(alloc, run, client, server, packet, 0),
+    }
 }
 
 fn opened(run: &Layer, load: &mut RangeLoad, number_of: usize) -> bool {
@@ -214,19 +243,14 @@ fn decided(
     server: u8,
 ) -> Result<Option<News>, Fail> {
     let before = run.sent().len();
-    let event = Event::Decide {
-        extent: ExtentId::new(1),
-    };
-    let _refused = step(alloc, run, &event)?;
+    let _refused = decide(alloc, run, 1)?;
     let _end = settle(alloc, run, before, 0)?;
-    let answer = match answer_from(run, server, before) {
-        None => return Ok(None),
-        Some(answer) => answer,
-    };
-    let Reaction { packet, news } = take(alloc, run, log, server, 12, answer)?;
-    match packet {
-        None => Ok(news),
-        Some(packet) => goes_on(alloc, run, log, server, packet, 0),
+    match answer_from(run, server, before) {
+        None => Ok(None),
+        Some(answer) => {
+            let reaction = take(alloc, run, log, server, 12, answer)?;
+            follows(alloc, run, log, server, reaction)
+        }
     }
 }
 
@@ -312,31 +336,36 @@ fn last_alone_counts(alloc: Global, run: &mut Layer) -> Result<bool, Fail> {
     Ok(counts && !stale)
 }
 
+fn appends_across_a_seal(alloc: Global, run: &mut Layer) -> Result<bool, Fail> {
+    let mut log = loads(alloc, run, 1)?;
+    goes_across(alloc, run, &mut log)
+}
+
+fn fences_the_first(alloc: Global, run: &mut Layer) -> Result<bool, Fail> {
+    let mut old = loads(alloc, run, 1)?;
+    fences(alloc, run, &mut old)
+}
+
 #[test]
 fn a_client_appends_across_a_seal(rt: HostRuntime) -> Result<(), Fail> {
-    let alloc = rt.alloc();
-    let mut run = started(alloc)?;
-    let mut log = loads(alloc, &mut run, 1)?;
-    let went = goes_across(alloc, &mut run, &mut log)?;
+    let mut run = started(rt.alloc())?;
+    let went = appends_across_a_seal(rt.alloc(), &mut run)?;
     assert!(rt; went);
     Ok(())
 }
 
 #[test]
 fn a_second_generation_fences_the_first(rt: HostRuntime) -> Result<(), Fail> {
-    let alloc = rt.alloc();
-    let mut run = started(alloc)?;
-    let mut old = loads(alloc, &mut run, 1)?;
-    let fenced = fences(alloc, &mut run, &mut old)?;
+    let mut run = started(rt.alloc())?;
+    let fenced = fences_the_first(rt.alloc(), &mut run)?;
     assert!(rt; fenced);
     Ok(())
 }
 
 #[test]
 fn an_old_load_never_counts(rt: HostRuntime) -> Result<(), Fail> {
-    let alloc = rt.alloc();
-    let mut run = started(alloc)?;
-    let alone = last_alone_counts(alloc, &mut run)?;
+    let mut run = started(rt.alloc())?;
+    let alone = last_alone_counts(rt.alloc(), &mut run)?;
     assert!(rt; alone);
     Ok(())
 }

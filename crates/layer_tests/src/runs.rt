@@ -1,4 +1,5 @@
 //! Runs of the stream layer: what is sent, decided and shown, and that each run is honest.
+use crate::asserted::same;
 use blocks::Nodes;
 use bytes::Bytes;
 use checker::check;
@@ -74,11 +75,16 @@ fn append(alloc: Global, to: ActorId) -> Result<Event, Fail> {
 }
 
 // These calls pass no contract on, so that a test is proved from what it reads alone.
-pub(crate) fn step(alloc: Global, run: &mut Layer, event: &Event) -> Result<Option<Refusal>, Fail> {
+fn step_by(alloc: Global, run: &mut Layer, event: &Event) -> Result<Option<Refusal>, Fail> {
     match run.step(alloc, event) {
         Ok(refusal) => Ok(refusal),
         Err(_fault) => Err(Fail::from("no memory was left")),
     }
+}
+
+// Events are handed over whole: a local that lives on is dropped at each exit, and each costs the proof.
+pub(crate) fn step(alloc: Global, run: &mut Layer, event: Event) -> Result<Option<Refusal>, Fail> {
+    step_by(alloc, run, &event)
 }
 
 pub(crate) fn started(alloc: Global) -> Result<Layer, Fail> {
@@ -91,11 +97,16 @@ pub(crate) fn started(alloc: Global) -> Result<Layer, Fail> {
     }
 }
 
+fn step_by_all(alloc: Global, run: &mut Layer, events: &[Event]) -> Result<(), Fail> {
+    for event in events {
+        step_by(alloc, run, event)?;
+    }
+    Ok(())
+}
+
 fn whole(alloc: Global, events: &[Event]) -> Result<Layer, Fail> {
     let mut run = started(alloc)?;
-    for event in events {
-        step(alloc, &mut run, event)?;
-    }
+    step_by_all(alloc, &mut run, events)?;
     Ok(run)
 }
 
@@ -104,13 +115,12 @@ pub(crate) fn deliver(
     run: &mut Layer,
     number: usize,
 ) -> Result<Option<Refusal>, Fail> {
-    let event = Event::Deliver { number };
-    step(alloc, run, &event)
+    step(alloc, run, Event::Deliver { number })
 }
 
 fn submit_append(alloc: Global, run: &mut Layer, to: ActorId) -> Result<Option<Refusal>, Fail> {
     let event = append(alloc, to)?;
-    step(alloc, run, &event)
+    step(alloc, run, event)
 }
 
 fn count(run: &Layer) -> usize {
@@ -151,69 +161,92 @@ fn sent_to(run: &Layer, number: usize) -> Option<ActorId> {
     }
 }
 
+fn create_and_extend(alloc: Global, run: &mut Layer) -> Result<(), Fail> {
+    step(alloc, run, create(ActorId::Manager))?;
+    deliver(alloc, run, 0)?;
+    step(alloc, run, extend())?;
+    deliver(alloc, run, 2)?;
+    for number in 3..6 {
+        deliver(alloc, run, number)?;
+    }
+    Ok(())
+}
+
 /// A run with extent 1 on nodes 1, 2 and 3: packets 0 to 6 are sent.
 fn extended(alloc: Global) -> Result<Layer, Fail> {
     let mut run = started(alloc)?;
-    step(alloc, &mut run, &create(ActorId::Manager))?;
-    deliver(alloc, &mut run, 0)?;
-    step(alloc, &mut run, &extend())?;
-    deliver(alloc, &mut run, 2)?;
-    for number in 3..6 {
-        deliver(alloc, &mut run, number)?;
-    }
+    create_and_extend(alloc, &mut run)?;
     Ok(run)
+}
+
+/// How many packets are sent before an append comes to the first place, and after.
+fn append_to_first(alloc: Global, run: &mut Layer) -> Result<(usize, usize), Fail> {
+    let made = count(run);
+    submit_append(alloc, run, ActorId::Node(1))?;
+    deliver(alloc, run, 7)?;
+    Ok((made, count(run)))
 }
 
 #[test]
 fn an_append_is_put_to_the_secondaries(rt: HostRuntime) -> Result<(), Fail> {
     let mut run = extended(rt.alloc())?;
-    let made = count(&run);
-    submit_append(rt.alloc(), &mut run, ActorId::Node(1))?;
-    deliver(rt.alloc(), &mut run, 7)?;
-    assert_eq!(rt; made, 7);
-    assert_eq!(rt; count(&run), 10);
-    assert_eq!(rt; sent_to(&run, 8), Some(ActorId::Node(2)));
-    assert_eq!(rt; sent_to(&run, 9), Some(ActorId::Node(3)));
-    assert_eq!(rt; length(&run, 1), Some(3));
-    assert_eq!(rt; length(&run, 2), Some(0));
-    assert_eq!(rt; observed(&run), 0);
+    same(&rt, append_to_first(rt.alloc(), &mut run)?, (7, 10));
+    same(&rt, sent_to(&run, 8), Some(ActorId::Node(2)));
+    same(&rt, sent_to(&run, 9), Some(ActorId::Node(3)));
+    let lengths = (length(&run, 1), length(&run, 2));
+    same(&rt, lengths, (Some(3), Some(0)));
+    same(&rt, observed(&run), 0);
     Ok(())
+}
+
+/// What is answered before a packet is there, and where it comes to no node.
+fn deliver_what_does_not_fit(
+    alloc: Global,
+    run: &mut Layer,
+) -> Result<(Option<Refusal>, Option<Refusal>), Fail> {
+    let never = deliver(alloc, run, 0)?;
+    submit_append(alloc, run, ActorId::Node(4))?;
+    submit_append(alloc, run, ActorId::Node(0))?;
+    let absent = deliver(alloc, run, 0)?;
+    deliver(alloc, run, 1)?;
+    Ok((never, absent))
 }
 
 #[test]
 fn nothing_comes_of_what_does_not_fit(rt: HostRuntime) -> Result<(), Fail> {
     let mut run = started(rt.alloc())?;
-    let never = deliver(rt.alloc(), &mut run, 0)?;
-    submit_append(rt.alloc(), &mut run, ActorId::Node(4))?;
-    submit_append(rt.alloc(), &mut run, ActorId::Node(0))?;
-    let absent = deliver(rt.alloc(), &mut run, 0)?;
-    deliver(rt.alloc(), &mut run, 1)?;
-    assert_eq!(rt; never, None);
-    assert_eq!(rt; absent, None);
-    assert_eq!(rt; count(&run), 2);
-    assert_eq!(rt; observed(&run), 0);
-    assert_eq!(rt; length(&run, 0), None);
-    assert_eq!(rt; length(&run, 4), None);
+    let answers = deliver_what_does_not_fit(rt.alloc(), &mut run)?;
+    same(&rt, answers, (None, None));
+    same(&rt, (count(&run), observed(&run)), (2, 0));
+    same(&rt, (length(&run, 0), length(&run, 4)), (None, None));
+    Ok(())
+}
+
+fn add_events(events: &mut Vec<Event>) -> Result<(), Fail> {
+    events.push(create(ActorId::Manager))?;
+    events.push(extend())?;
+    for number in [0, 1, 3] {
+        events.push(Event::Deliver { number })?;
+    }
     Ok(())
 }
 
 fn some_events(alloc: Global) -> Result<Vec<Event>, Fail> {
     let mut events = Vec::new(alloc);
-    events.push(create(ActorId::Manager))?;
-    events.push(extend())?;
-    events.push(Event::Deliver { number: 0 })?;
-    events.push(Event::Deliver { number: 1 })?;
-    events.push(Event::Deliver { number: 3 })?;
+    add_events(&mut events)?;
     Ok(events)
+}
+
+fn whole_run(alloc: Global) -> Result<Layer, Fail> {
+    let events = some_events(alloc)?;
+    whole(alloc, events.as_slice())
 }
 
 #[test]
 fn a_whole_run(rt: HostRuntime) -> Result<(), Fail> {
-    let events = some_events(rt.alloc())?;
-    let run = whole(rt.alloc(), events.as_slice())?;
-    assert_eq!(rt; count(&run), 7);
-    assert_eq!(rt; length(&run, 1), Some(0));
-    assert_eq!(rt; length(&run, 2), None);
+    let run = whole_run(rt.alloc())?;
+    let lengths = (length(&run, 1), length(&run, 2));
+    same(&rt, (count(&run), lengths), (7, (Some(0), None)));
     Ok(())
 }
 
@@ -342,25 +375,29 @@ fn settle(alloc: Global, run: &mut Layer, from: usize, mask: u8) -> Result<usize
     Ok(number)
 }
 
-fn show(alloc: Global, run: &mut Layer, upto: u32) -> Result<(), Fail> {
+fn show(alloc: Global, run: &mut Layer, upto: u32) -> Result<Option<Refusal>, Fail> {
     for node in 1..4 {
-        step(alloc, run, &content(node, upto))?;
+        step(alloc, run, content(node, upto))?;
     }
-    Ok(())
+    Ok(None)
+}
+
+/// The packets before this one were there before the step.
+fn went_on(step: Result<Option<Refusal>, Fail>, from: usize) -> Result<usize, Fail> {
+    match step {
+        Ok(_refused) => Ok(from),
+        Err(fail) => Err(fail),
+    }
 }
 
 fn perform(alloc: Global, run: &mut Layer, from: usize, one: Act) -> Result<usize, Fail> {
     match one {
-        Act::Append => submit_append(alloc, run, ActorId::Node(1))?,
-        Act::Settle(mask) => return settle(alloc, run, from, mask),
-        Act::Seal => step(alloc, run, &seal())?,
-        Act::Decide => decide(alloc, run, 1)?,
-        Act::Show(upto) => {
-            show(alloc, run, upto)?;
-            None
-        }
-    };
-    Ok(from)
+        Act::Append => went_on(submit_append(alloc, run, ActorId::Node(1)), from),
+        Act::Settle(mask) => settle(alloc, run, from, mask),
+        Act::Seal => went_on(step(alloc, run, seal()), from),
+        Act::Decide => went_on(decide(alloc, run, 1), from),
+        Act::Show(upto) => went_on(show(alloc, run, upto), from),
+    }
 }
 
 fn perform_all(alloc: Global, run: &mut Layer, from: usize, acts: &[Act]) -> Result<usize, Fail> {
@@ -380,33 +417,54 @@ fn actor_of(number: u8) -> ActorId {
     }
 }
 
-fn stop(alloc: Global, run: &mut Layer, number: u8, call: u64, keep: bool) -> Result<(), Fail> {
-    let event = Event::Stop {
+fn stop_of(number: u8, call: u64, keep: bool) -> Event {
+    Event::Stop {
         actor: actor_of(number),
         call,
         keep,
-    };
-    step(alloc, run, &event)?;
+    }
+}
+
+fn stop(alloc: Global, run: &mut Layer, number: u8, call: u64, keep: bool) -> Result<(), Fail> {
+    step(alloc, run, stop_of(number, call, keep))?;
     Ok(())
+}
+
+fn restart_of(number: u8) -> Event {
+    Event::Restart {
+        actor: actor_of(number),
+    }
 }
 
 fn restart(alloc: Global, run: &mut Layer, number: u8) -> Result<(), Fail> {
-    let event = Event::Restart {
-        actor: actor_of(number),
-    };
-    step(alloc, run, &event)?;
+    step(alloc, run, restart_of(number))?;
     Ok(())
 }
 
-fn decide(alloc: Global, run: &mut Layer, extent: u64) -> Result<Option<Refusal>, Fail> {
-    let event = Event::Decide {
-        extent: ExtentId::new(extent),
-    };
-    step(alloc, run, &event)
+pub(crate) fn decide(alloc: Global, run: &mut Layer, extent: u64) -> Result<Option<Refusal>, Fail> {
+    let extent = ExtentId::new(extent);
+    step(alloc, run, Event::Decide { extent })
 }
 
 fn is_honest(alloc: Global, run: &Layer) -> bool {
     check(alloc, run.observations()).is_none()
+}
+
+/// This actor stops, and comes back.
+fn stop_once(
+    alloc: Global,
+    run: &mut Layer,
+    acts: &[Act],
+    actor: u8,
+    call: u64,
+    keep: bool,
+) -> Result<(), Fail> {
+    stop(alloc, run, actor, call, keep)?;
+    let sent = perform_all(alloc, run, 6, acts)?;
+    restart(alloc, run, actor)?;
+    let again = AGAIN;
+    perform_all(alloc, run, sent, again.as_slice())?;
+    Ok(())
 }
 
 /// Whether a run in which this actor stops, and comes back, shows nothing that does not agree.
@@ -418,11 +476,7 @@ fn stays_honest(
     keep: bool,
 ) -> Result<bool, Fail> {
     let mut run = extended(alloc)?;
-    stop(alloc, &mut run, actor, call, keep)?;
-    let sent = perform_all(alloc, &mut run, 6, acts)?;
-    restart(alloc, &mut run, actor)?;
-    let again = AGAIN;
-    perform_all(alloc, &mut run, sent, again.as_slice())?;
+    stop_once(alloc, &mut run, acts, actor, call, keep)?;
     Ok(is_honest(alloc, &run))
 }
 
@@ -452,47 +506,66 @@ fn broken_by_any(alloc: Global, acts: &[Act]) -> Result<usize, Fail> {
 #[test]
 fn stops_leave_it_honest(rt: HostRuntime) -> Result<(), Fail> {
     let (short, filled, longer) = (SHORT, FILLED, LONGER);
-    let short = broken_by_any(rt.alloc(), short.as_slice())?;
-    let filled = broken_by_any(rt.alloc(), filled.as_slice())?;
-    let longer = broken_by_any(rt.alloc(), longer.as_slice())?;
-    assert_eq!(rt; short, 0);
-    assert_eq!(rt; filled, 0);
-    assert_eq!(rt; longer, 0);
+    same(&rt, broken_by_any(rt.alloc(), short.as_slice())?, 0);
+    same(&rt, broken_by_any(rt.alloc(), filled.as_slice())?, 0);
+    same(&rt, broken_by_any(rt.alloc(), longer.as_slice())?, 0);
     Ok(())
+}
+
+type Refusals = (Option<Refusal>, Option<Refusal>);
+
+fn decide_both(alloc: Global, run: &mut Layer) -> Result<Refusals, Fail> {
+    let untold = decide(alloc, run, 1)?;
+    let unknown = decide(alloc, run, 2)?;
+    Ok((untold, unknown))
+}
+
+/// What is answered while the manager is stopped, and when it has come back.
+fn decide_around_a_stop(alloc: Global, run: &mut Layer) -> Result<Refusals, Fail> {
+    stop(alloc, run, 0, 0, false)?;
+    let stopped = decide(alloc, run, 2)?;
+    restart(alloc, run, 0)?;
+    let again = decide(alloc, run, 2)?;
+    Ok((stopped, again))
+}
+
+/// Both, and how much is observed then.
+fn decisions(alloc: Global, run: &mut Layer) -> Result<(Refusals, Refusals, usize), Fail> {
+    let first = decide_both(alloc, run)?;
+    let around = decide_around_a_stop(alloc, run)?;
+    Ok((first, around, observed(run)))
 }
 
 #[test]
 fn the_manager_decides_by_what_it_was_told(rt: HostRuntime) -> Result<(), Fail> {
     let mut run = extended(rt.alloc())?;
-    let untold = decide(rt.alloc(), &mut run, 1)?;
-    let unknown = decide(rt.alloc(), &mut run, 2)?;
-    stop(rt.alloc(), &mut run, 0, 0, false)?;
-    let stopped = decide(rt.alloc(), &mut run, 2)?;
-    restart(rt.alloc(), &mut run, 0)?;
-    let again = decide(rt.alloc(), &mut run, 2)?;
-    assert_eq!(rt; untold, Some(Refusal::NoReply));
-    assert_eq!(rt; unknown, Some(Refusal::NoSuchExtent));
-    assert_eq!(rt; stopped, None);
-    assert_eq!(rt; again, Some(Refusal::NoSuchExtent));
-    assert_eq!(rt; observed(&run), 0);
+    let (first, around, observed) = decisions(rt.alloc(), &mut run)?;
+    let unknown = Some(Refusal::NoSuchExtent);
+    same(&rt, first, (Some(Refusal::NoReply), unknown));
+    same(&rt, around, (None, unknown));
+    same(&rt, observed, 0);
     Ok(())
+}
+
+/// The manager stops at its third device call of a decision. It answers how many packets were sent before.
+fn decide_in_a_stop(alloc: Global, run: &mut Layer, keep: bool) -> Result<usize, Fail> {
+    step(alloc, run, seal())?;
+    let sent = settle(alloc, run, 6, 0)?;
+    stop(alloc, run, 0, 3, keep)?;
+    decide(alloc, run, 1)?;
+    Ok(sent)
 }
 
 /// A decision that the manager stops in at its third device call: how much is observed, and sent.
 fn decided_in_a_stop(alloc: Global, keep: bool) -> Result<(usize, usize), Fail> {
     let mut run = extended(alloc)?;
-    step(alloc, &mut run, &seal())?;
-    let sent = settle(alloc, &mut run, 6, 0)?;
-    stop(alloc, &mut run, 0, 3, keep)?;
-    decide(alloc, &mut run, 1)?;
+    let sent = decide_in_a_stop(alloc, &mut run, keep)?;
     Ok((observed(&run), count(&run).saturating_sub(sent)))
 }
 
 #[test]
 fn a_decision_is_shown_where_its_record_stands(rt: HostRuntime) -> Result<(), Fail> {
-    let kept = decided_in_a_stop(rt.alloc(), true)?;
-    let lost = decided_in_a_stop(rt.alloc(), false)?;
-    assert_eq!(rt; kept, (1, 0));
-    assert_eq!(rt; lost, (0, 0));
+    same(&rt, decided_in_a_stop(rt.alloc(), true)?, (1, 0));
+    same(&rt, decided_in_a_stop(rt.alloc(), false)?, (0, 0));
     Ok(())
 }

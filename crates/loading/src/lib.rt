@@ -23,6 +23,7 @@ mod metadata_answers;
 mod metadata_reading;
 mod opening;
 mod progress;
+mod turning;
 
 pub use content::RangeContent;
 pub use giving_up::GivenUp;

@@ -13,6 +13,7 @@ use crate::answering::groups_of;
 use crate::asking::next_request;
 use crate::content::RangeContent;
 use crate::progress::Progress;
+use crate::turning::{Turn, sent, turn_of};
 use blocks::{BlockFault, Group};
 use client::News;
 use metadata::{Region, copied_regions};
@@ -34,26 +35,16 @@ impl RangeContent {
         requires other { content_told told.now ≡ None }
         ensures { (groups : List rows.Group) → Makes desk.now (λ r. rows.metadata_news desk.now r groups r.stage told.now (option_to_list packet)) self.old self.new result }
     {
-        let stage = self.stage;
-        match told {
-            None => Progress::Goes(packet),
-            Some(News::Fenced) => Progress::Dropped,
-            Some(News::Appended { .. }) => Progress::Goes(packet),
-            Some(News::Content { .. }) => Progress::Goes(packet),
-            Some(News::Checked { .. }) => match stage {
-                Stage::Checking { .. } => self.reads_metadata(desk, 0, regions),
-                Stage::Opening => Progress::Goes(packet),
-                Stage::Reading { .. } => Progress::Goes(packet),
-                Stage::Confirming => Progress::Goes(packet),
-                Stage::Serving => Progress::Goes(packet),
-            },
-            Some(News::Sealed { .. }) => match stage {
-                Stage::Checking { .. } => self.reads_metadata(desk, 0, regions),
-                Stage::Reading { position, .. } => self.reads_metadata(desk, position, regions),
-                Stage::Opening => Progress::Goes(packet),
-                Stage::Confirming => Progress::Goes(packet),
-                Stage::Serving => Progress::Goes(packet),
-            },
+        match turn_of(told, &self.stage) {
+            Turn::Stays => sent(told, packet),
+            Turn::Starts => {
+                drop(packet);
+                self.reads_metadata(desk, 0, regions)
+            }
+            Turn::Reads(position) => {
+                drop(packet);
+                self.reads_metadata(desk, position, regions)
+            }
         }
     }
 

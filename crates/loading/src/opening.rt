@@ -1,8 +1,10 @@
 //! A load begins, and its streams are opened.
-ghost use Rattle.std.specs.Prelude.{◌≡◌, ℕ, IfOk, OnErr};
+ghost use Rattle.std.specs.Prelude.{◌≡◌, [], ℕ, IfOk, OnErr};
 ghost use Rattle.wire.specs.declared.streams.StreamKind.TheVariants as kinds;
-ghost use Rattle.client.specs.Client.{new_client};
-ghost use Rattle.client.specs.Load.{open_packet};
+ghost use Rattle.client.specs.declared.load.LoadPhase.TheVariants as phases;
+ghost use Rattle.client.specs.Client.{new_client, last_extent};
+ghost use Rattle.client.specs.Load.{open_packet, opening};
+ghost use Rattle.metadata.specs.Fold.{first_metadata};
 ghost use Rattle.model_tables.specs.Range.{request};
 ghost use Rattle.model_tables.specs.Loading as rows;
 ghost use Rattle.model_tables.specs.Server.{new_range};
@@ -14,7 +16,7 @@ use crate::copying::{copied_list, no_list};
 use crate::progress::Progress;
 use client::{LoadPhase, RangeLoad, StreamClient};
 use memtable::MemTable;
-use metadata::{Metadata, copied_regions};
+use metadata::{Metadata, Region, copied_regions};
 use model_tables::{Desk, Stage};
 use std::alloc::{AllocError, Global};
 use wire::{Fence, Packet, RangeId, StreamKind, StreamList, StreamLists, StreamName};
@@ -43,6 +45,96 @@ fn client_of(
     )
 }
 
+/// The clients of the metadata and of the log, with nothing out.
+fn clients_of(
+    alloc: Global,
+    desk: &Desk,
+    load: &RangeLoad,
+    metadata: &StreamList,
+    log: &StreamList,
+) -> Result<(StreamClient, StreamClient), AllocError>
+    ensures metadata { IfOk result (λ both. both.0 ≡ new_client desk.now.server (record { range = load.now.range; kind = kinds.Metadata }) load.now.generation metadata.now desk.now.pick) }
+    ensures log { IfOk result (λ both. both.1 ≡ new_client desk.now.server (record { range = load.now.range; kind = kinds.Log }) load.now.generation log.now desk.now.pick) }
+{
+    let first = client_of(alloc, desk, StreamKind::Metadata, load, metadata)?;
+    match client_of(alloc, desk, StreamKind::Log, load, log) {
+        Ok(second) => Ok((first, second)),
+        Err(full) => {
+            drop(first);
+            Err(full)
+        }
+    }
+}
+
+/// The same of streams that are not opened yet.
+fn first_clients(
+    alloc: Global,
+    desk: &Desk,
+    load: &RangeLoad,
+) -> Result<(StreamClient, StreamClient), AllocError>
+    ensures metadata { IfOk result (λ both. both.0 ≡ new_client desk.now.server (record { range = load.now.range; kind = kinds.Metadata }) load.now.generation (record { base = 0; extents = [] }) desk.now.pick) }
+    ensures log { IfOk result (λ both. both.1 ≡ new_client desk.now.server (record { range = load.now.range; kind = kinds.Log }) load.now.generation (record { base = 0; extents = [] }) desk.now.pick) }
+{
+    let none = no_list(alloc);
+    let clients = clients_of(alloc, desk, load, &none, &none);
+    drop(none);
+    clients
+}
+
+/// Copies of the streams of the data.
+fn data_of(alloc: Global, lists: &StreamLists) -> Result<(StreamList, StreamList), AllocError>
+    ensures rows { IfOk result (λ both. both.0 ≡ lists.now.row_data) }
+    ensures blobs { IfOk result (λ both. both.1 ≡ lists.now.blob_data) }
+{
+    let rows = copied_list(alloc, &lists.row_data)?;
+    match copied_list(alloc, &lists.blob_data) {
+        Ok(blobs) => Ok((rows, blobs)),
+        Err(full) => {
+            drop(rows);
+            Err(full)
+        }
+    }
+}
+
+/// What is known before any metadata is read, and a copy of its regions.
+fn first_said(alloc: Global) -> Result<(Metadata, Vec<Region>), AllocError>
+    ensures said { IfOk result (λ both. both.0 ≡ first_metadata) }
+    ensures regions { IfOk result (λ both. both.1.items ≡ first_metadata.regions) }
+{
+    let said = Metadata::first(alloc)?;
+    match copied_regions(alloc, said.regions()) {
+        Ok(regions) => Ok((said, regions)),
+        Err(full) => {
+            drop(said);
+            Err(full)
+        }
+    }
+}
+
+/// What is known of a range whose load has just begun.
+fn begun(alloc: Global, desk: &Desk, load: RangeLoad) -> Result<RangeContent, AllocError>
+    ensures { IfOk result (λ x. (range generation until : ℕ) → load ≡ opening desk.now.server range generation (request desk.now) → put x (new_range desk.now range generation until) ≡ new_range desk.now range generation until) }
+{
+    let said = Metadata::first(alloc)?;
+    match first_clients(alloc, desk, &load) {
+        Ok((metadata, log)) => Ok(RangeContent {
+            load,
+            stage: Stage::Opening,
+            metadata,
+            log,
+            row_data: no_list(alloc),
+            blob_data: no_list(alloc),
+            said,
+            regions: Vec::new(alloc),
+            table: MemTable::new(alloc),
+        }),
+        Err(full) => {
+            drop(said);
+            Err(full)
+        }
+    }
+}
+
 impl RangeContent {
     /// A load of a range under a generation, of which nothing is known, and the packet, to the manager, that opens its streams
     /// under the next number. An error is want of memory (22).
@@ -61,19 +153,13 @@ impl RangeContent {
             generation,
             &next_request(desk),
         );
-        let none = no_list(alloc);
-        let content = RangeContent {
-            metadata: client_of(alloc, desk, StreamKind::Metadata, &load, &none)?,
-            log: client_of(alloc, desk, StreamKind::Log, &load, &none)?,
-            load,
-            stage: Stage::Opening,
-            row_data: none,
-            blob_data: no_list(alloc),
-            said: Metadata::first(alloc)?,
-            regions: Vec::new(alloc),
-            table: MemTable::new(alloc),
-        };
-        Ok((content, packet))
+        match begun(alloc, desk, load) {
+            Ok(content) => Ok((content, packet)),
+            Err(full) => {
+                drop(packet);
+                Err(full)
+            }
+        }
     }
 
     /// The streams are opened, and nothing is read yet.
@@ -86,24 +172,47 @@ impl RangeContent {
         ensures ok { IfOk result (λ p. Makes desk.now (λ r. rows.opens desk.now r lists.now) self.old self.new p) }
         ensures err { OnErr result (self.new ≡ self.old) }
     {
-        let metadata = client_of(
-            alloc,
-            desk,
-            StreamKind::Metadata,
-            &self.load,
-            &lists.metadata,
-        )?;
-        let log = client_of(alloc, desk, StreamKind::Log, &self.load, &lists.log)?;
-        let row_data = copied_list(alloc, &lists.row_data)?;
-        let blob_data = copied_list(alloc, &lists.blob_data)?;
-        let said = Metadata::first(alloc)?;
-        let regions = copied_regions(alloc, said.regions())?;
-        self.load.set_phase(LoadPhase::Opened);
-        self.metadata = metadata;
-        self.log = log;
-        self.row_data = row_data;
-        self.blob_data = blob_data;
-        self.said = said;
-        Ok(self.begins_metadata(desk, regions))
+        let clients = clients_of(alloc, desk, &self.load, &lists.metadata, &lists.log)?;
+        match data_of(alloc, lists) {
+            Ok(streams) => self.opens_with(alloc, desk, clients, streams),
+            Err(full) => {
+                drop(clients);
+                Err(full)
+            }
+        }
+    }
+
+    /// The same with these clients of the metadata and the log, and these streams of the data.
+    fn opens_with(
+        &mut self,
+        alloc: Global,
+        desk: &Desk,
+        clients: (StreamClient, StreamClient),
+        streams: (StreamList, StreamList),
+    ) -> Result<Progress, AllocError>
+        ensures ok { IfOk result (λ p. Makes desk.now (λ r. rows.begins_metadata desk.now (record r {
+          load = record r.load { phase = phases.Opened };
+          metadata = clients.0;
+          log = clients.1;
+          row_data = streams.0;
+          blob_data = streams.1;
+          said = first_metadata;
+        }) (last_extent clients.0.extents)) self.old self.new p) }
+        ensures err { OnErr result (self.new ≡ self.old) }
+    {
+        match first_said(alloc) {
+            Ok((said, regions)) => {
+                self.load.set_phase(LoadPhase::Opened);
+                (self.metadata, self.log) = clients;
+                (self.row_data, self.blob_data) = streams;
+                self.said = said;
+                Ok(self.begins_metadata(desk, regions))
+            }
+            Err(full) => {
+                drop(clients);
+                drop(streams);
+                Err(full)
+            }
+        }
     }
 }

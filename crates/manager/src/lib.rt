@@ -15,6 +15,3 @@ mod sealing;
 
 pub use fault::ManagerFault;
 pub use manager::Manager;
-
-#[cfg(test)]
-mod tests;

@@ -1,5 +1,5 @@
 //! What the records of a range's metadata say together.
-ghost use Rattle.std.specs.Prelude.{◌≡◌, Some, None, Err, IfOk, OnOk, OnErr};
+ghost use Rattle.std.specs.Prelude.{◌≡◌, ◌+◌, ◌<◌, ◌^◌, Some, None, Err, true, IfOk, IfErr, OnOk, OnErr};
 ghost use Rattle.metadata.specs.declared.record.MetaItem.TheVariants.{Checkpoint};
 ghost use Rattle.blocks.specs.declared.fault.BlockFault.TheVariants as faults;
 ghost use Rattle.metadata.specs.Fold as specs;
@@ -174,6 +174,22 @@ impl Metadata {
         }
     }
 
+    /// Takes what the record of the next number says.
+    fn take(&mut self, alloc: Global, item: MetaItem) -> Result<bool, BlockFault>
+        requires { self.old.next + 1 < 2 ^ 64 }
+        ensures ok { IfOk result (λ took. (took ≡ true) × (self.new ≡ specs.taken self.old item)) }
+        ensures memory { IfErr result (λ e. e ≡ faults.Memory) }
+        ensures err { OnErr result (self.new ≡ self.old) }
+    {
+        match self.apply(alloc, item) {
+            Ok(()) => {
+                self.next += 1;
+                Ok(true)
+            }
+            Err(_full) => Err(BlockFault::Memory),
+        }
+    }
+
     /// Takes the record of the next number, and passes over one of a number below; whether it was taken. A record of a number
     /// above is refused `Damaged` (21), as is one behind which no number is left; nothing has changed then, nor after
     /// `Memory` (22).
@@ -182,18 +198,15 @@ impl Metadata {
         ensures damaged { result ≡ Err faults.Damaged → specs.folded self.old added ≡ None }
         ensures err { OnErr result (self.new ≡ self.old) }
     {
-        if added.number < self.next {
-            return Ok(false);
+        let MetaRecord { number, item } = added;
+        if number == self.next && number < u64::MAX {
+            return self.take(alloc, item);
         }
-        if added.number > self.next || self.next == u64::MAX {
-            return Err(BlockFault::Damaged);
-        }
-        match self.apply(alloc, added.item) {
-            Ok(()) => {
-                self.next += 1;
-                Ok(true)
-            }
-            Err(_full) => Err(BlockFault::Memory),
+        drop(item);
+        if number < self.next {
+            Ok(false)
+        } else {
+            Err(BlockFault::Damaged)
         }
     }
 

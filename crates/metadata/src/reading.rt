@@ -20,23 +20,34 @@ use wire::{ExtentId, RangeId};
 fn text_of(alloc: Global, low: usize, bytes: &[u8]) -> Result<(Bytes, &[u8]), BlockFault>
     ensures { Gives (λ x. (x.0, x.1.now)) result (text_at low bytes.now) }
 {
-    let (len, rest) = u16_at(bytes)?;
+    let Ok((len, rest)) = u16_at(bytes) else {
+        return Err(BlockFault::Damaged);
+    };
     let len = len as usize;
     if len < low || len > MAX_KEY {
         return Err(BlockFault::Damaged);
     }
-    let (key, rest) = bytes_of(len, rest)?;
-    Ok((Bytes::copy_from_slice(alloc, key)?, rest))
+    let Ok((key, rest)) = bytes_of(len, rest) else {
+        return Err(BlockFault::Damaged);
+    };
+    match Bytes::copy_from_slice(alloc, key) {
+        Ok(copy) => Ok((copy, rest)),
+        Err(_full) => Err(BlockFault::Memory),
+    }
 }
 
 #[tactic(auto, unfolding(crate::specs::Reading::high_at, crate::specs::Reading::high_behind))]
 fn high_of(alloc: Global, bytes: &[u8]) -> Result<(Option<Bytes>, &[u8]), BlockFault>
     ensures { Gives (λ x. (x.0, x.1.now)) result (high_at bytes.now) }
 {
-    let (flag, rest) = u8_at(bytes)?;
+    let Ok((flag, rest)) = u8_at(bytes) else {
+        return Err(BlockFault::Damaged);
+    };
     match flag {
         0 => {
-            let (len, rest) = u16_at(rest)?;
+            let Ok((len, rest)) = u16_at(rest) else {
+                return Err(BlockFault::Damaged);
+            };
             if len > 0 {
                 return Err(BlockFault::Damaged);
             }
@@ -64,9 +75,15 @@ fn keys_of(alloc: Global, bytes: &[u8]) -> Result<(KeyRange, &[u8]), BlockFault>
 fn place_of(bytes: &[u8]) -> Result<((u64, u32, u32), &[u8]), BlockFault>
     ensures { Gives (λ x. (record { extent = x.0.0; offset = x.0.1; length = x.0.2 }, x.1.now)) result (place_at bytes.now) }
 {
-    let (extent, rest) = u64_at(bytes)?;
-    let (offset, rest) = u32_at(rest)?;
-    let (length, rest) = u32_at(rest)?;
+    let Ok((extent, rest)) = u64_at(bytes) else {
+        return Err(BlockFault::Damaged);
+    };
+    let Ok((offset, rest)) = u32_at(rest) else {
+        return Err(BlockFault::Damaged);
+    };
+    let Ok((length, rest)) = u32_at(rest) else {
+        return Err(BlockFault::Damaged);
+    };
     Ok(((extent, offset, length), rest))
 }
 
@@ -84,8 +101,12 @@ fn placed(extent: u64, offset: u32, length: u32) -> Place
 fn position_of(bytes: &[u8]) -> Result<(Position, &[u8]), BlockFault>
     ensures { Gives (λ x. (x.0, x.1.now)) result (position_at bytes.now) }
 {
-    let (index, rest) = u64_at(bytes)?;
-    let (offset, rest) = u32_at(rest)?;
+    let Ok((index, rest)) = u64_at(bytes) else {
+        return Err(BlockFault::Damaged);
+    };
+    let Ok((offset, rest)) = u32_at(rest) else {
+        return Err(BlockFault::Damaged);
+    };
     Ok((Position { index, offset }, rest))
 }
 
@@ -93,7 +114,9 @@ fn position_of(bytes: &[u8]) -> Result<(Position, &[u8]), BlockFault>
 fn flag_of(bytes: &[u8]) -> Result<(bool, &[u8]), BlockFault>
     ensures { Gives (λ x. (x.0, x.1.now)) result (flag_at bytes.now) }
 {
-    let (flag, rest) = u8_at(bytes)?;
+    let Ok((flag, rest)) = u8_at(bytes) else {
+        return Err(BlockFault::Damaged);
+    };
     if flag > 1 {
         return Err(BlockFault::Damaged);
     }
@@ -104,7 +127,9 @@ fn flag_of(bytes: &[u8]) -> Result<(bool, &[u8]), BlockFault>
 fn next_of(bytes: &[u8]) -> Result<(u64, &[u8]), BlockFault>
     ensures { Gives (λ x. (x.0, x.1.now)) result (next_at bytes.now) }
 {
-    let (next, rest) = u64_at(bytes)?;
+    let Ok((next, rest)) = u64_at(bytes) else {
+        return Err(BlockFault::Damaged);
+    };
     if next < 1 {
         return Err(BlockFault::Damaged);
     }
@@ -125,17 +150,23 @@ fn index_of(alloc: Global, bytes: &[u8]) -> Result<(IndexRange, &[u8]), BlockFau
 fn end_of(bytes: &[u8]) -> Result<(Option<u64>, &[u8]), BlockFault>
     ensures { Gives (λ x. (x.0, x.1.now)) result (end_at bytes.now) }
 {
-    let (flag, rest) = u8_at(bytes)?;
+    let Ok((flag, rest)) = u8_at(bytes) else {
+        return Err(BlockFault::Damaged);
+    };
     match flag {
         0 => {
-            let (upto, rest) = u64_at(rest)?;
+            let Ok((upto, rest)) = u64_at(rest) else {
+                return Err(BlockFault::Damaged);
+            };
             if upto > 0 {
                 return Err(BlockFault::Damaged);
             }
             Ok((None, rest))
         }
         1 => {
-            let (upto, rest) = u64_at(rest)?;
+            let Ok((upto, rest)) = u64_at(rest) else {
+                return Err(BlockFault::Damaged);
+            };
             Ok((Some(upto), rest))
         }
         _ => Err(BlockFault::Damaged),
@@ -199,7 +230,9 @@ fn all_regions_of(
 fn indexes_of(alloc: Global, bytes: &[u8]) -> Result<(IndexRanges, &[u8]), BlockFault>
     ensures { Gives (λ x. (x.0, x.1.now)) result (counted_at index_at bytes.now) }
 {
-    let (count, rest) = u8_at(bytes)?;
+    let Ok((count, rest)) = u8_at(bytes) else {
+        return Err(BlockFault::Damaged);
+    };
     let (items, rest) = all_indexes_of(alloc, count, rest)?;
     Ok((IndexRanges::of(items), rest))
 }
@@ -208,7 +241,9 @@ fn indexes_of(alloc: Global, bytes: &[u8]) -> Result<(IndexRanges, &[u8]), Block
 fn regions_of(alloc: Global, bytes: &[u8]) -> Result<(Regions, &[u8]), BlockFault>
     ensures { Gives (λ x. (x.0, x.1.now)) result (counted_at region_at bytes.now) }
 {
-    let (count, rest) = u8_at(bytes)?;
+    let Ok((count, rest)) = u8_at(bytes) else {
+        return Err(BlockFault::Damaged);
+    };
     let (items, rest) = all_regions_of(alloc, count, rest)?;
     Ok((Regions::of(items), rest))
 }
@@ -252,8 +287,12 @@ fn regions_item(alloc: Global, fields: &[u8]) -> Result<MetaItem, BlockFault>
 fn status_item(alloc: Global, fields: &[u8]) -> Result<MetaItem, BlockFault>
     ensures { Gives (λ r. r) result (status_at fields.now) }
 {
-    let (low, rest) = u64_at(fields)?;
-    let (high, rest) = u64_at(rest)?;
+    let Ok((low, rest)) = u64_at(fields) else {
+        return Err(BlockFault::Damaged);
+    };
+    let Ok((high, rest)) = u64_at(rest) else {
+        return Err(BlockFault::Damaged);
+    };
     let (key, rest) = text_of(alloc, 1, rest)?;
     let low = RangeId::new(low);
     let high = RangeId::new(high);
@@ -278,7 +317,9 @@ fn record_of(alloc: Global, bytes: &[u8]) -> Result<MetaRecord, BlockFault>
     ensures { Gives (λ r. r) result (record_at bytes.now) }
 {
     let (number, rest) = next_of(bytes)?;
-    let (kind, rest) = u8_at(rest)?;
+    let Ok((kind, rest)) = u8_at(rest) else {
+        return Err(BlockFault::Damaged);
+    };
     let item = item_of(alloc, kind, rest)?;
     Ok(MetaRecord { number, item })
 }

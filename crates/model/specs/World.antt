@@ -23,7 +23,7 @@ use Rattle.wire.specs.declared.note.Note.{Note}
 use Rattle.wire.specs.declared.note.Note.TheVariants.{Began, Done, Loaded, Split, Merged}
 use Rattle.wire.specs.declared.packet.Packet.{Packet}
 use Rattle.model.specs.declared.event.Event.{Event}
-use Rattle.model.specs.declared.event.Event.TheVariants.{Submit, Deliver, Stop, Restart, Decide, GiveUp, Assign, Moment}
+use Rattle.model.specs.declared.event.Event.TheVariants.{Submit, Deliver, Stop, Restart, Decide, GiveUp, Assign, Renew, Moment}
 use Rattle.model.specs.Maps.{changed, changed_at}
 use Rattle.model.specs.Outcome.{Outcome, packet}
 use Rattle.model.specs.Node.{Replica, stopped, node_row, extent_of}
@@ -206,6 +206,7 @@ happens w (Restart actor) = restart w actor
 happens w (Decide e) = decides w e
 happens w (GiveUp server range pick) = w
 happens w (Assign range server until) = w
+happens w (Renew range server until) = w
 happens w (Moment now) = w
 
 abbrev pub run : List Event → World → World

@@ -50,6 +50,13 @@ pub enum Event {
         server: ServerNo,
         until: u64,
     },
+    /// The operator has the map renew the lease of a range that a server holds, up to this moment or to the end that it has,
+    /// whichever is later. Nodes and the manager do nothing with it.
+    Renew {
+        range: RangeId,
+        server: ServerNo,
+        until: u64,
+    },
     /// The clock of leases shows this, to the map and to all servers at once. Nodes and the manager do nothing with it.
     Moment {
         now: u64,

@@ -1,4 +1,3 @@
-pub mod Cluster
 pub mod Extents
 pub mod Lines
 pub mod Answering
@@ -8,6 +7,7 @@ pub mod Log
 pub mod Past
 pub mod Range
 pub mod Server
+pub mod Servers
 pub mod Serving
 pub mod Story
 pub mod Turns

@@ -6,7 +6,7 @@
 //!   range.
 //! - Extents and Turns: one stream as its manager, the primaries of its extents and its servers make it.
 //! - Range, Loading, Serving, Getting, Answering and Server: the table of a server, as functions of its state.
-//! - Cluster: whole runs with servers, and what a loaded table shows.
+//! - Servers: the servers of a run, and what a loaded table shows.
 //!
 //! The laws of `laws_tables` are proved of these functions alone, and the crates of servers prove that their calls are them.
 #![tactic(auto)]

@@ -2,7 +2,7 @@
 use Rattle.std.specs.Prelude.{◌≡◌, ◌≤◌, ℕ, List, length, Option, Some, None}
 use Rattle.wire.specs.declared.packet.Packet.{Packet}
 use Rattle.model_tables.specs.declared.table_note.TableNote.{TableNote}
-use Rattle.model_tables.specs.Cluster.{Held}
+use Rattle.model_tables.specs.Servers.{Held}
 use Rattle.model_tables.specs.Server.{ServerState, ServerOutcome, server_row}
 
 -- the packets and the observations

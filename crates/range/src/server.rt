@@ -2,7 +2,7 @@
 ghost use Rattle.std.specs.Prelude.{◌≡◌, ◌<◌, ◌≤◌, ◌+◌, ◌^◌, ◌++◌, [], ◌∷◌, Some, None, Err, length, option_map, IfOk, OnErr};
 ghost use Rattle.model_tables.specs.Server.{map_row, new_range, table_row, numbered_row, has_numbers, moment_row, give_up_row, started, users_of, assign_row, renew_row, range_of, transacts_in, gets_in, answer_of, awaiting};
 ghost use Rattle.model_tables.specs.Answering as answering;
-ghost use Rattle.model_tables.specs.Cluster.{loads};
+ghost use Rattle.model_tables.specs.Servers.{loads};
 ghost use Rattle.client.specs.Load.{open_packet};
 ghost use Rattle.model_tables.specs.Range.{refuses, request};
 ghost use Rattle.wire.specs.declared.refusal.Refusal.TheVariants.{NotOwner};
@@ -271,8 +271,10 @@ impl RangeServer {
         ensures few { IfOk result (λ x. length x.1.items ≤ 1401) }
     {
         let mut packets = self.farewell(alloc, range)?;
+        packets.reserve(1)?;
         let (state, packet) = RangeState::assign(alloc, &self.desk, range, generation, until)?;
-        packets.push(packet)?;
+        // There is room for it.
+        drop(packets.push(packet));
         Ok((state, packets))
     }
 

@@ -49,8 +49,14 @@ pub(crate) fn put(
     ensures err { OnErr result (ranges.new.entries ≡ ranges.old.entries) }
 {
     match ranges.insert(range, state) {
-        Ok(_old) => Ok(()),
-        Err(_full) => Err(AllocError),
+        Ok(old) => {
+            drop(old);
+            Ok(())
+        }
+        Err(full) => {
+            drop(full);
+            Err(AllocError)
+        }
     }
 }
 
@@ -67,7 +73,7 @@ pub(crate) fn settle(
 {
     desk.count = taken.count;
     if taken.dropped {
-        let _ = ranges.remove(&range);
+        drop(ranges.remove(&range));
     }
     let (packets, notes) = taken.into_parts();
     Sent { packets, notes }

@@ -158,7 +158,10 @@ impl RangeState {
         };
         self.queue.finish();
         self.content.log.set_pick(&desk.pick);
-        if let Err(_full) = self.content.log.on_answer(alloc, &next_request(desk), body) {}
+        match self.content.log.on_answer(alloc, &next_request(desk), body) {
+            Ok(reaction) => drop(reaction),
+            Err(_full) => {}
+        }
         Ok(())
     }
 

@@ -75,7 +75,7 @@ impl RangeState {
                 queue.set_next(next);
                 self.queue = queue;
                 self.position = position;
-                let _ = notes.push(note);
+                drop(notes.push(note));
                 Taken {
                     dropped: false,
                     count: desk.count + 1,

@@ -1,7 +1,8 @@
 //! What a server keeps of a range.
-ghost use Rattle.std.specs.Prelude.{◌≡◌, ◌≤◌, length, max, IfOk};
+ghost use Rattle.std.specs.Prelude.{◌≡◌, ◌≤◌, [], None, length, max, IfOk};
 ghost use Rattle.client.specs.Load.{open_packet};
-ghost use Rattle.model_tables.specs.Range.{request, refused_users};
+ghost use Rattle.model_tables.specs.Range.{RangeState, request, refused_users};
+ghost use Rattle.loading.specs.Steps.{put};
 ghost use Rattle.model_tables.specs.Server.{new_range};
 
 use group_commit::Queue;
@@ -51,6 +52,30 @@ impl Model for RangeState {
 }
 
 impl RangeState {
+    /// A range of which nothing is known but what a load leaves and what is looked up.
+    fn of(alloc: Global, until: u64, content: RangeContent, lookups: Lookups) -> RangeState
+        ensures { (r : RangeState) → result ≡ record (put content r) {
+          until = until;
+          next = 1;
+          position = record { index = 0; offset = 0 };
+          queue = [];
+          out = None;
+          gets = lookups.gets;
+          held = lookups.held;
+        } }
+    {
+        RangeState {
+            until,
+            content,
+            queue: Queue::new(alloc),
+            position: Position {
+                index: 0,
+                offset: 0,
+            },
+            lookups,
+        }
+    }
+
     /// A range that is loaded under a generation, with the end of its lease, and the packet that opens its streams, which
     /// bears the next number of the server. An error is want of memory (22).
     pub fn assign(
@@ -63,19 +88,9 @@ impl RangeState {
         ensures range { IfOk result (λ x. x.0 ≡ new_range desk.now range generation until) }
         ensures packet { IfOk result (λ x. x.1 ≡ open_packet desk.now.server range generation (request desk.now)) }
     {
-        let (content, packet) = RangeContent::new(alloc, desk, range, generation)?;
         let lookups = Lookups::new(alloc)?;
-        let state = RangeState {
-            until,
-            content,
-            queue: Queue::new(alloc),
-            position: Position {
-                index: 0,
-                offset: 0,
-            },
-            lookups,
-        };
-        Ok((state, packet))
+        let (content, packet) = RangeContent::new(alloc, desk, range, generation)?;
+        Ok((RangeState::of(alloc, until, content, lookups), packet))
     }
 
     /// A lease's end never goes back.

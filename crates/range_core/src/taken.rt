@@ -32,7 +32,7 @@ pub(crate) fn push_some(packets: &mut Vec<Packet>, packet: Option<Packet>)
     ensures room { vec_capacity packets.old ≤ vec_capacity packets.new }
 {
     if let Some(packet) = packet {
-        let _ = packets.push(packet);
+        drop(packets.push(packet));
     }
 }
 

@@ -1,12 +1,12 @@
 use blocks::{Groups, Nodes};
 use bytes::Bytes;
-use client::{Appending, ClientFault, Job, LoadPhase, News, RangeLoad, Reaction, StreamClient};
+use client::{Appending, ClientFault, Job, News, Reaction, StreamClient};
 use std::alloc::Global;
 use std::test::Fail;
 use wire::{
     ActorId, AppendBody, Blocks, Body, CheckBody, ExtentId, Fence, Packet, RangeId, ReadBody,
     Refusal, ReqNo, SealBody, ServerNo, StreamBody, StreamExtent, StreamExtents, StreamKind,
-    StreamList, StreamLists, StreamName,
+    StreamList, StreamName,
 };
 
 // These calls pass no contract on, so that a test is proved from what it reads alone.
@@ -18,11 +18,11 @@ fn places() -> Nodes {
     }
 }
 
-fn number(count: u64) -> ReqNo {
+pub(crate) fn number(count: u64) -> ReqNo {
     number_in(1, count)
 }
 
-fn number_in(session: u64, count: u64) -> ReqNo {
+pub(crate) fn number_in(session: u64, count: u64) -> ReqNo {
     ReqNo::Server {
         server: ServerNo::new(1),
         session,
@@ -70,7 +70,9 @@ fn blocks(alloc: Global) -> Result<Blocks, Fail> {
 
 fn append(client: &mut StreamClient, alloc: Global, count: u64) -> Result<Packet, Fail> {
     let group = blocks(alloc)?;
-    match client.append(alloc, &number(count), &group) {
+    let sent = client.append(alloc, &number(count), &group);
+    drop(group);
+    match sent {
         Ok(packet) => Ok(packet),
         Err(_fault) => Err(Fail::from("the append was refused")),
     }
@@ -87,7 +89,9 @@ fn answer(
         to: ActorId::Server(ServerNo::new(1)),
         body,
     };
-    Ok(client.on_reply(alloc, &number(count), &packet)?)
+    let told = client.on_reply(alloc, &number(count), &packet);
+    drop(packet);
+    Ok(told?)
 }
 
 /// Begins an append of one block, made beforehand.
@@ -95,15 +99,20 @@ fn begins_append(client: &mut StreamClient, alloc: Global, count: u64) -> Result
     let mut items = Vec::new(alloc);
     items.push(Bytes::copy_from_slice(alloc, b"abc")?)?;
     let appending = Appending::of(alloc, &Blocks::of(items))?;
-    match client.begin_append(&number(count), appending) {
-        Ok(_packet) => Ok(true),
-        Err(_fault) => Ok(false),
-    }
+    Ok(
+        client
+            .begin_append(&number(count), appending)
+            .err()
+            .is_none(),
+    )
 }
 
 /// Whether an answer of this number would bring the groups of the extent 1, up to the length 6.
 fn brings_content(client: &StreamClient, alloc: Global, count: u64) -> bool {
-    client.content(&groups(alloc, count)) == Some((ExtentId::new(1), 6))
+    let body = groups(alloc, count);
+    let told = client.content(&body);
+    drop(body);
+    told == Some((ExtentId::new(1), 6))
 }
 
 fn appended(count: u64, offset: u32) -> Body {
@@ -114,7 +123,7 @@ fn appended(count: u64, offset: u32) -> Body {
     })
 }
 
-fn refused(count: u64, refusal: Refusal) -> Body {
+pub(crate) fn refused(count: u64, refusal: Refusal) -> Body {
     Body::Append(AppendBody::Refused {
         request: number(count),
         refusal,
@@ -218,7 +227,8 @@ fn is_read(packet: &Packet, node: u8, upto: u32, sealed: bool, count: u64) -> bo
     }
 }
 
-// Each of these lets go of the packets that it looks at, so that a test holds few values.
+// Each of these lets go of the packets that it looks at, by a call: a value that is let go at the end of its block is let go part
+// by part, and each part costs the proof.
 fn brings(
     client: &mut StreamClient,
     alloc: Global,
@@ -226,7 +236,9 @@ fn brings(
     body: Body,
 ) -> Result<Option<News>, Fail> {
     let reaction = answer(client, alloc, count, body)?;
-    Ok(reaction.news)
+    let news = reaction.news;
+    drop(reaction);
+    Ok(news)
 }
 
 fn is_silent(
@@ -236,7 +248,9 @@ fn is_silent(
     body: Body,
 ) -> Result<bool, Fail> {
     let reaction = answer(client, alloc, count, body)?;
-    Ok(reaction.packet.is_none() && reaction.news.is_none())
+    let silent = reaction.packet.is_none() && reaction.news.is_none();
+    drop(reaction);
+    Ok(silent)
 }
 
 fn reply_seals(
@@ -246,10 +260,12 @@ fn reply_seals(
     body: Body,
 ) -> Result<bool, Fail> {
     let reaction = answer(client, alloc, count, body)?;
-    match &reaction.packet {
-        None => Ok(false),
-        Some(packet) => Ok(is_seal(packet, count)),
-    }
+    let told = match &reaction.packet {
+        None => false,
+        Some(packet) => is_seal(packet, count),
+    };
+    drop(reaction);
+    Ok(told)
 }
 
 fn reply_extends(
@@ -259,10 +275,12 @@ fn reply_extends(
     body: Body,
 ) -> Result<bool, Fail> {
     let reaction = answer(client, alloc, count, body)?;
-    match &reaction.packet {
-        None => Ok(false),
-        Some(packet) => Ok(is_extend(packet, Some(ExtentId::new(1)), count)),
-    }
+    let told = match &reaction.packet {
+        None => false,
+        Some(packet) => is_extend(packet, Some(ExtentId::new(1)), count),
+    };
+    drop(reaction);
+    Ok(told)
 }
 
 fn reply_appends(
@@ -273,15 +291,19 @@ fn reply_appends(
     extent: u64,
 ) -> Result<bool, Fail> {
     let reaction = answer(client, alloc, count, body)?;
-    match &reaction.packet {
-        None => Ok(false),
-        Some(packet) => Ok(is_append(packet, 3, extent, count)),
-    }
+    let told = match &reaction.packet {
+        None => false,
+        Some(packet) => is_append(packet, 3, extent, count),
+    };
+    drop(reaction);
+    Ok(told)
 }
 
 fn appends(client: &mut StreamClient, alloc: Global, count: u64) -> Result<bool, Fail> {
     let packet = append(client, alloc, count)?;
-    Ok(is_append(&packet, 1, 1, count))
+    let told = is_append(&packet, 1, 1, count);
+    drop(packet);
+    Ok(told)
 }
 
 fn append_extends(
@@ -291,71 +313,82 @@ fn append_extends(
     last: Option<ExtentId>,
 ) -> Result<bool, Fail> {
     let packet = append(client, alloc, count)?;
-    Ok(is_extend(&packet, last, count))
+    let told = is_extend(&packet, last, count);
+    drop(packet);
+    Ok(told)
 }
 
 fn gives_up(client: &mut StreamClient, count: u64) -> bool {
-    client.give_up(&number(count), &places()).is_none()
+    let sent = client.give_up(&number(count), &places());
+    let silent = sent.is_none();
+    drop(sent);
+    silent
 }
 
 fn give_up_seals(client: &mut StreamClient, count: u64, asked: u64) -> bool {
-    match client.give_up(&number(count), &places()) {
+    let sent = client.give_up(&number(count), &places());
+    let told = match &sent {
         None => false,
-        Some(packet) => is_seal(&packet, asked),
-    }
+        Some(packet) => is_seal(packet, asked),
+    };
+    drop(sent);
+    told
 }
 
 fn give_up_extends(client: &mut StreamClient, count: u64, asked: u64) -> bool {
-    match client.give_up(&number(count), &places()) {
+    let sent = client.give_up(&number(count), &places());
+    let told = match &sent {
         None => false,
-        Some(packet) => is_extend(&packet, Some(ExtentId::new(1)), asked),
-    }
+        Some(packet) => is_extend(packet, Some(ExtentId::new(1)), asked),
+    };
+    drop(sent);
+    told
 }
 
 fn give_up_reads(client: &mut StreamClient, count: u64, node: u8) -> bool {
-    match client.give_up(&number(count), &places()) {
+    let sent = client.give_up(&number(count), &places());
+    let told = match &sent {
         None => false,
-        Some(packet) => is_read(&packet, node, 6, true, 1),
-    }
+        Some(packet) => is_read(packet, node, 6, true, 1),
+    };
+    drop(sent);
+    told
 }
 
 fn checks(client: &mut StreamClient, count: u64) -> bool {
-    client.check_length(&number(count)).is_ok()
+    client.check_length(&number(count)).err().is_none()
 }
 
 fn refuses_check(client: &mut StreamClient, count: u64) -> Option<ClientFault> {
-    match client.check_length(&number(count)) {
-        Ok(_packet) => None,
-        Err(fault) => Some(fault),
-    }
+    client.check_length(&number(count)).err()
 }
 
 fn reads(client: &mut StreamClient, count: u64, upto: u32) -> bool {
-    match client.read_sealed(&number(count), 0) {
-        Ok(packet) => is_read(&packet, 1, upto, true, count),
+    let sent = client.read_sealed(&number(count), 0);
+    let told = match &sent {
+        Ok(packet) => is_read(packet, 1, upto, true, count),
         Err(_fault) => false,
-    }
+    };
+    drop(sent);
+    told
 }
 
 fn refuses_read(client: &mut StreamClient, position: usize) -> Option<ClientFault> {
-    match client.read_sealed(&number(1), position) {
-        Ok(_packet) => None,
-        Err(fault) => Some(fault),
-    }
+    client.read_sealed(&number(1), position).err()
 }
 
 fn reads_checked(client: &mut StreamClient, count: u64, upto: u32) -> bool {
-    match client.read_checked(&number(count)) {
-        Ok(packet) => is_read(&packet, 1, upto, false, count),
+    let sent = client.read_checked(&number(count));
+    let told = match &sent {
+        Ok(packet) => is_read(packet, 1, upto, false, count),
         Err(_fault) => false,
-    }
+    };
+    drop(sent);
+    told
 }
 
 fn refuses_checked_read(client: &mut StreamClient, count: u64) -> Option<ClientFault> {
-    match client.read_checked(&number(count)) {
-        Ok(_packet) => None,
-        Err(fault) => Some(fault),
-    }
+    client.read_checked(&number(count)).err()
 }
 
 fn stands(extent: u64, offset: u32) -> Option<News> {
@@ -365,321 +398,299 @@ fn stands(extent: u64, offset: u32) -> Option<News> {
     })
 }
 
+// Each of these says whether every step comes to what it should, and each test lets go of its client before it says what it saw.
+/// Whether a client with one open extent, which is at rest, tells what it was made of.
+fn is_at_rest(client: &StreamClient) -> bool {
+    client.job() == Job::Idle
+        && client.base() == 5
+        && client.generation().number() == 2
+        && client.stream() == log()
+        && client.extents().len() == 1
+        && client.last_extent().is_some()
+}
+
+fn picks(client: &mut StreamClient) -> bool {
+    client.set_pick(&places());
+    client.pick() == places()
+}
+
+fn appends_once(client: &mut StreamClient, alloc: Global) -> Result<bool, Fail> {
+    Ok(
+        appends(client, alloc, 1)?
+            && brings(client, alloc, 9, appended(1, 7))? == stands(1, 7)
+            && is_at_rest(client)
+            && picks(client),
+    )
+}
+
 #[test]
 fn appends_to_an_open_extent(rt: HostRuntime) -> Result<(), Fail> {
     let alloc = rt.alloc();
     let mut client = client(alloc, true, None)?;
-    assert!(rt; appends(&mut client, alloc, 1)?);
-    let told = brings(&mut client, alloc, 9, appended(1, 7))?;
-    assert!(rt; told == stands(1, 7));
-    assert!(rt; client.job() == Job::Idle);
-    assert!(rt; client.base() == 5);
-    assert!(rt; client.generation().number() == 2);
-    assert!(rt; client.stream() == log());
-    assert!(rt; client.extents().len() == 1);
-    assert!(rt; client.last_extent().is_some());
-    client.set_pick(&places());
-    assert!(rt; client.pick() == places());
+    let told = appends_once(&mut client, alloc);
+    drop(client);
+    assert!(rt; told?);
     Ok(())
+}
+
+fn begins_once(client: &mut StreamClient, alloc: Global) -> Result<bool, Fail> {
+    Ok(
+        begins_append(client, alloc, 1)?
+            && client.awaits(&number(1))
+            && !client.awaits(&number(2))
+            && !begins_append(client, alloc, 2)?,
+    )
 }
 
 #[test]
 fn appends_what_was_made_beforehand(rt: HostRuntime) -> Result<(), Fail> {
     let alloc = rt.alloc();
     let mut client = client(alloc, true, None)?;
-    assert!(rt; begins_append(&mut client, alloc, 1)?);
-    assert!(rt; client.awaits(&number(1)));
-    assert!(rt; !client.awaits(&number(2)));
-    assert!(rt; !begins_append(&mut client, alloc, 2)?);
+    let told = begins_once(&mut client, alloc);
+    drop(client);
+    assert!(rt; told?);
     Ok(())
+}
+
+fn takes_content(client: &mut StreamClient, alloc: Global) -> bool {
+    if !reads(client, 1, 6)
+        || !brings_content(client, alloc, 1)
+        || brings_content(client, alloc, 2)
+    {
+        return false;
+    }
+    client.end_read(alloc);
+    client.job() == Job::Idle
 }
 
 #[test]
 fn takes_content_by_itself(rt: HostRuntime) -> Result<(), Fail> {
     let alloc = rt.alloc();
     let mut client = client(alloc, true, Some(6))?;
-    assert!(rt; reads(&mut client, 1, 6));
-    assert!(rt; brings_content(&client, alloc, 1));
-    assert!(rt; !brings_content(&client, alloc, 2));
-    client.end_read(alloc);
-    assert!(rt; client.job() == Job::Idle);
+    let told = takes_content(&mut client, alloc);
+    drop(client);
+    assert!(rt; told);
     Ok(())
+}
+
+fn closes(client: &mut StreamClient, alloc: Global) -> Result<bool, Fail> {
+    Ok(
+        appends(client, alloc, 1)?
+            && give_up_seals(client, 2, 2)
+            && is_silent(client, alloc, 9, appended(1, 0))?
+            && give_up_seals(client, 3, 2),
+    )
+}
+
+fn grows(client: &mut StreamClient, alloc: Global) -> Result<bool, Fail> {
+    Ok(
+        reply_extends(client, alloc, 4, sealed_is(2, 3))?
+            && give_up_extends(client, 5, 4)
+            && reply_appends(client, alloc, 6, extended(4, 2), 2)?,
+    )
+}
+
+fn appends_behind(client: &mut StreamClient, alloc: Global) -> Result<bool, Fail> {
+    Ok(
+        closes(client, alloc)?
+            && grows(client, alloc)?
+            && brings(client, alloc, 7, appended(6, 0))? == stands(2, 0)
+            && client.extents().len() == 2,
+    )
 }
 
 #[test]
 fn appends_again_behind_a_sealed_extent(rt: HostRuntime) -> Result<(), Fail> {
     let alloc = rt.alloc();
     let mut client = client(alloc, true, None)?;
-    assert!(rt; appends(&mut client, alloc, 1)?);
-    assert!(rt; give_up_seals(&mut client, 2, 2));
-    assert!(rt; is_silent(&mut client, alloc, 9, appended(1, 0))?);
-    assert!(rt; give_up_seals(&mut client, 3, 2));
-    assert!(rt; reply_extends(&mut client, alloc, 4, sealed_is(2, 3))?);
-    assert!(rt; give_up_extends(&mut client, 5, 4));
-    assert!(rt; reply_appends(&mut client, alloc, 6, extended(4, 2), 2)?);
-    let told = brings(&mut client, alloc, 7, appended(6, 0))?;
-    assert!(rt; told == stands(2, 0));
-    assert!(rt; client.extents().len() == 2);
+    let told = appends_behind(&mut client, alloc);
+    drop(client);
+    assert!(rt; told?);
     Ok(())
+}
+
+fn begins(client: &mut StreamClient, alloc: Global) -> Result<bool, Fail> {
+    Ok(
+        refuses_check(client, 1) == Some(ClientFault::NoSuchExtent)
+            && append_extends(client, alloc, 1, None)?
+            && reply_appends(client, alloc, 2, extended(1, 4), 4)?,
+    )
 }
 
 #[test]
 fn begins_a_stream(rt: HostRuntime) -> Result<(), Fail> {
     let alloc = rt.alloc();
     let mut client = client(alloc, false, None)?;
-    assert!(rt; refuses_check(&mut client, 1) == Some(ClientFault::NoSuchExtent));
-    assert!(rt; append_extends(&mut client, alloc, 1, None)?);
-    assert!(rt; reply_appends(&mut client, alloc, 2, extended(1, 4), 4)?);
+    let told = begins(&mut client, alloc);
+    drop(client);
+    assert!(rt; told?);
     Ok(())
+}
+
+fn leaves(client: &mut StreamClient, alloc: Global) -> Result<bool, Fail> {
+    Ok(
+        appends(client, alloc, 1)?
+            && reply_seals(client, alloc, 2, refused(1, Refusal::ExtentFull))?,
+    )
 }
 
 #[test]
 fn leaves_a_full_extent(rt: HostRuntime) -> Result<(), Fail> {
     let alloc = rt.alloc();
     let mut client = client(alloc, true, None)?;
-    assert!(rt; appends(&mut client, alloc, 1)?);
-    assert!(rt; reply_seals(&mut client, alloc, 2, refused(1, Refusal::ExtentFull))?);
+    let told = leaves(&mut client, alloc);
+    drop(client);
+    assert!(rt; told?);
     Ok(())
+}
+
+fn extends_at_once(client: &mut StreamClient, alloc: Global) -> Result<bool, Fail> {
+    append_extends(client, alloc, 1, Some(ExtentId::new(1)))
 }
 
 #[test]
 fn appends_behind_a_sealed_extent(rt: HostRuntime) -> Result<(), Fail> {
     let alloc = rt.alloc();
     let mut client = client(alloc, true, Some(3))?;
-    let last = Some(ExtentId::new(1));
-    assert!(rt; append_extends(&mut client, alloc, 1, last)?);
+    let told = extends_at_once(&mut client, alloc);
+    drop(client);
+    assert!(rt; told?);
     Ok(())
+}
+
+fn ends(client: &mut StreamClient, alloc: Global) -> Result<bool, Fail> {
+    Ok(
+        appends(client, alloc, 1)?
+            && is_silent(client, alloc, 2, refused(1, Refusal::Busy))?
+            && brings(client, alloc, 2, refused(1, Refusal::Stale))? == Some(News::Fenced)
+            && client.job() == Job::Idle
+            && gives_up(client, 3),
+    )
 }
 
 #[test]
 fn ends_where_its_generation_is_old(rt: HostRuntime) -> Result<(), Fail> {
     let alloc = rt.alloc();
     let mut client = client(alloc, true, None)?;
-    assert!(rt; appends(&mut client, alloc, 1)?);
-    assert!(rt; is_silent(&mut client, alloc, 2, refused(1, Refusal::Busy))?);
-    let told = brings(&mut client, alloc, 2, refused(1, Refusal::Stale))?;
-    assert!(rt; told == Some(News::Fenced));
-    assert!(rt; client.job() == Job::Idle);
-    assert!(rt; gives_up(&mut client, 3));
+    let told = ends(&mut client, alloc);
+    drop(client);
+    assert!(rt; told?);
     Ok(())
+}
+
+fn checks_once(client: &mut StreamClient) -> bool {
+    refuses_checked_read(client, 1) == Some(ClientFault::NotSealed)
+        && checks(client, 1)
+        && refuses_check(client, 2) == Some(ClientFault::Busy)
+}
+
+fn reads_behind_check(client: &mut StreamClient, alloc: Global) -> Result<bool, Fail> {
+    let length = News::Checked {
+        extent: ExtentId::new(1),
+        length: 5,
+    };
+    Ok(
+        checks_once(client)
+            && brings(client, alloc, 2, checked(1, Some(5)))? == Some(length)
+            && client.checked() == Some(5)
+            && reads_checked(client, 2, 5),
+    )
 }
 
 #[test]
 fn reads_what_was_checked(rt: HostRuntime) -> Result<(), Fail> {
     let alloc = rt.alloc();
     let mut client = client(alloc, true, None)?;
-    assert!(rt; refuses_checked_read(&mut client, 1) == Some(ClientFault::NotSealed));
-    assert!(rt; checks(&mut client, 1));
-    assert!(rt; refuses_check(&mut client, 2) == Some(ClientFault::Busy));
-    let told = brings(&mut client, alloc, 2, checked(1, Some(5)))?;
-    let length = News::Checked {
-        extent: ExtentId::new(1),
-        length: 5,
-    };
-    assert!(rt; told == Some(length));
-    assert!(rt; client.checked() == Some(5));
-    assert!(rt; reads_checked(&mut client, 2, 5));
+    let told = reads_behind_check(&mut client, alloc);
+    drop(client);
+    assert!(rt; told?);
     Ok(())
+}
+
+fn tells_length(client: &mut StreamClient, alloc: Global) -> Result<bool, Fail> {
+    let upto = News::Content {
+        extent: ExtentId::new(1),
+        upto: 6,
+    };
+    Ok(reads(client, 1, 6) && brings(client, alloc, 2, groups(alloc, 1))? == Some(upto))
 }
 
 #[test]
 fn tells_how_far_it_read(rt: HostRuntime) -> Result<(), Fail> {
     let alloc = rt.alloc();
     let mut client = client(alloc, true, Some(6))?;
-    assert!(rt; reads(&mut client, 1, 6));
-    let told = brings(&mut client, alloc, 2, groups(alloc, 1))?;
-    let upto = News::Content {
-        extent: ExtentId::new(1),
-        upto: 6,
-    };
-    assert!(rt; told == Some(upto));
+    let told = tells_length(&mut client, alloc);
+    drop(client);
+    assert!(rt; told?);
     Ok(())
+}
+
+fn seals(client: &mut StreamClient, alloc: Global) -> Result<bool, Fail> {
+    let length = News::Sealed {
+        extent: ExtentId::new(1),
+        length: 6,
+    };
+    Ok(
+        checks(client, 1)
+            && reply_seals(client, alloc, 2, checked(1, None))?
+            && give_up_seals(client, 3, 2)
+            && brings(client, alloc, 3, sealed_is(2, 6))? == Some(length),
+    )
+}
+
+fn is_sealed(client: &mut StreamClient) -> bool {
+    refuses_check(client, 4) == Some(ClientFault::NotOpen)
+        && refuses_checked_read(client, 4) == Some(ClientFault::NotOpen)
+        && reads(client, 4, 6)
+}
+
+fn seals_and_reads(client: &mut StreamClient, alloc: Global) -> Result<bool, Fail> {
+    Ok(seals(client, alloc)? && is_sealed(client))
 }
 
 #[test]
 fn seals_what_cannot_be_checked(rt: HostRuntime) -> Result<(), Fail> {
     let alloc = rt.alloc();
     let mut client = client(alloc, true, None)?;
-    assert!(rt; checks(&mut client, 1));
-    assert!(rt; reply_seals(&mut client, alloc, 2, checked(1, None))?);
-    assert!(rt; give_up_seals(&mut client, 3, 2));
-    let told = brings(&mut client, alloc, 3, sealed_is(2, 6))?;
-    let length = News::Sealed {
-        extent: ExtentId::new(1),
-        length: 6,
-    };
-    assert!(rt; told == Some(length));
-    assert!(rt; refuses_check(&mut client, 4) == Some(ClientFault::NotOpen));
-    assert!(rt; refuses_checked_read(&mut client, 4) == Some(ClientFault::NotOpen));
-    assert!(rt; reads(&mut client, 4, 6));
+    let told = seals_and_reads(&mut client, alloc);
+    drop(client);
+    assert!(rt; told?);
     Ok(())
+}
+
+fn reads_in_turn(client: &mut StreamClient) -> bool {
+    refuses_read(client, 1) == Some(ClientFault::NoSuchExtent)
+        && reads(client, 1, 6)
+        && give_up_reads(client, 2, 2)
+        && give_up_reads(client, 2, 3)
+        && give_up_reads(client, 2, 1)
 }
 
 #[test]
 fn reads_sealed_extents_at_each_place_in_turn(rt: HostRuntime) -> Result<(), Fail> {
     let alloc = rt.alloc();
     let mut client = client(alloc, true, Some(6))?;
-    assert!(rt; refuses_read(&mut client, 1) == Some(ClientFault::NoSuchExtent));
-    assert!(rt; reads(&mut client, 1, 6));
-    assert!(rt; give_up_reads(&mut client, 2, 2));
-    assert!(rt; give_up_reads(&mut client, 2, 3));
-    assert!(rt; give_up_reads(&mut client, 2, 1));
+    let told = reads_in_turn(&mut client);
+    drop(client);
+    assert!(rt; told);
     Ok(())
+}
+
+fn seals_in_time(client: &mut StreamClient, alloc: Global) -> Result<bool, Fail> {
+    Ok(
+        refuses_read(client, 0) == Some(ClientFault::NotSealed)
+            && checks(client, 1)
+            && give_up_seals(client, 2, 2)
+            && is_silent(client, alloc, 3, checked(1, Some(5)))?,
+    )
 }
 
 #[test]
 fn seals_what_is_not_checked_in_time(rt: HostRuntime) -> Result<(), Fail> {
     let alloc = rt.alloc();
     let mut client = client(alloc, true, None)?;
-    assert!(rt; refuses_read(&mut client, 0) == Some(ClientFault::NotSealed));
-    assert!(rt; checks(&mut client, 1));
-    assert!(rt; give_up_seals(&mut client, 2, 2));
-    assert!(rt; is_silent(&mut client, alloc, 3, checked(1, Some(5)))?);
-    Ok(())
-}
-
-fn lists(alloc: Global) -> StreamLists {
-    StreamLists {
-        metadata: none(alloc),
-        log: none(alloc),
-        row_data: none(alloc),
-        blob_data: none(alloc),
-    }
-}
-
-fn none(alloc: Global) -> StreamList {
-    StreamList {
-        base: 0,
-        extents: StreamExtents::of(Vec::new(alloc)),
-    }
-}
-
-fn load() -> (RangeLoad, Packet) {
-    RangeLoad::open_for_load(ServerNo::new(1), RangeId::new(1), Fence::new(2), &number(1))
-}
-
-fn told(load: &mut RangeLoad, body: Body) -> LoadPhase {
-    let packet = Packet {
-        from: ActorId::Manager,
-        to: ActorId::Server(ServerNo::new(1)),
-        body,
-    };
-    load.on_reply(&packet)
-}
-
-fn opened(alloc: Global, session: u64, count: u64) -> Body {
-    Body::Stream(StreamBody::Opened {
-        request: number_in(session, count),
-        streams: lists(alloc),
-    })
-}
-
-fn confirmed(count: u64) -> Body {
-    Body::Stream(StreamBody::Confirmed {
-        request: number(count),
-    })
-}
-
-fn is_open_request(packet: &Packet, count: u64) -> bool {
-    match &packet.body {
-        Body::Stream(
-            StreamBody::OpenStreams {
-                range,
-                generation,
-                request,
-            },
-        ) => range.number() == 1 && generation.number() == 2 && *request == number(count),
-        _ => false,
-    }
-}
-
-fn is_confirm_request(packet: &Packet, count: u64) -> bool {
-    match &packet.body {
-        Body::Stream(
-            StreamBody::Confirm {
-                range,
-                generation,
-                request,
-            },
-        ) => range.number() == 1 && generation.number() == 2 && *request == number(count),
-        _ => false,
-    }
-}
-
-fn opens_again(load: &RangeLoad) -> bool {
-    match load.give_up() {
-        None => false,
-        Some(packet) => is_open_request(&packet, 1),
-    }
-}
-
-fn confirms_again(load: &RangeLoad) -> bool {
-    match load.give_up() {
-        None => false,
-        Some(packet) => is_confirm_request(&packet, 2),
-    }
-}
-
-fn asks_again(load: &RangeLoad) -> bool {
-    load.give_up().is_some()
-}
-
-fn confirms(load: &mut RangeLoad) -> bool {
-    match load.confirm(&number(2)) {
-        None => false,
-        Some(packet) => is_confirm_request(&packet, 2),
-    }
-}
-
-fn opens() -> Option<RangeLoad> {
-    let (load, packet) = load();
-    if is_open_request(&packet, 1) {
-        Some(load)
-    } else {
-        None
-    }
-}
-
-fn begun() -> Result<RangeLoad, Fail> {
-    match opens() {
-        None => Err(Fail::from("the streams are not asked for")),
-        Some(load) => Ok(load),
-    }
-}
-
-#[test]
-fn counts_once_confirmed(rt: HostRuntime) -> Result<(), Fail> {
-    let alloc = rt.alloc();
-    let mut load = begun()?;
-    assert!(rt; !confirms(&mut load));
-    let other = told(&mut load, opened(alloc, 2, 1));
-    assert!(rt; other == LoadPhase::Opening { request: number(1) });
-    assert!(rt; load.awaits(&number(1)));
-    assert!(rt; load.range().number() == 1 && load.generation().number() == 2);
-    assert!(rt; opens_again(&load));
-    assert!(rt; told(&mut load, opened(alloc, 1, 1)) == LoadPhase::Opened);
-    assert!(rt; !load.is_loaded());
-    assert!(rt; !asks_again(&load));
-    assert!(rt; confirms(&mut load));
-    assert!(rt; confirms_again(&load));
-    assert!(rt; !load.is_loaded());
-    assert!(rt; told(&mut load, confirmed(2)) == LoadPhase::Confirmed);
-    assert!(rt; load.is_loaded());
-    Ok(())
-}
-
-#[test]
-fn never_counts_once_fenced(rt: HostRuntime) -> Result<(), Fail> {
-    let alloc = rt.alloc();
-    let mut load = begun()?;
-    assert!(rt; told(&mut load, opened(alloc, 1, 1)) == LoadPhase::Opened);
-    assert!(rt; confirms(&mut load));
-    let stale = told(&mut load, refused(2, Refusal::Stale));
-    assert!(rt; stale == LoadPhase::Fenced);
-    assert!(rt; told(&mut load, confirmed(2)) == LoadPhase::Fenced);
-    assert!(rt; load.phase() == LoadPhase::Fenced);
-    assert!(rt; !load.is_loaded());
-    load.set_phase(LoadPhase::Opened);
-    assert!(rt; load.phase() == LoadPhase::Opened);
+    let told = seals_in_time(&mut client, alloc);
+    drop(client);
+    assert!(rt; told?);
     Ok(())
 }

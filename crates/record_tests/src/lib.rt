@@ -9,6 +9,8 @@ mod logs;
 #[cfg(test)]
 mod metadata_records;
 #[cfg(test)]
+mod range_loads;
+#[cfg(test)]
 mod tables;
 #[cfg(test)]
 mod values;

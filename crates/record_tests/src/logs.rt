@@ -46,18 +46,23 @@ fn group_of(alloc: Global, text: &[u8], values: &[usize]) -> Result<Group, Fail>
     Ok(Group::new(alloc, texts)?)
 }
 
-/// The spelling of the record that the group is.
-fn again(alloc: Global, group: &Group) -> Result<Group, Fail> {
-    let read = decode(alloc, group)?;
-    Ok(encode(alloc, &read)?)
+/// The spelling of the record that the group of these blocks is.
+// Here and below much is let go by a call: at the end of its block a value is let go part by part, and each part costs the proof.
+fn again(alloc: Global, text: &[u8], values: &[usize]) -> Result<Group, Fail> {
+    let group = group_of(alloc, text, values)?;
+    let read = decode(alloc, &group);
+    drop(group);
+    let record = read?;
+    let spelled = encode(alloc, &record);
+    drop(record);
+    Ok(spelled?)
 }
 
 fn is_damaged(alloc: Global, text: &[u8], values: &[usize]) -> Result<bool, Fail> {
     let group = group_of(alloc, text, values)?;
-    match decode(alloc, &group) {
-        Err(BlockFault::Damaged) => Ok(true),
-        _ => Ok(false),
-    }
+    let fault = decode(alloc, &group).err();
+    drop(group);
+    Ok(fault == Some(BlockFault::Damaged))
 }
 
 fn has_block(group: &Group, index: usize, text: &[u8]) -> bool {
@@ -118,24 +123,33 @@ fn front_taken(next: u64, first: u64, count: u64) -> Option<u64> {
     replay.take_group(first, count).ok()
 }
 
+/// Whether the text is spelled again as it is.
+fn is_its_spelling(alloc: Global) -> Result<bool, Fail> {
+    let spelled = again(alloc, &TEXT, &[])?;
+    let told = spelled.blocks().len() == 1 && has_block(&spelled, 0, &TEXT);
+    drop(spelled);
+    Ok(told)
+}
+
 #[test]
 fn is_spelled_so_by_hand(rt: HostRuntime) -> Result<(), Fail> {
-    let alloc = rt.alloc();
-    let group = group_of(alloc, &TEXT, &[])?;
-    let spelled = again(alloc, &group)?;
-    assert_eq!(rt; spelled.blocks().len(), 1);
-    assert!(rt; has_block(&spelled, 0, &TEXT));
+    assert!(rt; is_its_spelling(rt.alloc())?);
     Ok(())
+}
+
+/// Whether the large value is spelled again in a block of its own.
+fn has_large_block(alloc: Global) -> Result<bool, Fail> {
+    let spelled = again(alloc, &LARGE, &[5_000])?;
+    let told = spelled.blocks().len() == 2
+        && has_block(&spelled, 0, &LARGE)
+        && has_block(&spelled, 1, &[b'x'; 5_000]);
+    drop(spelled);
+    Ok(told)
 }
 
 #[test]
 fn has_a_large_value_in_a_block(rt: HostRuntime) -> Result<(), Fail> {
-    let alloc = rt.alloc();
-    let group = group_of(alloc, &LARGE, &[5_000])?;
-    let spelled = again(alloc, &group)?;
-    assert_eq!(rt; spelled.blocks().len(), 2);
-    assert!(rt; has_block(&spelled, 0, &LARGE));
-    assert!(rt; has_block(&spelled, 1, &[b'x'; 5_000]));
+    assert!(rt; has_large_block(rt.alloc())?);
     Ok(())
 }
 
@@ -161,12 +175,17 @@ fn is_damaged_else(rt: HostRuntime) -> Result<(), Fail> {
     Ok(())
 }
 
+fn are_damaged(alloc: Global) -> Result<bool, Fail> {
+    Ok(
+        is_damaged(alloc, &LARGE, &[])?
+            && is_damaged(alloc, &LARGE, &[5_001])?
+            && is_damaged(alloc, &LARGE, &[5_000, 5_000])?,
+    )
+}
+
 #[test]
 fn is_damaged_with_other_blocks(rt: HostRuntime) -> Result<(), Fail> {
-    let alloc = rt.alloc();
-    assert!(rt; is_damaged(alloc, &LARGE, &[])?);
-    assert!(rt; is_damaged(alloc, &LARGE, &[5_001])?);
-    assert!(rt; is_damaged(alloc, &LARGE, &[5_000, 5_000])?);
+    assert!(rt; are_damaged(rt.alloc())?);
     Ok(())
 }
 

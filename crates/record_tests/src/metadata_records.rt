@@ -58,26 +58,35 @@ fn is_one_block(group: &Group, bytes: &[u8]) -> bool {
 
 fn fault_of(alloc: Global, bytes: &[u8]) -> Result<Option<BlockFault>, Fail> {
     let group = group_of(alloc, bytes)?;
-    match decode(alloc, &group) {
-        Ok(_record) => Ok(None),
-        Err(fault) => Ok(Some(fault)),
-    }
+    let fault = decode(alloc, &group).err();
+    drop(group);
+    Ok(fault)
 }
 
 fn is_spelled_again(alloc: Global, bytes: &[u8]) -> Result<bool, Fail> {
     let group = group_of(alloc, bytes)?;
-    match decode(alloc, &group) {
-        Ok(record) => Ok(is_one_block(&encode(alloc, &record)?, bytes)),
+    let read = decode(alloc, &group);
+    drop(group);
+    match read {
+        Ok(record) => {
+            let spelled = encode(alloc, &record);
+            drop(record);
+            Ok(is_one_block(&spelled?, bytes))
+        }
         Err(_fault) => Ok(false),
     }
 }
 
 fn is_the_checkpoint(alloc: Global, bytes: &[u8]) -> Result<bool, Fail> {
     let group = group_of(alloc, bytes)?;
-    match decode(alloc, &group) {
-        Ok(record) => Ok(record.number == 2 && combines_at(&record.item, index(), at(2, 24), 3)),
-        Err(_fault) => Ok(false),
-    }
+    let read = decode(alloc, &group);
+    drop(group);
+    let told = match &read {
+        Ok(record) => record.number == 2 && combines_at(&record.item, index(), at(2, 24), 3),
+        Err(_fault) => false,
+    };
+    drop(read);
+    Ok(told)
 }
 
 fn combines_at(item: &MetaItem, place: Place, start: Position, first: u64) -> bool {
@@ -156,23 +165,24 @@ fn a_split_is_spelled(rt: HostRuntime) -> Result<(), Fail> {
     Ok(())
 }
 
+/// Whether each of these is damage.
+fn are_damage(alloc: Global, each: [&[u8]; 4]) -> Result<bool, Fail> {
+    for bytes in each {
+        if fault_of(alloc, bytes)? != Some(BlockFault::Damaged) {
+            return Ok(false);
+        }
+    }
+    Ok(true)
+}
+
 #[test]
 fn damage_is_refused(rt: HostRuntime) -> Result<(), Fail> {
     let none = [0, 0, 0, 0, 0, 0, 0, 0, 1, 0, 0, 0, 0, 0];
     let left_over = [0, 0, 0, 0, 0, 0, 0, 1, 1, 0, 0, 0, 0, 0, 7];
     let no_kind = [0, 0, 0, 0, 0, 0, 0, 1, 5, 0, 0, 0, 0, 0];
     let absent_key = [0, 0, 0, 0, 0, 0, 0, 1, 1, 0, 0, 0, 0, 1, b'm'];
-    assert_eq!(rt; fault_of(rt.alloc(), &none)?, Some(BlockFault::Damaged));
-    assert_eq!(rt;
-        fault_of(rt.alloc(), &left_over)?,
-        Some(BlockFault::Damaged)
-    );
-    assert_eq!(rt; fault_of(rt.alloc(), &no_kind)?, Some(BlockFault::Damaged));
-    assert_eq!(rt;
-        fault_of(rt.alloc(), &absent_key)?,
-        Some(BlockFault::Damaged)
-    );
-    assert_eq!(rt; fault_of(rt.alloc(), &left_over[..14])?, None);
+    assert!(rt; are_damage(rt.alloc(), [&none, &left_over, &no_kind, &absent_key])?);
+    assert!(rt; fault_of(rt.alloc(), &left_over[..14])? == None);
     Ok(())
 }
 
@@ -185,46 +195,59 @@ fn checkpoint(combine: bool, next: u64) -> MetaItem {
     }
 }
 
+/// Whether only the record of number 1 is taken, and once.
+fn folds_the_first(alloc: Global, metadata: &mut Metadata) -> bool {
+    folds(alloc, metadata, 2, checkpoint(false, 5)) == None
+        && folds(alloc, metadata, 1, checkpoint(false, 5)) == Some(true)
+        && folds(alloc, metadata, 1, checkpoint(true, 7)) == Some(false)
+}
+
+/// Whether two indexes are kept, and then one in their place.
+fn folds_the_next(alloc: Global, metadata: &mut Metadata) -> bool {
+    folds(alloc, metadata, 2, checkpoint(false, 9)) == Some(true)
+        && metadata.indexes().len() == 2
+        && folds(alloc, metadata, 3, checkpoint(true, 11)) == Some(true)
+        && metadata.indexes().len() == 1
+        && metadata.next_number() == 4
+}
+
+// Each test lets go of its metadata by a call, before it says what it saw: at the end of its block it is let go part by part, and
+// each part costs the proof.
 #[test]
 fn records_are_folded_in_order(rt: HostRuntime) -> Result<(), Fail> {
-    let mut metadata = Metadata::first(rt.alloc())?;
-    assert_eq!(rt;
-        folds(rt.alloc(), &mut metadata, 2, checkpoint(false, 5)),
-        None
-    );
-    assert_eq!(rt;
-        folds(rt.alloc(), &mut metadata, 1, checkpoint(false, 5)),
-        Some(true)
-    );
-    assert_eq!(rt;
-        folds(rt.alloc(), &mut metadata, 1, checkpoint(true, 7)),
-        Some(false)
-    );
-    assert_eq!(rt;
-        folds(rt.alloc(), &mut metadata, 2, checkpoint(false, 9)),
-        Some(true)
-    );
-    assert_eq!(rt; metadata.indexes().len(), 2);
-    assert_eq!(rt;
-        folds(rt.alloc(), &mut metadata, 3, checkpoint(true, 11)),
-        Some(true)
-    );
-    assert_eq!(rt; metadata.indexes().len(), 1);
-    assert_eq!(rt; metadata.next_number(), 4);
+    let alloc = rt.alloc();
+    let mut metadata = Metadata::first(alloc)?;
+    let told = folds_the_first(alloc, &mut metadata) && folds_the_next(alloc, &mut metadata);
+    drop(metadata);
+    assert!(rt; told);
     Ok(())
+}
+
+fn takes_regions(alloc: Global, metadata: &mut Metadata) -> Result<bool, Fail> {
+    let item = one_of_each(alloc)?;
+    Ok(folds(alloc, metadata, 1, item) == Some(true))
+}
+
+fn takes_keys(alloc: Global, metadata: &mut Metadata) -> Result<bool, Fail> {
+    let keys = from_m(alloc)?;
+    Ok(folds(alloc, metadata, 2, MetaItem::Ranges { keys }) == Some(true))
+}
+
+fn takes_over(alloc: Global, metadata: &mut Metadata) -> Result<bool, Fail> {
+    Ok(
+        takes_regions(alloc, metadata)?
+            && takes_keys(alloc, metadata)?
+            && metadata.keys().low.as_slice() == b"m".as_slice()
+            && metadata.regions().len() == 1,
+    )
 }
 
 #[test]
 fn regions_and_keys_are_taken_over(rt: HostRuntime) -> Result<(), Fail> {
-    let mut metadata = Metadata::first(rt.alloc())?;
-    let item = one_of_each(rt.alloc())?;
-    assert_eq!(rt; folds(rt.alloc(), &mut metadata, 1, item), Some(true));
-    let keys = from_m(rt.alloc())?;
-    assert_eq!(rt;
-        folds(rt.alloc(), &mut metadata, 2, MetaItem::Ranges { keys }),
-        Some(true)
-    );
-    assert!(rt; metadata.keys().low.as_slice() == b"m".as_slice());
-    assert_eq!(rt; metadata.regions().len(), 1);
+    let alloc = rt.alloc();
+    let mut metadata = Metadata::first(alloc)?;
+    let told = takes_over(alloc, &mut metadata);
+    drop(metadata);
+    assert!(rt; told?);
     Ok(())
 }

@@ -32,36 +32,58 @@ fn length_at(table: &MemTable) -> Option<usize> {
     }
 }
 
+// Each of these says whether every step comes to what it should, and each test lets go of its table by a call, before it says what
+// it saw: at the end of its block it is let go part by part, and each part costs the proof.
+fn has_the_later(table: &MemTable) -> bool {
+    length_at(table) == Some(1) && table.size() == 9 && table.live().len() == 1
+}
+
 #[test]
 fn is_the_later_change(rt: HostRuntime) -> Result<(), Fail> {
     let table = filled(rt.alloc())?;
-    assert_eq!(rt; length_at(&table), Some(1));
-    assert_eq!(rt; table.size(), 9);
-    assert_eq!(rt; table.live().len(), 1);
+    let told = has_the_later(&table);
+    drop(table);
+    assert!(rt; told);
     Ok(())
+}
+
+fn freezes_once(alloc: Global, table: &mut MemTable) -> bool {
+    table.freeze_layer(alloc) && !table.freeze_layer(alloc) && length_at(table) == Some(1)
+}
+
+fn deletes_above(alloc: Global, table: &mut MemTable) -> Result<bool, Fail> {
+    put(alloc, table, Cell::Deleted)?;
+    Ok(length_at(table) == None && table.size() == 13 && table.fixed().is_some())
+}
+
+fn layers(alloc: Global, table: &mut MemTable) -> Result<bool, Fail> {
+    Ok(freezes_once(alloc, table) && deletes_above(alloc, table)?)
 }
 
 #[test]
 fn has_two_layers(rt: HostRuntime) -> Result<(), Fail> {
     let alloc = rt.alloc();
     let mut table = filled(alloc)?;
-    assert!(rt; table.freeze_layer(alloc));
-    assert!(rt; !table.freeze_layer(alloc));
-    assert_eq!(rt; length_at(&table), Some(1));
-    put(alloc, &mut table, Cell::Deleted)?;
-    assert_eq!(rt; length_at(&table), None);
-    assert_eq!(rt; table.size(), 13);
-    assert!(rt; table.fixed().is_some());
+    let told = layers(alloc, &mut table);
+    drop(table);
+    assert!(rt; told?);
     Ok(())
+}
+
+fn drops_layer(alloc: Global, table: &mut MemTable) -> bool {
+    if !table.freeze_layer(alloc) {
+        return false;
+    }
+    table.drop_layer();
+    length_at(table) == None && table.size() == 0
 }
 
 #[test]
 fn has_one_layer_again(rt: HostRuntime) -> Result<(), Fail> {
     let alloc = rt.alloc();
     let mut table = filled(alloc)?;
-    assert!(rt; table.freeze_layer(alloc));
-    table.drop_layer();
-    assert_eq!(rt; length_at(&table), None);
-    assert_eq!(rt; table.size(), 0);
+    let told = drops_layer(alloc, &mut table);
+    drop(table);
+    assert!(rt; told);
     Ok(())
 }

@@ -5,15 +5,14 @@ ghost use Rattle.replica.specs.Groups.{text_length};
 ghost use Rattle.replica.specs.Content.{sealed_with};
 ghost use Rattle.replica.specs.Kept.{held_as};
 ghost use Rattle.replica.specs.Put.{fill_fault};
-ghost use Rattle.replica.specs.Reading.{bytes_at, groups_to};
+ghost use Rattle.replica.specs.Reading.{groups_to};
 ghost use Rattle.replica.specs.Replay.{is_boundary, is_tail, cut_to, longest};
 
 use crate::fault::{FillFault, PastEnd};
 use crate::kept::Kept;
 use crate::phase::Phase;
 use crate::sealed::SealedReplica;
-use blocks::{Group, Groups, Nodes};
-use bytes::Bytes;
+use blocks::{Group, Groups};
 use std::alloc::{AllocError, Global};
 use std::marker::Model;
 
@@ -67,7 +66,7 @@ impl FrozenReplica {
     }
 
     /// That it is frozen.
-    pub fn state(&self) -> Phase
+    pub(crate) fn state(&self) -> Phase
         ensures content { result ≡ self.now.content.phase }
         ensures value { result ≡ Phase.Frozen }
     {
@@ -76,40 +75,12 @@ impl FrozenReplica {
     }
 
     /// How many payload bytes there are, at most 20,971,519.
-    pub fn len(&self) -> u32
+    pub(crate) fn len(&self) -> u32
         ensures value { result ≡ text_length self.now.content.groups }
         ensures bound { result < self.now.content.target + 4194304 }
         ensures target { IsTarget self.now.content.target }
     {
         self.kept.held.len()
-    }
-
-    /// The length at which no more groups are taken, in bytes.
-    pub fn target(&self) -> u32
-        ensures { result ≡ self.now.content.target }
-    {
-        self.kept.target
-    }
-
-    /// The least generation that the replica listens to.
-    pub fn fence(&self) -> u64
-        ensures { result ≡ self.now.content.fence }
-    {
-        self.kept.fence
-    }
-
-    /// The three places of its extent, the primary first.
-    pub fn places(&self) -> Nodes
-        ensures { result ≡ self.now.content.places }
-    {
-        self.kept.places
-    }
-
-    /// A copy of so many bytes from an offset on, as far as there are any. An error is want of memory (22).
-    pub fn bytes(&self, alloc: Global, offset: u32, length: u32) -> Result<Bytes, AllocError>
-        ensures { IfOk result (λ bytes. bytes ≡ bytes_at offset length self.now.content.groups) }
-    {
-        self.kept.held.bytes(alloc, offset, length)
     }
 
     /// What it keeps.

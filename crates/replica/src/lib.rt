@@ -5,8 +5,8 @@
 //! records of its extent make of it, one after another; a step that is refused hands the old state back.
 //!
 //! An [`OpenReplica`] takes groups at its end and higher fences. A [`FrozenReplica`] takes only what brings it to its
-//! last length, and a [`SealedReplica`] nothing. [`Replica`] is one of the three, and steps in place without a failure
-//! once there is room, so that a node can write the record first.
+//! last length, and a [`SealedReplica`] nothing. [`Replica`] is one of the three: it is what is read, and it steps in place
+//! without a failure once there is room, so that a node can write the record first.
 #![tactic(auto)]
 
 mod fault;
@@ -25,6 +25,3 @@ pub use phase::Phase;
 pub use placed::{part_of_group, part_of_text};
 pub use replica::Replica;
 pub use sealed::SealedReplica;
-
-#[cfg(test)]
-mod tests;

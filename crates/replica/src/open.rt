@@ -5,7 +5,7 @@ ghost use Rattle.replica.specs.Groups.{text_length};
 ghost use Rattle.replica.specs.Content.{new_content, appended, fenced, frozen};
 ghost use Rattle.replica.specs.Kept.{held_as};
 ghost use Rattle.replica.specs.Put.{put_fault};
-ghost use Rattle.replica.specs.Reading.{bytes_at, groups_to};
+ghost use Rattle.replica.specs.Reading.{groups_to};
 ghost use Rattle.replica.specs.Replay.{is_boundary, cut_to};
 
 use crate::fault::{PastEnd, PutFault, Stale};
@@ -15,7 +15,6 @@ use crate::phase::Phase;
 use crate::placed::PlacedGroups;
 use crate::sealed::SealedReplica;
 use blocks::{Group, Nodes};
-use bytes::Bytes;
 use std::alloc::{AllocError, Global};
 use std::marker::Model;
 
@@ -58,7 +57,7 @@ impl OpenReplica {
     }
 
     /// That it is open.
-    pub fn state(&self) -> Phase
+    pub(crate) fn state(&self) -> Phase
         ensures content { result ≡ self.now.content.phase }
         ensures value { result ≡ Phase.Open }
     {
@@ -67,40 +66,12 @@ impl OpenReplica {
     }
 
     /// How many payload bytes there are, at most 20,971,519.
-    pub fn len(&self) -> u32
+    pub(crate) fn len(&self) -> u32
         ensures value { result ≡ text_length self.now.content.groups }
         ensures bound { result < self.now.content.target + 4194304 }
         ensures target { IsTarget self.now.content.target }
     {
         self.kept.held.len()
-    }
-
-    /// The length at which no more groups are taken, in bytes.
-    pub fn target(&self) -> u32
-        ensures { result ≡ self.now.content.target }
-    {
-        self.kept.target
-    }
-
-    /// The least generation that the replica listens to.
-    pub fn fence(&self) -> u64
-        ensures { result ≡ self.now.content.fence }
-    {
-        self.kept.fence
-    }
-
-    /// The three places of its extent, the primary first.
-    pub fn places(&self) -> Nodes
-        ensures { result ≡ self.now.content.places }
-    {
-        self.kept.places
-    }
-
-    /// A copy of so many bytes from an offset on, as far as there are any. An error is want of memory (22).
-    pub fn bytes(&self, alloc: Global, offset: u32, length: u32) -> Result<Bytes, AllocError>
-        ensures { IfOk result (λ bytes. bytes ≡ bytes_at offset length self.now.content.groups) }
-    {
-        self.kept.held.bytes(alloc, offset, length)
     }
 
     /// What it keeps.

@@ -1,15 +1,12 @@
 //! A replica that never changes again.
-ghost use Rattle.std.specs.Prelude.{◌≡◌, ◌≤◌, IfOk, OnOk};
+ghost use Rattle.std.specs.Prelude.{◌≡◌, ◌≤◌, OnOk};
 ghost use Rattle.blocks.specs.Limits.{IsTarget};
 ghost use Rattle.replica.specs.Groups.{text_length};
 ghost use Rattle.replica.specs.Kept.{held_as};
-ghost use Rattle.replica.specs.Reading.{bytes_at};
 ghost use Rattle.replica.specs.Replay.{longest};
 
 use crate::kept::Kept;
 use crate::phase::Phase;
-use blocks::Nodes;
-use bytes::Bytes;
 use std::alloc::{AllocError, Global};
 use std::marker::Model;
 
@@ -47,7 +44,7 @@ impl SealedReplica {
     }
 
     /// That it is sealed.
-    pub fn state(&self) -> Phase
+    pub(crate) fn state(&self) -> Phase
         ensures content { result ≡ self.now.content.phase }
         ensures value { result ≡ Phase.Sealed }
     {
@@ -56,40 +53,12 @@ impl SealedReplica {
     }
 
     /// How many payload bytes there are, at most 20,971,519.
-    pub fn len(&self) -> u32
+    pub(crate) fn len(&self) -> u32
         ensures value { result ≡ text_length self.now.content.groups }
         ensures bound { result ≤ longest }
         ensures target { IsTarget self.now.content.target }
     {
         self.kept.held.len()
-    }
-
-    /// The length at which no more groups are taken, in bytes.
-    pub fn target(&self) -> u32
-        ensures { result ≡ self.now.content.target }
-    {
-        self.kept.target
-    }
-
-    /// The least generation that the replica listens to.
-    pub fn fence(&self) -> u64
-        ensures { result ≡ self.now.content.fence }
-    {
-        self.kept.fence
-    }
-
-    /// The three places of its extent, the primary first.
-    pub fn places(&self) -> Nodes
-        ensures { result ≡ self.now.content.places }
-    {
-        self.kept.places
-    }
-
-    /// A copy of so many bytes from an offset on, as far as there are any. An error is want of memory (22).
-    pub fn bytes(&self, alloc: Global, offset: u32, length: u32) -> Result<Bytes, AllocError>
-        ensures { IfOk result (λ bytes. bytes ≡ bytes_at offset length self.now.content.groups) }
-    {
-        self.kept.held.bytes(alloc, offset, length)
     }
 
     /// What it keeps.

@@ -1,6 +1,6 @@
 -- The list of servers, one after the other.
 use Rattle.std.proofs.Common.{◌≡◌, ℕ, zero, suc, ◌<◌, ◌≤◌, ◌+◌, ◌-◌, List, [], ◌∷◌, ◌++◌, refl, sym, ap, ◌∙◌, arith, length, slice_index_or, slice_set, map, append-nil}
-use Rattle.model_tables.specs.Cluster.{ServerCell, told_moment, first_server, first_servers}
+use Rattle.model_tables.specs.Servers.{ServerCell, told_moment, first_server, first_servers}
 
 -- ---- all of them are told the moment, one after the other
 

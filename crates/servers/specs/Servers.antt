@@ -1,7 +1,7 @@
 -- What calls of servers leave.
 use Rattle.std.specs.Prelude.{◌≡◌, ◌≤◌, ℕ, List, length}
 use Rattle.wire.specs.declared.packet.Packet.{Packet}
-use Rattle.model_tables.specs.Cluster.{Held, ServerCell, CellOutcome, ServersOutcome, cell_takes, server_takes}
+use Rattle.model_tables.specs.Servers.{Held, ServerCell, CellOutcome, ServersOutcome, cell_takes, server_takes}
 use Rattle.range.specs.Handled.{Sent}
 
 abbrev pub cell_outcome : ServerCell → Sent → CellOutcome

@@ -1,6 +1,6 @@
 //! One server, over its starts and stops.
 ghost use Rattle.std.specs.Prelude.{◌≡◌, Some, None, option_map, IfOk, OnErr};
-ghost use Rattle.model_tables.specs.Cluster.{cell_gives_up, cell_stops, cell_starts, first_server, give_up_fault, told_moment, cell_loads};
+ghost use Rattle.model_tables.specs.Servers.{cell_gives_up, cell_stops, cell_starts, first_server, give_up_fault, told_moment, cell_loads};
 ghost use Rattle.servers.specs.Servers.{CellGave, cell_outcome, NoMore};
 
 use blocks::Nodes;
@@ -27,7 +27,7 @@ pub(crate) struct ServerCell {
 }
 
 impl Model for ServerCell {
-    ghost use Rattle.model_tables.specs.Cluster as specs;
+    ghost use Rattle.model_tables.specs.Servers as specs;
 
     ghost Value = { specs.ServerCell };
 

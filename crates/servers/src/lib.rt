@@ -1,6 +1,6 @@
 //! The partition servers of a stamp, each over its starts and stops.
 //!
-//! This crate touches memory only. `Servers` is the list of the servers as model_tables/specs/Cluster has it, and each call is
+//! This crate touches memory only. `Servers` is the list of the servers as model_tables/specs/Servers has it, and each call is
 //! a row of it exactly, but for what caches hold:
 //! - `start`: so many servers that run; `stop` and `restart`: what a server holds goes, and it comes back under another number.
 //! - `give` and `give_up`: what one server does; nothing where there is none of the number, or where it has stopped.

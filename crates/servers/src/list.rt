@@ -1,7 +1,7 @@
 //! The servers of a stamp.
 ghost use Rattle.std.specs.Prelude.{◌≡◌, ◌<◌, suc, [], length, map, option_map, IfOk, OnErr, IfSome, IfNone};
 ghost use Rattle.model.specs.Maps.{entry_at};
-ghost use Rattle.model_tables.specs.Cluster.{first_servers, give_up_refusal, server_gives_up, server_loads, server_stops, server_starts, told_moment};
+ghost use Rattle.model_tables.specs.Servers.{first_servers, give_up_refusal, server_gives_up, server_loads, server_stops, server_starts, told_moment};
 ghost use Rattle.servers.specs.Servers.{ServersGave, outcome, NoMore};
 
 use crate::cell::{ServerCell, Surrender};
@@ -22,7 +22,7 @@ pub struct Servers {
 
 impl Model for Servers {
     ghost use Rattle.std.specs.Prelude.{List};
-    ghost use Rattle.model_tables.specs.Cluster as specs;
+    ghost use Rattle.model_tables.specs.Servers as specs;
 
     ghost Value = { List specs.ServerCell };
 

@@ -133,6 +133,30 @@ fn put_of(alloc: Global, extent: ExtentId, offset: u32, blocks: &Blocks) -> Resu
     }))
 }
 
+/// Adds a Put to a secondary.
+fn add_put(
+    alloc: Global,
+    step: &mut Step,
+    node: u8,
+    to: u8,
+    extent: ExtentId,
+    offset: u32,
+    blocks: &Blocks,
+) -> Result<(), DiskFault>
+    requires { IsGroup blocks.now }
+    ensures packets { OnOk result (step.new.packets ≡ step.old.packets ++ sent (Node node) (Node to) (bodies.Append (Put extent offset blocks.now)) ∷ []) }
+    ensures notes { OnOk result (step.new.notes ≡ step.old.notes) }
+    ensures fault { IfErr result (λ e. e ≡ faults.Memory) }
+{
+    let body = put_of(alloc, extent, offset, blocks)?;
+    step.packets.push(Packet {
+        from: ActorId::Node(node),
+        to: ActorId::Node(to),
+        body,
+    })?;
+    Ok(())
+}
+
 /// A Put to each secondary.
 pub(crate) fn puts_of(
     alloc: Global,
@@ -147,13 +171,16 @@ pub(crate) fn puts_of(
     ensures notes { IfOk result (λ step. step.notes ≡ []) }
     ensures fault { IfErr result (λ e. e ≡ faults.Memory) }
 {
-    let second = put_of(alloc, extent, offset, blocks)?;
-    let third = put_of(alloc, extent, offset, blocks)?;
-    let mut step = one(alloc, node, ActorId::Node(places.second), second)?;
-    step.packets.push(Packet {
-        from: ActorId::Node(node),
-        to: ActorId::Node(places.third),
-        body: third,
-    })?;
+    let mut step = Step::silent(alloc);
+    add_put(
+        alloc,
+        &mut step,
+        node,
+        places.second,
+        extent,
+        offset,
+        blocks,
+    )?;
+    add_put(alloc, &mut step, node, places.third, extent, offset, blocks)?;
     Ok(step)
 }

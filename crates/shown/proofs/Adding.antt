@@ -3,7 +3,7 @@ use Rattle.std.proofs.Common.{◌≡◌, ℕ, List, [], ◌∷◌, ◌++◌, ref
 use Rattle.wire.specs.declared.note.Note.{Note}
 use Rattle.wire.specs.declared.rows.Row.{Row}
 use Rattle.cells.specs.declared.cell.Cell.{Cell}
-use Rattle.model_tables.specs.Cluster.{row_of, rows_of}
+use Rattle.model_tables.specs.Servers.{row_of, rows_of}
 
 joined_on : {A : Type 0} (xs ys zs : List A) → (xs ++ ys) ++ zs ≡ xs ++ (ys ++ zs)
 joined_on [] ys zs = refl

@@ -1,7 +1,7 @@
 //! What observations show of a place.
 ghost use Rattle.std.specs.Prelude.{◌≡◌, ◌&&◌, ◌+◌, ◌<◌, ◌^◌, ◌∷◌, ℕ, List, nat_le, IfOk};
 ghost use Rattle.replica.specs.Groups.{joined, text, text_length};
-ghost use Rattle.model_tables.specs.Cluster.{part, shown_in, first_shown};
+ghost use Rattle.model_tables.specs.Servers.{part, shown_in, first_shown};
 
 use blocks::Group;
 use bytes::Bytes;

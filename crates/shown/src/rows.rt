@@ -1,6 +1,6 @@
 //! The rows of a memory table.
 ghost use Rattle.std.specs.Prelude.{◌≡◌, ◌++◌, IfOk, OnOk};
-ghost use Rattle.model_tables.specs.Cluster.{row_of, rows_of};
+ghost use Rattle.model_tables.specs.Servers.{row_of, rows_of};
 
 use crate::place::first_shown;
 use bytes::Bytes;

@@ -1,35 +1,19 @@
 //! `stampctl`: runs a script of events on one stamp and prints what is observed.
 //!
 //! The program reads its words, one file or the standard input, and writes lines to the standard output and texts about
-//! wrong words to the standard error; it touches nothing else. Its contract: the words name a task exactly as they are
-//! spelled, the whole script is read and tested before its first event runs, and each line is printed as the text of one
-//! report. Status 0 is a script that ran to its end, 1 a refusal, told by the line `refused N Name`, and 2 wrong words.
+//! wrong words to the standard error; it touches nothing else. What the words name is told by `command_words`, and a script is
+//! run by `scripts`. Status 0 is a script that ran to its end, 1 a refusal, told by the line `refused N Name`, and 2 wrong
+//! words.
 #![tactic(auto)]
 
-use crate::command::{CommandError, Task, command};
-use crate::error::Failure;
-use crate::script::script;
+use command_words::{CommandError, Task, command};
+use scripts::{Failure, script};
 use std::alloc::Global;
 use std::io::{self, BufWriter, ErrorKind, Print, Write};
 use std::process::ExitCode;
 use std::rt::{Env, Files};
 use std::{env, fs};
 use wire::Refusal;
-
-mod asking;
-mod command;
-mod deliveries;
-mod error;
-#[cfg(test)]
-mod failover_tests;
-mod hex_text;
-mod line;
-mod plan;
-mod report;
-mod script;
-mod session;
-mod telling;
-mod tickets;
 
 /// Why the words of the command line were not had.
 enum NoWords {

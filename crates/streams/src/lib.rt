@@ -17,6 +17,3 @@ pub use fault::StreamFault;
 pub use listed::Listed;
 pub use sealed::SealedLengths;
 pub use table::{Position, StreamTable};
-
-#[cfg(test)]
-mod tests;

@@ -55,17 +55,26 @@ fn put(alloc: Global, table: &mut MemTable, key: &'static [u8; 1], cell: Cell) -
     Ok(())
 }
 
-/// A table with a small value at `a` and a large one at `b`.
-fn filled(alloc: Global) -> Result<MemTable, Fail> {
-    let mut table = MemTable::new(alloc);
-    put(
-        alloc,
-        &mut table,
-        b"a",
-        Cell::Inline(Bytes::from_static(b"x")),
-    )?;
-    put(alloc, &mut table, b"b", Cell::Placed(place()))?;
-    Ok(table)
+/// A table, and the Gets that wait for what is in it.
+#[derive(Drop)]
+struct Getting {
+    table: MemTable,
+    lookups: Lookups,
+}
+
+/// A table with a small value at `a` and a large one at `b`, for which no Get waits.
+// In a box: a local that owns much is dropped part by part at each exit, and each costs the proof.
+fn filled(alloc: Global) -> Result<Box<Getting>, Fail> {
+    let lookups = Lookups::new(alloc)?;
+    let table = MemTable::new(alloc);
+    let mut getting = Box::new(alloc, Getting { table, lookups })?;
+    fill(alloc, &mut getting.table)?;
+    Ok(getting)
+}
+
+fn fill(alloc: Global, table: &mut MemTable) -> Result<(), Fail> {
+    put(alloc, table, b"a", Cell::Inline(Bytes::from_static(b"x")))?;
+    put(alloc, table, b"b", Cell::Placed(place()))
 }
 
 fn log() -> [StreamExtent; 1] {
@@ -79,8 +88,7 @@ fn log() -> [StreamExtent; 1] {
 /// What a Get of the key answers, where the lease ends at this moment.
 fn gets(
     alloc: Global,
-    lookups: &mut Lookups,
-    table: &MemTable,
+    getting: &mut Getting,
     until: u64,
     key: &'static [u8],
 ) -> Result<Option<Tried>, Fail> {
@@ -89,16 +97,16 @@ fn gets(
     let asking = Asking {
         desk: &desk,
         until,
-        table,
+        table: &getting.table,
         log: &log,
         blob: &[],
         rows: &[],
     };
-    if lookups.count() >= MAX_GETS {
+    if getting.lookups.count() >= MAX_GETS {
         return Ok(None);
     }
     let number = ReqNo::User { user: 9, ticket: 2 };
-    let tried = lookups.get(
+    let tried = getting.lookups.get(
         alloc,
         &asking,
         ActorId::User(9),
@@ -109,24 +117,19 @@ fn gets(
 }
 
 /// What 5,000 bytes bring, as the answer of the read of this number.
-fn reads(
-    alloc: Global,
-    lookups: &mut Lookups,
-    table: &MemTable,
-    count: u64,
-) -> Result<Tried, Fail> {
+fn reads(alloc: Global, getting: &mut Getting, count: u64) -> Result<Tried, Fail> {
     let desk = desk(20);
     let log = log();
     let asking = Asking {
         desk: &desk,
         until: 9,
-        table,
+        table: &getting.table,
         log: &log,
         blob: &[],
         rows: &[],
     };
     let value = Bytes::from_vec(vec![in alloc; b'y'; 5_000]?)?;
-    let tried = lookups.bytes(
+    let tried = getting.lookups.bytes(
         alloc,
         &asking,
         &number_of(count),
@@ -137,18 +140,18 @@ fn reads(
     Ok(tried)
 }
 
-fn gives_up(alloc: Global, lookups: &mut Lookups, table: &MemTable) -> Result<Vec<Packet>, Fail> {
+fn gives_up(alloc: Global, getting: &mut Getting) -> Result<Vec<Packet>, Fail> {
     let desk = desk(30);
     let log = log();
     let asking = Asking {
         desk: &desk,
         until: 9,
-        table,
+        table: &getting.table,
         log: &log,
         blob: &[],
         rows: &[],
     };
-    Ok(lookups.give_up(alloc, &asking)?)
+    Ok(getting.lookups.give_up(alloc, &asking)?)
 }
 
 fn number_of(count: u64) -> ReqNo {
@@ -191,86 +194,138 @@ fn asked_in(packets: &[Packet]) -> Option<(u8, u32)> {
 /// The length of the value that a Get is answered with at once.
 fn length_at(
     alloc: Global,
-    lookups: &mut Lookups,
-    table: &MemTable,
+    getting: &mut Getting,
     key: &'static [u8],
 ) -> Result<Option<usize>, Fail> {
-    match gets(alloc, lookups, table, 9, key)? {
+    match gets(alloc, getting, 9, key)? {
         None => Ok(None),
         Some(tried) => Ok(length_in(&tried.packets)),
     }
 }
 
 /// The node that a Get of `b` asks, and the offset.
-fn asked_for(
-    alloc: Global,
-    lookups: &mut Lookups,
-    table: &MemTable,
-) -> Result<Option<(u8, u32)>, Fail> {
-    match gets(alloc, lookups, table, 9, b"b")? {
+fn asked_for(alloc: Global, getting: &mut Getting) -> Result<Option<(u8, u32)>, Fail> {
+    match gets(alloc, getting, 9, b"b")? {
         None => Ok(None),
         Some(tried) => Ok(asked_in(&tried.packets)),
     }
 }
 
+/// The length of the value that a Get is answered with, when the read of this number has brought it.
+fn length_read(alloc: Global, getting: &mut Getting, count: u64) -> Result<Option<usize>, Fail> {
+    Ok(length_in(&reads(alloc, getting, count)?.packets))
+}
+
+/// The number of the next request, and what is asked for, when the read of this number has brought something.
+fn asked_after(
+    alloc: Global,
+    getting: &mut Getting,
+    count: u64,
+) -> Result<(u64, Option<(u8, u32)>), Fail> {
+    let tried = reads(alloc, getting, count)?;
+    Ok((tried.count, asked_in(&tried.packets)))
+}
+
+/// What is asked for where no answer comes.
+fn asked_again(alloc: Global, getting: &mut Getting) -> Result<Option<(u8, u32)>, Fail> {
+    Ok(asked_in(&gives_up(alloc, getting)?))
+}
+
+fn refusal_count(alloc: Global, getting: &Getting) -> Result<usize, Fail> {
+    Ok(getting.lookups.refusals(alloc, &desk(4))?.len())
+}
+
+// Each of these says whether every step comes to what it should, and each test lets go of its table before it says what it
+// saw, so that the table is let go in one place.
+fn answers_small(alloc: Global, getting: &mut Getting) -> Result<bool, Fail> {
+    Ok(length_at(alloc, getting, b"a")? == Some(1) && getting.lookups.count() == 0)
+}
+
 #[test]
 fn a_small_value_is_answered(rt: HostRuntime) -> Result<(), Fail> {
     let alloc = rt.alloc();
-    let table = filled(alloc)?;
-    let mut lookups = Lookups::new(alloc)?;
-    assert_eq!(rt; length_at(alloc, &mut lookups, &table, b"a")?, Some(1));
-    assert_eq!(rt; lookups.count(), 0);
+    let mut getting = filled(alloc)?;
+    let told = answers_small(alloc, &mut getting);
+    drop(getting);
+    assert!(rt; told?);
     Ok(())
+}
+
+fn asks_once(alloc: Global, getting: &mut Getting) -> Result<bool, Fail> {
+    Ok(
+        asked_for(alloc, getting)? == Some((1, 100))
+            && getting.lookups.awaits(&number_of(4))
+            && !getting.lookups.awaits(&number_of(5)),
+    )
+}
+
+fn reads_once(alloc: Global, getting: &mut Getting) -> Result<bool, Fail> {
+    Ok(
+        asks_once(alloc, getting)?
+            && length_read(alloc, getting, 4)? == Some(5_000)
+            && getting.lookups.count() == 0
+            && length_at(alloc, getting, b"b")? == Some(5_000),
+    )
 }
 
 #[test]
 fn a_large_value_is_read_once(rt: HostRuntime) -> Result<(), Fail> {
     let alloc = rt.alloc();
-    let table = filled(alloc)?;
-    let mut lookups = Lookups::new(alloc)?;
-    assert!(rt; asked_for(alloc, &mut lookups, &table)? == Some((1, 100)));
-    assert!(rt; lookups.awaits(&number_of(4)));
-    assert!(rt; !lookups.awaits(&number_of(5)));
-    let tried = reads(alloc, &mut lookups, &table, 4)?;
-    assert_eq!(rt; length_in(&tried.packets), Some(5_000));
-    assert_eq!(rt; lookups.count(), 0);
-    assert_eq!(rt; length_at(alloc, &mut lookups, &table, b"b")?, Some(5_000));
+    let mut getting = filled(alloc)?;
+    let told = reads_once(alloc, &mut getting);
+    drop(getting);
+    assert!(rt; told?);
     Ok(())
+}
+
+fn asks_on(alloc: Global, getting: &mut Getting) -> Result<bool, Fail> {
+    Ok(
+        asked_for(alloc, getting)? == Some((1, 100))
+            && asked_after(alloc, getting, 6)? == (21, Some((1, 100)))
+            && getting.lookups.count() == 1,
+    )
 }
 
 #[test]
 fn what_was_not_asked_for_is_not_held(rt: HostRuntime) -> Result<(), Fail> {
     let alloc = rt.alloc();
-    let table = filled(alloc)?;
-    let mut lookups = Lookups::new(alloc)?;
-    assert!(rt; asked_for(alloc, &mut lookups, &table)? == Some((1, 100)));
-    let tried = reads(alloc, &mut lookups, &table, 6)?;
-    assert_eq!(rt; tried.count, 21);
-    assert!(rt; asked_in(&tried.packets) == Some((1, 100)));
-    assert_eq!(rt; lookups.count(), 1);
+    let mut getting = filled(alloc)?;
+    let told = asks_on(alloc, &mut getting);
+    drop(getting);
+    assert!(rt; told?);
     Ok(())
+}
+
+fn asks_the_next(alloc: Global, getting: &mut Getting) -> Result<bool, Fail> {
+    Ok(
+        asked_for(alloc, getting)? == Some((1, 100))
+            && asked_again(alloc, getting)? == Some((2, 100))
+            && refusal_count(alloc, getting)? == 1,
+    )
 }
 
 #[test]
 fn the_next_node_is_asked(rt: HostRuntime) -> Result<(), Fail> {
     let alloc = rt.alloc();
-    let table = filled(alloc)?;
-    let mut lookups = Lookups::new(alloc)?;
-    assert!(rt; asked_for(alloc, &mut lookups, &table)? == Some((1, 100)));
-    let packets = gives_up(alloc, &mut lookups, &table)?;
-    assert!(rt; asked_in(&packets) == Some((2, 100)));
-    assert_eq!(rt; lookups.refusals(alloc, &desk(4))?.len(), 1);
+    let mut getting = filled(alloc)?;
+    let told = asks_the_next(alloc, &mut getting);
+    drop(getting);
+    assert!(rt; told?);
     Ok(())
+}
+
+/// Whether a Get of `a` is refused after the lease, and does not wait.
+fn refuses(alloc: Global, getting: &mut Getting) -> Result<bool, Fail> {
+    Ok(is_refused(&gets(alloc, getting, 5, b"a")?) && getting.lookups.count() == 0)
 }
 
 #[test]
 fn an_ended_lease_refuses(rt: HostRuntime) -> Result<(), Fail> {
     let alloc = rt.alloc();
-    let table = filled(alloc)?;
-    let mut lookups = Lookups::new(alloc)?;
-    let tried = gets(alloc, &mut lookups, &table, 5, b"a")?;
-    assert!(rt; is_refused(&tried));
-    assert_eq!(rt; lookups.count(), 0);
+    let mut getting = filled(alloc)?;
+    let told = refuses(alloc, &mut getting);
+    drop(getting);
+    assert!(rt; told?);
     Ok(())
 }
 

@@ -119,23 +119,75 @@ fn takes_back(queue: &mut Queue) -> bool {
     true
 }
 
+fn refusal_count(alloc: Global, queue: &Queue) -> Result<usize, Fail> {
+    Ok(queue.refusals(alloc, &desk())?.len())
+}
+
+// Each of these says whether every step comes to what it should, and each test lets go of its queue before it says what it saw,
+// so that the queue is let go in one place.
+fn pushes_three(alloc: Global, queue: &mut Queue) -> Result<bool, Fail> {
+    Ok(pushes(alloc, queue, 1)? && pushes(alloc, queue, 2)? && pushes(alloc, queue, 3)?)
+}
+
+fn begins_two(alloc: Global, queue: &mut Queue) -> Result<bool, Fail> {
+    Ok(
+        begins(alloc, queue)? == Some((2, 10_034, 3))
+            && queue.next() == 3
+            && queue.out_size() == 10_034,
+    )
+}
+
+fn answers_two(alloc: Global, queue: &Queue) -> Result<bool, Fail> {
+    Ok(answers(alloc, queue)? == (Some(2), 2, Some(2)) && last_offset(alloc, queue)? == Some(5_134))
+}
+
+fn answers_the_last(alloc: Global, queue: &mut Queue) -> Result<bool, Fail> {
+    queue.finish();
+    Ok(
+        queue.count() == 1
+            && begins(alloc, queue)? == Some((1, 5_024, 2))
+            && answers(alloc, queue)? == (Some(3), 1, Some(3)),
+    )
+}
+
+fn answers_each(alloc: Global, queue: &mut Queue) -> Result<bool, Fail> {
+    Ok(
+        pushes_three(alloc, queue)?
+            && begins_two(alloc, queue)?
+            && answers_two(alloc, queue)?
+            && answers_the_last(alloc, queue)?,
+    )
+}
+
 #[test]
 fn a_group_is_appended_and_answered(rt: HostRuntime) -> Result<(), Fail> {
     let alloc = rt.alloc();
     let mut queue = Queue::new(alloc);
-    assert!(rt; pushes(alloc, &mut queue, 1)?);
-    assert!(rt; pushes(alloc, &mut queue, 2)?);
-    assert!(rt; pushes(alloc, &mut queue, 3)?);
-    assert!(rt; begins(alloc, &mut queue)? == Some((2, 10_034, 3)));
-    assert_eq!(rt; queue.next(), 3);
-    assert_eq!(rt; queue.out_size(), 10_034);
-    assert!(rt; answers(alloc, &queue)? == (Some(2), 2, Some(2)));
-    assert!(rt; last_offset(alloc, &queue)? == Some(5_134));
-    queue.finish();
-    assert_eq!(rt; queue.count(), 1);
-    assert!(rt; begins(alloc, &mut queue)? == Some((1, 5_024, 2)));
-    assert!(rt; answers(alloc, &queue)? == (Some(3), 1, Some(3)));
+    let told = answers_each(alloc, &mut queue);
+    drop(queue);
+    assert!(rt; told?);
     Ok(())
+}
+
+fn begins_with_one(alloc: Global, queue: &mut Queue) -> Result<bool, Fail> {
+    Ok(
+        begins(alloc, queue)?.is_none()
+            && pushes(alloc, queue, 1)?
+            && begins(alloc, queue)?.is_some()
+            && queue.is_out(),
+    )
+}
+
+fn answers_one(alloc: Global, queue: &Queue) -> Result<bool, Fail> {
+    Ok(
+        answers(alloc, queue)? == (Some(9), 1, Some(9))
+            && refusal_count(alloc, queue)? == 2
+            && queue.waiting().len() == 2,
+    )
+}
+
+fn is_out_alone(alloc: Global, queue: &mut Queue) -> Result<bool, Fail> {
+    Ok(begins_with_one(alloc, queue)? && pushes(alloc, queue, 2)? && answers_one(alloc, queue)?)
 }
 
 #[test]
@@ -143,24 +195,23 @@ fn a_group_is_out_alone(rt: HostRuntime) -> Result<(), Fail> {
     let alloc = rt.alloc();
     let mut queue = Queue::new(alloc);
     queue.set_next(9);
-    assert!(rt; begins(alloc, &mut queue)?.is_none());
-    assert!(rt; pushes(alloc, &mut queue, 1)?);
-    assert!(rt; begins(alloc, &mut queue)?.is_some());
-    assert!(rt; queue.is_out());
-    assert!(rt; pushes(alloc, &mut queue, 2)?);
-    assert!(rt; answers(alloc, &queue)? == (Some(9), 1, Some(9)));
-    assert_eq!(rt; queue.refusals(alloc, &desk())?.len(), 2);
-    assert_eq!(rt; queue.waiting().len(), 2);
+    let told = is_out_alone(alloc, &mut queue);
+    drop(queue);
+    assert!(rt; told?);
     Ok(())
+}
+
+fn takes_one_back(alloc: Global, queue: &mut Queue) -> Result<bool, Fail> {
+    Ok(pushes(alloc, queue, 1)? && takes_back(queue) && queue.count() == 0)
 }
 
 #[test]
 fn the_last_is_taken_back(rt: HostRuntime) -> Result<(), Fail> {
     let alloc = rt.alloc();
     let mut queue = Queue::new(alloc);
-    assert!(rt; pushes(alloc, &mut queue, 1)?);
-    assert!(rt; takes_back(&mut queue));
-    assert_eq!(rt; queue.count(), 0);
+    let told = takes_one_back(alloc, &mut queue);
+    drop(queue);
+    assert!(rt; told?);
     Ok(())
 }
 

@@ -119,10 +119,11 @@ fn checked(count: u64, length: u32) -> Body {
     })
 }
 
-/// A load under the generation 2, whose first request has the number 1.
-fn begun(alloc: Global) -> Result<RangeContent, Fail> {
-    let (content, _packet) = RangeContent::new(alloc, &desk(1), RangeId::new(5), Fence::new(2))?;
-    Ok(content)
+/// A load under the generation 2, whose first request has the number 1, and the packet that asks.
+// In a box: a local that owns much is dropped part by part at each exit, and each costs the proof.
+fn begun(alloc: Global) -> Result<Box<(RangeContent, Packet)>, Fail> {
+    let begun = RangeContent::new(alloc, &desk(1), RangeId::new(5), Fence::new(2))?;
+    Ok(Box::new(alloc, begun)?)
 }
 
 fn is_confirm(packet: &Packet, count: u64) -> bool {
@@ -143,12 +144,12 @@ enum Came {
     Service { next: u64, end: Position },
 }
 
-fn what_came(progress: Progress, count: u64) -> Came {
+fn what_came(progress: &Progress, count: u64) -> Came {
     match progress {
         Progress::Rests => Came::Nothing,
         Progress::Goes(None) => Came::Silence,
         Progress::Goes(Some(packet)) => {
-            if is_confirm(&packet, count) {
+            if is_confirm(packet, count) {
                 Came::Confirm
             } else {
                 Came::Request
@@ -156,14 +157,22 @@ fn what_came(progress: Progress, count: u64) -> Came {
         }
         Progress::Dropped => Came::Drop,
         Progress::Serves(Service { next, position, .. }) => Came::Service {
-            next,
-            end: position,
+            next: *next,
+            end: *position,
         },
     }
 }
 
+fn came_of(progress: Progress, count: u64) -> Came {
+    let came = what_came(&progress, count);
+    drop(progress);
+    came
+}
+
 fn load(content: &mut RangeContent, alloc: Global, count: u64, body: Body) -> Result<Came, Fail> {
-    Ok(what_came(content.load_reply(alloc, &desk(count), &body)?, count))
+    let told = content.load_reply(alloc, &desk(count), &body);
+    drop(body);
+    Ok(came_of(told?, count))
 }
 
 fn metadata(
@@ -172,14 +181,63 @@ fn metadata(
     count: u64,
     body: Body,
 ) -> Result<Came, Fail> {
-    Ok(what_came(content.metadata_reply(alloc, &desk(count), &body)?, count))
+    let told = content.metadata_reply(alloc, &desk(count), &body);
+    drop(body);
+    Ok(came_of(told?, count))
 }
 
 fn log(content: &mut RangeContent, alloc: Global, count: u64, body: Body) -> Result<Came, Fail> {
     if content.stage == Stage::Serving {
+        drop(body);
         return Err(Fail::from("the range is served"));
     }
-    Ok(what_came(content.log_load_reply(alloc, &desk(count), &body)?, count))
+    let told = content.log_load_reply(alloc, &desk(count), &body);
+    drop(body);
+    Ok(came_of(told?, count))
+}
+
+/// What comes of the streams of a range.
+fn opens(
+    content: &mut RangeContent,
+    alloc: Global,
+    count: u64,
+    metadata: StreamList,
+    log: StreamList,
+) -> Result<Came, Fail> {
+    load(content, alloc, count, opened(alloc, metadata, log))
+}
+
+/// What comes of a log with one extent, of this length where it is sealed.
+fn opens_log(
+    content: &mut RangeContent,
+    alloc: Global,
+    count: u64,
+    length: Option<u32>,
+) -> Result<Came, Fail> {
+    let log = one_extent(alloc, 7, length)?;
+    opens(content, alloc, count, no_extent(alloc), log)
+}
+
+/// What comes of a record of the metadata.
+fn says(
+    content: &mut RangeContent,
+    alloc: Global,
+    count: u64,
+    asked: u64,
+    text: &[u8],
+) -> Result<Came, Fail> {
+    metadata(content, alloc, count, groups(alloc, asked, text)?)
+}
+
+/// What comes of a record of the log.
+fn reads(
+    content: &mut RangeContent,
+    alloc: Global,
+    count: u64,
+    asked: u64,
+    text: &[u8],
+) -> Result<Came, Fail> {
+    log(content, alloc, count, groups(alloc, asked, text)?)
 }
 
 fn served(next: u64, offset: u32) -> Came {
@@ -189,95 +247,158 @@ fn served(next: u64, offset: u32) -> Came {
     }
 }
 
+// Each of these says whether every step of a load comes to what it should, and each test lets go of its range before it says
+// what it saw, so that the range is let go in one place.
+fn serves_nothing(content: &mut RangeContent, alloc: Global) -> Result<bool, Fail> {
+    Ok(
+        opens(content, alloc, 2, no_extent(alloc), no_extent(alloc))? == Came::Confirm
+            && load(content, alloc, 3, confirmed(2))? == served(1, 0)
+            && content.stage == Stage::Serving
+            && load(content, alloc, 4, confirmed(2))? == Came::Nothing,
+    )
+}
+
 #[test]
 fn an_empty_range_is_served(rt: HostRuntime) -> Result<(), Fail> {
     let alloc = rt.alloc();
-    let mut content = begun(alloc)?;
-    let lists = opened(alloc, no_extent(alloc), no_extent(alloc));
-    assert!(rt; load(&mut content, alloc, 2, lists)? == Came::Confirm);
-    assert!(rt; load(&mut content, alloc, 3, confirmed(2))? == served(1, 0));
-    assert!(rt; content.stage == Stage::Serving);
-    assert!(rt; load(&mut content, alloc, 4, confirmed(2))? == Came::Nothing);
+    let mut begun = begun(alloc)?;
+    let told = serves_nothing(&mut begun.0, alloc);
+    drop(begun);
+    assert!(rt; told?);
     Ok(())
+}
+
+fn reads_sealed(content: &mut RangeContent, alloc: Global) -> Result<bool, Fail> {
+    Ok(
+        opens_log(content, alloc, 2, Some(24))? == Came::Request
+            && reads(content, alloc, 3, 2, &LOG)? == Came::Confirm
+            && load(content, alloc, 4, confirmed(3))? == served(2, 24)
+            && content.table.live().len() == 1,
+    )
 }
 
 #[test]
 fn a_sealed_log_is_read(rt: HostRuntime) -> Result<(), Fail> {
     let alloc = rt.alloc();
-    let mut content = begun(alloc)?;
-    let lists = opened(alloc, no_extent(alloc), one_extent(alloc, 7, Some(24))?);
-    assert!(rt; load(&mut content, alloc, 2, lists)? == Came::Request);
-    assert!(rt; log(&mut content, alloc, 3, groups(alloc, 2, &LOG)?)? == Came::Confirm);
-    assert!(rt; load(&mut content, alloc, 4, confirmed(3))? == served(2, 24));
-    assert!(rt; content.table.live().len() == 1);
+    let mut begun = begun(alloc)?;
+    let told = reads_sealed(&mut begun.0, alloc);
+    drop(begun);
+    assert!(rt; told?);
     Ok(())
+}
+
+fn is_checking_log(content: &RangeContent) -> bool {
+    let checking = Stage::Checking {
+        kind: StreamKind::Log,
+    };
+    content.stage == checking
+}
+
+fn reads_open(content: &mut RangeContent, alloc: Global) -> Result<bool, Fail> {
+    Ok(
+        opens_log(content, alloc, 2, None)? == Came::Request
+            && is_checking_log(content)
+            && log(content, alloc, 3, checked(2, 24))? == Came::Request
+            && reads(content, alloc, 4, 3, &LOG)? == Came::Confirm,
+    )
 }
 
 #[test]
 fn an_open_log_is_checked_first(rt: HostRuntime) -> Result<(), Fail> {
     let alloc = rt.alloc();
-    let mut content = begun(alloc)?;
-    let lists = opened(alloc, no_extent(alloc), one_extent(alloc, 7, None)?);
-    assert!(rt; load(&mut content, alloc, 2, lists)? == Came::Request);
-    let checking = Stage::Checking {
-        kind: StreamKind::Log,
-    };
-    assert!(rt; content.stage == checking);
-    assert!(rt; log(&mut content, alloc, 3, checked(2, 24))? == Came::Request);
-    assert!(rt; log(&mut content, alloc, 4, groups(alloc, 3, &LOG)?)? == Came::Confirm);
+    let mut begun = begun(alloc)?;
+    let told = reads_open(&mut begun.0, alloc);
+    drop(begun);
+    assert!(rt; told?);
     Ok(())
+}
+
+fn drops_at_gap(content: &mut RangeContent, alloc: Global) -> Result<bool, Fail> {
+    Ok(
+        opens_log(content, alloc, 2, Some(24))? == Came::Request
+            && reads(content, alloc, 3, 2, &GAP)? == Came::Drop,
+    )
 }
 
 #[test]
 fn a_gap_drops_the_range(rt: HostRuntime) -> Result<(), Fail> {
     let alloc = rt.alloc();
-    let mut content = begun(alloc)?;
-    let lists = opened(alloc, no_extent(alloc), one_extent(alloc, 7, Some(24))?);
-    assert!(rt; load(&mut content, alloc, 2, lists)? == Came::Request);
-    assert!(rt; log(&mut content, alloc, 3, groups(alloc, 2, &GAP)?)? == Came::Drop);
+    let mut begun = begun(alloc)?;
+    let told = drops_at_gap(&mut begun.0, alloc);
+    drop(begun);
+    assert!(rt; told?);
     Ok(())
+}
+
+/// What comes of metadata with one extent of 15 bytes.
+fn opens_metadata(content: &mut RangeContent, alloc: Global) -> Result<Came, Fail> {
+    let metadata = one_extent(alloc, 7, Some(15))?;
+    opens(content, alloc, 2, metadata, no_extent(alloc))
+}
+
+fn reads_metadata(content: &mut RangeContent, alloc: Global) -> Result<bool, Fail> {
+    Ok(
+        opens_metadata(content, alloc)? == Came::Request
+            && says(content, alloc, 3, 1, &KEYS)? == Came::Silence
+            && says(content, alloc, 4, 2, &KEYS)? == Came::Confirm
+            && content.said.next_number() == 2,
+    )
 }
 
 #[test]
 fn the_metadata_is_read_before_the_log(rt: HostRuntime) -> Result<(), Fail> {
     let alloc = rt.alloc();
-    let mut content = begun(alloc)?;
-    let lists = opened(alloc, one_extent(alloc, 7, Some(15))?, no_extent(alloc));
-    assert!(rt; load(&mut content, alloc, 2, lists)? == Came::Request);
-    assert!(rt; metadata(&mut content, alloc, 3, groups(alloc, 1, &KEYS)?)? == Came::Silence);
-    assert!(rt; metadata(&mut content, alloc, 4, groups(alloc, 2, &KEYS)?)? == Came::Confirm);
-    assert!(rt; content.said.next_number() == 2);
+    let mut begun = begun(alloc)?;
+    let told = reads_metadata(&mut begun.0, alloc);
+    drop(begun);
+    assert!(rt; told?);
     Ok(())
+}
+
+fn drops_when_stale(content: &mut RangeContent, alloc: Global) -> Result<bool, Fail> {
+    Ok(load(content, alloc, 2, stale(1))? == Came::Drop)
 }
 
 #[test]
 fn an_old_generation_drops_the_range(rt: HostRuntime) -> Result<(), Fail> {
     let alloc = rt.alloc();
-    let mut content = begun(alloc)?;
-    assert!(rt; load(&mut content, alloc, 2, stale(1))? == Came::Drop);
+    let mut begun = begun(alloc)?;
+    let told = drops_when_stale(&mut begun.0, alloc);
+    drop(begun);
+    assert!(rt; told?);
     Ok(())
 }
 
+/// Whether the opening, the metadata's job and the log's are asked again.
 fn asks_again(content: &mut RangeContent, count: u64) -> (bool, bool, bool) {
     let desk = desk(count);
     if desk.count == u64::MAX {
         return (false, false, false);
     }
     let given = content.give_up(&desk);
-    (
+    let asked = (
         given.load.is_some(),
         given.metadata.is_some(),
         given.log.is_some(),
+    );
+    drop(given);
+    asked
+}
+
+fn asks_each_again(content: &mut RangeContent, alloc: Global) -> Result<bool, Fail> {
+    Ok(
+        asks_again(content, 2) == (true, false, false)
+            && opens_log(content, alloc, 4, None)? == Came::Request
+            && asks_again(content, 5) == (false, false, true),
     )
 }
 
 #[test]
 fn what_is_not_answered_is_asked_again(rt: HostRuntime) -> Result<(), Fail> {
     let alloc = rt.alloc();
-    let mut content = begun(alloc)?;
-    assert!(rt; asks_again(&mut content, 2) == (true, false, false));
-    let lists = opened(alloc, no_extent(alloc), one_extent(alloc, 7, None)?);
-    assert!(rt; load(&mut content, alloc, 4, lists)? == Came::Request);
-    assert!(rt; asks_again(&mut content, 5) == (false, false, true));
+    let mut begun = begun(alloc)?;
+    let told = asks_each_again(&mut begun.0, alloc);
+    drop(begun);
+    assert!(rt; told?);
     Ok(())
 }

@@ -9,8 +9,8 @@ use range_core::{RangeState, Taken};
 use std::alloc::Global;
 use std::test::Fail;
 use wire::{
-    ActorId, AppendBody, Body, Change, Changes, ExtentId, Fence, RangeId, ReadBody, Refusal, ReqNo,
-    ServerNo, StreamBody, StreamExtent, StreamExtents, StreamList, StreamLists,
+    ActorId, AppendBody, Body, Change, Changes, ExtentId, Fence, Packet, RangeId, ReadBody,
+    Refusal, ReqNo, ServerNo, StreamBody, StreamExtent, StreamExtents, StreamList, StreamLists,
 };
 
 /// A record of the metadata: the keys below `m`.
@@ -73,21 +73,34 @@ fn one_extent(alloc: Global, length: u32) -> Result<StreamList, Fail> {
     })
 }
 
-/// A range under the generation 2 and a lease up to the moment 100, whose streams are asked for under the number 1.
-fn begun(alloc: Global) -> Result<RangeState, Fail> {
+/// A range under the generation 2 and a lease up to the moment 100, whose streams are asked for under the number 1, and the
+/// packet that asks.
+// In a box, as what is answered below: a local that owns much is dropped part by part at each exit, and each costs the proof.
+fn begun(alloc: Global) -> Result<Box<(RangeState, Packet)>, Fail> {
     let desk = desk_at(1, 1);
-    let (state, _packet) = RangeState::assign(alloc, &desk, RangeId::new(1), Fence::new(2), 100)?;
-    Ok(state)
+    let begun = RangeState::assign(alloc, &desk, RangeId::new(1), Fence::new(2), 100)?;
+    Ok(Box::new(alloc, begun)?)
 }
 
-fn opened(
+/// Whether an answer drops the range.
+fn drops(
     state: &mut RangeState,
     alloc: Global,
-    metadata: StreamList,
-    log: StreamList,
-) -> Result<Taken, Fail> {
-    let request = number(1);
-    let body = Body::Stream(StreamBody::Opened {
+    count: u32,
+    request: &ReqNo,
+    body: Body,
+) -> Result<bool, Fail>
+    requires { answered_number body ≡ Some request.now }
+{
+    let body = Box::new(alloc, body)?;
+    let taken = state.answer(alloc, &desk_at(count, 1), request, &body)?;
+    Ok(taken.dropped)
+}
+
+fn streams(alloc: Global, request: ReqNo, metadata: StreamList, log: StreamList) -> Body
+    ensures { answered_number result ≡ Some request }
+{
+    Body::Stream(StreamBody::Opened {
         request,
         streams: StreamLists {
             metadata,
@@ -95,8 +108,43 @@ fn opened(
             row_data: no_extent(alloc),
             blob_data: no_extent(alloc),
         },
-    });
-    Ok(state.answer(alloc, &desk_at(2, 1), &request, &body)?)
+    })
+}
+
+fn opened(
+    state: &mut RangeState,
+    alloc: Global,
+    metadata: StreamList,
+    log: StreamList,
+) -> Result<bool, Fail> {
+    let request = number(1);
+    let body = streams(alloc, request, metadata, log);
+    drops(state, alloc, 2, &request, body)
+}
+
+/// A group of one block with this text.
+fn groups_of(alloc: Global, text: &[u8]) -> Result<Groups, Fail> {
+    let mut texts = Vec::new(alloc);
+    texts.push(text.to_vec(alloc)?)?;
+    let mut groups = Vec::new(alloc);
+    groups.push(Group::new(alloc, texts)?)?;
+    Ok(Groups::of(groups))
+}
+
+fn reading(request: ReqNo, groups: Groups) -> Body
+    ensures { answered_number result ≡ Some request }
+{
+    Body::Read(ReadBody::Groups {
+        request,
+        extent: ExtentId::new(7),
+        groups,
+    })
+}
+
+fn confirmation(request: ReqNo) -> Body
+    ensures { answered_number result ≡ Some request }
+{
+    Body::Stream(StreamBody::Confirmed { request })
 }
 
 /// The answer to a reading: one group, of one block with this text.
@@ -106,42 +154,41 @@ fn groups(
     asked: u32,
     count: u32,
     text: &[u8],
-) -> Result<Taken, Fail> {
-    let mut texts = Vec::new(alloc);
-    texts.push(text.to_vec(alloc)?)?;
-    let mut groups = Vec::new(alloc);
-    groups.push(Group::new(alloc, texts)?)?;
+) -> Result<bool, Fail> {
+    let groups = groups_of(alloc, text)?;
     let request = number(asked);
-    let body = Body::Read(ReadBody::Groups {
-        request,
-        extent: ExtentId::new(7),
-        groups: Groups::of(groups),
-    });
-    Ok(state.answer(alloc, &desk_at(count, 1), &request, &body)?)
+    let body = reading(request, groups);
+    drops(state, alloc, count, &request, body)
 }
 
-fn confirmed(state: &mut RangeState, alloc: Global, asked: u32, count: u32) -> Result<Taken, Fail> {
+fn confirmed(state: &mut RangeState, alloc: Global, asked: u32, count: u32) -> Result<bool, Fail> {
     let request = number(asked);
-    let body = Body::Stream(StreamBody::Confirmed { request });
-    Ok(state.answer(alloc, &desk_at(count, 1), &request, &body)?)
+    let body = confirmation(request);
+    drops(state, alloc, count, &request, body)
 }
 
 /// A range with no extent, which is served. The next request has the number 4.
-fn served(alloc: Global) -> Result<RangeState, Fail> {
-    let mut state = begun(alloc)?;
-    let _ = opened(&mut state, alloc, no_extent(alloc), no_extent(alloc))?;
-    let _ = confirmed(&mut state, alloc, 2, 3)?;
-    Ok(state)
+fn served(alloc: Global) -> Result<Box<(RangeState, Packet)>, Fail> {
+    let mut begun = begun(alloc)?;
+    let _ = opened(&mut begun.0, alloc, no_extent(alloc), no_extent(alloc))?;
+    let _ = confirmed(&mut begun.0, alloc, 2, 3)?;
+    Ok(begun)
 }
 
-/// One whose keys are those below `m`. The next request has the number 6.
-fn served_below_m(alloc: Global) -> Result<RangeState, Fail> {
-    let mut state = begun(alloc)?;
+/// Serves the keys below `m`. The next request has the number 6.
+fn serve_below_m(state: &mut RangeState, alloc: Global) -> Result<(), Fail> {
     let metadata = one_extent(alloc, 15)?;
-    let _ = opened(&mut state, alloc, metadata, no_extent(alloc))?;
-    let _ = groups(&mut state, alloc, 2, 3, &KEYS)?;
-    let _ = confirmed(&mut state, alloc, 3, 5)?;
-    Ok(state)
+    let _ = opened(state, alloc, metadata, no_extent(alloc))?;
+    let _ = groups(state, alloc, 2, 3, &KEYS)?;
+    let _ = confirmed(state, alloc, 3, 5)?;
+    Ok(())
+}
+
+/// One whose keys are those below `m`.
+fn served_below_m(alloc: Global) -> Result<Box<(RangeState, Packet)>, Fail> {
+    let mut begun = begun(alloc)?;
+    serve_below_m(&mut begun.0, alloc)?;
+    Ok(begun)
 }
 
 fn put(alloc: Global, key: &[u8], length: usize) -> Result<Change, Fail> {
@@ -208,99 +255,230 @@ const REFUSED: [(u64, &[u8], usize, usize, Refusal); 7] = [
     (1, b"m", 1, 1, Refusal::OutOfRange),
 ];
 
+/// The key of the first transaction that is not refused as it should be.
+fn wrongly_refused(state: &mut RangeState, alloc: Global) -> Result<Option<&'static [u8]>, Fail> {
+    for (moment, key, length, count, refusal) in REFUSED {
+        if transacted(state, alloc, moment, key, length, count)? != Some(refusal) {
+            return Ok(Some(key));
+        }
+    }
+    Ok(None)
+}
+
+/// The number of the next transaction before and after a large one, and why that is refused.
+type Large = (u64, Option<Refusal>, u64);
+
+fn takes_large(state: &mut RangeState, alloc: Global) -> Result<Large, Fail> {
+    let before = state.next_number();
+    let told = transacted(state, alloc, 99, b"a", 65_536, 32)?;
+    Ok((before, told, state.next_number()))
+}
+
+fn transacted_each(
+    state: &mut RangeState,
+    alloc: Global,
+) -> Result<(Option<&'static [u8]>, Large), Fail> {
+    let wrong = wrongly_refused(state, alloc)?;
+    let large = takes_large(state, alloc)?;
+    Ok((wrong, large))
+}
+
+// Each test lets go of its range before it says what it saw, so that the range is let go in one place.
 #[test]
 fn transactions_are_refused_by_name(rt: HostRuntime) -> Result<(), Fail> {
     let alloc = rt.alloc();
-    let mut state = served_below_m(alloc)?;
-    for (moment, key, length, count, refusal) in REFUSED {
-        let told = transacted(&mut state, alloc, moment, key, length, count)?;
-        assert!(rt; told == Some(refusal), "at {key:?}");
-    }
-    assert!(rt; state.next_number() == 1);
-    assert!(rt; transacted(&mut state, alloc, 99, b"a", 65_536, 32)? == None);
-    assert!(rt; state.next_number() == 2);
+    let mut served = served_below_m(alloc)?;
+    let told = transacted_each(&mut served.0, alloc);
+    drop(served);
+    let (wrong, large) = told?;
+    assert!(rt; wrong.is_none(), "at {wrong:?}");
+    assert!(rt; large == (1, None, 2));
     Ok(())
+}
+
+fn refused_at_once(
+    state: &mut RangeState,
+    alloc: Global,
+) -> Result<(Option<Refusal>, Option<Refusal>), Fail> {
+    let put = transacted(state, alloc, 1, b"a", 1, 1)?;
+    let got = got(state, alloc, 1, b"a")?;
+    Ok((put, got))
 }
 
 #[test]
 fn a_range_that_is_loaded_refuses(rt: HostRuntime) -> Result<(), Fail> {
     let alloc = rt.alloc();
-    let mut state = begun(alloc)?;
-    assert!(rt; transacted(&mut state, alloc, 1, b"a", 1, 1)? == Some(Refusal::Loading));
-    assert!(rt; got(&mut state, alloc, 1, b"a")? == Some(Refusal::Loading));
+    let mut begun = begun(alloc)?;
+    let told = refused_at_once(&mut begun.0, alloc);
+    drop(begun);
+    assert!(rt; told? == (Some(Refusal::Loading), Some(Refusal::Loading)));
     Ok(())
+}
+
+/// How many of as many transactions at `a` are taken, and why the last that is not is refused.
+fn waits(
+    state: &mut RangeState,
+    alloc: Global,
+    count: u32,
+) -> Result<(u32, Option<Refusal>), Fail> {
+    let changes = puts(alloc, b"a", 1, 1)?;
+    let mut taken = 0_u32;
+    let mut refusal = None;
+    for _ in 0..count {
+        match refusal_for(state, alloc, &changes)? {
+            None => taken = taken.wrapping_add(1),
+            Some(told) => refusal = Some(told),
+        }
+    }
+    Ok((taken, refusal))
+}
+
+fn refusal_for(
+    state: &mut RangeState,
+    alloc: Global,
+    changes: &Changes,
+) -> Result<Option<Refusal>, Fail> {
+    let taken = state.transact(alloc, &desk_at(9, 1), USER, &ticket(), changes)?;
+    Ok(refusal_of(&taken))
+}
+
+fn refusal_count(state: &RangeState, alloc: Global) -> Result<usize, Fail> {
+    Ok(state.refusals(alloc, &desk_at(9, 1))?.len())
+}
+
+/// Whether as many wait, and one more is refused.
+fn takes_1024(state: &mut RangeState, alloc: Global) -> Result<bool, Fail> {
+    Ok(
+        waits(state, alloc, 1024)? == (1024, None)
+            && waits(state, alloc, 1)? == (0, Some(Refusal::Busy))
+            && refusal_count(state, alloc)? == 1024,
+    )
 }
 
 #[test]
 fn no_more_than_1024_wait(rt: HostRuntime) -> Result<(), Fail> {
     let alloc = rt.alloc();
-    let mut state = served(alloc)?;
-    let changes = puts(alloc, b"a", 1, 1)?;
-    for _ in 0..1024_u32 {
-        let taken = state.transact(alloc, &desk_at(9, 1), USER, &ticket(), &changes)?;
-        assert!(rt; refusal_of(&taken) == None);
-    }
-    let taken = state.transact(alloc, &desk_at(9, 1), USER, &ticket(), &changes)?;
-    assert!(rt; refusal_of(&taken) == Some(Refusal::Busy));
-    assert!(rt; state.refusals(alloc, &desk_at(9, 1))?.len() == 1024);
+    let mut served = served(alloc)?;
+    let told = takes_1024(&mut served.0, alloc);
+    drop(served);
+    assert!(rt; told?);
     Ok(())
+}
+
+/// At a moment, a key, and why a Get is refused.
+const REFUSED_GETS: [(u64, &[u8], Refusal); 3] = [
+    (100, b"a", Refusal::LeaseEnded),
+    (1, b"", Refusal::BadKey),
+    (1, b"z", Refusal::OutOfRange),
+];
+
+/// The key of the first Get that is not refused as it should be.
+fn wrongly_got(state: &mut RangeState, alloc: Global) -> Result<Option<&'static [u8]>, Fail> {
+    for (moment, key, refusal) in REFUSED_GETS {
+        if got(state, alloc, moment, key)? != Some(refusal) {
+            return Ok(Some(key));
+        }
+    }
+    Ok(None)
+}
+
+/// The key of a Get that is not refused as it should be, and why one is refused under a new lease.
+fn got_each(
+    state: &mut RangeState,
+    alloc: Global,
+) -> Result<(Option<&'static [u8]>, Option<Refusal>), Fail> {
+    let wrong = wrongly_got(state, alloc)?;
+    state.renew(200);
+    let renewed = got(state, alloc, 100, b"a")?;
+    Ok((wrong, renewed))
 }
 
 #[test]
 fn gets_are_refused_by_name(rt: HostRuntime) -> Result<(), Fail> {
     let alloc = rt.alloc();
-    let mut state = served_below_m(alloc)?;
-    for (moment, key, refusal) in [
-        (100, b"a".as_slice(), Refusal::LeaseEnded),
-        (1, b"".as_slice(), Refusal::BadKey),
-        (1, b"z".as_slice(), Refusal::OutOfRange),
-    ] {
-        let told = got(&mut state, alloc, moment, key)?;
-        assert!(rt; told == Some(refusal), "at {key:?}");
-    }
-    state.renew(200);
-    assert!(rt; got(&mut state, alloc, 100, b"a")? == None);
+    let mut served = served_below_m(alloc)?;
+    let told = got_each(&mut served.0, alloc);
+    drop(served);
+    let (wrong, renewed) = told?;
+    assert!(rt; wrong.is_none(), "at {wrong:?}");
+    assert!(rt; renewed == None);
     Ok(())
+}
+
+/// Whether a log of which these bytes are read drops the range.
+fn drops_by_log(state: &mut RangeState, alloc: Global) -> Result<bool, Fail> {
+    let log = one_extent(alloc, 3)?;
+    let _ = opened(state, alloc, no_extent(alloc), log)?;
+    groups(state, alloc, 2, 3, b"bad")
+}
+
+fn drops_by_metadata(state: &mut RangeState, alloc: Global) -> Result<bool, Fail> {
+    let metadata = one_extent(alloc, 3)?;
+    let _ = opened(state, alloc, metadata, no_extent(alloc))?;
+    groups(state, alloc, 2, 3, b"bad")
 }
 
 #[test]
 fn a_damaged_log_drops_the_range(rt: HostRuntime) -> Result<(), Fail> {
     let alloc = rt.alloc();
-    let mut state = begun(alloc)?;
-    let log = one_extent(alloc, 3)?;
-    let _ = opened(&mut state, alloc, no_extent(alloc), log)?;
-    assert!(rt; groups(&mut state, alloc, 2, 3, b"bad")?.dropped);
+    let mut begun = begun(alloc)?;
+    let dropped = drops_by_log(&mut begun.0, alloc);
+    drop(begun);
+    assert!(rt; dropped?);
     Ok(())
 }
 
 #[test]
 fn damaged_metadata_drops_the_range(rt: HostRuntime) -> Result<(), Fail> {
     let alloc = rt.alloc();
-    let mut state = begun(alloc)?;
-    let metadata = one_extent(alloc, 3)?;
-    let _ = opened(&mut state, alloc, metadata, no_extent(alloc))?;
-    assert!(rt; groups(&mut state, alloc, 2, 3, b"bad")?.dropped);
+    let mut begun = begun(alloc)?;
+    let dropped = drops_by_metadata(&mut begun.0, alloc);
+    drop(begun);
+    assert!(rt; dropped?);
     Ok(())
+}
+
+/// Whether a range tells what it was assigned as, and that it is served with nothing in it.
+fn is_known(state: &RangeState) -> bool {
+    state.phase() == Stage::Serving
+        && state.generation() == Fence::new(2)
+        && state.range() == RangeId::new(1)
+        && is_empty(state)
+}
+
+fn is_empty(state: &RangeState) -> bool {
+    state.indexes().is_empty()
+        && state.regions().len() == 1
+        && state.position().index == 0
+        && state.table().live().is_empty()
 }
 
 #[test]
 fn a_range_is_known_by_its_readers(rt: HostRuntime) -> Result<(), Fail> {
-    let alloc = rt.alloc();
-    let state = served(alloc)?;
-    assert!(rt; state.phase() == Stage::Serving && state.generation() == Fence::new(2));
-    assert!(rt; state.range() == RangeId::new(1) && state.indexes().is_empty());
-    assert!(rt; state.regions().len() == 1 && state.position().index == 0);
-    assert!(rt; state.table().live().is_empty());
+    let served = served(rt.alloc())?;
+    let known = is_known(&served.0);
+    drop(served);
+    assert!(rt; known);
     Ok(())
+}
+
+/// Why a transaction is refused, whether its group is awaited, and how many packets are sent where no answer comes.
+fn asked_again(
+    state: &mut RangeState,
+    alloc: Global,
+) -> Result<(Option<Refusal>, bool, usize), Fail> {
+    let told = transacted(state, alloc, 1, b"a", 1, 1)?;
+    let awaited = state.awaits(&number(9));
+    let given = state.give_up(alloc, &desk_at(10, 1))?;
+    Ok((told, awaited, given.packets.len()))
 }
 
 #[test]
 fn a_group_that_is_not_answered_is_asked_for_again(rt: HostRuntime) -> Result<(), Fail> {
     let alloc = rt.alloc();
-    let mut state = served(alloc)?;
-    assert!(rt; transacted(&mut state, alloc, 1, b"a", 1, 1)? == None);
-    assert!(rt; state.awaits(&number(9)));
-    let given = state.give_up(alloc, &desk_at(10, 1))?;
-    assert!(rt; given.packets.len() == 1);
+    let mut served = served(alloc)?;
+    let told = asked_again(&mut served.0, alloc);
+    drop(served);
+    assert!(rt; told? == (None, true, 1));
     Ok(())
 }

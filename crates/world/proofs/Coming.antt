@@ -1,5 +1,5 @@
 -- What each event does to a cluster, beside what it does to the model's.
-use Rattle.std.proofs.Common.{◌≡◌, ◌<◌, ℕ, zero, suc, length, arith, ◌^◌, max, Bool, true, false, nat_lt, List, [], ◌∷◌, ◌++◌, Option, Some, None, Result, Ok, Err, OnOk, refl, sym, ap, ◌∙◌, subst, slice_get, map, append-nil, if◌then◌else◌}
+use Rattle.std.proofs.Common.{◌≡◌, ◌<◌, ℕ, zero, suc, length, arith, ◌^◌, max, Bool, true, false, nat_lt, List, [], ◌∷◌, ◌++◌, Option, Some, None, Result, Ok, Err, OnOk, IfSome, refl, sym, ap, ◌∙◌, subst, slice_get, map, append-nil, if◌then◌else◌}
 use Rattle.std.proofs.lemmas.Option.{same_Some}
 use Rattle.blocks.specs.declared.record.Nodes.{Nodes}
 use Rattle.wire.specs.declared.actor.ActorId.{ActorId}
@@ -9,16 +9,18 @@ use Rattle.wire.specs.declared.body.Body.TheVariants as bodies
 use Rattle.wire.specs.declared.body.MapBody.TheVariants as maps
 use Rattle.wire.specs.declared.packet.Packet.{Packet}
 use Rattle.wire.specs.declared.refusal.Refusal.{Refusal}
-use Rattle.model.specs.declared.event.Event.TheVariants.{Submit, Deliver, Stop, Restart, Decide, GiveUp, Assign, Moment}
+use Rattle.model.specs.declared.event.Event.TheVariants.{Submit, Deliver, Stop, Restart, Decide, GiveUp, Assign, Renew, Moment}
 use Rattle.model.specs.Outcome.{packet}
 use Rattle.model.specs.World.{World, happens, delivered, delivered_if, sent_more}
 use Rattle.model.proofs.Tests.{if_elim}
-use Rattle.model_tables.specs.Cluster.{Cluster, Held, MapState, ServerCell, ServersOutcome, goes_to, delivers, does, stops, restarts, assigns, assign_fault, told_moment, with_told, server_takes, server_gives_up, server_stops, server_starts}
+use Rattle.model_tables.specs.Servers.{Held, ServerCell, ServersOutcome, told_moment, with_told, server_takes, server_gives_up, server_stops, server_starts}
+use Rattle.model_clusters.specs.Cluster.{Cluster, goes_to, delivers, does, stops, restarts, assigns, renews, map_takes, map_stops, map_starts}
+use Rattle.map_desk.specs.Seen.{MapSeen, WentOn, Steps, StepsAt}
 use Rattle.layer.specs.Run.{RunState, Mirrors}
-use Rattle.layer.specs.Told.{Took, TookPacket}
+use Rattle.layer.specs.Told.{Ordered, Took, TookPacket}
 use Rattle.layer.proofs.Telling.{sent_mirrors, told_mirrors}
 use Rattle.layer.specs.declared.fault.WorldFault.{WorldFault}
-use Rattle.world.specs.Cluster.{Assigned, ClusterState, ClusterMirrors, Came, Taken, map_fault, next_map, server_of, to_server}
+use Rattle.world.specs.Cluster.{ClusterState, ClusterMirrors, Came, IsBelow, addressee_of}
 
 -- where a call succeeds, what follows from what it says
 pub if_ok : {A P Q : Type 0} (r : Result A WorldFault) → (P → Q) → OnOk r P → OnOk r Q
@@ -26,7 +28,7 @@ if_ok (Ok x) f h = f h
 if_ok (Err x) f h = tt
 
 -- a cluster of these parts
-abbrev pub state : RunState → List ServerCell → MapState → ℕ → ℕ → ClusterState
+abbrev pub state : RunState → List ServerCell → MapSeen → ℕ → ℕ → ClusterState
 state layer servers map moment batch = record { layer = layer; servers = servers; map = map; moment = moment; batch = batch }
 
 -- ---- events of the stream layer
@@ -42,18 +44,10 @@ submit_came x l user to body h = record { held = []; mirrors = λ c m. in_layer 
 pub decide_came : (x : ClusterState) (l : RunState) (e : ℕ) → ((w : World) → Mirrors x.layer w → Mirrors l (happens w (Decide e))) → Came x (record x { layer = l }) (Decide e)
 decide_came x l e h = record { held = []; mirrors = λ c m. in_layer x l c (happens c.world (Decide e)) m (h c.world m.layer) }
 
--- nobody that is concerned is a server
-abbrev pub IsBelow : ActorId → Type 0
-IsBelow (Node n) = Unit {0}
-IsBelow Manager = Unit {0}
-IsBelow Map = Unit {0}
-IsBelow (Server s) = ⊥
-IsBelow (User u) = Unit {0}
-
 stops_below : (c : Cluster) (a : ActorId) (call : ℕ) (keep : Bool) → IsBelow a → stops c a call keep ≡ record c { world = happens c.world (Stop a call keep) }
 stops_below c (Node n) call keep h = refl
 stops_below c Manager call keep h = refl
-stops_below c Map call keep h = refl
+stops_below c Map call keep h = absurd h
 stops_below c (Server s) call keep h = absurd h
 stops_below c (User u) call keep h = refl
 
@@ -68,7 +62,7 @@ stop_came x l a call keep below h = record {
 restarts_below : (c : Cluster) (a : ActorId) → IsBelow a → restarts c a ≡ record c { world = happens c.world (Restart a) }
 restarts_below c (Node n) h = refl
 restarts_below c Manager h = refl
-restarts_below c Map h = refl
+restarts_below c Map h = absurd h
 restarts_below c (Server s) h = absurd h
 restarts_below c (User u) h = refl
 
@@ -84,7 +78,7 @@ restart_came x l a below h = record {
 goes_below : (c : Cluster) (p : Packet) (held : Held) (to : ActorId) → IsBelow to → goes_to c p held to ≡ record c { world = delivered c.world p to }
 goes_below c p held (Node n) h = refl
 goes_below c p held Manager h = refl
-goes_below c p held Map h = refl
+goes_below c p held Map h = absurd h
 goes_below c p held (Server s) h = absurd h
 goes_below c p held (User u) h = refl
 
@@ -102,34 +96,31 @@ deliver_came x l number below h = record {
       (in_layer x l c (happens c.world (Deliver number)) m (h c.world m.layer));
 }
 
-below_to : (a : ActorId) → to_server a ≡ None → IsBelow a
-below_to (Node n) is = tt
-below_to Manager is = tt
-below_to Map is = tt
-below_to (Server s) is = absurd cc
-below_to (User u) is = tt
+-- the packet goes to nobody above
+pub goes_below_them : (found : Option Packet) → IfSome (addressee_of found) IsBelow → (p : Packet) → found ≡ Some p → IsBelow p.to
+goes_below_them found h p there = subst (λ (o : Option Packet). IfSome (addressee_of o) IsBelow) there h
 
-server_to : (a : ActorId) (s : ℕ) → to_server a ≡ Some s → a ≡ Server s
-server_to (Node n) s is = absurd cc
-server_to Manager s is = absurd cc
-server_to Map s is = absurd cc
-server_to (Server t) s is = ap Server (same_Some t s is)
-server_to (User u) s is = absurd cc
-
--- the packet goes to no server
-pub goes_elsewhere : (found : Option Packet) → server_of found ≡ None → (p : Packet) → found ≡ Some p → IsBelow p.to
-goes_elsewhere found is p there = below_to p.to (ap server_of (sym there) ∙ is)
-
--- there is a packet, and it goes to this server
-pub goes_there : (found : Option Packet) (s : ℕ) → server_of found ≡ Some s → (p : Packet) × (found ≡ Some p) × (p.to ≡ Server s)
-goes_there None s is = absurd cc
-goes_there (Some p) s is = (p, refl, server_to p.to s is)
+-- there is a packet, and it goes to this actor
+pub goes_there : (found : Option Packet) (to : ActorId) → addressee_of found ≡ Some to → (p : Packet) × (found ≡ Some p) × (p.to ≡ to)
+goes_there None to is = absurd cc
+goes_there (Some p) to is = (p, refl, same_Some p.to to is)
 
 -- its number is one of those that were sent
-pub is_there : (post : List Packet) (n s : ℕ) → server_of (slice_get post n) ≡ Some s → n < length post
-is_there [] n s is = absurd cc
-is_there (x ∷ xs) zero s is = omega arith
-is_there (x ∷ xs) (suc n) s is = let l = is_there xs n s is in omega (arith, l)
+pub is_there : (post : List Packet) (n : ℕ) (to : ActorId) → addressee_of (slice_get post n) ≡ Some to → n < length post
+is_there [] n to is = absurd cc
+is_there (x ∷ xs) zero to is = omega arith
+is_there (x ∷ xs) (suc n) to is = let l = is_there xs n to is in omega (arith, l)
+
+-- nothing comes of a number that was never sent
+pub unsent_came : (x : ClusterState) (number : ℕ) → addressee_of (slice_get x.layer.post number) ≡ None → Came x x (Deliver number)
+unsent_came x number is = record {
+  held = [];
+  mirrors = λ c m. subst (λ (o : Option Packet). ClusterMirrors x (delivers c [] o)) (sym (none_there (slice_get c.world.post number) (ap (λ (post : List Packet). addressee_of (slice_get post number)) (sym m.layer.post) ∙ is))) m;
+}
+  where
+    none_there : (found : Option Packet) → addressee_of found ≡ None → found ≡ None
+    none_there None e = refl
+    none_there (Some p) e = absurd cc
 
 -- ---- steps of servers
 
@@ -154,10 +145,10 @@ give_came x l servers number s p found to t = record {
       subst (ClusterMirrors (record x { layer = l; servers = servers })) (sym is) (does_mirrors x l servers (server_takes x.servers s p t.held) t.took c m);
 }
 
-pub give_came_if : (x : ClusterState) (l : RunState) (servers : List ServerCell) (number s : ℕ) → server_of (slice_get x.layer.post number) ≡ Some s →
+pub give_came_if : (x : ClusterState) (l : RunState) (servers : List ServerCell) (number s : ℕ) → addressee_of (slice_get x.layer.post number) ≡ Some (Server s) →
     ((p : Packet) → slice_get x.layer.post number ≡ Some p → TookPacket x.layer l x.servers servers s p) → Came x (record x { layer = l; servers = servers }) (Deliver number)
 give_came_if x l servers number s is t =
-    let there = goes_there (slice_get x.layer.post number) s is in
+    let there = goes_there (slice_get x.layer.post number) (Server s) is in
     give_came x l servers number s there.0 there.1 there.2 (t there.0 there.1)
 
 pub give_up_came : (x : ClusterState) (l : RunState) (servers : List ServerCell) (s range : ℕ) (pick : Nodes) → Took x.layer l servers (server_gives_up x.servers s range pick) →
@@ -195,68 +186,61 @@ restart_server_came x servers s is = record {
 
 -- ---- the map
 
-fault_is : (x : ClusterState) (c : Cluster) (range server : ℕ) → ClusterMirrors x c → assign_fault c range server ≡ map_fault x.map x.moment range server
-fault_is x c range server m = λ i. map_fault (sym m.map i) (sym m.moment i) range server
-
-pub refused_came : (x : ClusterState) (range server until : ℕ) (refusal : Refusal) → map_fault x.map x.moment range server ≡ Some refusal → Came x x (Assign range server until)
-refused_came x range server until refusal is = record {
-  held = [];
-  mirrors = λ c m. subst (λ (fault : Option Refusal). ClusterMirrors x (assigns c server until fault)) (sym (fault_is x c range server m ∙ is)) m;
+-- the map went on, and sent these
+map_went : (x : ClusterState) (l : RunState) (y : MapSeen) (c d : Cluster) (packets : List Packet) → l ≡ record x.layer { post = x.layer.post ++ packets } → WentOn y c d packets →
+    ClusterMirrors x c → ClusterMirrors (record x { layer = l; map = y }) d
+map_went x l y c d packets is went m = record {
+  layer = subst (Mirrors l) (sym went.world) (subst (λ (r : RunState). Mirrors r (sent_more c.world packets)) (sym is) (sent_mirrors x.layer packets c.world m.layer));
+  servers = m.servers ∙ sym went.servers;
+  map = went.map;
+  moment = m.moment ∙ sym went.now;
+  batch = m.batch ∙ sym went.batch;
 }
 
--- the cluster after an assignment that leaves this map
-abbrev after_map : Cluster → ℕ → MapState → Cluster
-after_map c server next =
-    record c { map = next; world = sent_more c.world (packet Map (Server server) (bodies.Map (maps.Assign 1 next.generation next.until)) ∷ []) }
-
-by_test : (b : Bool) (c : Cluster) (server : ℕ) (made next : MapState) → (if b then Some made else None) ≡ Some next → (if b then after_map c server made else c) ≡ after_map c server next
-by_test true c server made next is = ap (after_map c server) (same_Some made next is)
-by_test false c server made next is = absurd cc
-
-by_no_test : (b : Bool) (made : MapState) (c d : Cluster) → (if b then Some made else None) ≡ None → (if b then d else c) ≡ c
-by_no_test true made c d is = absurd cc
-by_no_test false made c d is = refl
-
-abbrev made_of : MapState → ℕ → ℕ → MapState
-made_of m server until = record { generation = suc m.generation; holder = Some server; until = max m.until until }
-
-unassigned_came : (x : ClusterState) (range server until : ℕ) → map_fault x.map x.moment range server ≡ None → next_map x.map server until ≡ None → Came x x (Assign range server until)
-unassigned_came x range server until none full = record {
+route_came : (x : ClusterState) (l : RunState) (y : MapSeen) (number : ℕ) (p : Packet) → slice_get x.layer.post number ≡ Some p → p.to ≡ Map →
+    Ordered x.layer l (Steps x.map y (λ c. map_takes c p)) → Came x (record x { layer = l; map = y }) (Deliver number)
+route_came x l y number p found to o = record {
   held = [];
   mirrors = λ c m.
-      subst (λ (fault : Option Refusal). ClusterMirrors x (assigns c server until fault)) (sym (fault_is x c range server m ∙ none))
-      (subst (ClusterMirrors x)
-      (sym (by_no_test (nat_lt (suc c.map.generation) (2 ^ 64)) (made_of c.map server until) c (after_map c server (made_of c.map server until)) (ap (λ (s : MapState). next_map s server until) (sym m.map) ∙ full)))
-      m);
+      let there : slice_get c.world.post number ≡ Some p = ap (λ (post : List Packet). slice_get post number) (sym m.layer.post) ∙ found in
+      let is : delivers c [] (slice_get c.world.post number) ≡ map_takes c p = ap (delivers c []) there ∙ ap (goes_to c p []) to in
+      subst (ClusterMirrors (record x { layer = l; map = y })) (sym is) (map_went x l y c (map_takes c p) o.packets o.layer (o.steps_are c m.map) m);
 }
 
-assign_now_came : (x : ClusterState) (l : RunState) (range server until : ℕ) (next : MapState) → map_fault x.map x.moment range server ≡ None → next_map x.map server until ≡ Some next →
-    l ≡ record x.layer { post = x.layer.post ++ packet Map (Server server) (bodies.Map (maps.Assign 1 next.generation next.until)) ∷ [] } →
-    Came x (record x { layer = l; map = next }) (Assign range server until)
-assign_now_came x l range server until next none made sent = record {
+pub route_came_if : (x : ClusterState) (l : RunState) (y : MapSeen) (number : ℕ) → addressee_of (slice_get x.layer.post number) ≡ Some Map →
+    ((p : Packet) → slice_get x.layer.post number ≡ Some p → Ordered x.layer l (Steps x.map y (λ c. map_takes c p))) → Came x (record x { layer = l; map = y }) (Deliver number)
+route_came_if x l y number is o =
+    let there = goes_there (slice_get x.layer.post number) Map is in
+    route_came x l y number there.0 there.1 there.2 (o there.0 there.1)
+
+pub assign_came : (x : ClusterState) (l : RunState) (y : MapSeen) (range server until : ℕ) → Ordered x.layer l (StepsAt x.moment x.map y (λ c. assigns c range server until)) →
+    Came x (record x { layer = l; map = y }) (Assign range server until)
+assign_came x l y range server until o = record {
   held = [];
-  mirrors = λ c m.
-      subst (λ (fault : Option Refusal). ClusterMirrors (record x { layer = l; map = next }) (assigns c server until fault)) (sym (fault_is x c range server m ∙ none))
-      (subst (ClusterMirrors (record x { layer = l; map = next }))
-      (sym (by_test (nat_lt (suc c.map.generation) (2 ^ 64)) c server (made_of c.map server until) next (ap (λ (s : MapState). next_map s server until) (sym m.map) ∙ made)))
-      (record {
-        layer = subst (λ (r : RunState). Mirrors r (after_map c server next).world) (sym sent)
-            (sent_mirrors x.layer (packet Map (Server server) (bodies.Map (maps.Assign 1 next.generation next.until)) ∷ []) c.world m.layer);
-        servers = m.servers;
-        map = refl;
-        moment = m.moment;
-        batch = m.batch;
-      }));
+  mirrors = λ c m. map_went x l y c (assigns c range server until) o.packets o.layer (o.steps_are c m.map (sym m.moment)) m;
 }
 
-pub assign_came : (x y : ClusterState) (range server until : ℕ) → map_fault x.map x.moment range server ≡ None → Assigned x y server until → Came x y (Assign range server until)
-assign_came x y range server until none taken = by_next (next_map x.map server until) refl taken
-  where
-    by_next : (next : Option MapState) → next_map x.map server until ≡ next → Taken x y server next → Came x y (Assign range server until)
-    by_next None made is = subst (λ (z : ClusterState). Came x z (Assign range server until)) (sym is) (unassigned_came x range server until none made)
-    by_next (Some next) made is =
-        subst (λ (z : ClusterState). Came x z (Assign range server until)) (sym is)
-        (assign_now_came x (record x.layer { post = x.layer.post ++ packet Map (Server server) (bodies.Map (maps.Assign 1 next.generation next.until)) ∷ [] }) range server until next none made refl)
+pub renew_came : (x : ClusterState) (l : RunState) (y : MapSeen) (range server until : ℕ) → Ordered x.layer l (Steps x.map y (λ c. renews c range server until)) →
+    Came x (record x { layer = l; map = y }) (Renew range server until)
+renew_came x l y range server until o = record {
+  held = [];
+  mirrors = λ c m. map_went x l y c (renews c range server until) o.packets o.layer (o.steps_are c m.map) m;
+}
+
+nothing_more : (r : RunState) → r ≡ record r { post = r.post ++ [] }
+nothing_more r = ap (λ (l : List Packet). record r { post = l }) (sym (append-nil r.post))
+
+pub stop_map_came : (x : ClusterState) (y : MapSeen) (call : ℕ) (keep : Bool) → Steps x.map y (λ c. map_stops c call keep) [] → Came x (record x { map = y }) (Stop Map call keep)
+stop_map_came x y call keep steps = record {
+  held = [];
+  mirrors = λ c m. map_went x x.layer y c (map_stops c call keep) [] (nothing_more x.layer) (steps c m.map) m;
+}
+
+pub restart_map_came : (x : ClusterState) (y : MapSeen) → Steps x.map y map_starts [] → Came x (record x { map = y }) (Restart Map)
+restart_map_came x y steps = record {
+  held = [];
+  mirrors = λ c m. map_went x x.layer y c (map_starts c) [] (nothing_more x.layer) (steps c m.map) m;
+}
 
 -- ---- the clock
 

@@ -1,17 +1,15 @@
 -- A cluster of real actors beside the model's.
-use Rattle.std.specs.Prelude.{◌≡◌, ℕ, suc, ◌^◌, max, not, ◌&&◌, ◌==◌, nat_lt, List, [], ◌∷◌, ◌++◌, Option, Some, None, if◌then◌else◌}
+use Rattle.std.specs.Prelude.{◌≡◌, ℕ, List, Option, Some, None}
 use Rattle.wire.specs.declared.actor.ActorId.{ActorId}
 use Rattle.wire.specs.declared.actor.ActorId.TheVariants.{Node, Manager, Map, Server, User}
-use Rattle.wire.specs.declared.body.Body.TheVariants as bodies
-use Rattle.wire.specs.declared.body.MapBody.TheVariants as maps
 use Rattle.wire.specs.declared.packet.Packet.{Packet}
 use Rattle.wire.specs.declared.refusal.Refusal.{Refusal}
-use Rattle.wire.specs.declared.refusal.Refusal.TheVariants.{NotOwner, LeaseHeld}
 use Rattle.model.specs.declared.event.Event.{Event}
-use Rattle.model.specs.declared.event.Event.TheVariants.{Decide, GiveUp, Assign}
+use Rattle.model.specs.declared.event.Event.TheVariants.{Decide, GiveUp, Assign, Renew}
 use Rattle.model.specs.Maps.{entry_at}
-use Rattle.model.specs.Outcome.{first_met, packet}
-use Rattle.model_tables.specs.Cluster.{Cluster, Held, LeadTo, MapState, ServerCell, comes, first_cluster, give_up_refusal, is_other}
+use Rattle.model_tables.specs.Servers.{Held, ServerCell, give_up_refusal}
+use Rattle.model_clusters.specs.Cluster.{Cluster, LeadTo, comes, first_cluster}
+use Rattle.map_desk.specs.Seen.{MapSeen, MapMirrors, assign_refusal, renew_refusal}
 use Rattle.layer.specs.Desk.{refusal_in}
 use Rattle.layer.specs.Run.{RunState, Mirrors}
 
@@ -19,7 +17,7 @@ use Rattle.layer.specs.Run.{RunState, Mirrors}
 pub record ClusterState : Type 0 where
   pub layer : RunState
   pub servers : List ServerCell
-  pub map : MapState
+  pub map : MapSeen
   pub moment : ℕ
   pub batch : ℕ
 
@@ -27,7 +25,7 @@ pub record ClusterState : Type 0 where
 pub record ClusterMirrors (x : ClusterState) (c : Cluster) : Type 0 where
   pub layer : Mirrors x.layer c.world
   pub servers : x.servers ≡ c.servers
-  pub map : x.map ≡ c.map
+  pub map : MapMirrors x.map c
   pub moment : x.moment ≡ c.now
   pub batch : x.batch ≡ c.batch
 
@@ -51,42 +49,23 @@ pub record IsRun (x : ClusterState) : Type 0 where
   pub events : List Event
   pub led : Led events (first_cluster nodes servers target batch) x
 
--- why the map refuses to assign: the range is unknown, or another server holds it
-abbrev pub map_fault : MapState → ℕ → ℕ → ℕ → Option Refusal
-map_fault m moment range server =
-    first_met ((NotOwner, not (range == 1)) ∷ (LeaseHeld, is_other m.holder server && nat_lt moment m.until) ∷ [])
+-- whom a packet is for, where there is one
+abbrev pub addressee_of : Option Packet → Option ActorId
+addressee_of None = None
+addressee_of (Some p) = Some p.to
 
--- the map after an assignment; none where no generation is left
-abbrev pub next_map : MapState → ℕ → ℕ → Option MapState
-next_map m server until =
-    if nat_lt (suc m.generation) (2 ^ 64)
-    then Some (record { generation = suc m.generation; holder = Some server; until = max m.until until })
-    else None
-
--- the map took an assignment, where a generation is left, and told the server
-abbrev pub Taken : ClusterState → ClusterState → ℕ → Option MapState → Type 0
-Taken x y server None = y ≡ x
-Taken x y server (Some next) =
-    y ≡ record x { map = next; layer = record x.layer { post = x.layer.post ++ packet Map (Server server) (bodies.Map (maps.Assign 1 next.generation next.until)) ∷ [] } }
-
-abbrev pub Assigned : ClusterState → ClusterState → ℕ → ℕ → Type 0
-Assigned x y server until = Taken x y server (next_map x.map server until)
-
--- the server that is addressed, if it is one
-abbrev pub to_server : ActorId → Option ℕ
-to_server (Server s) = Some s
-to_server (Node n) = None
-to_server Manager = None
-to_server Map = None
-to_server (User u) = None
-
-abbrev pub server_of : Option Packet → Option ℕ
-server_of None = None
-server_of (Some p) = to_server p.to
+-- nobody above the stream layer
+abbrev pub IsBelow : ActorId → Type 0
+IsBelow (Node n) = Unit {0}
+IsBelow Manager = Unit {0}
+IsBelow Map = ⊥
+IsBelow (Server s) = ⊥
+IsBelow (User u) = Unit {0}
 
 -- why an event is refused: the manager's, a server's or the map's reason, and nothing else
 abbrev pub refusal_of : ClusterState → Event → Option Refusal
 refusal_of x (Decide e) = refusal_in x.layer.desk e
 refusal_of x (GiveUp server range pick) = give_up_refusal range pick (entry_at x.servers server)
-refusal_of x (Assign range server until) = map_fault x.map x.moment range server
+refusal_of x (Assign range server until) = assign_refusal x.map x.moment range server
+refusal_of x (Renew range server until) = renew_refusal x.map range server
 refusal_of x event = None

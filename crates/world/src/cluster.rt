@@ -1,17 +1,21 @@
 //! A cluster: the stream layer, the servers above it, the map, and the clock of leases.
-ghost use Rattle.std.specs.Prelude.{◌≡◌, None, Some, IfOk, OnOk, OnErr, option_map, slice_get};
+ghost use Rattle.std.specs.Prelude.{◌≡◌, [], None, Some, IfOk, IfSome, OnOk, OnErr, option_map, slice_get};
 ghost use Rattle.model.specs.declared.event.Event.TheVariants as events;
 ghost use Rattle.model.specs.Maps.{entry_at};
-ghost use Rattle.model_tables.specs.Cluster.{first_cluster, give_up_refusal};
+ghost use Rattle.model_tables.specs.Servers.{give_up_refusal};
+ghost use Rattle.model_clusters.specs.Cluster.{first_cluster};
 ghost use Rattle.layer.specs.Desk.{refusal_in};
 ghost use Rattle.layer.specs.Nodes.{seen_of, running_at};
-ghost use Rattle.world.specs.Cluster.{Assigned, Came, ClusterMirrors, map_fault, refusal_of, server_of, to_server};
+ghost use Rattle.wire.specs.declared.actor.ActorId.TheVariants as actors;
+ghost use Rattle.map_desk.specs.Seen.{Steps, assign_refusal, renew_refusal};
+ghost use Rattle.model_clusters.specs.Cluster.{map_starts};
+ghost use Rattle.world.specs.Cluster.{Came, ClusterMirrors, IsBelow, addressee_of, refusal_of};
 
-use crate::map_cell::MapCell;
 use blocks::Nodes;
 use disk::MemDisk;
 use enode::Node;
 use layer::{Layer, Setup, WorldFault};
+use map_desk::MapDesk;
 use model::Event;
 use servers::Servers;
 use std::alloc::Global;
@@ -24,7 +28,7 @@ use wire::{ActorId, Body, ExtentId, Note, Packet, RangeId, Refusal, ServerNo};
 pub(crate) struct Cluster {
     layer: Layer,
     servers: Servers,
-    map: MapCell,
+    map: MapDesk,
     moment: u64,
     batch: u16,
 }
@@ -37,15 +41,14 @@ impl Model for Cluster {
     ghost view = { λ c. record { layer = c.layer; servers = c.servers; map = c.map; moment = c.moment; batch = c.batch } };
 }
 
-fn server_of(packet: &Packet) -> Option<ServerNo>
-    ensures { result ≡ to_server packet.now.to }
+/// Brings the map back, with what is on its disk. An error is want of memory (22), and nothing has changed.
+fn restart_map(map: &mut MapDesk, alloc: Global) -> Result<(), WorldFault>
+    ensures ok { OnOk result (Steps map.old map.new map_starts []) }
+    ensures err { OnErr result (map.new ≡ map.old) }
 {
-    match packet.to {
-        ActorId::Server(server) => Some(server),
-        ActorId::Node(_) => None,
-        ActorId::Manager => None,
-        ActorId::Map => None,
-        ActorId::User(_) => None,
+    match map.restart(alloc) {
+        Ok(()) => Ok(()),
+        Err(_full) => Err(WorldFault::Memory),
     }
 }
 
@@ -59,11 +62,14 @@ impl Cluster {
             Ok(layer) => layer,
             Err(fault) => return Err(fault),
         };
+        let Ok(map) = MapDesk::start(alloc) else {
+            return Err(WorldFault::Memory);
+        };
         match Servers::start(alloc, setup.servers, setup.batch) {
             Ok(servers) => Ok(Cluster {
                 layer,
                 servers,
-                map: MapCell::first(),
+                map,
                 moment: 0,
                 batch: setup.batch,
             }),
@@ -85,23 +91,69 @@ impl Cluster {
         self.layer.submit(alloc, user, to, body)
     }
 
-    /// The server that the packet of a number goes to, if it goes to one.
-    fn addressee(&self, number: usize) -> Option<ServerNo>
-        ensures { result ≡ server_of (slice_get self.now.layer.post number) }
+    /// Whom the packet of a number is for; none where no packet has it.
+    fn addressee(&self, number: usize) -> Option<ActorId>
+        ensures { result ≡ addressee_of (slice_get self.now.layer.post number) }
     {
         match self.layer.sent().get(number) {
             None => None,
-            Some(packet) => server_of(packet),
+            Some(packet) => Some(packet.to),
         }
     }
 
-    /// The server takes the packet of this number, which goes to it.
+    /// The server takes the packet of this number, which is for it.
     fn give(&mut self, alloc: Global, server: ServerNo, number: usize) -> Result<(), WorldFault>
-        requires { server_of (slice_get self.old.layer.post number) ≡ Some server }
+        requires { addressee_of (slice_get self.old.layer.post number) ≡ Some (actors.Server server) }
         ensures ok { OnOk result (Came self.old self.new (events.Deliver number)) }
         ensures err { OnErr result (self.new ≡ self.old) }
     {
         self.layer.give(alloc, &mut self.servers, server, number)
+    }
+
+    /// The map takes the packet of this number, which is for it.
+    fn route(&mut self, alloc: Global, number: usize) -> Result<(), WorldFault>
+        requires { addressee_of (slice_get self.old.layer.post number) ≡ Some actors.Map }
+        ensures ok { OnOk result (Came self.old self.new (events.Deliver number)) }
+        ensures err { OnErr result (self.new ≡ self.old) }
+    {
+        self.layer.route(alloc, &mut self.map, number)
+    }
+
+    /// The packet of this number comes to whom it is for.
+    fn take(
+        &mut self,
+        alloc: Global,
+        to: ActorId,
+        number: usize,
+    ) -> Result<Option<Refusal>, WorldFault>
+        requires { addressee_of (slice_get self.old.layer.post number) ≡ Some to }
+        ensures none { IfOk result (λ refusal. refusal ≡ None) }
+        ensures ok { OnOk result (Came self.old self.new (events.Deliver number)) }
+        ensures err { OnErr result (self.new ≡ self.old) }
+    {
+        match to {
+            ActorId::Server(server) => match self.give(alloc, server, number) {
+                Ok(()) => Ok(None),
+                Err(fault) => Err(fault),
+            },
+            ActorId::Map => match self.route(alloc, number) {
+                Ok(()) => Ok(None),
+                Err(fault) => Err(fault),
+            },
+            ActorId::Node(_) => self.pass_on(alloc, number),
+            ActorId::Manager => self.pass_on(alloc, number),
+            ActorId::User(_) => self.pass_on(alloc, number),
+        }
+    }
+
+    /// The packet of this number comes to the stream layer.
+    fn pass_on(&mut self, alloc: Global, number: usize) -> Result<Option<Refusal>, WorldFault>
+        requires { IfSome (addressee_of (slice_get self.old.layer.post number)) IsBelow }
+        ensures none { IfOk result (λ refusal. refusal ≡ None) }
+        ensures ok { OnOk result (Came self.old self.new (events.Deliver number)) }
+        ensures err { OnErr result (self.new ≡ self.old) }
+    {
+        self.layer.deliver(alloc, number)
     }
 
     fn deliver(&mut self, alloc: Global, number: usize) -> Result<Option<Refusal>, WorldFault>
@@ -110,11 +162,8 @@ impl Cluster {
         ensures err { OnErr result (self.new ≡ self.old) }
     {
         match self.addressee(number) {
-            None => self.layer.deliver(alloc, number),
-            Some(server) => match self.give(alloc, server, number) {
-                Ok(()) => Ok(None),
-                Err(fault) => Err(fault),
-            },
+            None => Ok(None),
+            Some(to) => self.take(alloc, to, number),
         }
     }
 
@@ -125,7 +174,7 @@ impl Cluster {
             ActorId::Server(server) => self.servers.stop(server, call),
             ActorId::Node(_) => self.layer.stop(actor, call, keep),
             ActorId::Manager => self.layer.stop(actor, call, keep),
-            ActorId::Map => {}
+            ActorId::Map => self.map.stop(call, keep),
             ActorId::User(_) => {}
         }
     }
@@ -141,7 +190,7 @@ impl Cluster {
             }
             ActorId::Node(_) => self.layer.restart(alloc, actor),
             ActorId::Manager => self.layer.restart(alloc, actor),
-            ActorId::Map => Ok(()),
+            ActorId::Map => restart_map(&mut self.map, alloc),
             ActorId::User(_) => Ok(()),
         }
     }
@@ -169,38 +218,33 @@ impl Cluster {
             .give_up(alloc, &mut self.servers, server, range, pick)
     }
 
-    // The map changes once its packet is sent: it is the packet that may find no memory.
-    fn assign_now(&mut self, server: ServerNo, until: u64) -> Result<Option<Refusal>, WorldFault>
-        ensures none { IfOk result (λ refusal. refusal ≡ None) }
-        ensures ok { OnOk result (Assigned self.old self.new server until) }
-        ensures err { OnErr result (self.new ≡ self.old) }
-    {
-        let Some(next) = self.map.next(server, until) else {
-            return Ok(None);
-        };
-        match self.layer.tell(server, next.told()) {
-            Ok(()) => {
-                self.map = next;
-                Ok(None)
-            }
-            Err(fault) => Err(fault),
-        }
-    }
-
     fn assign(
         &mut self,
+        alloc: Global,
         range: RangeId,
         server: ServerNo,
         until: u64,
     ) -> Result<Option<Refusal>, WorldFault>
-        ensures refusal { IfOk result (λ refusal. refusal ≡ map_fault self.old.map self.old.moment range server) }
+        ensures refusal { IfOk result (λ refusal. refusal ≡ assign_refusal self.old.map self.old.moment range server) }
         ensures ok { OnOk result (Came self.old self.new (events.Assign range server until)) }
         ensures err { OnErr result (self.new ≡ self.old) }
     {
-        match self.map.refusal(range, server, self.moment) {
-            None => self.assign_now(server, until),
-            Some(refusal) => Ok(Some(refusal)),
-        }
+        self.layer
+            .assign(alloc, &mut self.map, range, server, self.moment, until)
+    }
+
+    fn renew(
+        &mut self,
+        alloc: Global,
+        range: RangeId,
+        server: ServerNo,
+        until: u64,
+    ) -> Result<Option<Refusal>, WorldFault>
+        ensures refusal { IfOk result (λ refusal. refusal ≡ renew_refusal self.old.map range server) }
+        ensures ok { OnOk result (Came self.old self.new (events.Renew range server until)) }
+        ensures err { OnErr result (self.new ≡ self.old) }
+    {
+        self.layer.renew(alloc, &mut self.map, range, server, until)
     }
 
     fn show_moment(&mut self, moment: u64)
@@ -214,7 +258,7 @@ impl Cluster {
     }
 
     /// The next event. What it refuses besides want of memory (22, which leaves all as it was) is answered: a decision is
-    /// refused 1 or 10, giving up 30, and an assignment 30 or 31; nothing else is.
+    /// refused 1 or 10, giving up and a renewal 30, and an assignment 30 or 31; nothing else is.
     pub(crate) fn step(
         &mut self,
         alloc: Global,
@@ -245,7 +289,12 @@ impl Cluster {
                 range,
                 server,
                 until,
-            } => self.assign(*range, *server, *until),
+            } => self.assign(alloc, *range, *server, *until),
+            Event::Renew {
+                range,
+                server,
+                until,
+            } => self.renew(alloc, *range, *server, *until),
             Event::Moment { now } => {
                 self.show_moment(*now);
                 Ok(None)

@@ -7,7 +7,6 @@
 #![tactic(auto)]
 
 mod cluster;
-mod map_cell;
 mod running;
 mod whole;
 

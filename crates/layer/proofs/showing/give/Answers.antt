@@ -1,6 +1,6 @@
 use Rattle.std.proofs.Common.{◌≡◌, ◌∙◌, subst}
 use Rattle.model.specs.Maps.{entry_at}
-use Rattle.model_tables.specs.Cluster.{ServersOutcome, ShowsLoad, server_loads}
+use Rattle.model_tables.specs.Servers.{ServersOutcome, ShowsLoad, server_loads}
 use Rattle.laws_servers.proofs.Serving.{server_takes_shows}
 use Rattle.servers.specs.Servers.{ServersGave}
 use Rattle.layer.proofs.Telling.{rows_shown}

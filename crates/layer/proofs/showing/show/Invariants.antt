@@ -1,7 +1,7 @@
 use Rattle.std.proofs.Common.{◌≡◌, ◌≤◌, ◌+◌, length}
 use Rattle.std.proofs.Common.{vec_len, vec_capacity}
 use Rattle.std.specs.Vec.Iter.{into_iter_items}
-use Rattle.model_tables.specs.Cluster.{noted}
+use Rattle.model_tables.specs.Servers.{noted}
 use Rattle.layer.specs.Told.{ShowsRows}
 use Rattle.layer.proofs.showing.show.Given as goal
 

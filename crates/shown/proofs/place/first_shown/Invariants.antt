@@ -1,5 +1,5 @@
 use Rattle.std.proofs.Common.{◌≡◌, drop}
-use Rattle.model_tables.specs.Cluster.{first_shown}
+use Rattle.model_tables.specs.Servers.{first_shown}
 use Rattle.shown.proofs.place.first_shown.Given as goal
 
 abbrev pub invariant-loop-note : goal.invariant-loop-note

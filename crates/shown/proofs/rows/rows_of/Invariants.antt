@@ -1,5 +1,5 @@
 use Rattle.std.proofs.Common.{◌≡◌, ◌++◌}
-use Rattle.model_tables.specs.Cluster.{rows_of}
+use Rattle.model_tables.specs.Servers.{rows_of}
 use Rattle.shown.proofs.rows.rows_of.Given as goal
 
 abbrev pub invariant-loop-key : goal.invariant-loop-key

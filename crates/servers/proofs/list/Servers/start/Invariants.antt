@@ -1,5 +1,5 @@
 use Rattle.std.proofs.Common.{◌≡◌, ◌++◌, ◌-◌, suc}
-use Rattle.model_tables.specs.Cluster.{first_servers}
+use Rattle.model_tables.specs.Servers.{first_servers}
 use Rattle.servers.proofs.list.Servers.start.Given as goal
 
 abbrev pub invariant-loop-before : goal.invariant-loop-before

@@ -1,11 +1,11 @@
-use Rattle.std.proofs.Common.{◌≡◌, None, sym, ◌∙◌, subst}
-use Rattle.world.specs.Cluster.{ClusterState, map_fault}
-use Rattle.world.proofs.Coming.{if_ok, assign_came}
+use Rattle.std.proofs.Common.{subst, OnOk}
+use Rattle.model.specs.declared.event.Event.TheVariants.{Assign}
+use Rattle.world.specs.Cluster.{ClusterState, Came}
+use Rattle.world.proofs.Coming.{if_ok, state, assign_came}
 use Rattle.world.proofs.cluster.Cluster.assign.Goals as goal
 
-pub returns-in-None-clause-ok : goal.returns-in-None-clause-ok
-returns-in-None-clause-ok c =
-    if_ok c.assign_now.result
-    (assign_came c.args.self.now c.assign_now.new.self c.args.range c.args.server c.args.until
-    (subst (λ (x : ClusterState). map_fault x.map x.moment c.args.range c.args.server ≡ None) c.self.view_is (sym c.refusal.ensures ∙ c.in-None.is)))
-    c.assign_now.ensures.ok
+pub returns-clause-ok : goal.returns-clause-ok
+returns-clause-ok c =
+    let was : ClusterState = state c.self.inside.layer c.self.inside.servers c.self.inside.map c.self.inside.moment c.self.inside.batch in
+    subst (λ (x : ClusterState). OnOk c.assign.result (Came x (record was { layer = c.assign.new.self; map = c.assign.new.map }) (Assign c.args.range c.args.server c.args.until))) c.self.view_is
+    (if_ok c.assign.result (assign_came was c.assign.new.self c.assign.new.map c.args.range c.args.server c.args.until) c.assign.ensures.ok)

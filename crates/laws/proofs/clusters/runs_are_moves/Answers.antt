@@ -1,0 +1,12 @@
+use Rattle.model_clusters.specs.Cluster.{first_cluster}
+use Rattle.laws_servers.proofs.Moving.{comes_by, led_by, moves_agree, moves_keep}
+use Rattle.laws.proofs.clusters.runs_are_moves.Goals as goal
+
+pub returns-clause-event : goal.returns-clause-event
+returns-clause-event c = comes_by
+
+pub returns-clause-agree : goal.returns-clause-agree
+returns-clause-agree c = λ nodes servers target batch events d led. moves_agree nodes target d.world (led_by events (first_cluster nodes servers target batch) d led)
+
+pub returns-clause-kept : goal.returns-clause-kept
+returns-clause-kept c = λ nodes servers target batch events d led. moves_keep nodes target d.world (led_by events (first_cluster nodes servers target batch) d led)

@@ -1,0 +1,14 @@
+use Rattle.laws_servers.proofs.Serving.{server_takes_shows, server_gives_up_tidy}
+use Rattle.laws.proofs.clusters.servers_take_steps.Goals as goal
+
+pub returns-clause-sent : goal.returns-clause-sent
+returns-clause-sent c = λ servers s p held. (server_takes_shows servers s p held).0
+
+pub returns-clause-shown : goal.returns-clause-shown
+returns-clause-shown c = λ servers s p held. (server_takes_shows servers s p held).1
+
+pub returns-clause-sent_again : goal.returns-clause-sent_again
+returns-clause-sent_again c = λ servers s range pick. (server_gives_up_tidy servers s range pick).0
+
+pub returns-clause-shown_again : goal.returns-clause-shown_again
+returns-clause-shown_again c = λ servers s range pick. (server_gives_up_tidy servers s range pick).1

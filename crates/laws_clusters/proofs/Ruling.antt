@@ -1,0 +1,67 @@
+-- A cluster stands on through what the map does, its stops and its restarts.
+use Rattle.std.proofs.Common.{◌≡◌, ℕ, Bool, List, [], ◌∷◌, Option, Some, None, refl, sym, ap, subst, append-nil, ◌==◌}
+use Rattle.wire.specs.declared.actor.ActorId.{ActorId}
+use Rattle.wire.specs.declared.actor.ActorId.TheVariants.{Map}
+use Rattle.wire.specs.declared.body.Body.{Body}
+use Rattle.wire.specs.declared.packet.Packet.{Packet}
+use Rattle.wire.specs.declared.refusal.Refusal.{Refusal}
+use Rattle.model.specs.Outcome.{Outcome, packet}
+use Rattle.model.specs.World.{Cell, running, down, armed, burnt, stops_in, stands_in, sent_more}
+use Rattle.model.proofs.Tests.{if_elim}
+use Rattle.model_map.specs.Map.{MapState, range_at, assign_fault, assign_row, renew_fault, renew_row, map_row}
+use Rattle.model_clusters.specs.Cluster.{Cluster, map_does, map_does_if, map_takes, assigns, renews, map_stops, map_starts}
+use Rattle.laws_clusters.proofs.Mapping.{AreFirst, Tells, Nothing, Word, IsRow, assign_is_row, renew_is_row, map_is_row}
+use Rattle.laws_clusters.proofs.Resting.{told_nothing, still_runs, rests_as, map_says_stands}
+use Rattle.laws_clusters.proofs.Standing.{Standing}
+
+module _ (generation : ℕ → ℕ) (nodes target : ℕ) where
+  abbrev Stands : Cluster → Type 0
+  Stands c = Standing generation nodes target c
+
+  -- another map, and nothing is sent
+  another_map : (c : Cluster) (m : MapState) (cell : Cell) → AreFirst m.ranges → Stands c → Stands (record c { map = m; map_cell = cell })
+  another_map c m cell first x = rests_as generation nodes target c (record c { map = m; map_cell = cell }) x refl first (λ q past. past) (still_runs c.servers)
+
+  sends_stand : (c : Cluster) (m : MapState) (cell : Cell) (packets : List Packet) → AreFirst m.ranges → Tells packets → Stands c →
+      Stands (record c { map = m; map_cell = cell; world = sent_more c.world packets })
+  sends_stand c m cell packets first (Nothing is) x =
+      subst (λ ps. Stands (record c { map = m; map_cell = cell; world = sent_more c.world ps })) (sym is)
+      (rests_as generation nodes target c (record c { map = m; map_cell = cell; world = sent_more c.world [] }) x (told_nothing c.world) first (λ q past. past) (still_runs c.servers))
+  sends_stand c m cell packets first (Word to body is word) x =
+      subst (λ ps. Stands (record c { map = m; map_cell = cell; world = sent_more c.world ps })) (sym is) (map_says_stands generation nodes target c x to body word m cell first)
+
+  does_stand : (c : Cluster) (o : Outcome MapState) → IsRow o → Stands c → Stands (map_does c o)
+  does_stand c o row x =
+      if_elim Stands (stops_in c.map_cell o.written) _ _
+      (λ t. if_elim Stands (stands_in c.map_cell) _ _ (λ s. another_map c o.after down row.first x) (λ s. another_map c c.map down x.first_range x))
+      (λ f. sends_stand c o.after (burnt c.map_cell o.written) o.packets row.first row.tells x)
+
+  does_if_stand : (c : Cluster) (refusal : Option Refusal) (o : Outcome MapState) → IsRow o → Stands c → Stands (map_does_if c refusal o)
+  does_if_stand c (Some refusal) o row x = x
+  does_if_stand c None o row x = does_stand c o row x
+
+  pub map_takes_stand : (c : Cluster) (p : Packet) → Stands c → Stands (map_takes c p)
+  map_takes_stand c p x = if_elim Stands c.map_cell.up _ _ (λ up. does_stand c (map_row c.map p p.body) (map_is_row c.map p p.body x.first_range) x) (λ up. x)
+
+  pub assigns_stand : (c : Cluster) (range server until : ℕ) → Stands c → Stands (assigns c range server until)
+  assigns_stand c range server until x =
+      let found = range_at c.map.ranges range in
+      if_elim Stands c.map_cell.up _ _
+      (λ up. does_if_stand c (assign_fault server c.now found) (assign_row c.map range server until found) (assign_is_row c.map range server until found refl x.first_range) x)
+      (λ up. x)
+
+  pub renews_stand : (c : Cluster) (range server until : ℕ) → Stands c → Stands (renews c range server until)
+  renews_stand c range server until x =
+      let found = range_at c.map.ranges range in
+      if_elim Stands c.map_cell.up _ _
+      (λ up. does_if_stand c (renew_fault server found) (renew_row c.map range server until found) (renew_is_row c.map range server until found x.first_range) x)
+      (λ up. x)
+
+  pub map_stops_stand : (c : Cluster) (call : ℕ) (keep : Bool) → Stands c → Stands (map_stops c call keep)
+  map_stops_stand c call keep x =
+      if_elim Stands c.map_cell.up _ _
+      (λ up. if_elim Stands (call == 0) _ _ (λ now. another_map c c.map down x.first_range x) (λ later. another_map c c.map (armed call keep) x.first_range x))
+      (λ up. x)
+
+  pub map_starts_stand : (c : Cluster) → Stands c → Stands (map_starts c)
+  map_starts_stand c x = if_elim Stands c.map_cell.up _ _ (λ up. x) (λ up. another_map c c.map running x.first_range x)

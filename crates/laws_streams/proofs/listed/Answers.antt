@@ -1,5 +1,0 @@
-use Rattle.laws_streams.proofs.Listings.{lists_grow}
-use Rattle.laws_streams.proofs.listed.Goals as goal
-
-pub returns : goal.returns
-returns c = record { grow = lists_grow }

@@ -1,0 +1,4 @@
+pub mod Map
+pub mod Partition
+pub mod Ledger
+pub mod Replay

@@ -1,0 +1,76 @@
+-- What an append to the file says of a step that ends as the append does.
+use Rattle.std.proofs.Common.{◌≡◌, Option, Some, Result, Ok, Err, refl, ap, sym, subst, ◌∙◌}
+use Rattle.blocks.specs.declared.record.Record.{Record}
+use Rattle.blocks.specs.declared.record.Record.TheVariants.{Manage}
+use Rattle.disk.specs.declared.device.DiskFault.{DiskFault}
+use Rattle.disk.specs.Disk.{DiskState}
+use Rattle.disk.specs.Filed.{Filed}
+use Rattle.disk.specs.Appends.{Appends, Records, listed}
+use Rattle.wire.specs.declared.packet.Step.{Step}
+use Rattle.model_map.specs.declared.map_record.MapRecord.{MapRecord}
+use Rattle.model_map.specs.Ledger.{spelled}
+use Rattle.model_map.specs.Map.{MapState}
+use Rattle.model_map.specs.Replay.{after_record, map_after}
+use Rattle.pmap.specs.declared.plan.Plan.{Plan}
+use Rattle.pmap.specs.Done.{Done}
+use Rattle.pmap.specs.Plan.{written_by, outcome_of}
+
+-- how a step ended, without what it gives
+abbrev bare : Result Step DiskFault → Result Unit DiskFault
+bare (Ok s) = Ok tt
+bare (Err x) = Err x
+
+abbrev back : DiskFault → Result Unit DiskFault → Result Step DiskFault
+back x (Ok u) = Err x
+back x (Err y) = Err y
+
+appends_with : {D : Type 0} (state : D → DiskState) (old new : Filed D) (r : Record) (w : Result Step DiskFault) → Appends state old new r (bare w) → Appends state old new r w
+appends_with state old new r (Ok s) h = record {
+  ok = h.ok;
+  durable = h.durable;
+  any_moment = λ no. h.any_moment (λ p. no (absurd cc));
+  stands = λ no. h.stands (λ p. no (absurd cc));
+  memory = λ p. absurd cc;
+  failed = λ p. absurd cc;
+  either = λ p. absurd cc;
+  version = h.version;
+  stop = λ n keep told one four. ((h.stop n keep told one four).0, (λ p. absurd cc));
+  later = λ n keep told four. ((λ p. absurd cc), (h.later n keep told four).1);
+  steady = λ told. ((λ p. absurd cc), (h.steady told).1);
+  sure = h.sure;
+}
+appends_with state old new r (Err x) h = record {
+  ok = h.ok;
+  durable = h.durable;
+  any_moment = λ no. h.any_moment (λ p. no (ap (back x) p));
+  stands = λ no. h.stands (λ p. no (ap (back x) p));
+  memory = λ p. h.memory (ap bare p);
+  failed = λ p. h.failed (ap bare p);
+  either = λ p. h.either (ap bare p);
+  version = h.version;
+  stop = λ n keep told one four. ((h.stop n keep told one four).0, (λ p. (h.stop n keep told one four).1 (ap bare p)));
+  later = λ n keep told four. ((λ p. (h.later n keep told four).0 (ap bare p)), (h.later n keep told four).1);
+  steady = λ told. ((λ p. (h.steady told).0 (ap bare p)), (h.steady told).1);
+  sure = h.sure;
+}
+
+-- a record that was written, and what it makes of the table
+pub rule_ok : {D : Type 0} (state : D → DiskState) (was is : MapState) (old new : Filed D) (plan : Plan) (r : MapRecord) (w : Result Unit DiskFault) →
+    plan.ruling ≡ Some r → w ≡ Ok tt → is ≡ after_record was r → Appends state old new (Manage (spelled r)) w → Done state was is old new (outcome_of was plan) (Ok plan.step)
+rule_ok state was is old new plan r w ruling ok same h = record {
+  after = same ∙ ap (map_after was) (sym ruling);
+  packets = refl;
+  notes = refl;
+  same = tt;
+  file = subst (λ (o : Option MapRecord). Records state old new (listed (written_by o)) (Ok plan.step)) (sym ruling) (appends_with state old new (Manage (spelled r)) (Ok plan.step) (rw (← ok) h));
+}
+
+pub rule_err : {D : Type 0} (state : D → DiskState) (was is : MapState) (old new : Filed D) (plan : Plan) (r : MapRecord) (w : Result Unit DiskFault) (x : DiskFault) →
+    plan.ruling ≡ Some r → w ≡ Err x → is ≡ was → Appends state old new (Manage (spelled r)) w → Done state was is old new (outcome_of was plan) (Err x)
+rule_err state was is old new plan r w x ruling bad same h = record {
+  after = tt;
+  packets = tt;
+  notes = tt;
+  same = same;
+  file = subst (λ (o : Option MapRecord). Records {T = Step} state old new (listed (written_by o)) (Err x)) (sym ruling) (appends_with state old new (Manage (spelled r)) (Err x) (rw (← bad) h));
+}

@@ -1,0 +1,5 @@
+pub mod Places
+pub mod Routing
+pub mod Making
+pub mod Doing
+pub mod Keeping

@@ -1,0 +1,5 @@
+use Rattle.model_map.proofs.Partitions.{once}
+use Rattle.pmap.proofs.partition_map.PartitionMap.ranges.Goals as goal
+
+pub returns-clause-once : goal.returns-clause-once
+returns-clause-once g c = once c.entries.result.now c.entries.ensures.partition

@@ -1,0 +1,17 @@
+use Rattle.std.proofs.Common.{ap, ◌∙◌, Result, Ok, Err, IfOk}
+use Rattle.model_map.specs.Replay.{map_fits}
+use Rattle.pmap.proofs.partition_map.PartitionMap.restart.Goals as goal
+
+-- what follows of an `Ok` from what is known of it
+ok_more : {A B : Type 0} {P Q : A → Type 0} (r : Result A B) → ((x : A) → P x → Q x) → IfOk r P → IfOk r Q
+ok_more (Ok x) f h = f x h
+ok_more (Err y) f h = tt
+
+pub returns-in-Ok-clause-damaged : goal.returns-in-Ok-clause-damaged
+returns-in-Ok-clause-damaged g c = λ v rs is fits. c.recovered.ensures.damaged (ap map_fits (c.in-Ok.ensures.only v rs is).1 ∙ fits)
+
+pub returns-in-Err-clause-damaged : goal.returns-in-Err-clause-damaged
+returns-in-Err-clause-damaged g c = λ v rs is fits. c.in-Err.ensures.only v rs is
+
+pub returns-in-Ok-clause-only : goal.returns-in-Ok-clause-only
+returns-in-Ok-clause-only g c = λ v rs is. ok_more c.recovered.result (λ m same. (same.1 ∙ (c.in-Ok.ensures.only v rs is).0, same.2 ∙ (c.in-Ok.ensures.only v rs is).1)) c.recovered.ensures.same

@@ -1,0 +1,4 @@
+pub mod Held
+pub mod Ruled
+pub mod Plan
+pub mod Done

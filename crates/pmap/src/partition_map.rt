@@ -1,0 +1,276 @@
+//! The partition map.
+ghost use Rattle.std.specs.Prelude.{◌≡◌, ◌≢◌, ◌<◌, List, [], Ok, Err, Some, None, false, true, IfOk, IfErr, MatchResult, option_map};
+ghost use Rattle.blocks.specs.declared.record.Record.{Record};
+ghost use Rattle.blocks.specs.declared.record.Version.{Version};
+ghost use Rattle.disk.specs.Disk.{IsSteady};
+ghost use Rattle.disk.specs.File.{IsFileOf};
+ghost use Rattle.disk.specs.Memory.{memory_state};
+ghost use Rattle.wire.specs.declared.refusal.Refusal.{Refusal};
+ghost use Rattle.model.specs.Bounds.{AreFew};
+ghost use Rattle.model_map.specs.Map.{range_at, range_of_key, assign_fault, assign_row, renew_fault, renew_row, map_row};
+ghost use Rattle.model_map.specs.Partition.{IsPartition, AreNumbered, HaveEachKeyOnce};
+ghost use Rattle.model_map.specs.Replay.{map_fits};
+ghost use Rattle.pmap.specs.Held.{map_of, MakesMap};
+ghost use Rattle.pmap.specs.Ruled.{Ruled, as_row, fault_of};
+
+use crate::fault::MapFault;
+use crate::ledger::reads_back;
+use crate::performing::{assign_on, renew_on};
+use crate::planning::answer_to;
+use crate::recovery::table_of;
+use crate::refusing::{answer, assign_fault, renew_fault};
+use crate::table::RangeTable;
+use disk::{Disk, DiskFault, FileFault, MemDisk, RecordFile, Stop};
+use model_map::{MapRecord, RangeEntry};
+use std::alloc::{AllocError, Global};
+use std::marker::Model;
+use wire::{Packet, RangeId, ServerNo, Step};
+
+/// The partition map: the ranges in the order of their keys, who holds each until when, and the file of records that they
+/// come from. Moments are ticks of one clock.
+#[derive(Drop)]
+pub struct PartitionMap<D: Disk> {
+    table: RangeTable,
+    file: RecordFile<D>,
+}
+
+/// While it runs, its ranges are what its records make of them.
+impl<D: Disk> Model for PartitionMap<D> {
+    ghost use Rattle.std.specs.Prelude.{◌≡◌, false};
+    ghost use Rattle.pmap.specs.Held.{MapHeld, held_of, MakesMap};
+
+    ghost Value = { MapHeld D };
+
+    ghost view = { λ m. held_of m.table m.file };
+
+    ghost invariant = { λ m. m.file.stopped ≡ false → MakesMap m.file.records m.table };
+}
+
+/// The map that the records of a file make.
+fn recovered<D: Disk>(alloc: Global, file: RecordFile<D>) -> Result<PartitionMap<D>, (FileFault, D)>
+    requires { file.stopped ≡ false }
+    ensures same { IfOk result (λ m. (m.file.stopped ≡ false) × (m.file.version ≡ file.version) × (m.file.records ≡ file.records)) }
+    ensures replays { IfOk result (λ m. MakesMap file.records (map_of m)) }
+    ensures damaged { map_fits file.records ≡ true → IfErr result (λ e. e.0 ≢ FileFault.Damaged) }
+    ensures failed { IfErr result (λ e. e.0 ≡ FileFault.Failed → (D.state file.disk).failures < (D.state e.1).failures) }
+    ensures steady { IsSteady (D.state file.disk) → MatchResult result
+        (λ m. IsSteady (D.state m.file.disk))
+        (λ e. (e.0 ≢ FileFault.Failed) × IsSteady (D.state e.1)) }
+{
+    let mut opened = file;
+    match table_of(alloc, &mut opened) {
+        Ok(table) => Ok(PartitionMap {
+            table,
+            file: opened,
+        }),
+        Err(fault) => Err((fault, opened.into_disk())),
+    }
+}
+
+impl<D: Disk> PartitionMap<D> {
+    /// The map that the records on a disk make; of no record the first map, in which range 1 has all keys and nobody holds
+    /// it. The file is synced, and then read. A refusal hands the disk back: 20 (a device call failed), 21 (the bytes are
+    /// no file of records, or a record does not fit what those before it make), 22 (nothing has changed).
+    pub fn restart(alloc: Global, disk: D) -> Result<PartitionMap<D>, (FileFault, D)>
+        ensures running { IfOk result (λ m. m.file.stopped ≡ false) }
+        ensures file { IfOk result (λ m. IsFileOf m.file.version m.file.records (D.state disk).seen) }
+        ensures replays { IfOk result (λ m. MakesMap m.file.records (map_of m)) }
+
+        // 21 only where the bytes are no file of records that fit.
+        ensures damaged { (v : Version) (rs : List Record) → IsFileOf v rs (D.state disk).seen → map_fits rs ≡ true
+            → IfErr result (λ e. e.0 ≢ FileFault.Damaged) }
+        ensures failed { IfErr result (λ e. e.0 ≡ FileFault.Failed → (D.state disk).failures < (D.state e.1).failures) }
+
+        // No other records make the map than those that the bytes are a file of.
+        ensures only { (v : Version) (rs : List Record) → IsFileOf v rs (D.state disk).seen
+            → IfOk result (λ m. (m.file.version ≡ v) × (m.file.records ≡ rs)) }
+
+        // A disk that cannot fail does not, and stays one that cannot.
+        ensures steady { IsSteady (D.state disk) → MatchResult result
+            (λ m. IsSteady (D.state m.file.disk))
+            (λ e. (e.0 ≢ FileFault.Failed) × IsSteady (D.state e.1)) }
+    {
+        match RecordFile::open(alloc, disk) {
+            Ok(file) => recovered(alloc, file),
+            Err(refused) => Err(refused),
+        }
+    }
+
+    /// The range that has a key, and who holds that. Each key is in exactly one range. It takes no memory, and time as the
+    /// logarithm of the number of ranges.
+    pub fn route(&self, key: &[u8]) -> (RangeId, Option<ServerNo>)
+        ensures { option_map (λ r. (r.range, r.holder)) (range_of_key self.now.ranges key.now) ≡ Some result }
+    {
+        let entry = self.table.covering(key);
+        (entry.range, entry.holder)
+    }
+
+    /// Assigns a range to a server with a lease up to a moment, under a generation one higher, and tells the server: the row
+    /// of the map, exactly. The end of a lease never goes back, and where no generation of 64 bits is left nothing happens.
+    /// The record is on the disk before the packet is handed out. A stopped map does nothing. 30: there is no such range.
+    /// 31: another server holds it, and its lease has not ended at the moment `now`. 20: the disk failed, and the map is
+    /// stopped until it is restarted; its records are the old ones, with the new one or without. 22: no memory. After 22,
+    /// 30 and 31 nothing has changed.
+    pub fn assign(
+        &mut self,
+        alloc: Global,
+        range: RangeId,
+        server: ServerNo,
+        now: u64,
+        until: u64,
+    ) -> Result<Step, MapFault>
+        ensures refused { self.old.file.stopped ≡ false → (r : Refusal) → assign_fault server now (range_at self.old.ranges range) ≡ Some r
+            → (self.new ≡ self.old) × (result ≡ Err (fault_of r)) }
+        ensures ruled { self.old.file.stopped ≡ false → assign_fault server now (range_at self.old.ranges range) ≡ None
+            → Ruled D.state self.old self.new (assign_row (map_of self.old) range server until (range_at self.old.ranges range)) (as_row result) }
+        ensures taken { assign_fault server now (range_at self.old.ranges range) ≡ None
+            → IfErr result (λ e. (e ≢ MapFault.NotOwner) × (e ≢ MapFault.LeaseHeld)) }
+        ensures stopped { self.old.file.stopped ≡ true → (self.new ≡ self.old) × (result ≡ Ok (record { packets = []; notes = [] })) }
+
+        // A step sends no more than a caller can make room for beforehand.
+        ensures few { IfOk result (λ step. AreFew step.packets step.notes) }
+
+        // While the map runs, its ranges are what its records make of them.
+        ensures ledger { self.old.file.stopped ≡ false → MakesMap self.old.file.records (map_of self.old) }
+    {
+        if self.file.is_stopped() {
+            return Ok(Step::silent(alloc));
+        }
+        reads_back(&MapRecord::Assign {
+            range,
+            server,
+            until,
+        });
+        match assign_fault(&self.table, range, server, now) {
+            Some(fault) => Err(fault),
+            None => {
+                let done = assign_on(&mut self.table, &mut self.file, alloc, range, server, until);
+                answer(done)
+            }
+        }
+    }
+
+    /// Moves the end of the lease of a range to a moment, where that is later, for the server that holds it, and tells the
+    /// server the end: the row of the map, exactly. The record is on the disk before the packet is handed out. A stopped map
+    /// does nothing. 30: there is no such range, or the server does not hold it. 20: the disk failed, and the map is stopped
+    /// until it is restarted; its records are the old ones, with the new one or without. 22: no memory. After 22 and 30
+    /// nothing has changed.
+    pub fn renew(
+        &mut self,
+        alloc: Global,
+        range: RangeId,
+        server: ServerNo,
+        until: u64,
+    ) -> Result<Step, MapFault>
+        ensures refused { self.old.file.stopped ≡ false → (r : Refusal) → renew_fault server (range_at self.old.ranges range) ≡ Some r
+            → (self.new ≡ self.old) × (result ≡ Err (fault_of r)) }
+        ensures ruled { self.old.file.stopped ≡ false → renew_fault server (range_at self.old.ranges range) ≡ None
+            → Ruled D.state self.old self.new (renew_row (map_of self.old) range server until (range_at self.old.ranges range)) (as_row result) }
+        ensures taken { renew_fault server (range_at self.old.ranges range) ≡ None
+            → IfErr result (λ e. (e ≢ MapFault.NotOwner) × (e ≢ MapFault.LeaseHeld)) }
+        ensures stopped { self.old.file.stopped ≡ true → (self.new ≡ self.old) × (result ≡ Ok (record { packets = []; notes = [] })) }
+        ensures few { IfOk result (λ step. AreFew step.packets step.notes) }
+        ensures ledger { self.old.file.stopped ≡ false → MakesMap self.old.file.records (map_of self.old) }
+    {
+        if self.file.is_stopped() {
+            return Ok(Step::silent(alloc));
+        }
+        reads_back(&MapRecord::Renew { range, until });
+        match renew_fault(&self.table, range, server) {
+            Some(fault) => Err(fault),
+            None => {
+                let done = renew_on(&mut self.table, &mut self.file, alloc, range, server, until);
+                answer(done)
+            }
+        }
+    }
+
+    /// What the map does with a packet: the row of its table, exactly. Who asks where a key is, is told its range and who
+    /// holds that; of any other packet nothing comes. It writes nothing. A stopped map does nothing. 22: nothing has changed;
+    /// another fault does not come.
+    pub fn handle(&mut self, alloc: Global, packet: &Packet) -> Result<Step, DiskFault>
+        ensures took { self.old.file.stopped ≡ false → Ruled D.state self.old self.new (map_row (map_of self.old) packet.now packet.now.body) result }
+        ensures stopped { self.old.file.stopped ≡ true → (self.new ≡ self.old) × (result ≡ Ok (record { packets = []; notes = [] })) }
+        ensures same { self.new ≡ self.old }
+        ensures few { IfOk result (λ step. AreFew step.packets step.notes) }
+        ensures ledger { self.old.file.stopped ≡ false → MakesMap self.old.file.records (map_of self.old) }
+    {
+        if self.file.is_stopped() {
+            return Ok(Step::silent(alloc));
+        }
+        match answer_to(alloc, &self.table, packet) {
+            Ok(step) => Ok(step),
+            Err(_full) => Err(DiskFault::Memory),
+        }
+    }
+
+    /// The ranges in the order of their keys. They lie side by side, so that each key is in exactly one of them, and no two
+    /// have one number.
+    pub fn ranges(&self) -> &[RangeEntry]
+        ensures value { result.now ≡ self.now.ranges }
+        ensures partition { IsPartition result.now }
+        ensures numbered { AreNumbered result.now }
+        ensures once { HaveEachKeyOnce result.now }
+    {
+        self.table.entries()
+    }
+
+    /// Whether it has stopped. Then it does nothing until it is restarted from its disk.
+    pub fn is_stopped(&self) -> bool
+        ensures { result ≡ self.now.file.stopped }
+    {
+        self.file.is_stopped()
+    }
+
+    /// Its disk, whether it has stopped or not. Its bytes are a file of the records that the map had.
+    pub fn into_disk(self) -> D
+        ensures disk { result ≡ self.file.disk }
+        ensures stands { IsFileOf self.file.version self.file.records (D.state result).seen }
+    {
+        let PartitionMap { table: _, file } = self;
+        file.into_disk()
+    }
+}
+
+impl PartitionMap<MemDisk> {
+    /// Another disk, as a restart finds it: with its records, all made sure of, and not told to stop. An error is want
+    /// of memory (22).
+    pub fn copy_disk(&self, alloc: Global) -> Result<MemDisk, AllocError>
+        ensures stands { IfOk result (λ disk. IsFileOf self.now.file.version self.now.file.records (memory_state disk).seen) }
+        ensures steady { IfOk result (λ disk. IsSteady (memory_state disk)) }
+    {
+        self.file.copy_disk(alloc)
+    }
+
+    /// Tells its disk to stop at the `calls`-th `write_at` or `sync` from now on, in place of what it was told before: a
+    /// record makes four of them. All else stays.
+    pub fn stop_at(&mut self, calls: u64, keep: bool)
+        ensures told { (memory_state self.new.file.disk).stop ≡ Some (calls, keep) }
+        ensures disk { self.new.file.disk ≡ record self.old.file.disk { stop = Some (record { calls = calls; keep = keep }) } }
+        ensures file { (self.new.file.stopped ≡ self.old.file.stopped) × (self.new.file.version ≡ self.old.file.version)
+            × (self.new.file.records ≡ self.old.file.records) }
+        ensures same { self.new ≡ record self.old { file = self.new.file } }
+    {
+        self.file.stop_at(calls, keep);
+    }
+
+    /// Stops it: it does nothing until it is restarted from its disk, which goes on. All else stays.
+    pub fn stop_now(&mut self)
+        ensures stopped { self.new.file.stopped ≡ true }
+        ensures steady { IsSteady (memory_state self.new.file.disk) }
+        ensures disk { self.new.file.disk ≡ record self.old.file.disk { stop = None } }
+        ensures file { (self.new.file.version ≡ self.old.file.version) × (self.new.file.records ≡ self.old.file.records) }
+        ensures same { self.new ≡ record self.old { file = self.new.file } }
+        ensures ledger { self.old.file.stopped ≡ false → MakesMap self.old.file.records (map_of self.old) }
+    {
+        self.file.cancel_stop();
+        self.file.halt();
+    }
+
+    /// What its disk was told last and has not come to.
+    pub fn told(&self) -> Option<Stop>
+        ensures { option_map (λ s. (s.calls, s.keep)) result ≡ (memory_state self.now.file.disk).stop }
+    {
+        self.file.told()
+    }
+}

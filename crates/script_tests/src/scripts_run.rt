@@ -1,0 +1,398 @@
+use crate::printed::{goes_on, joined};
+use scripts::{Failure, script};
+use std::alloc::Global;
+use std::io::{self, ErrorKind, Read, Write};
+use std::test::Fail;
+use wire::Refusal;
+
+/// A writer that has room for some bytes and then fails.
+#[derive(Drop)]
+struct Narrow {
+    room: usize,
+    fails: usize,
+}
+
+impl Write for Narrow {
+    fn write(&mut self, buf: &[u8]) -> io::Result<usize> {
+        if self.room < buf.len() {
+            self.fails = self.fails.saturating_add(1);
+            return Err(io::Error::from(ErrorKind::StorageFull));
+        }
+        self.room -= buf.len();
+        Ok(buf.len())
+    }
+
+    fn flush(&mut self) -> io::Result<()> {
+        Ok(())
+    }
+}
+
+/// A reader that gives some bytes and then fails.
+#[derive(Drop)]
+struct Broken {
+    reads: usize,
+    kind: ErrorKind,
+}
+
+impl Read for Broken {
+    fn read(&mut self, buf: &mut [u8]) -> io::Result<usize> {
+        if self.reads == 0 || buf.is_empty() {
+            return Err(io::Error::from(self.kind));
+        }
+        self.reads -= 1;
+        buf[0] = b'\n';
+        Ok(1)
+    }
+}
+
+const BEGUN: &str =
+    "setup 3 1 4096 1\nuser 1 create 0\nsettle\nuser 1 extend 0 none 1 2 3\nsettle\n";
+
+const TOLD: &str = "user 1 0 created\nuser 1 1 extended 1\n";
+
+/// What is run below `BEGUN`, and what it prints below `TOLD`.
+const RUNS: &[(&str, &str)] = &[
+    (
+        "user 1 append 1 1\nsettle\nuser 1 append 1 1 a a a a a a a a a a a a a a a a a a a a a a a a a a a a a a a a a a a a a a a a a a a a a a a a a a a a a a a a a a a a a a a a a\nsettle\nuser 1 append 1 1 -\nsettle\nuser 1 append 1 1 65537*a\nsettle\nshow 1 1\n",
+        "user 1 2 refused 6 TooManyBlocks\nuser 1 3 refused 6 TooManyBlocks\nuser 1 4 refused 5 BadBlock\nuser 1 5 refused 5 BadBlock\nreplica 1 1 open 0 0\n",
+    ),
+    (
+        "user 1 append 1 1 abc de\ndeliver 7\nshow 1 1\nshow 2 1\nshow 3 2\n",
+        "replica 1 1 open 5 0\nreplica 2 1 open 0 0\nreplica 3 2 none\n",
+    ),
+    // One character that is no byte, characters that are not one, and a numeral that is none.
+    (
+        "user 1 append 1 1 3*\u{e9} 2** 3*ab *a 0002*- 65536*a\ndeliver last\nshow 1 1\n",
+        "replica 1 1 open 65552 0\n",
+    ),
+    (
+        "user 1 append 1 1 0*a\nsettle\n",
+        "user 1 2 refused 5 BadBlock\n",
+    ),
+    (
+        "user 1 create 0\nsettle\n",
+        "user 1 2 refused 12 NameTaken\n",
+    ),
+    (
+        "user 1 extend 0 1 1 2 3\nsettle\n",
+        "user 1 2 refused 13 LastOpen\n",
+    ),
+    (
+        "user 1 extend 0 1 1 1 1\nsettle\n",
+        "user 1 2 refused 13 LastOpen\n",
+    ),
+    (
+        "user 1 extend 0 none 1 2 300\nuser 1 extend 0 2 3 2 1\nsettle\n",
+        "user 1 2 extended 1\nuser 1 3 extended 1\n",
+    ),
+    // Each user has tickets of its own, and each stream an extent of its own.
+    (
+        "user 2 create 1\nuser 2 create 0\nuser 1 create 0\nuser 2 extend 3 none 1 2 3\nsettle\nuser 2 extend 1 none 3 1 2\nsettle\nshow 3 2\n",
+        "user 2 0 created\nuser 2 1 refused 12 NameTaken\nuser 1 2 refused 12 NameTaken\nuser 2 2 refused 11 NoSuchStream\nuser 2 3 extended 2\nreplica 3 2 open 0 0\n",
+    ),
+    // An answer is told again when it is delivered again, and at a number that was never sent nothing happens.
+    (
+        "deliver 6\ndeliver 1\ndeliver 7\ndeliver 18446744073709551615\n",
+        "user 1 1 extended 1\nuser 1 0 created\n",
+    ),
+    // An absent node takes a ticket and a packet number, and nothing more.
+    (
+        "user 1 append 4 1 a\nuser 1 append 0 1 a\nuser 1 append 999 1 a\ndeliver 7\nuser 1 create 0\nsettle\ndeliver 11\n",
+        "user 1 5 refused 12 NameTaken\nuser 1 5 refused 12 NameTaken\n",
+    ),
+    (
+        "deliver 0006\n\n\r\nsettle\r\nshow 01 0001\r\n",
+        "user 1 1 extended 1\nreplica 1 1 open 0 0\n",
+    ),
+    (
+        "user 1 append 2 1 a\nuser 1 append 1 9 a\nsettle\n",
+        "user 1 2 refused 2 NotPrimary\nuser 1 3 refused 1 NoSuchExtent\n",
+    ),
+    ("settle\ndeliver last", "user 1 1 extended 1\n"),
+    // One place is cut off from the last append, and the extent is sealed at what it has.
+    (
+        "user 1 append 1 1 abc\nsettle\ncut n3\nuser 1 append 1 1 def\nsettle\nheal n3\nuser 1 seal 1\nsettle\ndecide 1\nsettle\n",
+        "acked 1 0 3\nuser 1 2 appended 0\nsealed 1 3\nuser 1 4 sealedis 1 3\n",
+    ),
+    // Two of three answer, and the one that lacks the end is filled.
+    (
+        "user 1 append 1 1 abc\nsettle\ncut n3\nuser 1 append 1 1 def\nsettle\nshow 1 1\nshow 2 1\nshow 3 1\ncut n2\nuser 1 seal 1\nsettle\ndecide 1\nsettle\nheal n2\nheal n3\ndecide 1\nsettle\nuser 1 content 3 1 6\nsettle\n",
+        "acked 1 0 3\nuser 1 2 appended 0\nreplica 1 1 open 6 0\nreplica 2 1 open 6 0\nreplica 3 1 open 3 0\nsealed 1 6\nuser 1 4 sealedis 1 6\ncontent 1 3 6 2\nuser 1 5 content 6\n",
+    ),
+    // Only the shortest answers, and the longer ones are cut.
+    (
+        "user 1 append 1 1 abc\nsettle\nuser 1 append 1 1 def\nsettle\ncut n3\nuser 1 append 1 1 ghi\nsettle\nshow 1 1\nshow 2 1\nshow 3 1\nheal n3\ncut n1\ncut n2\nuser 1 seal 1\nsettle\ndecide 1\nheal n1\nheal n2\ndecide 1\nsettle\nshow 1 1\nshow 2 1\nshow 3 1\nuser 1 content 1 1 6\nsettle\nuser 1 content 2 1 6\nsettle\nuser 1 content 3 1 6\nsettle\n",
+        "acked 1 0 3\nuser 1 2 appended 0\nacked 1 3 3\nuser 1 3 appended 3\nreplica 1 1 open 9 0\nreplica 2 1 open 9 0\nreplica 3 1 open 6 0\nsealed 1 6\nuser 1 5 sealedis 1 6\nreplica 1 1 sealed 6 0\nreplica 2 1 sealed 6 0\nreplica 3 1 sealed 6 0\ncontent 1 1 6 2\nuser 1 6 content 6\ncontent 1 2 6 2\nuser 1 7 content 6\ncontent 1 3 6 2\nuser 1 8 content 6\n",
+    ),
+    // A stream goes on behind a sealed extent, and another last one is named; behind an open one nothing is made.
+    (
+        "user 1 append 1 1 abc\nsettle\ncut n3\nuser 1 append 1 1 def\nsettle\nheal n3\nuser 1 seal 1\nsettle\ndecide 1\nsettle\nuser 1 extend 0 1 1 2 3\nsettle\nuser 1 append 1 2 def\nsettle\nuser 1 extend 0 1 1 2 3\nsettle\nuser 1 extend 0 2 1 2 3\nsettle\n",
+        "acked 1 0 3\nuser 1 2 appended 0\nsealed 1 3\nuser 1 4 sealedis 1 3\nuser 1 5 extended 2\nacked 2 0 3\nuser 1 6 appended 0\nuser 1 7 extended 2\nuser 1 8 refused 13 LastOpen\n",
+    ),
+    (
+        "user 1 create 0\nsettle\nuser 1 extend 2 none 1 2 3\nsettle\nuser 1 create 1\nsettle\nuser 1 extend 1 none 1 1 3\nsettle\n",
+        "user 1 2 refused 12 NameTaken\nuser 1 3 refused 11 NoSuchStream\nuser 1 4 created\nuser 1 5 refused 14 BadPick\n",
+    ),
+    // A place that is no node.
+    (
+        "user 1 create 1\nsettle\nuser 1 extend 1 none 1 2 4\nsettle\nuser 1 extend 1 none 3 2 1\nsettle\n",
+        "user 1 2 created\nuser 1 3 refused 14 BadPick\nuser 1 4 extended 2\n",
+    ),
+    // Nobody has told a length.
+    (
+        "decide 1\nshow 1 1\n",
+        "refused 10 NoReply\nreplica 1 1 open 0 0\n",
+    ),
+    // A freeze stands over a stop.
+    (
+        "cut n1\ncut n3\nuser 1 seal 1\nsettle\nheal n1\nheal n3\nshow 2 1\nstop n2 0 drop\nshow 2 1\nrestart n2\nshow 2 1\nuser 1 append 1 1 abc\nsettle\nshow 1 1\nshow 2 1\nshow 3 1\n",
+        "replica 2 1 frozen 0 0\nreplica 2 1 stopped\nreplica 2 1 frozen 0 0\nreplica 1 1 open 3 0\nreplica 2 1 frozen 0 0\nreplica 3 1 open 3 0\n",
+    ),
+    // A stop in the second call of a record: it is gone.
+    (
+        "user 1 append 1 1 abc\nstop n1 2 keep\ndeliver 7\nshow 1 1\nrestart n1\nshow 1 1\n",
+        "replica 1 1 stopped\nreplica 1 1 open 0 0\n",
+    ),
+    // One in the third, whose bytes are lost.
+    (
+        "user 1 append 1 1 abc\nstop n1 3 drop\ndeliver 7\nshow 1 1\nrestart n1\nshow 1 1\n",
+        "replica 1 1 stopped\nreplica 1 1 open 0 0\n",
+    ),
+    // One in the third, whose bytes are kept: it stands. A stopped or fresh primary answers nothing of it.
+    (
+        "user 1 append 1 1 abc\nstop n1 3 keep\ndeliver 7\nshow 1 1\nrestart n1\nshow 1 1\nuser 1 append 1 1 d\nsettle\nuser 1 seal 1\nsettle\ndecide 1\nsettle\nuser 1 content 1 1 0\nsettle\n",
+        "replica 1 1 stopped\nreplica 1 1 open 3 0\nsealed 1 0\nuser 1 4 sealedis 1 0\ncontent 1 1 0 0\nuser 1 5 content 0\n",
+    ),
+    // Unknown extents, restarts of those that run, and a manager that is stopped.
+    (
+        "user 1 seal 9\nsettle\ndecide 9\nrestart n1\nrestart m\nstop m 0 drop\nuser 1 seal 1\nsettle\ndecide 1\nrestart m\nuser 1 seal 1\nsettle\ndecide 1\nsettle\n",
+        "user 1 2 refused 1 NoSuchExtent\nrefused 1 NoSuchExtent\nsealed 1 0\nuser 1 4 sealedis 1 0\n",
+    ),
+    // A later stop replaces one that has not come. Nobody is stopped who is not there.
+    (
+        "stop n2 9 keep\nstop n2 3 keep\nuser 1 append 1 1 abc\nsettle\nshow 2 1\nstop n9 0 drop\nrestart n9\nstop s1 0 drop\nrestart p\nrestart n2\nshow 2 1\nshow 1 1\n",
+        "replica 2 1 stopped\nreplica 2 1 open 3 0\nreplica 1 1 open 3 0\n",
+    ),
+];
+
+/// Appends that all three replicas take, and reads of them.
+const READS: &[(&str, &str)] = &[
+    (
+        "user 1 append 1 1 abc de\nsettle\nuser 1 append 1 1 f\nsettle\n",
+        "acked 1 0 5\nuser 1 2 appended 0\nacked 1 5 1\nuser 1 3 appended 5\n",
+    ),
+    (
+        "user 1 append 1 1 abc\ndeliver 7\ndeliver 7\nsettle\n",
+        "acked 1 0 3\nacked 1 3 3\nuser 1 2 appended 0\nuser 1 2 appended 3\n",
+    ),
+    (
+        "user 1 append 1 1 abc\nuser 1 append 1 1 def\ndeliver 7\ndeliver 8\ndeliver 11\nshow 2 1\ndeliver 9\nshow 2 1\ndeliver 11\nshow 2 1\nsettle\n",
+        "replica 2 1 open 0 0\nreplica 2 1 open 3 0\nreplica 2 1 open 6 0\nacked 1 0 3\nacked 1 3 3\nuser 1 2 appended 0\nuser 1 3 appended 3\n",
+    ),
+    (
+        "user 1 append 1 1 4095*a\nsettle\nuser 1 append 1 1 65536*b 65536*b 65536*b 65536*b 65536*b 65536*b 65536*b 65536*b 65536*b 65536*b 65536*b 65536*b 65536*b 65536*b 65536*b 65536*b 65536*b 65536*b 65536*b 65536*b 65536*b 65536*b 65536*b 65536*b 65536*b 65536*b 65536*b 65536*b 65536*b 65536*b 65536*b 65536*b 65536*b 65536*b 65536*b 65536*b 65536*b 65536*b 65536*b 65536*b 65536*b 65536*b 65536*b 65536*b 65536*b 65536*b 65536*b 65536*b 65536*b 65536*b 65536*b 65536*b 65536*b 65536*b 65536*b 65536*b 65536*b 65536*b 65536*b 65536*b 65536*b 65536*b 65536*b 65536*b\nsettle\nshow 1 1\nuser 1 append 1 1 c\nsettle\n",
+        "acked 1 0 4095\nuser 1 2 appended 0\nacked 1 4095 4194304\nuser 1 3 appended 4095\nreplica 1 1 open 4198399 0\nuser 1 4 refused 7 ExtentFull\n",
+    ),
+    (
+        "user 1 append 1 1 abc de\nsettle\nuser 1 append 1 1 f\nsettle\nuser 1 read 2 1 3 3\nsettle\nuser 1 read 2 1 4 3\nsettle\n",
+        "acked 1 0 5\nuser 1 2 appended 0\nacked 1 5 1\nuser 1 3 appended 5\nseen 1 2 3 3\nuser 1 4 bytes 646566\nuser 1 5 refused 8 PastEnd\n",
+    ),
+    // A secondary that is cut off keeps the append from being answered, and what it missed is not delivered later.
+    (
+        "cut n3\nuser 1 append 1 1 abc\nsettle\nheal n3\nsettle\nshow 1 1\nshow 2 1\nshow 3 1\n",
+        "replica 1 1 open 3 0\nreplica 2 1 open 3 0\nreplica 3 1 open 0 0\n",
+    ),
+    // A packet that was passed over is delivered by its number.
+    (
+        "user 1 append 1 1 abc\ncut n3\nsettle\nheal n3\ndeliver 9\nsettle\n",
+        "acked 1 0 3\nuser 1 2 appended 0\n",
+    ),
+    // The manager and users can be cut off.
+    (
+        "cut m\nuser 1 create 1\nsettle\nheal m\nuser 1 create 2\nsettle\n",
+        "user 1 3 created\n",
+    ),
+    // An open replica has no content to show, and a read names what is not there.
+    (
+        "user 1 append 1 1 abc\nsettle\nuser 1 content 1 1 3\nuser 1 read 1 9 0 1\nuser 1 read 4 1 0 1\nuser 1 read 3 1 0 0\nuser 1 read 3 1 4294967295 99999999999\nsettle\n",
+        "acked 1 0 3\nuser 1 2 appended 0\nseen 1 3 0 0\nuser 1 3 refused 9 NotSealed\nuser 1 4 refused 1 NoSuchExtent\nuser 1 6 bytes -\nuser 1 7 refused 8 PastEnd\n",
+    ),
+    // A secondary shows what it has before it is acknowledged.
+    (
+        "user 1 append 1 1 abc\ndeliver 7\ndeliver 8\nuser 1 read 2 1 1 2\nsettle\n",
+        "seen 1 2 1 2\nacked 1 0 3\nuser 1 3 bytes 6263\nuser 1 2 appended 0\n",
+    ),
+    // A Put that comes again changes nothing, and neither does a Have.
+    (
+        "user 1 append 1 1 abc\nsettle\ndeliver 8\ndeliver 10\ndeliver 11\nshow 2 1\nuser 1 append 1 1 d\nsettle\n",
+        "acked 1 0 3\nuser 1 2 appended 0\nreplica 2 1 open 3 0\nacked 1 3 1\nuser 1 3 appended 3\n",
+    ),
+    // Servers and the map are named too.
+    (
+        "cut s1\ncut p\ncut n12\nheal s4\nheal p\nuser 1 append 1 1 abc\nsettle\n",
+        "acked 1 0 3\nuser 1 2 appended 0\n",
+    ),
+];
+
+#[test]
+fn reads_what_all_replicas_have(rt: HostRuntime) -> Result<(), Fail> {
+    for &(more, want) in READS {
+        assert!(rt;
+            goes_on(rt.alloc(), (BEGUN, TOLD), more, want)?,
+            "at {more}"
+        );
+    }
+    Ok(())
+}
+
+#[test]
+fn runs_scripts(rt: HostRuntime) -> Result<(), Fail> {
+    for &(more, want) in RUNS {
+        assert!(rt;
+            goes_on(rt.alloc(), (BEGUN, TOLD), more, want)?,
+            "at {more}"
+        );
+    }
+    Ok(())
+}
+
+/// A setup of twelve nodes and four servers.
+const WIDE: &str = "setup 12 4 16777216 1024\n";
+
+/// What is run below `WIDE`, and what it prints.
+const WIDE_RUNS: &[(&str, &str)] = &[
+    ("deliver last\nshow 12 1\n", "replica 12 1 none\n"),
+    (
+        "user 1 extend 0 none 1 2 3\nsettle\n",
+        "user 1 0 refused 11 NoSuchStream\n",
+    ),
+    (
+        "user 1 create 0\nuser 1 extend 0 none 1 2 2\nuser 1 extend 0 7 0 1 2\nuser 1 extend 0 none 1 2 13\nsettle\n",
+        "user 1 0 created\nuser 1 1 refused 14 BadPick\nuser 1 2 refused 14 BadPick\nuser 1 3 refused 14 BadPick\n",
+    ),
+    (
+        "user 7 create 0\nuser 7 extend 0 5 12 2 7\nsettle\nshow 12 1\n",
+        "user 7 0 created\nuser 7 1 extended 1\nreplica 12 1 open 0 0\n",
+    ),
+];
+
+#[test]
+fn refuses_streams(rt: HostRuntime) -> Result<(), Fail> {
+    for &(more, want) in WIDE_RUNS {
+        assert!(rt; goes_on(rt.alloc(), (WIDE, ""), more, want)?, "at {more}");
+    }
+    Ok(())
+}
+
+/// Setups that are none.
+const SETUPS: &[&str] = &[
+    "",
+    "\n\r\n",
+    "settle\n",
+    "setup 2 1 4096 1\n",
+    "setup 13 1 4096 1\n",
+    "setup 3 0 4096 1\n",
+    "setup 3 5 4096 1\n",
+    "setup 3 1 4095 1\n",
+    "setup 3 1 16777217 1\n",
+    "setup 3 1 4096 0\n",
+    "setup 3 1 4096 1025\n",
+    "setup 3 1 4096\n",
+    "setup 3 1 4096 1 1\n",
+    " setup 3 1 4096 1\n",
+];
+
+/// Lines that are none below `BEGUN`.
+const LINES: &[&str] = &[
+    "settle ",
+    " settle",
+    "settle now",
+    "setup 3 1 4096 1",
+    "deliver",
+    "deliver +1",
+    "deliver -1",
+    "deliver 1 2",
+    "deliver 18446744073709551616",
+    "show 1",
+    "show 0 1",
+    "show 4 1",
+    "show 257 1",
+    "show 1 x",
+    "user 1",
+    "user x create 0",
+    "user 1  create 0",
+    "user 1 create",
+    "user 1 create 4",
+    "user 1 create 0 0",
+    "user 1 extend 0 None 1 2 3",
+    "user 1 extend 0 none 1 2",
+    "user 1 extend 4 none 1 2 3",
+    "user 1 extend 0 none 1 2 x",
+    "user 1 append 1",
+    "user 1 append 1 1 ",
+    "user 1 append 1 1 a  b",
+    "user 1 append 1 1 16777217*a",
+    "user 1 append 1 1 18446744073709551616*a",
+    "user 1 read 1 1 0",
+    "user 1 read 1 1 0 x",
+    "user 1 content 1 1",
+    "user 1 content 1 1 0 0",
+    "user 1 route",
+    "user 1 route a b",
+    "renew 1 1",
+    "renew 1 x 100",
+    "cut",
+    "cut n",
+    "cut n0",
+    "cut x1",
+    "cut M",
+    "heal 1",
+    "heal n1 n2",
+];
+
+fn is_refused(rt: &HostRuntime, text: &[u8]) -> bool {
+    let mut out = Vec::new(rt.alloc());
+    let ended = script(rt.alloc(), text, &mut out);
+    out.is_empty() && matches!(ended, Err(Failure::Refused(Refusal::BadScript)))
+}
+
+/// Whether a script with this line is refused.
+fn is_refused_in(rt: &HostRuntime, line: &str) -> Result<bool, Fail> {
+    let begun = joined(rt.alloc(), BEGUN, line)?;
+    let text = joined(rt.alloc(), begun.as_str(), "\nsettle\n")?;
+    Ok(is_refused(rt, text.as_bytes()))
+}
+
+#[test]
+fn refuses_what_is_no_script(rt: HostRuntime) -> Result<(), Fail> {
+    for &text in SETUPS {
+        assert!(rt; is_refused(&rt, text.as_bytes()), "at {text:?}");
+    }
+    for &line in LINES {
+        assert!(rt; is_refused_in(&rt, line)?, "at {line:?}");
+    }
+    assert!(rt; is_refused(&rt, b"setup 3 1 4096 1\nuser 1 create 0\nsettle\n\xff"));
+    Ok(())
+}
+
+#[test]
+fn names_a_failed_reader(rt: HostRuntime) {
+    for (kind, want) in [
+        (ErrorKind::BrokenPipe, Refusal::NoFile),
+        (ErrorKind::OutOfMemory, Refusal::Memory),
+    ] {
+        let mut out = Vec::new(rt.alloc());
+        let ended = script(rt.alloc(), Broken { reads: 3, kind }, &mut out);
+        assert!(rt; matches!(ended, Err(Failure::Refused(refusal)) if refusal == want));
+        assert!(rt; out.is_empty());
+    }
+}
+
+#[test]
+fn stops_at_a_failed_writer(rt: HostRuntime) {
+    let mut out = Narrow { room: 17, fails: 0 };
+    let ended = script(rt.alloc(), BEGUN.as_bytes(), &mut out);
+    assert!(rt; matches!(ended, Err(Failure::Output(_))));
+    assert_eq!(rt; out.room, 0);
+    assert_eq!(rt; out.fails, 1);
+}

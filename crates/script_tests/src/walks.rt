@@ -1,0 +1,30 @@
+//! The walks of docs/WALKS.md: the scripts of examples/, and what they print.
+use crate::printed::prints;
+use std::test::Fail;
+
+/// Each script, and its whole output.
+const WALKS: &[(&str, &str)] = &[
+    // How an append is acknowledged.
+    (
+        "setup 3 1 4096 1\nuser 1 create 0\nsettle\nuser 1 extend 0 none 1 2 3\nsettle\nuser 1 append 1 1 abc de\nshow 1 1\ndeliver last\nshow 1 1\nshow 2 1\ndeliver 8\nshow 2 1\ndeliver 10\nsettle\nuser 1 read 2 1 3 2\nsettle\n",
+        "user 1 0 created\nuser 1 1 extended 1\nreplica 1 1 open 0 0\nreplica 1 1 open 5 0\nreplica 2 1 open 0 0\nreplica 2 1 open 5 0\nacked 1 0 5\nuser 1 2 appended 0\nseen 1 2 3 2\nuser 1 3 bytes 6465\n",
+    ),
+    // How a seal survives a lost node.
+    (
+        "setup 3 1 4096 1\nuser 1 create 0\nsettle\nuser 1 extend 0 none 1 2 3\nsettle\nuser 1 append 1 1 abc\nsettle\ncut n3\nuser 1 append 1 1 def\nsettle\nshow 1 1\nshow 2 1\nshow 3 1\nstop n1 0 drop\nuser 1 seal 1\nsettle\ndecide 1\nsettle\nheal n3\ndecide 1\nsettle\nrestart n1\ndecide 1\nsettle\nshow 1 1\nshow 2 1\nshow 3 1\nuser 1 content 1 1 6\nuser 1 content 3 1 6\nsettle\n",
+        "user 1 0 created\nuser 1 1 extended 1\nacked 1 0 3\nuser 1 2 appended 0\nreplica 1 1 open 6 0\nreplica 2 1 open 6 0\nreplica 3 1 open 3 0\nsealed 1 6\nuser 1 4 sealedis 1 6\nreplica 1 1 sealed 6 0\nreplica 2 1 sealed 6 0\nreplica 3 1 sealed 6 0\ncontent 1 1 6 2\ncontent 1 3 6 2\nuser 1 5 content 6\nuser 1 6 content 6\n",
+    ),
+    // How a range fails over.
+    (
+        "setup 3 2 4096 8\nmoment 1\nassign 1 1 100\nsettle\nuser 1 tx 1 1 +a=1 +b=2\nsettle\nuser 1 tx 1 1 +a=3\ndeliver last\ncut n1\nsettle\nheal n1\nassign 1 2 200\nmoment 100\nassign 1 2 200\nsettle\nuser 1 get 2 1 a\nsettle\ndeliver 19\nsettle\nuser 1 tx 2 1 -b\nsettle\nuser 1 get 1 1 b\nuser 1 get 2 1 b\nuser 1 route b\nsettle\n",
+        "loaded 1 1 1 0\nbegan 1 1 1\nacked 1 0 33\ndone 1 1 1\nuser 1 0 committed 1\nbegan 1 1 2\nrefused 31 LeaseHeld\nseen 1 1 0 33\nloaded 1 2 2 2\nuser 1 2 value 31\nuser 1 1 refused 30 NotOwner\nbegan 1 2 2\nacked 1 33 19\ndone 1 2 2\nuser 1 3 committed 2\nuser 1 4 refused 30 NotOwner\nuser 1 5 value none\nuser 1 6 route 1 2\n",
+    ),
+];
+
+#[test]
+fn runs_walks(rt: HostRuntime) -> Result<(), Fail> {
+    for &(text, want) in WALKS {
+        assert!(rt; prints(rt.alloc(), text, want)?, "at {text}");
+    }
+    Ok(())
+}

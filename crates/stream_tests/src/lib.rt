@@ -1,0 +1,19 @@
+//! What no clause says of the parts of the stream layer: that calls succeed where there is memory, and that spellings are those of
+//! docs/FORMATS.md. The tests of `blocks`, `disk`, `wire`, `replica`, `streams` and `checker` stand here, so that none of these
+//! is proved a second time for its tests.
+#![tactic(auto)]
+
+#[cfg(test)]
+mod asserted;
+#[cfg(test)]
+mod honesty;
+#[cfg(test)]
+mod named_streams;
+#[cfg(test)]
+mod record_files;
+#[cfg(test)]
+mod refusals;
+#[cfg(test)]
+mod replicas;
+#[cfg(test)]
+mod spellings;
