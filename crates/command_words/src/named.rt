@@ -17,6 +17,11 @@ pub enum Task<'a> {
     Run(Option<&'a str>),
 }
 
+/// What the help ends with.
+const AFTER_HELP: &str = "\
+The lines of a script are those of docs/FORMATS.md, and examples/ has some scripts.
+Status 0: the script ran to its end. 1: it was refused, as the last line says. 2: wrong words.";
+
 /// A subcommand with one file.
 fn with_file<'a>(
     alloc: Global,
@@ -26,7 +31,10 @@ fn with_file<'a>(
     ensures shape { IfOk result (λ c. shape_of c ≡ file_shape name.entry.now) }
     ensures local { IfOk result (λ c. (out-Command c).has_globals ≡ false) }
 {
-    let file = Arg::new(alloc, "file").value_name("FILE").required(true);
+    let file = Arg::new(alloc, "file")
+        .value_name("FILE")
+        .required(true)
+        .help("The script: a setup, and events, one a line");
     clap::Command::new(alloc, name).about(about).arg(file)
 }
 
@@ -37,6 +45,7 @@ fn command_line<'a>(alloc: Global) -> Result<clap::Command<'a>, AllocError>
     let script = with_file(alloc, "run", "Runs a script and prints what is observed")?;
     clap::Command::new(alloc, "stampctl")
         .about("Runs a script, by default the one on standard input")
+        .after_help(AFTER_HELP)
         .disable_help_subcommand(true)
         .subcommand(script)
 }

@@ -1,7 +1,7 @@
 use Rattle.laws_streams.proofs.StreamAnswers.{openings_answered, confirmations_answered, extensions_answered}
 use Rattle.laws_streams.proofs.SealAnswers.{seals_answered}
 use Rattle.laws_streams.proofs.ContentAnswers.{content_answered}
-use Rattle.laws.proofs.streams.answers.Goals as goal
+use Rattle.laws.proofs.extents.answers.Goals as goal
 
 pub returns-clause-opened : goal.returns-clause-opened
 returns-clause-opened c = openings_answered

@@ -1,5 +1,5 @@
 use Rattle.laws_streams.proofs.Law.{agree_always, kept_always, origins_always, agree_in_moves, kept_in_moves, origins_in_moves}
-use Rattle.laws.proofs.streams.honest.Goals as goal
+use Rattle.laws.proofs.extents.honest.Goals as goal
 
 pub returns-clause-agree : goal.returns-clause-agree
 returns-clause-agree c = agree_always

@@ -2,7 +2,7 @@ use Rattle.model.specs.World.{start, run_moves}
 use Rattle.laws_streams.proofs.Rising.{rises_on, made_with_fences}
 use Rattle.laws_streams.proofs.Confirming.{opened_rise, confirmed_settles}
 use Rattle.laws_streams.proofs.Covering.{fences_hold}
-use Rattle.laws.proofs.streams.fences.Goals as goal
+use Rattle.laws.proofs.extents.fences.Goals as goal
 
 pub returns-clause-streams : goal.returns-clause-streams
 returns-clause-streams c nodes target moves more = rises_on moves more (start nodes target)
