@@ -3,14 +3,8 @@
 #![tactic(auto)]
 
 #[cfg(test)]
-mod gets;
-#[cfg(test)]
 mod groups;
 #[cfg(test)]
-mod loads;
-#[cfg(test)]
 mod ranges;
-#[cfg(test)]
-mod replays;
 #[cfg(test)]
 mod rows;

@@ -1,0 +1,10 @@
+//! What no clause of the crates of a load says: that their calls succeed where there is memory, and their refusals followed by
+//! hand. They stand here, so that no crate is proved a second time for its tests.
+#![tactic(auto)]
+
+#[cfg(test)]
+mod gets;
+#[cfg(test)]
+mod loads;
+#[cfg(test)]
+mod replays;
