@@ -1,294 +1,207 @@
-//! The grammar of a line.
-use crate::line::{Line, Request};
-use crate::spelling::{key, number, value};
-use blocks::Nodes;
-use bytes::Bytes;
+//! The lines of a script, in words.
+ghost use Rattle.std.specs.Prelude.{◌∷◌, ◌<◌, ◌↔◌, codes, length, map, IfNone, IfOk, IfSome, IsTrue};
+ghost use Rattle.std.specs.List.{All};
+ghost use Rattle.script_lines.specs.Grammar.{HasForm, Spells};
+ghost use Rattle.script_lines.specs.Rows.{Reads};
+ghost use Rattle.script_lines.specs.Verbs.{verb_word};
+ghost use Rattle.script_lines.specs.declared.line.Line.{Line};
+
+use crate::line::Line;
+use crate::requesting::{nodes, request};
+use crate::spelling::number;
+use crate::verb::{Verb, verb_of};
+use crate::word::{actor, fate, numbers, server};
 use model::Event;
 use std::alloc::{AllocError, Global};
-use wire::{ActorId, Change, ExtentId, RangeId, ServerNo, StreamKind};
+use wire::{ExtentId, RangeId};
 
-/// The number of a node. No stamp has a node 255, which stands for all greater numbers.
-fn node(word: &str) -> Option<u8> {
-    let number = number(word)?;
-    Some(number.min(255) as u8)
-}
-
-fn kind(word: &str) -> Option<StreamKind> {
-    match number(word)? {
-        0 => Some(StreamKind::Metadata),
-        1 => Some(StreamKind::Log),
-        2 => Some(StreamKind::RowData),
-        3 => Some(StreamKind::BlobData),
-        _ => None,
-    }
-}
 /// Reads the words of a line, or answers `None` where they are none of a script.
-pub fn parse(alloc: Global, words: &[&str]) -> Result<Option<Line>, AllocError> {
-    if words.iter().any(|word| word.is_empty()) {
+pub fn parse(alloc: Global, words: &[&str]) -> Result<Option<Line>, AllocError>
+    // What is read is spelled so.
+    ensures found { IfOk result (λ read. IfSome read (λ line. Spells line (map (λ w. w.now) words.now))) }
+    // And no line is spelled so where nothing is read.
+    ensures none { IfOk result (λ read. IfNone read
+        ((line : Line) → Spells line (map (λ w. w.now) words.now) → ⊥)) }
+{
+    if !all_filled(words) {
         return Ok(None);
     }
-    Ok(match words {
-        ["user", user, request @ ..] => submit(alloc, user, request)?,
-        ["deliver", "last"] => Some(Line::DeliverLast),
-        ["deliver", packet] => number(packet).map(Line::Deliver),
-        ["settle"] => Some(Line::Settle),
-        ["cut", word] => actor(word).map(Line::Cut),
-        ["heal", word] => actor(word).map(Line::Heal),
-        ["show", node, extent] => show(node, extent),
-        _ => event(words).map(Line::Happens),
-    })
-}
-
-/// Reads the words of a line that is one event.
-fn event(words: &[&str]) -> Option<Event> {
-    match words {
-        ["stop", word, call, bytes] => stop(word, call, bytes),
-        ["restart", word] => Some(Event::Restart {
-            actor: actor(word)?,
-        }),
-        ["decide", extent] => Some(Event::Decide {
-            extent: ExtentId::new(number(extent)?),
-        }),
-        ["giveup", server, range, a, b, c] => give_up(server, range, [a, b, c]),
-        ["assign", range, server, until] => assign(range, server, until),
-        ["renew", range, server, until] => renew(range, server, until),
-        ["moment", now] => Some(Event::Moment { now: number(now)? }),
-        _ => None,
-    }
-}
-
-/// A node above 255 is in no setup, so nothing shows it.
-fn show(node: &str, extent: &str) -> Option<Line> {
-    Some(Line::Show {
-        node: u8::try_from(number(node)?).ok()?,
-        extent: number(extent)?,
-    })
-}
-
-fn submit(alloc: Global, user: &str, words: &[&str]) -> Result<Option<Line>, AllocError> {
-    let Some(user) = number(user) else {
+    let [first, rest @ ..] = words else {
         return Ok(None);
     };
-    let request = match words {
-        ["create", kind] => create(kind),
-        ["extend", kind, last, a, b, c] => extend(kind, last, [a, b, c]),
-        ["append", node, extent, blocks @ ..] => append(alloc, node, extent, blocks)?,
-        ["read", node, extent, offset, length] => read(node, extent, offset, length),
-        ["content", node, extent, upto] => content(node, extent, upto),
-        ["seal", extent] => seal(extent),
-        ["tx", server, range, changes @ ..] => transact(alloc, server, range, changes)?,
-        ["get", server, range, key] => get(alloc, server, range, key)?,
-        ["route", key] => route(alloc, key)?,
-        _ => None,
-    };
-    Ok(request.map(|request| Line::Submit { user, request }))
-}
-
-fn create(word: &str) -> Option<Request> {
-    Some(Request::Create { kind: kind(word)? })
-}
-
-/// The three places of an extent, the primary first.
-fn nodes([primary, second, third]: [&str; 3]) -> Option<Nodes> {
-    Some(Nodes {
-        primary: node(primary)?,
-        second: node(second)?,
-        third: node(third)?,
-    })
-}
-
-fn extend(word: &str, last: &str, places: [&str; 3]) -> Option<Request> {
-    let last = match last {
-        "none" => None,
-        _ => Some(number(last)?),
-    };
-    Some(Request::Extend {
-        kind: kind(word)?,
-        last,
-        pick: nodes(places)?,
-    })
-}
-
-/// No extent has so many bytes, and all numbers above stand for one past every end.
-fn place(word: &str) -> Option<u32> {
-    let number = number(word)?;
-    Some(number.min(4_294_967_295) as u32)
-}
-
-fn read(at: &str, extent: &str, offset: &str, length: &str) -> Option<Request> {
-    Some(Request::Read {
-        node: node(at)?,
-        extent: number(extent)?,
-        offset: place(offset)?,
-        length: place(length)?,
-    })
-}
-
-fn content(at: &str, extent: &str, upto: &str) -> Option<Request> {
-    Some(Request::Content {
-        node: node(at)?,
-        extent: number(extent)?,
-        upto: place(upto)?,
-    })
-}
-
-fn seal(extent: &str) -> Option<Request> {
-    Some(Request::Seal {
-        extent: number(extent)?,
-    })
-}
-
-/// The number of a server. No stamp has a server 255, which stands for all greater numbers.
-fn server(word: &str) -> Option<ServerNo> {
-    Some(ServerNo::new(node(word)?))
-}
-
-fn give_up(word: &str, range: &str, places: [&str; 3]) -> Option<Event> {
-    Some(Event::GiveUp {
-        server: server(word)?,
-        range: RangeId::new(number(range)?),
-        pick: nodes(places)?,
-    })
-}
-
-fn assign(range: &str, word: &str, until: &str) -> Option<Event> {
-    Some(Event::Assign {
-        range: RangeId::new(number(range)?),
-        server: server(word)?,
-        until: number(until)?,
-    })
-}
-
-fn renew(range: &str, word: &str, until: &str) -> Option<Event> {
-    Some(Event::Renew {
-        range: RangeId::new(number(range)?),
-        server: server(word)?,
-        until: number(until)?,
-    })
-}
-
-/// A change: `+KEY=WORD` puts the value of the word under the key, and `-KEY` deletes the key.
-fn change(alloc: Global, word: &str) -> Result<Option<Change>, AllocError> {
-    if let Some(deleted) = word.strip_prefix('-') {
-        return Ok(Some(Change {
-            key: key(alloc, deleted)?,
-            value: None,
-        }));
-    }
-    let Some(put) = word.strip_prefix('+') else {
-        return Ok(None);
-    };
-    let Some((name, word)) = put.split_once('=') else {
-        return Ok(None);
-    };
-    match value(alloc, word)? {
-        Some(bytes) => Ok(Some(Change {
-            key: key(alloc, name)?,
-            value: Some(Bytes::from_vec(bytes)?),
-        })),
+    match verb_of(first) {
+        Some(verb) => line_behind(alloc, verb, rest),
         None => Ok(None),
     }
 }
 
-fn transact(
-    alloc: Global,
-    word: &str,
-    range: &str,
-    words: &[&str],
-) -> Result<Option<Request>, AllocError> {
-    let (Some(server), Some(range)) = (server(word), number(range)) else {
-        return Ok(None);
-    };
-    let mut changes = Vec::with_capacity(alloc, words.len())?;
-    for word in words {
-        match change(alloc, word)? {
-            Some(change) => changes.push(change)?,
-            None => return Ok(None),
-        }
+/// Whether no word is empty, as between two blanks.
+fn all_filled(words: &[&str]) -> bool
+    ensures { IsTrue result ↔ All (λ w. 0 < length w.now) words.now }
+{
+    words.iter().all(|word| !word.is_empty())
+}
+
+/// Reads the words behind this verb.
+fn line_behind(alloc: Global, verb: Verb, words: &[&str]) -> Result<Option<Line>, AllocError>
+    ensures { IfOk result (λ line. Reads HasForm line (verb_word verb ∷ map (λ w. w.now) words.now)) }
+{
+    match verb {
+        Verb::User => submit(alloc, words),
+        Verb::Deliver => Ok(deliver(words)),
+        Verb::Settle => Ok(settle(words)),
+        Verb::Cut => Ok(cut(words)),
+        Verb::Heal => Ok(heal(words)),
+        Verb::Show => Ok(show(words)),
+        Verb::Stop => Ok(stop(words)),
+        Verb::Restart => Ok(restart(words)),
+        Verb::Decide => Ok(decide(words)),
+        Verb::GiveUp => Ok(give_up(words)),
+        Verb::Assign => Ok(assign(words)),
+        Verb::Renew => Ok(renew(words)),
+        Verb::Moment => Ok(moment(words)),
     }
-    Ok(Some(Request::Transact {
-        server,
-        range,
-        changes,
-    }))
 }
 
-fn get(alloc: Global, word: &str, range: &str, name: &str) -> Result<Option<Request>, AllocError> {
-    let (Some(server), Some(range)) = (server(word), number(range)) else {
+fn submit(alloc: Global, words: &[&str]) -> Result<Option<Line>, AllocError>
+    ensures { IfOk result (λ line. Reads HasForm line (codes "user" ∷ map (λ w. w.now) words.now)) }
+{
+    let [user, rest @ ..] = words else {
         return Ok(None);
     };
-    Ok(Some(Request::Get {
-        server,
-        range,
-        key: key(alloc, name)?,
-    }))
-}
-
-fn route(alloc: Global, name: &str) -> Result<Option<Request>, AllocError> {
-    Ok(Some(Request::Route {
-        key: key(alloc, name)?,
-    }))
-}
-
-/// A stop: whose, in which device call, and whether the bytes of that call are kept.
-fn stop(word: &str, call: &str, bytes: &str) -> Option<Event> {
-    let keep = match bytes {
-        "keep" => true,
-        "drop" => false,
-        _ => return None,
+    let Some(user) = number(user) else {
+        return Ok(None);
     };
-    Some(Event::Stop {
-        actor: actor(word)?,
-        call: number(call)?,
-        keep,
+    match request(alloc, rest)? {
+        Some(request) => Ok(Some(Line::Submit { user, request })),
+        None => Ok(None),
+    }
+}
+
+fn deliver(words: &[&str]) -> Option<Line>
+    ensures { Reads HasForm result (codes "deliver" ∷ map (λ w. w.now) words.now) }
+{
+    let [word] = words else {
+        return None;
+    };
+    if *word == "last" {
+        return Some(Line::DeliverLast);
+    }
+    Some(Line::Deliver(number(word)?))
+}
+
+fn settle(words: &[&str]) -> Option<Line>
+    ensures { Reads HasForm result (codes "settle" ∷ map (λ w. w.now) words.now) }
+{
+    if words.is_empty() {
+        Some(Line::Settle)
+    } else {
+        None
+    }
+}
+
+fn cut(words: &[&str]) -> Option<Line>
+    ensures { Reads HasForm result (codes "cut" ∷ map (λ w. w.now) words.now) }
+{
+    let [word] = words else {
+        return None;
+    };
+    Some(Line::Cut(actor(word)?))
+}
+
+fn heal(words: &[&str]) -> Option<Line>
+    ensures { Reads HasForm result (codes "heal" ∷ map (λ w. w.now) words.now) }
+{
+    let [word] = words else {
+        return None;
+    };
+    Some(Line::Heal(actor(word)?))
+}
+
+/// A node above 255 is in no setup, so nothing shows it.
+fn show(words: &[&str]) -> Option<Line>
+    ensures { Reads HasForm result (codes "show" ∷ map (λ w. w.now) words.now) }
+{
+    let [node, extent] = numbers::<2>(words)?;
+    if node > 255 {
+        return None;
+    }
+    Some(Line::Show {
+        node: node as u8,
+        extent,
     })
 }
 
-/// An actor by its name: `n1` and on, `s1` and on, `m` the manager, `p` the map.
-fn actor(word: &str) -> Option<ActorId> {
-    if word == "m" {
-        return Some(ActorId::Manager);
-    }
-    if word == "p" {
-        return Some(ActorId::Map);
-    }
-    if let Some(digits) = word.strip_prefix('n') {
-        return Some(ActorId::Node(numbered(digits)?));
-    }
-    let digits = word.strip_prefix('s')?;
-    Some(ActorId::Server(ServerNo::new(numbered(digits)?)))
-}
-
-/// Actors are numbered from 1, and 255 stands for all greater numbers, which no stamp has.
-fn numbered(digits: &str) -> Option<u8> {
-    if digits.is_empty() {
+/// A stop: whose, in which device call, and whether the bytes of that call are kept.
+fn stop(words: &[&str]) -> Option<Line>
+    ensures { Reads HasForm result (codes "stop" ∷ map (λ w. w.now) words.now) }
+{
+    let [name, call, bytes] = words else {
         return None;
-    }
-    match node(digits)? {
-        0 => None,
-        number => Some(number),
-    }
+    };
+    Some(Line::Happens(Event::Stop {
+        actor: actor(name)?,
+        call: number(call)?,
+        keep: fate(bytes)?,
+    }))
 }
 
-fn append(
-    alloc: Global,
-    primary: &str,
-    extent: &str,
-    words: &[&str],
-) -> Result<Option<Request>, AllocError> {
-    let (Some(node), Some(extent)) = (node(primary), number(extent)) else {
-        return Ok(None);
+fn restart(words: &[&str]) -> Option<Line>
+    ensures { Reads HasForm result (codes "restart" ∷ map (λ w. w.now) words.now) }
+{
+    let [name] = words else {
+        return None;
     };
-    let mut blocks = Vec::with_capacity(alloc, words.len())?;
-    for word in words {
-        match value(alloc, word)? {
-            Some(bytes) => blocks.push(Bytes::from_vec(bytes)?)?,
-            None => return Ok(None),
-        }
-    }
-    Ok(Some(Request::Append {
-        node,
-        extent,
-        blocks,
+    Some(Line::Happens(Event::Restart {
+        actor: actor(name)?,
     }))
+}
+
+fn decide(words: &[&str]) -> Option<Line>
+    ensures { Reads HasForm result (codes "decide" ∷ map (λ w. w.now) words.now) }
+{
+    let [extent] = numbers::<1>(words)?;
+    Some(Line::Happens(Event::Decide {
+        extent: ExtentId::new(extent),
+    }))
+}
+
+fn give_up(words: &[&str]) -> Option<Line>
+    ensures { Reads HasForm result (codes "giveup" ∷ map (λ w. w.now) words.now) }
+{
+    let [by, range, primary, second, third] = numbers::<5>(words)?;
+    Some(Line::Happens(Event::GiveUp {
+        server: server(by),
+        range: RangeId::new(range),
+        pick: nodes(primary, second, third),
+    }))
+}
+
+fn assign(words: &[&str]) -> Option<Line>
+    ensures { Reads HasForm result (codes "assign" ∷ map (λ w. w.now) words.now) }
+{
+    let [range, to, until] = numbers::<3>(words)?;
+    Some(Line::Happens(Event::Assign {
+        range: RangeId::new(range),
+        server: server(to),
+        until,
+    }))
+}
+
+fn renew(words: &[&str]) -> Option<Line>
+    ensures { Reads HasForm result (codes "renew" ∷ map (λ w. w.now) words.now) }
+{
+    let [range, of, until] = numbers::<3>(words)?;
+    Some(Line::Happens(Event::Renew {
+        range: RangeId::new(range),
+        server: server(of),
+        until,
+    }))
+}
+
+fn moment(words: &[&str]) -> Option<Line>
+    ensures { Reads HasForm result (codes "moment" ∷ map (λ w. w.now) words.now) }
+{
+    let [now] = numbers::<1>(words)?;
+    Some(Line::Happens(Event::Moment { now }))
 }
