@@ -1,8 +1,8 @@
 //! A node.
-ghost use Rattle.std.specs.Prelude.{◌≡◌, ◌≢◌, ◌<◌, ℕ, List, [], Some, false, true, IfOk, IfErr, option_map};
+ghost use Rattle.std.specs.Prelude.{◌≡◌, ◌≢◌, ◌<◌, ℕ, List, [], Some, None, false, true, IfOk, IfErr, MatchResult, option_map};
 ghost use Rattle.blocks.specs.declared.record.Record.{Record};
 ghost use Rattle.blocks.specs.declared.record.Version.{Version};
-ghost use Rattle.disk.specs.Disk.{IsSteady};
+ghost use Rattle.disk.specs.Disk.{IsSame, IsSteady, LeavesOnly, Only};
 ghost use Rattle.disk.specs.File.{IsFileOf};
 ghost use Rattle.disk.specs.Memory.{memory_state};
 ghost use Rattle.replica.specs.State.{content_of};
@@ -56,6 +56,9 @@ fn recovered<D: Disk>(
     ensures damaged { fit number file.records ≡ true → IfErr result (λ e. e.0 ≢ FileFault.Damaged) }
     ensures failed { IfErr result (λ e. e.0 ≡ FileFault.Failed → (D.state file.disk).failures < (D.state e.1).failures) }
     ensures steady { IsSteady (D.state file.disk) → IfOk result (λ node. IsSteady (D.state node.file.disk)) }
+    ensures disk { MatchResult result
+        (λ node. IsSame (D.state file.disk) (D.state node.file.disk))
+        (λ e. IsSame (D.state file.disk) (D.state e.1)) }
 {
     let mut file = file;
     match replicas_of(alloc, number, &mut file) {
@@ -89,6 +92,11 @@ impl<D: Disk> Node<D> {
 
         // The node of a disk that cannot fail has one.
         ensures steady { IsSteady (D.state disk) → IfOk result (λ node. IsSteady (D.state node.file.disk)) }
+
+        // A crash at any moment leaves what one before it might have left, also where it is refused.
+        ensures any_moment { MatchResult result
+            (λ node. LeavesOnly (D.state disk) (D.state node.file.disk) (D.state disk).may_leave)
+            (λ e. LeavesOnly (D.state disk) (D.state e.1) (D.state disk).may_leave) }
     {
         match RecordFile::open(alloc, disk) {
             Ok(file) => recovered(alloc, number, file),
@@ -169,6 +177,7 @@ impl Node<MemDisk> {
         ensures same { (self.new.number ≡ self.old.number) × (self.new.replicas ≡ self.old.replicas)
             × (self.new.file.stopped ≡ self.old.file.stopped) × (self.new.file.version ≡ self.old.file.version)
             × (self.new.file.records ≡ self.old.file.records) }
+        ensures disk { self.new.file.disk ≡ record self.old.file.disk { stop = Some (record { calls = calls; keep = keep }) } }
     {
         self.file.stop_at(calls, keep);
     }
@@ -177,17 +186,20 @@ impl Node<MemDisk> {
     /// of memory (22).
     pub fn copy_disk(&self, alloc: Global) -> Result<MemDisk, AllocError>
         ensures stands { IfOk result (λ disk. IsFileOf self.now.file.version self.now.file.records (memory_state disk).seen) }
+        ensures durable { IfOk result (λ disk. Only (memory_state disk).seen (memory_state disk).may_leave) }
         ensures steady { IfOk result (λ disk. IsSteady (memory_state disk)) }
     {
         self.file.copy_disk(alloc)
     }
 
-    /// It stops, and its disk is not told to stop any more. Its records stay.
+    /// It stops, and its disk is not told to stop any more. Its replicas, its records and all else stay.
     pub fn stop_now(&mut self)
         ensures stopped { self.new.file.stopped ≡ true }
         ensures steady { IsSteady (memory_state self.new.file.disk) }
         ensures same { (self.new.number ≡ self.old.number) × (self.new.file.version ≡ self.old.file.version)
             × (self.new.file.records ≡ self.old.file.records) }
+        ensures replicas { self.new.replicas ≡ self.old.replicas }
+        ensures disk { self.new.file.disk ≡ record self.old.file.disk { stop = None } }
         ensures replays { self.old.file.stopped ≡ false → IsReplay self.old.number self.old.replicas self.old.file.records }
     {
         self.file.cancel_stop();

@@ -1,7 +1,7 @@
 //! Replicas from the records of a node's file.
 ghost use Rattle.std.specs.Prelude.{◌≡◌, ◌<◌, ℕ, Some, None, true, false, IfOk, IsErrOf};
 ghost use Rattle.blocks.specs.declared.record.Record.TheVariants as records;
-ghost use Rattle.disk.specs.Disk.{IsSteady};
+ghost use Rattle.disk.specs.Disk.{IsSame, IsSteady};
 ghost use Rattle.replica.specs.Replay.{extent_of, fit};
 ghost use Rattle.enode.specs.Node.{find, IsRestart};
 ghost use Rattle.enode.specs.Recovery.{Recovers};
@@ -117,6 +117,7 @@ pub(crate) fn replicas_of<D: Disk>(
     ensures damaged { fit number file.old.records ≡ true → IsErrOf result FileFault.Damaged → ⊥ }
     ensures failed { IsErrOf result FileFault.Failed → (D.state file.old.disk).failures < (D.state file.new.disk).failures }
     ensures steady { IsSteady (D.state file.old.disk) → IsSteady (D.state file.new.disk) }
+    ensures disk { IsSame (D.state file.old.disk) (D.state file.new.disk) }
 {
     let mut replicas = BTreeMap::new(alloc);
     for record_read in file.records(alloc)? {

@@ -1,6 +1,6 @@
 use Rattle.std.proofs.Common.{ap, ◌∙◌}
 use Rattle.replica.specs.Replay.{fit}
-use Rattle.enode.proofs.Recovering.{ok_more}
+use Rattle.enode.proofs.Recovering.{ok_more, read_since}
 use Rattle.enode.proofs.node.Node.restart.Goals as goal
 
 pub returns-in-Ok-clause-damaged : goal.returns-in-Ok-clause-damaged
@@ -11,3 +11,7 @@ returns-in-Err-clause-damaged g c = λ v rs is fits. c.in-Err.ensures.only v rs 
 
 pub returns-in-Ok-clause-only : goal.returns-in-Ok-clause-only
 returns-in-Ok-clause-only g c = λ v rs is. ok_more c.recovered.result (λ node same. (same.1 ∙ (c.in-Ok.ensures.only v rs is).0, same.2 ∙ (c.in-Ok.ensures.only v rs is).1)) c.recovered.ensures.same
+
+pub returns-in-Ok-clause-any_moment : goal.returns-in-Ok-clause-any_moment
+returns-in-Ok-clause-any_moment g c = read_since _ _ _ c.recovered.result (λ node. g.D.Disk.state node.file.disk) (λ refused. g.D.Disk.state refused.1) (g.met.D.Disk.counts_now _)
+    c.in-Ok.ensures.any_moment c.recovered.ensures.disk
