@@ -1,3 +1,4 @@
 pub mod Rowing
 pub mod Keeping
 pub mod Deciding
+pub mod Crashing

@@ -4,7 +4,7 @@ ghost use Rattle.blocks.specs.Limits.{IsTarget};
 ghost use Rattle.blocks.specs.declared.record.Record.{Record};
 ghost use Rattle.blocks.specs.declared.record.Record.TheVariants as records;
 ghost use Rattle.blocks.specs.declared.record.Version.{Version};
-ghost use Rattle.disk.specs.Disk.{IsSteady, Only};
+ghost use Rattle.disk.specs.Disk.{IsSame, IsSteady, LeavesOnly, Only};
 ghost use Rattle.disk.specs.File.{IsFileOf};
 ghost use Rattle.disk.specs.Memory.{memory_state};
 ghost use Rattle.wire.specs.declared.refusal.Refusal.{Refusal};
@@ -68,6 +68,7 @@ fn begin<D: Disk>(
     ensures running { IfOk result (λ m. m.file.stopped ≡ false) }
     ensures shows { IfOk result (λ m. Shows m (first_book nodes target)) }
     ensures records { IfOk result (λ m. m.file.records ≡ records.Manage (spelled (ledger.First nodes target)) ∷ []) }
+    ensures version { IfOk result (λ m. m.file.version ≡ file.version) }
     ensures replays { IfOk result (λ m. IsLedger m m.file.records) }
     ensures failed { IfErr result (λ e. e.0 ≡ DiskFault.Failed → (D.state file.disk).failures < (D.state e.1).failures) }
     ensures steady { IsSteady (D.state file.disk) → MatchResult result
@@ -92,6 +93,9 @@ fn recovered<D: Disk>(alloc: Global, file: RecordFile<D>) -> Result<Manager<D>, 
     ensures damaged { file.records ≢ [] → book_fits file.records ≡ true → IfErr result (λ e. e.0 ≢ FileFault.Damaged) }
     ensures failed { IfErr result (λ e. e.0 ≡ FileFault.Failed → (D.state file.disk).failures < (D.state e.1).failures) }
     ensures steady { IsSteady (D.state file.disk) → IfOk result (λ m. IsSteady (D.state m.file.disk)) }
+    ensures disk { MatchResult result
+        (λ m. IsSame (D.state file.disk) (D.state m.file.disk))
+        (λ e. IsSame (D.state file.disk) (D.state e.1)) }
 {
     let mut file = file;
     match table_of(alloc, &mut file) {
@@ -117,6 +121,7 @@ impl<D: Disk> Manager<D> {
         ensures running { IfOk result (λ m. m.file.stopped ≡ false) }
         ensures shows { IfOk result (λ m. Shows m (first_book nodes target)) }
         ensures records { IfOk result (λ m. m.file.records ≡ records.Manage (spelled (ledger.First nodes target)) ∷ []) }
+        ensures version { IfOk result (λ m. m.file.version ≡ Version.V1) }
         ensures replays { IfOk result (λ m. IsLedger m m.file.records) }
         ensures steady { IsSteady (D.state disk) → MatchResult result
             (λ m. IsSteady (D.state m.file.disk))
@@ -151,6 +156,11 @@ impl<D: Disk> Manager<D> {
 
         // The manager of a disk that cannot fail has one.
         ensures steady { IsSteady (D.state disk) → IfOk result (λ m. IsSteady (D.state m.file.disk)) }
+
+        // A crash at any moment leaves what one before it might have left, also where it is refused.
+        ensures any_moment { MatchResult result
+            (λ m. LeavesOnly (D.state disk) (D.state m.file.disk) (D.state disk).may_leave)
+            (λ e. LeavesOnly (D.state disk) (D.state e.1) (D.state disk).may_leave) }
     {
         match RecordFile::open(alloc, disk) {
             Ok(file) => recovered(alloc, file),
@@ -259,6 +269,7 @@ impl Manager<MemDisk> {
     /// of memory (22).
     pub fn copy_disk(&self, alloc: Global) -> Result<MemDisk, AllocError>
         ensures stands { IfOk result (λ disk. IsFileOf self.now.file.version self.now.file.records (memory_state disk).seen) }
+        ensures durable { IfOk result (λ disk. Only (memory_state disk).seen (memory_state disk).may_leave) }
         ensures steady { IfOk result (λ disk. IsSteady (memory_state disk)) }
     {
         self.file.copy_disk(alloc)

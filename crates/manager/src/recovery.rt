@@ -1,6 +1,6 @@
 //! The table from the records of the manager's file.
 ghost use Rattle.std.specs.Prelude.{◌≡◌, ◌≢◌, ◌<◌, [], true, false, IfOk, IsErrOf};
-ghost use Rattle.disk.specs.Disk.{IsSteady};
+ghost use Rattle.disk.specs.Disk.{IsSame, IsSteady};
 ghost use Rattle.model.specs.Replay.{book_fits};
 ghost use Rattle.directory.specs.Replay.{IsMade};
 ghost use Rattle.directory.specs.Table.{plain};
@@ -18,6 +18,7 @@ pub(crate) fn table_of<D: Disk>(alloc: Global, file: &mut RecordFile<D>) -> Resu
     ensures damaged { book_fits file.old.records ≡ true → file.old.records ≢ [] → IsErrOf result FileFault.Damaged → ⊥ }
     ensures failed { IsErrOf result FileFault.Failed → (D.state file.old.disk).failures < (D.state file.new.disk).failures }
     ensures steady { IsSteady (D.state file.old.disk) → IsSteady (D.state file.new.disk) }
+    ensures disk { IsSame (D.state file.old.disk) (D.state file.new.disk) }
 {
     match file.records(alloc) {
         Ok(records) => match Table::replayed(alloc, records) {

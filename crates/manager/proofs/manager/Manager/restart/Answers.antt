@@ -1,5 +1,6 @@
 use Rattle.std.proofs.Common.{ap, ◌∙◌, sym, Result, Ok, Err, IfOk}
 use Rattle.model.specs.Replay.{book_fits}
+use Rattle.manager.proofs.Crashing.{read_since}
 use Rattle.manager.proofs.manager.Manager.restart.Goals as goal
 
 -- what follows of an `Ok` from what is known of it
@@ -17,3 +18,7 @@ returns-in-Err-clause-damaged g c = λ v rs is some fits. c.in-Err.ensures.only 
 
 pub returns-in-Ok-clause-only : goal.returns-in-Ok-clause-only
 returns-in-Ok-clause-only g c = λ v rs is. ok_more c.recovered.result (λ m same. (same.1 ∙ (c.in-Ok.ensures.only v rs is).0, same.2 ∙ (c.in-Ok.ensures.only v rs is).1)) c.recovered.ensures.same
+
+pub returns-in-Ok-clause-any_moment : goal.returns-in-Ok-clause-any_moment
+returns-in-Ok-clause-any_moment g c = read_since _ _ _ c.recovered.result (λ manager. g.D.Disk.state manager.file.disk) (λ refused. g.D.Disk.state refused.1) (g.met.D.Disk.counts_now _)
+    c.in-Ok.ensures.any_moment c.recovered.ensures.disk
