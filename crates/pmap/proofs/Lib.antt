@@ -3,3 +3,4 @@ pub mod Routing
 pub mod Making
 pub mod Doing
 pub mod Keeping
+pub mod Crashing

@@ -2,7 +2,7 @@
 ghost use Rattle.std.specs.Prelude.{◌≡◌, ◌≢◌, ◌<◌, List, [], Ok, Err, Some, None, false, true, IfOk, IfErr, MatchResult, option_map};
 ghost use Rattle.blocks.specs.declared.record.Record.{Record};
 ghost use Rattle.blocks.specs.declared.record.Version.{Version};
-ghost use Rattle.disk.specs.Disk.{IsSteady};
+ghost use Rattle.disk.specs.Disk.{IsSame, IsSteady, LeavesOnly, Only};
 ghost use Rattle.disk.specs.File.{IsFileOf};
 ghost use Rattle.disk.specs.Memory.{memory_state};
 ghost use Rattle.wire.specs.declared.refusal.Refusal.{Refusal};
@@ -56,6 +56,9 @@ fn recovered<D: Disk>(alloc: Global, file: RecordFile<D>) -> Result<PartitionMap
     ensures steady { IsSteady (D.state file.disk) → MatchResult result
         (λ m. IsSteady (D.state m.file.disk))
         (λ e. (e.0 ≢ FileFault.Failed) × IsSteady (D.state e.1)) }
+    ensures disk { MatchResult result
+        (λ m. IsSame (D.state file.disk) (D.state m.file.disk))
+        (λ e. IsSame (D.state file.disk) (D.state e.1)) }
 {
     let mut opened = file;
     match table_of(alloc, &mut opened) {
@@ -89,6 +92,11 @@ impl<D: Disk> PartitionMap<D> {
         ensures steady { IsSteady (D.state disk) → MatchResult result
             (λ m. IsSteady (D.state m.file.disk))
             (λ e. (e.0 ≢ FileFault.Failed) × IsSteady (D.state e.1)) }
+
+        // A crash at any moment leaves what one before it might have left, also where it is refused.
+        ensures any_moment { MatchResult result
+            (λ m. LeavesOnly (D.state disk) (D.state m.file.disk) (D.state disk).may_leave)
+            (λ e. LeavesOnly (D.state disk) (D.state e.1) (D.state disk).may_leave) }
     {
         match RecordFile::open(alloc, disk) {
             Ok(file) => recovered(alloc, file),
@@ -237,6 +245,7 @@ impl PartitionMap<MemDisk> {
     /// of memory (22).
     pub fn copy_disk(&self, alloc: Global) -> Result<MemDisk, AllocError>
         ensures stands { IfOk result (λ disk. IsFileOf self.now.file.version self.now.file.records (memory_state disk).seen) }
+        ensures durable { IfOk result (λ disk. Only (memory_state disk).seen (memory_state disk).may_leave) }
         ensures steady { IfOk result (λ disk. IsSteady (memory_state disk)) }
     {
         self.file.copy_disk(alloc)

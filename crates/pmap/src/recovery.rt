@@ -1,6 +1,6 @@
 //! The table from the records of the map's file.
 ghost use Rattle.std.specs.Prelude.{◌≡◌, ◌<◌, true, false, IfOk, IsErrOf};
-ghost use Rattle.disk.specs.Disk.{IsSteady};
+ghost use Rattle.disk.specs.Disk.{IsSame, IsSteady};
 ghost use Rattle.model_map.specs.Replay.{map_fits};
 ghost use Rattle.pmap.specs.Held.{MakesMap};
 
@@ -21,6 +21,7 @@ pub(crate) fn table_of<D: Disk>(
     ensures damaged { map_fits file.old.records ≡ true → IsErrOf result FileFault.Damaged → ⊥ }
     ensures failed { IsErrOf result FileFault.Failed → (D.state file.old.disk).failures < (D.state file.new.disk).failures }
     ensures steady { IsSteady (D.state file.old.disk) → (IsErrOf result FileFault.Failed → ⊥) × IsSteady (D.state file.new.disk) }
+    ensures disk { IsSame (D.state file.old.disk) (D.state file.new.disk) }
 {
     match file.records(alloc) {
         Ok(records) => match replayed(alloc, &records) {

@@ -1,5 +1,6 @@
 use Rattle.std.proofs.Common.{ap, ◌∙◌, Result, Ok, Err, IfOk}
 use Rattle.model_map.specs.Replay.{map_fits}
+use Rattle.pmap.proofs.Crashing.{read_since}
 use Rattle.pmap.proofs.partition_map.PartitionMap.restart.Goals as goal
 
 -- what follows of an `Ok` from what is known of it
@@ -15,3 +16,7 @@ returns-in-Err-clause-damaged g c = λ v rs is fits. c.in-Err.ensures.only v rs 
 
 pub returns-in-Ok-clause-only : goal.returns-in-Ok-clause-only
 returns-in-Ok-clause-only g c = λ v rs is. ok_more c.recovered.result (λ m same. (same.1 ∙ (c.in-Ok.ensures.only v rs is).0, same.2 ∙ (c.in-Ok.ensures.only v rs is).1)) c.recovered.ensures.same
+
+pub returns-in-Ok-clause-any_moment : goal.returns-in-Ok-clause-any_moment
+returns-in-Ok-clause-any_moment g c = read_since _ _ _ c.recovered.result (λ map. g.D.Disk.state map.file.disk) (λ refused. g.D.Disk.state refused.1) (g.met.D.Disk.counts_now _)
+    c.in-Ok.ensures.any_moment c.recovered.ensures.disk
