@@ -1,7 +1,14 @@
 -- What a server's call leaves, as its code says it.
-use Rattle.std.specs.Prelude.{◌≡◌, ◌≤◌, ℕ, List, length, Option, Some, None}
+use Rattle.std.specs.Prelude.{◌≡◌, ◌≤◌, ℕ, Bool, true, false, List, length, Option, Some, None, is_some}
+use Rattle.wire.specs.declared.body.Body.{Body}
+use Rattle.wire.specs.declared.body.Body.TheVariants as bodies
+use Rattle.wire.specs.declared.body.MapBody.{MapBody}
+use Rattle.wire.specs.declared.body.MapBody.TheVariants as maps
+use Rattle.wire.specs.declared.body.TableBody.{TableBody}
+use Rattle.wire.specs.declared.body.TableBody.TheVariants as tables
 use Rattle.wire.specs.declared.packet.Packet.{Packet}
 use Rattle.model_tables.specs.declared.table_note.TableNote.{TableNote}
+use Rattle.model_tables.specs.Answering.{answered_number}
 use Rattle.model_tables.specs.Servers.{Held}
 use Rattle.model_tables.specs.Server.{ServerState, ServerOutcome, server_row}
 
@@ -26,3 +33,20 @@ pub record Handles (before after : ServerState) (p : Packet) (t : Sent) : Type 0
 -- no step sends or shows more
 abbrev pub IsShort : Sent → Type 0
 IsShort t = (length t.packets ≤ 2048) × (length t.notes ≤ 2048)
+
+-- ---- memory
+
+abbrev pub told_needs_memory : MapBody → Bool
+told_needs_memory (maps.Assign range generation until) = true
+told_needs_memory body = false
+
+abbrev pub asked_needs_memory : TableBody → Bool
+asked_needs_memory (tables.Transact range changes q) = true
+asked_needs_memory (tables.Get range key q) = true
+asked_needs_memory body = false
+
+-- whether a packet may take memory: an assignment, what a user asks, or an answer
+abbrev pub needs_memory : Body → Bool
+needs_memory (bodies.Map body) = told_needs_memory body
+needs_memory (bodies.Table body) = asked_needs_memory body
+needs_memory body = is_some (answered_number body)

@@ -1,12 +1,12 @@
 //! A partition server.
-ghost use Rattle.std.specs.Prelude.{◌≡◌, ◌<◌, ◌≤◌, ◌+◌, ◌^◌, ◌++◌, [], ◌∷◌, Some, None, Err, length, option_map, IfOk, OnErr};
+ghost use Rattle.std.specs.Prelude.{◌≡◌, ◌<◌, ◌≤◌, ◌+◌, ◌^◌, ◌++◌, [], ◌∷◌, Some, None, Err, true, length, option_map, is_some, IfOk, OnErr};
 ghost use Rattle.model_tables.specs.Server.{map_row, new_range, table_row, numbered_row, has_numbers, moment_row, give_up_row, started, users_of, assign_row, renew_row, range_of, transacts_in, gets_in, answer_of, awaiting};
 ghost use Rattle.model_tables.specs.Answering as answering;
 ghost use Rattle.model_tables.specs.Servers.{loads};
 ghost use Rattle.client.specs.Load.{open_packet};
 ghost use Rattle.model_tables.specs.Range.{refuses, request};
 ghost use Rattle.wire.specs.declared.refusal.Refusal.TheVariants.{NotOwner};
-ghost use Rattle.range.specs.Handled.{Handles, Step, IsShort, outcome};
+ghost use Rattle.range.specs.Handled.{Handles, Step, IsShort, outcome, needs_memory, told_needs_memory, asked_needs_memory};
 ghost use Rattle.range.specs.declared.fault.RangeFault.TheVariants as faults;
 
 use crate::answers::{answered_number, is_answerer};
@@ -191,6 +191,7 @@ impl RangeServer {
     fn answered(&mut self, alloc: Global, packet: &Packet) -> Result<Sent, AllocError>
         requires numbers { self.old.desk.count + 1024 < 2 ^ 64 }
         ensures ok { IfOk result (λ t. Step self.old self.new t (λ held. numbered_row self.old packet.now held (answering.answered_number packet.now.body))) }
+        ensures needed { OnErr result (is_some (answering.answered_number packet.now.body) ≡ true) }
         ensures err { OnErr result (self.new ≡ self.old) }
         ensures short { IfOk result IsShort }
     {
@@ -214,6 +215,7 @@ impl RangeServer {
     ) -> Result<Sent, AllocError>
         requires numbers { self.old.desk.count + 1024 < 2 ^ 64 }
         ensures ok { IfOk result (λ t. Step self.old self.new t (λ held. table_row self.old packet.now body.now held)) }
+        ensures needed { OnErr result (asked_needs_memory body.now ≡ true) }
         ensures err { OnErr result (self.new ≡ self.old) }
         ensures short { IfOk result IsShort }
     {
@@ -321,6 +323,7 @@ impl RangeServer {
     fn told(&mut self, alloc: Global, from: ActorId, body: &MapBody) -> Result<Sent, AllocError>
         requires numbers { self.old.desk.count + 1024 < 2 ^ 64 }
         ensures ok { IfOk result (λ t. map_row self.old from body.now ≡ outcome t self.new) }
+        ensures needed { OnErr result (told_needs_memory body.now ≡ true) }
         ensures err { OnErr result (self.new ≡ self.old) }
         ensures short { IfOk result IsShort }
     {
@@ -345,9 +348,11 @@ impl RangeServer {
         }
     }
 
-    /// What is done with a packet: the row of its body. An error is want of memory (22), and nothing has changed.
+    /// What is done with a packet: the row of its body. An error is want of memory (22), which comes only of an assignment, of
+    /// what a user asks and of an answer, and nothing has changed.
     pub fn handle(&mut self, alloc: Global, packet: &Packet) -> Result<Sent, AllocError>
         ensures ok { IfOk result (λ t. Handles self.old self.new packet.now t) }
+        ensures needed { OnErr result (needs_memory packet.now.body ≡ true) }
         ensures err { OnErr result (self.new ≡ self.old) }
         ensures short { IfOk result IsShort }
     {
@@ -376,6 +381,7 @@ impl RangeServer {
     ) -> Result<Sent, RangeFault>
         ensures ok { IfOk result (λ t. give_up_row self.old range pick.now ≡ Some (outcome t self.new)) }
         ensures unknown { result ≡ Err faults.NotOwner → give_up_row self.old range pick.now ≡ None }
+        ensures refused { give_up_row self.old range pick.now ≡ None → result ≡ Err faults.NotOwner }
         ensures err { OnErr result (self.new ≡ self.old) }
         ensures short { IfOk result IsShort }
     {

@@ -110,6 +110,7 @@ impl RangeState {
         requires current { is_stale body.now ≡ false }
         requires quiet { (is_some self.old.out && is_end_of self.old.log.job body.now) ≡ false }
         ensures ok { IfOk result (λ t. log_taken desk.now self.old body.now ≡ outcome t self.new) }
+        ensures held { OnOk result (self.new.held ≡ self.old.held) }
         ensures err { OnErr result (self.new ≡ self.old) }
         ensures short { IfOk result IsShort }
     {
@@ -199,6 +200,7 @@ impl RangeState {
         requires out { is_some self.old.out ≡ true }
         requires appended { IsAppended self.old.log.job body.now extent offset }
         ensures ok { IfOk result (λ t. log_taken desk.now self.old body.now ≡ outcome t self.new) }
+        ensures held { OnOk result (self.new.held ≡ self.old.held) }
         ensures err { OnErr result (self.new ≡ self.old) }
         ensures short { IfOk result IsShort }
     {
@@ -224,6 +226,7 @@ impl RangeState {
         requires taken { is_taken self.old body.now ≡ true }
         requires awaited { IsAwaited self.old.log.job body.now }
         ensures ok { IfOk result (λ t. log_taken desk.now self.old body.now ≡ outcome t self.new) }
+        ensures held { OnOk result (self.new.held ≡ self.old.held) }
         ensures err { OnErr result (self.new ≡ self.old) }
         ensures short { IfOk result IsShort }
     {

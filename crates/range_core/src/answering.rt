@@ -1,8 +1,9 @@
 //! Answers that a range waits for.
-ghost use Rattle.std.specs.Prelude.{◌≡◌, ◌<◌, ◌≤◌, ◌+◌, ◌^◌, [], Some, false, length, vec_len, vec_capacity, IfOk, OnErr};
+ghost use Rattle.std.specs.Prelude.{◌≡◌, ◌<◌, ◌≤◌, ◌+◌, ◌^◌, [], Some, true, false, length, vec_len, vec_capacity, IfOk, OnOk, OnErr};
 ghost use Rattle.model_tables.specs.Range.{is_serving, refused_users};
 ghost use Rattle.model_tables.specs.Answering.{answer_row, answered_number, gets_reply, load_reply, log_reply, log_taken, metadata_reply, range_awaits};
 ghost use Rattle.loading.specs.Steps as steps;
+ghost use Rattle.range_core.specs.Cache.{HoldsOnly, Takes, is_for_gets};
 ghost use Rattle.range_core.specs.Replies.{IsAwaited};
 ghost use Rattle.range_core.specs.Steps.{outcome, IsShort};
 
@@ -50,6 +51,7 @@ impl RangeState {
         requires packets { (prepared.packets.items ≡ []) × (vec_len prepared.packets < vec_capacity prepared.packets) }
         requires notes { (prepared.notes.items ≡ []) × (vec_len prepared.notes < vec_capacity prepared.notes) }
         ensures row { steps.outcome desk.now self.old progress ≡ outcome result self.new }
+        ensures held { self.new.held ≡ self.old.held }
         ensures short { IsShort result }
     {
         let Prepared {
@@ -89,6 +91,7 @@ impl RangeState {
     fn load_reply(&mut self, alloc: Global, desk: &Desk, body: &Body) -> Result<Taken, AllocError>
         requires numbers { desk.now.count + 1024 < 2 ^ 64 }
         ensures ok { IfOk result (λ t. load_reply desk.now self.old body.now ≡ outcome t self.new) }
+        ensures held { OnOk result (self.new.held ≡ self.old.held) }
         ensures err { OnErr result (self.new ≡ self.old) }
         ensures short { IfOk result IsShort }
     {
@@ -107,6 +110,7 @@ impl RangeState {
     ) -> Result<Taken, AllocError>
         requires numbers { desk.now.count + 1024 < 2 ^ 64 }
         ensures ok { IfOk result (λ t. metadata_reply desk.now self.old body.now ≡ outcome t self.new) }
+        ensures held { OnOk result (self.new.held ≡ self.old.held) }
         ensures err { OnErr result (self.new ≡ self.old) }
         ensures short { IfOk result IsShort }
     {
@@ -127,6 +131,7 @@ impl RangeState {
         requires numbers { desk.now.count + 1024 < 2 ^ 64 }
         requires loading { is_serving self.old.stage ≡ false }
         ensures ok { IfOk result (λ t. log_taken desk.now self.old body.now ≡ outcome t self.new) }
+        ensures held { OnOk result (self.new.held ≡ self.old.held) }
         ensures err { OnErr result (self.new ≡ self.old) }
         ensures short { IfOk result IsShort }
     {
@@ -141,6 +146,7 @@ impl RangeState {
         requires numbers { desk.now.count + 1024 < 2 ^ 64 }
         requires awaited { IsAwaited self.old.log.job body.now }
         ensures ok { IfOk result (λ t. log_reply desk.now self.old body.now ≡ outcome t self.new) }
+        ensures held { OnOk result (self.new.held ≡ self.old.held) }
         ensures err { OnErr result (self.new ≡ self.old) }
         ensures short { IfOk result IsShort }
     {
@@ -153,6 +159,7 @@ impl RangeState {
         self.loading_reply(alloc, desk, body)
     }
 
+    #[tactic(auto, using(crate::proofs::Cache::kept))]
     fn gets_reply(
         &mut self,
         alloc: Global,
@@ -162,6 +169,8 @@ impl RangeState {
     ) -> Result<Taken, AllocError>
         requires numbers { desk.now.count + 1024 < 2 ^ 64 }
         ensures ok { IfOk result (λ t. gets_reply desk.now self.old request.now body.now self.new.held ≡ outcome t self.new) }
+        ensures held { OnOk result (HoldsOnly self.new.held self.old.held body.now) }
+        ensures taken { OnOk result (Takes self.old self.new.held request.now body.now) }
         ensures err { OnErr result (self.new ≡ self.old) }
         ensures short { IfOk result IsShort }
     {
@@ -189,7 +198,9 @@ impl RangeState {
     }
 
     /// The answer of this number: what the load, the metadata's client, the log's client or the Gets do with it, whichever waits
-    /// for it first. That the body bears the number is the caller's condition. For want of memory (22) nothing has changed.
+    /// for it first. That the body bears the number is the caller's condition. The cache of the Gets then holds nothing but what
+    /// it held and the bytes that the answer brings, and these where a read of the number asked for their very place. For want of
+    /// memory (22) nothing has changed.
     #[tactic(auto, using(crate::proofs::Rows::awaited))]
     pub fn answer(
         &mut self,
@@ -201,6 +212,8 @@ impl RangeState {
         requires numbers { desk.now.count + 1024 < 2 ^ 64 }
         requires answer { answered_number body.now ≡ Some request.now }
         ensures ok { IfOk result (λ t. answer_row desk.now self.old request.now body.now self.new.held ≡ outcome t self.new) }
+        ensures held { OnOk result (HoldsOnly self.new.held self.old.held body.now) }
+        ensures taken { OnOk result (is_for_gets self.old request.now ≡ true → Takes self.old self.new.held request.now body.now) }
         ensures err { OnErr result (self.new ≡ self.old) }
         ensures short { IfOk result IsShort }
     {

@@ -88,6 +88,7 @@ impl RangeState {
         requires blocks { ready.blocks ≡ spelling (record_of self.old.next (take ready.count self.old.queue)) }
         requires notes { ready.notes.items ≡ began self.old.load.range self.old.load.generation self.old.next (take ready.count self.old.queue) }
         ensures row { appends desk.now self.old ready.count ≡ goes desk.now self.new (option_to_list result.packet) result.notes.items }
+        ensures held { self.new.held ≡ self.old.held }
         ensures notes { result.notes.items ≡ ready.notes.items }
     {
         let Ready {
@@ -116,6 +117,7 @@ impl RangeState {
         requires formed { IfSome next (λ x. is_formed self.old.next x.count ≡ true) }
         requires few { IfSome next (λ x. length x.notes.items ≤ 1024) }
         ensures row { forms desk.now self.old ≡ goes desk.now self.new (option_to_list result.packet) result.notes.items }
+        ensures held { self.new.held ≡ self.old.held }
         ensures few { length result.notes.items ≤ 1024 }
     {
         match next {

@@ -1,7 +1,8 @@
 //! A Get comes, or the bytes of a value.
-ghost use Rattle.std.specs.Prelude.{◌≡◌, ◌<◌, ◌≤◌, ◌+◌, ◌^◌, length, None, IfOk, OnErr};
-ghost use Rattle.model_tables.specs.Getting.{bytes_row, get_fault, get_row};
-ghost use Rattle.lookups.specs.Lookups.{Sees};
+ghost use Rattle.std.specs.Prelude.{◌≡◌, ◌<◌, ◌≤◌, ◌+◌, ◌^◌, ℕ, List, length, Contains, Some, None, IfOk, OnOk, OnErr};
+ghost use Rattle.cells.specs.declared.cell.Place.{Place as ValuePlace};
+ghost use Rattle.model_tables.specs.Getting.{bytes_row, get_fault, get_row, held_at, read_at, MayHold};
+ghost use Rattle.lookups.specs.Lookups.{place_of, Sees};
 ghost use Rattle.range_core.specs.Steps.{outcome, IsShort};
 
 use crate::state::RangeState;
@@ -39,8 +40,8 @@ impl RangeState {
 
     /// A Get of a user is answered from the memory table, or waits for the bytes of a value that stands elsewhere. It is refused
     /// 38 while the range is loaded, 32 once its lease has ended, 36 where the key has no byte or more than 256, 33 where it is
-    /// not of the range, and 35 where 256 wait, the first of these that is met; nothing changes then. For want of memory (22)
-    /// nothing has changed.
+    /// not of the range, and 35 where 256 wait, the first of these that is met; nothing changes then. Its cache holds what it held.
+    /// For want of memory (22) nothing has changed.
     pub fn get(
         &mut self,
         alloc: Global,
@@ -51,6 +52,8 @@ impl RangeState {
     ) -> Result<Taken, AllocError>
         requires numbers { desk.now.count + 1024 < 2 ^ 64 }
         ensures ok { IfOk result (λ t. get_row desk.now self.old from request.now key.now self.new.held ≡ outcome t self.new) }
+        ensures held { OnOk result ((x : ValuePlace × List ℕ) → Contains self.new.held x → Contains self.old.held x) }
+        ensures same { OnOk result ((p : ValuePlace) → held_at self.new.held p ≡ held_at self.old.held p) }
         ensures err { OnErr result (self.new ≡ self.old) }
         ensures short { IfOk result IsShort }
     {
@@ -84,6 +87,9 @@ impl RangeState {
     ) -> Result<Taken, AllocError>
         requires numbers { desk.now.count + 1024 < 2 ^ 64 }
         ensures ok { IfOk result (λ t. bytes_row desk.now self.old request.now self.new.held ≡ outcome t self.new) }
+        ensures held { OnOk result (MayHold self.new.held self.old.held (place_of extent offset bytes.now) bytes.now) }
+        ensures taken { OnOk result (read_at self.old.gets request.now ≡ Some (place_of extent offset bytes.now)
+            → held_at self.new.held (place_of extent offset bytes.now) ≡ Some bytes.now) }
         ensures err { OnErr result (self.new ≡ self.old) }
         ensures short { IfOk result IsShort }
     {
