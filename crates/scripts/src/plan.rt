@@ -1,10 +1,13 @@
 //! A whole script, read before its first event runs.
-ghost use Rattle.std.specs.Prelude.{IfErr};
+ghost use Rattle.std.specs.Prelude.{◌≡◌, IfErr, IfNone, IfOk, IfSome, List, false, filter, map, true};
+ghost use Rattle.std.specs.Str.Lines.{lines};
 ghost use Rattle.scripts.specs.Failures.{IsTextFailure};
+ghost use Rattle.scripts.specs.Script.{IsScript, IsWithin, Size, SpellsAll, SpellsLine, SpellsSetup, is_some, size_of, words_of};
+ghost use Rattle.wire.specs.declared.refusal.Refusal.TheVariants.{BadScript};
 
 use crate::error::Failure;
 use script_lines::Line;
-use std::alloc::Global;
+use std::alloc::{AllocError, Global};
 use wire::Refusal;
 use world::Setup;
 
@@ -15,7 +18,18 @@ pub struct Plan {
     pub lines: Vec<Line>,
 }
 
-fn read_setup(words: &[&str]) -> Option<Setup> {
+/// The lines of a text that are not empty.
+fn lines_of(alloc: Global, text: &str) -> Result<Vec<&str>, AllocError>
+    ensures { IfOk result (λ found. map (λ line. line.now) found.items ≡ filter is_some (lines text.now)) }
+{
+    text.lines().filter(|line| !line.is_empty()).collect(alloc)
+}
+
+/// The setup that these words spell.
+fn setup_of(words: &[&str]) -> Option<Setup>
+    ensures found { IfSome result (λ setup. SpellsSetup (map (λ word. word.now) words.now) (size_of setup)) }
+    ensures none { IfNone result ((size : Size) → SpellsSetup (map (λ word. word.now) words.now) size → ⊥) }
+{
     let ["setup", nodes, servers, target, batch] = words else {
         return None;
     };
@@ -27,45 +41,70 @@ fn read_setup(words: &[&str]) -> Option<Setup> {
     )
 }
 
+/// Reads the first line. An error is want of memory (22), or that it is no setup (60).
+fn read_setup(alloc: Global, line: &str) -> Result<Setup, Failure>
+    ensures found { IfOk result (λ setup. SpellsSetup (words_of line.now) (size_of setup)) }
+    ensures failed { IfErr result IsTextFailure }
+    ensures refused { IfErr result (λ e. e ≡ Failure.Refused BadScript → (size : Size) → SpellsSetup (words_of line.now) size → ⊥) }
+{
+    let words = script_lines::words(alloc, line)?;
+    match setup_of(words.as_slice()) {
+        Some(setup) => Ok(setup),
+        None => Err(Failure::Refused(Refusal::BadScript)),
+    }
+}
+
 /// Whether the line shows no node outside the setup.
-fn is_within(line: &Line, setup: &Setup) -> bool {
+fn is_within(line: &Line, setup: &Setup) -> bool
+    ensures yes { result ≡ true → IsWithin (size_of setup.now) line.now }
+    ensures no { result ≡ false → IsWithin (size_of setup.now) line.now → ⊥ }
+{
     match line {
         Line::Show { node, extent: _ } => (1..=setup.nodes).contains(node),
         _ => true,
     }
 }
 
-/// Reads a line below the setup.
-fn read_line(alloc: Global, words: &[&str], setup: &Setup) -> Result<Line, Failure>
-    ensures { IfErr result IsTextFailure }
+/// Reads a line below the setup. An error is want of memory (22), or that it is no line (60).
+fn read_line(alloc: Global, line: &str, setup: &Setup) -> Result<Line, Failure>
+    ensures found { IfOk result (SpellsLine (size_of setup.now) line.now) }
+    ensures failed { IfErr result IsTextFailure }
+    ensures refused { IfErr result (λ e. e ≡ Failure.Refused BadScript
+        → (found : Line) → SpellsLine (size_of setup.now) line.now found → ⊥) }
 {
-    match script_lines::parse(alloc, words)? {
+    let words = script_lines::words(alloc, line)?;
+    match script_lines::parse(alloc, words.as_slice())? {
         Some(line) if is_within(&line, setup) => Ok(line),
         _ => Err(Failure::Refused(Refusal::BadScript)),
     }
 }
 
-/// Reads the text of a script. Empty lines are passed over.
-pub fn read_plan(alloc: Global, text: &str) -> Result<Plan, Failure>
-    ensures { IfErr result IsTextFailure }
+/// Reads the lines below the setup.
+fn read_lines(alloc: Global, texts: &[&str], setup: &Setup) -> Result<Vec<Line>, Failure>
+    ensures found { IfOk result (λ plan. SpellsAll (size_of setup.now) (map (λ text. text.now) texts.now) plan.items) }
+    ensures failed { IfErr result IsTextFailure }
+    ensures refused { IfErr result (λ e. e ≡ Failure.Refused BadScript
+        → (plan : List Line) → SpellsAll (size_of setup.now) (map (λ text. text.now) texts.now) plan → ⊥) }
 {
-    let mut begun: Option<Setup> = None;
-    let mut lines = Vec::new(alloc);
-    for line in text.lines() {
-        if line.is_empty() {
-            continue;
-        }
-        let words = script_lines::words(alloc, line)?;
-        match &begun {
-            Some(setup) => lines.push(read_line(alloc, words.as_slice(), setup)?)?,
-            None => match read_setup(words.as_slice()) {
-                Some(setup) => begun = Some(setup),
-                None => return Err(Failure::Refused(Refusal::BadScript)),
-            },
-        }
+    let mut plan = Vec::new(alloc);
+    for text in texts {
+        plan.push(read_line(alloc, text, setup)?)?;
     }
-    match begun {
-        Some(setup) => Ok(Plan { setup, lines }),
-        None => Err(Failure::Refused(Refusal::BadScript)),
-    }
+    Ok(plan)
+}
+
+/// Reads the text of a script. Empty lines are passed over. An error is want of memory (22), or that the text is no script (60).
+pub fn read_plan(alloc: Global, text: &str) -> Result<Plan, Failure>
+    ensures found { IfOk result (λ plan. IsScript text.now (size_of plan.setup) plan.lines.items) }
+    ensures failed { IfErr result IsTextFailure }
+    ensures refused { IfErr result (λ e. e ≡ Failure.Refused BadScript
+        → (size : Size) (plan : List Line) → IsScript text.now size plan → ⊥) }
+{
+    let texts = lines_of(alloc, text)?;
+    let Some((first, below)) = texts.as_slice().split_first() else {
+        return Err(Failure::Refused(Refusal::BadScript));
+    };
+    let setup = read_setup(alloc, first)?;
+    let lines = read_lines(alloc, below, &setup)?;
+    Ok(Plan { setup, lines })
 }

@@ -1,18 +1,25 @@
 //! A script as it runs.
-ghost use Rattle.std.specs.Prelude.{IfErr};
+ghost use Rattle.std.specs.Prelude.{◌≡◌, ◌++◌, ◌∷◌, ◌-◌, [], IfErr, IfNone, IfOk, IfSome, OnOk, false, filter, length, not, true};
+ghost use Rattle.std.specs.Io.KnownBytes.{Appends};
+ghost use Rattle.model_clusters.specs.Cluster.{first_cluster};
+ghost use Rattle.scripts.specs.Deliveries.{Delivered, IsLowest, Passed, is_same};
 ghost use Rattle.scripts.specs.Failures.{IsRunFailure};
+ghost use Rattle.scripts.specs.Output.{Prints};
+ghost use Rattle.scripts.specs.Playing.{Delivers, DeliversLowest, DeliversPacket, Happens, IsFresh, IsSettled, Plays, Settles, Submits};
+ghost use Rattle.world.specs.Cluster.{ClusterMirrors};
 
-use crate::deliveries::Deliveries;
+use crate::deliveries::{Deliveries, is_same};
 use crate::error::Failure;
-use crate::printing::print;
+use crate::happening::{happen, look};
+use crate::printing::{print, print_some};
 use crate::tickets::Tickets;
 use model::Event;
-use replica::Phase;
-use reports::{Report, Standing, report_answer, report_note};
+use reports::{Report, report_answer};
 use script_lines::{Line, Request, event_of};
-use std::alloc::Global;
+use std::alloc::{AllocError, Global};
 use std::io::Write;
-use wire::{ActorId, ExtentId, Note, Packet, Refusal, ReqNo};
+use std::marker::Model;
+use wire::{ActorId, Refusal, ReqNo};
 use world::{Run, Setup, WorldFault};
 
 /// The most packets that one settle delivers.
@@ -28,88 +35,29 @@ pub struct Session {
     cut: Vec<ActorId>,
 }
 
-fn print_some<W: Write>(report: Option<Report>, writer: &mut W) -> Result<(), Failure>
-    ensures { IfErr result IsRunFailure }
+impl Model for Session {
+    ghost use Rattle.scripts.specs.Playing.{Stamp};
+
+    ghost Value = { Stamp };
+
+    ghost view = { λ s. record { run = s.run; noted = s.deliveries; tickets = s.tickets; cut = s.cut.items } };
+}
+
+/// Takes an actor out.
+fn take_out(cut: &mut Vec<ActorId>, actor: ActorId)
+    ensures { cut.new.items ≡ filter (λ other. not (is_same other actor)) cut.old.items }
 {
-    match report {
-        Some(report) => print(report, writer),
-        None => Ok(()),
-    }
-}
-
-fn print_notes<W: Write>(notes: &[Note], writer: &mut W) -> Result<(), Failure>
-    ensures { IfErr result IsRunFailure }
-{
-    for note in notes {
-        print_some(report_note(note), writer)?;
-    }
-    Ok(())
-}
-
-fn print_answer<W: Write>(alloc: Global, packet: &Packet, writer: &mut W) -> Result<(), Failure>
-    ensures { IfErr result IsRunFailure }
-{
-    print_some(report_answer(alloc, packet)?, writer)
-}
-
-/// The event is handed over whole, since one that lives on is dropped at each exit.
-fn stepped(run: &mut Run, alloc: Global, event: Event) -> Result<Option<Refusal>, WorldFault> {
-    run.step(alloc, &event)
-}
-
-/// A step that is refused says so.
-fn tell_refusal<W: Write>(
-    told: Result<Option<Refusal>, WorldFault>,
-    writer: &mut W,
-) -> Result<(), Failure>
-    ensures { IfErr result IsRunFailure }
-{
-    match told {
-        Ok(Some(refusal)) => print(Report::Refused(refusal), writer),
-        Ok(None) => Ok(()),
-        Err(WorldFault::Memory) => Err(Failure::Refused(Refusal::Memory)),
-    }
-}
-
-/// An event happens, and says so where it is refused.
-fn happen<W: Write>(
-    run: &mut Run,
-    alloc: Global,
-    event: Event,
-    writer: &mut W,
-) -> Result<(), Failure>
-    ensures { IfErr result IsRunFailure }
-{
-    tell_refusal(stepped(run, alloc, event), writer)
-}
-
-fn standing_of(phase: Phase) -> Standing {
-    match phase {
-        Phase::Open => Standing::Open,
-        Phase::Frozen => Standing::Frozen,
-        Phase::Sealed => Standing::Sealed,
-    }
-}
-
-fn look(run: &Run, node: u8, extent: u64) -> Report {
-    let Some(looked) = run.node(node) else {
-        return Report::Stopped { node, extent };
-    };
-    match looked.replica(ExtentId::new(extent)) {
-        Some(replica) => Report::Replica {
-            node,
-            extent,
-            standing: standing_of(replica.state()),
-            length: replica.len(),
-            fence: replica.fence(),
-        },
-        None => Report::NoReplica { node, extent },
-    }
+    cut.retain(|other| !is_same(other, &actor));
 }
 
 impl Session {
-    /// A stamp of this setup, in which nothing has happened.
-    pub fn start(alloc: Global, setup: &Setup) -> Result<Session, Failure> {
+    /// A stamp of this setup, in which nothing has happened. An error is want of memory (22).
+    pub fn start(alloc: Global, setup: &Setup) -> Result<Session, Failure>
+        ensures fresh { IfOk result IsFresh }
+        ensures mirrors { IfOk result (λ s. ClusterMirrors s.run
+            (first_cluster setup.now.nodes setup.now.servers setup.now.target setup.now.batch)) }
+        ensures failed { IfErr result IsRunFailure }
+    {
         match Run::start(alloc, setup) {
             Ok(run) => Ok(Session {
                 alloc,
@@ -122,21 +70,19 @@ impl Session {
         }
     }
 
-    /// Runs a line, and prints what is observed and answered.
+    /// Runs a line, and prints what is observed and answered. An error is want of memory (22), or that the writer failed.
     pub fn play<W: Write>(&mut self, line: Line, writer: &mut W) -> Result<(), Failure>
-        ensures { IfErr result IsRunFailure }
+        ensures played { OnOk result (Prints (W.contents writer.old) (W.contents writer.new) (λ text. Plays self.old line text self.new)) }
+        ensures failed { IfErr result IsRunFailure }
     {
         match line {
             Line::Submit { user, request } => self.submit(user, request, writer),
             Line::Deliver(number) => self.deliver(number as usize, writer),
-            Line::DeliverLast => match self.run.sent().len().checked_sub(1) {
-                Some(last) => self.deliver(last, writer),
-                None => Ok(()),
-            },
+            Line::DeliverLast => self.deliver_last(writer),
             Line::Settle => self.settle(writer),
             Line::Cut(actor) => self.cut_off(actor),
             Line::Heal(actor) => {
-                self.cut.retain(|other| *other != actor);
+                self.heal(actor);
                 Ok(())
             }
             Line::Show { node, extent } => print(look(&self.run, node, extent), writer),
@@ -146,79 +92,125 @@ impl Session {
 
     /// An event happens, and what is observed of it is printed.
     fn observe<W: Write>(&mut self, event: Event, writer: &mut W) -> Result<(), Failure>
-        ensures { IfErr result IsRunFailure }
+        ensures happens { OnOk result (Prints (W.contents writer.old) (W.contents writer.new) (λ text. Happens self.old event text self.new)) }
+        ensures failed { IfErr result IsRunFailure }
     {
-        let shown = self.run.observations().len();
-        happen(&mut self.run, self.alloc, event, writer)?;
-        match self.run.observations().get(shown..) {
-            Some(more) => print_notes(more, writer),
-            None => Ok(()),
-        }
+        happen(&mut self.run, self.alloc, event, writer)
     }
 
     fn cut_off(&mut self, actor: ActorId) -> Result<(), Failure>
-        ensures { IfErr result IsRunFailure }
+        ensures cut { OnOk result (self.new ≡ record self.old { cut = self.old.cut ++ actor ∷ [] }) }
+        ensures failed { IfErr result IsRunFailure }
     {
         self.cut.push(actor)?;
         Ok(())
     }
 
+    fn heal(&mut self, actor: ActorId)
+        ensures { self.new ≡ record self.old { cut = filter (λ other. not (is_same other actor)) self.old.cut } }
+    {
+        take_out(&mut self.cut, actor);
+    }
+
     fn submit<W: Write>(&mut self, user: u64, asked: Request, writer: &mut W) -> Result<(), Failure>
-        ensures { IfErr result IsRunFailure }
+        ensures submits { OnOk result (Prints (W.contents writer.old) (W.contents writer.new)
+            (λ text. Submits self.old user asked text self.new)) }
+        ensures failed { IfErr result IsRunFailure }
     {
         let ticket = self.tickets.take(user)?;
-        let request = ReqNo::User { user, ticket };
+        let number = ReqNo::User { user, ticket };
         happen(
             &mut self.run,
             self.alloc,
-            event_of(user, request, asked),
+            event_of(user, number, asked),
             writer,
         )
     }
 
-    // A number that was never sent delivers nothing.
+    /// A number that was never sent delivers nothing.
     fn deliver<W: Write>(&mut self, number: usize, writer: &mut W) -> Result<(), Failure>
-        ensures { IfErr result IsRunFailure }
+        ensures delivers { OnOk result (Prints (W.contents writer.old) (W.contents writer.new)
+            (λ text. Delivers self.old number text self.new)) }
+        ensures failed { IfErr result IsRunFailure }
     {
-        if number >= self.run.sent().len() {
-            return Ok(());
-        }
-        self.deliveries.note(number)?;
-        self.observe(Event::Deliver { number }, writer)?;
         match self.run.sent().get(number) {
-            Some(packet) => print_answer(self.alloc, packet, writer),
+            Some(packet) => {
+                let answer = report_answer(self.alloc, packet)?;
+                self.hand_over(number, answer, writer)
+            }
             None => Ok(()),
         }
     }
 
-    fn is_cut(&self, number: usize) -> bool {
-        match self.run.sent().get(number) {
-            Some(packet) => self.cut.contains(&packet.to),
-            None => false,
-        }
+    /// The packet that was sent last is delivered.
+    fn deliver_last<W: Write>(&mut self, writer: &mut W) -> Result<(), Failure>
+        ensures delivers { OnOk result (Prints (W.contents writer.old) (W.contents writer.new)
+            (λ text. Delivers self.old (length self.old.run.layer.post - 1) text self.new)) }
+        ensures failed { IfErr result IsRunFailure }
+    {
+        let last = self.run.sent().len().saturating_sub(1);
+        self.deliver(last, writer)
     }
 
-    /// The lowest packet that a settle delivers next. Those to actors that are cut off are passed over for good.
-    fn next(&mut self) -> Result<Option<usize>, Failure>
-        ensures { IfErr result IsRunFailure }
+    /// Notes that a packet is delivered, so that no settle takes it again.
+    fn note(&mut self, number: usize) -> Result<(), AllocError>
+        ensures noted { OnOk result (Delivered self.old.noted number self.new.noted) }
+        ensures same { OnOk result (self.new ≡ record self.old { noted = self.new.noted }) }
     {
-        let sent = self.run.sent().len();
-        for _ in 0..sent {
-            match self.deliveries.lowest(sent) {
-                Some(number) if self.is_cut(number) => self.deliveries.note(number)?,
-                found => return Ok(found),
+        self.deliveries.note(number)
+    }
+
+    /// Packet `number`, which brings this answer, is delivered.
+    fn hand_over<W: Write>(
+        &mut self,
+        number: usize,
+        answer: Option<Report>,
+        writer: &mut W,
+    ) -> Result<(), Failure>
+        ensures delivers { OnOk result (Prints (W.contents writer.old) (W.contents writer.new)
+            (λ text. DeliversPacket self.old number answer text self.new)) }
+        ensures failed { IfErr result IsRunFailure }
+    {
+        self.note(number)?;
+        self.observe(Event::Deliver { number }, writer)?;
+        print_some(answer, writer)
+    }
+
+    /// The lowest packet that a settle takes, where there is one; those below it are passed over.
+    fn lowest(&mut self) -> Result<Option<usize>, AllocError>
+        ensures found { IfOk result (λ found. IfSome found (λ n. IsLowest self.old.cut self.old.run.layer.post self.old.noted n
+            × Passed self.old.noted n self.new.noted)) }
+        ensures none { IfOk result (λ found. IfNone found (IsSettled self.old self.new)) }
+        ensures same { OnOk result (self.new ≡ record self.old { noted = self.new.noted }) }
+    {
+        self.deliveries.next(self.cut.as_slice(), self.run.sent())
+    }
+
+    /// Delivers the lowest packet that a settle takes; answers whether there was one.
+    fn deliver_lowest<W: Write>(&mut self, writer: &mut W) -> Result<bool, Failure>
+        ensures found { IfOk result (λ found. found ≡ true → Prints (W.contents writer.old) (W.contents writer.new)
+            (λ text. DeliversLowest self.old text self.new)) }
+        ensures none { IfOk result (λ found. found ≡ false → IsSettled self.old self.new
+            × Appends (W.contents writer.old) (W.contents writer.new) []) }
+        ensures failed { IfErr result IsRunFailure }
+    {
+        match self.lowest()? {
+            Some(number) => {
+                self.deliver(number, writer)?;
+                Ok(true)
             }
+            None => Ok(false),
         }
-        Ok(None)
     }
 
     fn settle<W: Write>(&mut self, writer: &mut W) -> Result<(), Failure>
-        ensures { IfErr result IsRunFailure }
+        ensures settles { OnOk result (Prints (W.contents writer.old) (W.contents writer.new)
+            (λ text. Settles self.old text self.new)) }
+        ensures failed { IfErr result IsRunFailure }
     {
-        for _ in 0..MOST_DELIVERIES {
-            match self.next()? {
-                Some(number) => self.deliver(number, writer)?,
-                None => break,
+        for _turn in 0..MOST_DELIVERIES {
+            if !self.deliver_lowest(writer)? {
+                return Ok(());
             }
         }
         Ok(())

@@ -1,11 +1,10 @@
 //! The tickets of users.
-ghost use Rattle.std.specs.Prelude.{◌≡◌, ◌+◌, ◌<◌, ◌^◌, IfOk, Some};
-ghost use Rattle.std.specs.BTreeMap.{get};
-ghost use Rattle.std.specs.Option.{unwrap_or};
-ghost use Rattle.std.specs.Ordering.{nat_cmp};
+ghost use Rattle.std.specs.Prelude.{◌≡◌, [], IfOk};
+ghost use Rattle.scripts.specs.Tickets.{Takes};
 
 use std::alloc::{AllocError, Global};
 use std::collections::BTreeMap;
+use std::marker::Model;
 
 /// How many tickets each user has taken.
 #[derive(Drop)]
@@ -13,18 +12,27 @@ pub struct Tickets {
     taken: BTreeMap<u64, u64>,
 }
 
+impl Model for Tickets {
+    ghost use Rattle.std.specs.Prelude.{ℕ, List};
+
+    ghost Value = { List (ℕ × ℕ) };
+
+    ghost view = { λ t. t.taken.entries };
+}
+
 impl Tickets {
     /// None is taken yet.
-    pub fn new(alloc: Global) -> Tickets {
+    pub fn new(alloc: Global) -> Tickets
+        ensures { result ≡ [] }
+    {
         Tickets {
             taken: BTreeMap::new(alloc),
         }
     }
 
-    /// The next ticket of the user, from 0.
+    /// The next ticket of the user, from 0. An error is want of memory (22).
     pub fn take(&mut self, user: u64) -> Result<u64, AllocError>
-        ensures next { IfOk result (λ ticket. ticket ≡ unwrap_or (get nat_cmp self.old.taken user) 0) }
-        ensures counted { IfOk result (λ ticket. ticket + 1 < 2 ^ 64 → get nat_cmp self.new.taken user ≡ Some (ticket + 1)) }
+        ensures { IfOk result (λ ticket. Takes self.old user ticket self.new) }
     {
         let taken = self.taken.entry(user)?.or_insert(0);
         let ticket = *taken;
