@@ -1,0 +1,20 @@
+//! Who sends the packets of the stories.
+use wire::{ActorId, ServerNo};
+
+/// One of each kind of actor: user 7, server 2, and a node of any number.
+#[derive(Clone, Copy)]
+pub enum Sender {
+    Manager,
+    User,
+    Server,
+    Node(u8),
+}
+
+pub fn actor_of(sender: Sender) -> ActorId {
+    match sender {
+        Sender::Manager => ActorId::Manager,
+        Sender::User => ActorId::User(7),
+        Sender::Server => ActorId::Server(ServerNo::new(2)),
+        Sender::Node(number) => ActorId::Node(number),
+    }
+}
