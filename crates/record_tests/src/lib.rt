@@ -3,7 +3,11 @@
 #![tactic(auto)]
 
 #[cfg(test)]
+mod client_steps;
+#[cfg(test)]
 mod clients;
+#[cfg(test)]
+mod groups;
 #[cfg(test)]
 mod logs;
 #[cfg(test)]

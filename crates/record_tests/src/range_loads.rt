@@ -2,32 +2,35 @@
 use crate::clients::{number, number_in, refused};
 use client::{LoadPhase, RangeLoad};
 use std::alloc::Global;
-use std::test::Fail;
 use wire::{
     ActorId, Body, Fence, Packet, RangeId, Refusal, ServerNo, StreamBody, StreamExtents,
     StreamList, StreamLists,
 };
 
-fn lists(alloc: Global) -> StreamLists {
-    StreamLists {
-        metadata: none(alloc),
-        log: none(alloc),
-        row_data: none(alloc),
-        blob_data: none(alloc),
-    }
-}
-
-fn none(alloc: Global) -> StreamList {
+fn no_extents(alloc: Global) -> StreamList {
     StreamList {
         base: 0,
         extents: StreamExtents::of(Vec::new(alloc)),
     }
 }
 
-fn load() -> (RangeLoad, Packet) {
-    RangeLoad::open_for_load(ServerNo::new(1), RangeId::new(1), Fence::new(2), &number(1))
+fn opened(alloc: Global, session: u64) -> Body {
+    Body::Stream(StreamBody::Opened {
+        request: number_in(session, 1),
+        streams: StreamLists {
+            metadata: no_extents(alloc),
+            log: no_extents(alloc),
+            row_data: no_extents(alloc),
+            blob_data: no_extents(alloc),
+        },
+    })
 }
 
+fn confirmed() -> Body {
+    Body::Stream(StreamBody::Confirmed { request: number(2) })
+}
+
+/// How far the load is once this has come.
 fn told(load: &mut RangeLoad, body: Body) -> LoadPhase {
     let packet = Packet {
         from: ActorId::Manager,
@@ -39,142 +42,116 @@ fn told(load: &mut RangeLoad, body: Body) -> LoadPhase {
     phase
 }
 
-fn opened(alloc: Global, session: u64, count: u64) -> Body {
-    Body::Stream(StreamBody::Opened {
-        request: number_in(session, count),
-        streams: lists(alloc),
-    })
+/// What a load asks for.
+enum Asked {
+    /// That the streams be opened, under the first number.
+    Open,
+    /// That the generation be confirmed, under the second number.
+    Confirm,
 }
 
-fn confirmed(count: u64) -> Body {
-    Body::Stream(StreamBody::Confirmed {
-        request: number(count),
-    })
+fn is_of_load(range: RangeId, generation: Fence) -> bool {
+    range.number() == 1 && generation.number() == 2
 }
 
-fn is_open_request(packet: &Packet, count: u64) -> bool {
-    match &packet.body {
-        Body::Stream(
-            StreamBody::OpenStreams {
-                range,
-                generation,
-                request,
-            },
-        ) => range.number() == 1 && generation.number() == 2 && *request == number(count),
+fn is_request(packet: &Packet, asked: &Asked) -> bool {
+    match (&packet.body, asked) {
+        (
+            Body::Stream(
+                StreamBody::OpenStreams {
+                    range,
+                    generation,
+                    request,
+                },
+            ),
+            Asked::Open,
+        ) => is_of_load(*range, *generation) && *request == number(1),
+        (
+            Body::Stream(
+                StreamBody::Confirm {
+                    range,
+                    generation,
+                    request,
+                },
+            ),
+            Asked::Confirm,
+        ) => is_of_load(*range, *generation) && *request == number(2),
         _ => false,
     }
 }
 
-fn is_confirm_request(packet: &Packet, count: u64) -> bool {
-    match &packet.body {
-        Body::Stream(
-            StreamBody::Confirm {
-                range,
-                generation,
-                request,
-            },
-        ) => range.number() == 1 && generation.number() == 2 && *request == number(count),
-        _ => false,
-    }
-}
-
-fn opens_again(load: &RangeLoad) -> bool {
-    let sent = load.give_up();
+// The packets are let go by calls: at the end of its block a packet is let go part by part, and each part costs the proof.
+fn asks(sent: Option<Packet>, asked: &Asked) -> bool {
     let told = match &sent {
         None => false,
-        Some(packet) => is_open_request(packet, 1),
+        Some(packet) => is_request(packet, asked),
     };
     drop(sent);
     told
 }
 
-fn confirms_again(load: &RangeLoad) -> bool {
-    let sent = load.give_up();
-    let told = match &sent {
-        None => false,
-        Some(packet) => is_confirm_request(packet, 2),
-    };
+fn is_silent(sent: Option<Packet>) -> bool {
+    let silent = sent.is_none();
     drop(sent);
-    told
+    silent
 }
 
-fn asks_again(load: &RangeLoad) -> bool {
-    let sent = load.give_up();
-    let asks = sent.is_some();
-    drop(sent);
-    asks
-}
-
-fn confirms(load: &mut RangeLoad) -> bool {
-    let sent = load.confirm(&number(2));
-    let told = match &sent {
-        None => false,
-        Some(packet) => is_confirm_request(packet, 2),
-    };
-    drop(sent);
-    told
-}
-
-fn opens() -> Option<RangeLoad> {
-    let (load, packet) = load();
-    let asks = is_open_request(&packet, 1);
-    drop(packet);
-    if asks { Some(load) } else { None }
-}
-
-fn begun() -> Result<RangeLoad, Fail> {
-    match opens() {
-        None => Err(Fail::from("the streams are not asked for")),
-        Some(load) => Ok(load),
-    }
+/// A load that has just begun, and whether it asks for its streams.
+fn begun() -> (RangeLoad, bool) {
+    let (load, packet) = RangeLoad::open_for_load(
+        ServerNo::new(1),
+        RangeId::new(1),
+        Fence::new(2),
+        &number(1),
+    );
+    (load, asks(Some(packet), &Asked::Open))
 }
 
 fn opens_other(load: &mut RangeLoad, alloc: Global) -> bool {
-    !confirms(load)
-        && told(load, opened(alloc, 2, 1)) == LoadPhase::Opening { request: number(1) }
+    is_silent(load.confirm(&number(2)))
+        && told(load, opened(alloc, 2)) == LoadPhase::Opening { request: number(1) }
         && load.awaits(&number(1))
-        && load.range().number() == 1
-        && load.generation().number() == 2
-        && opens_again(load)
+        && is_of_load(load.range(), load.generation())
+        && asks(load.give_up(), &Asked::Open)
 }
 
 fn opens_own(load: &mut RangeLoad, alloc: Global) -> bool {
-    told(load, opened(alloc, 1, 1)) == LoadPhase::Opened && !load.is_loaded() && !asks_again(load)
+    told(load, opened(alloc, 1)) == LoadPhase::Opened
+        && !load.is_loaded()
+        && is_silent(load.give_up())
 }
 
 fn is_confirmed(load: &mut RangeLoad) -> bool {
-    confirms(load)
-        && confirms_again(load)
+    asks(load.confirm(&number(2)), &Asked::Confirm)
+        && asks(load.give_up(), &Asked::Confirm)
         && !load.is_loaded()
-        && told(load, confirmed(2)) == LoadPhase::Confirmed
+        && told(load, confirmed()) == LoadPhase::Confirmed
         && load.is_loaded()
 }
 
 #[test]
-fn counts_once_confirmed(rt: HostRuntime) -> Result<(), Fail> {
-    let alloc = rt.alloc();
-    let mut load = begun()?;
-    assert!(rt; opens_other(&mut load, alloc));
-    assert!(rt; opens_own(&mut load, alloc));
+fn counts_once_confirmed(rt: HostRuntime) {
+    let (mut load, begins) = begun();
+    assert!(rt; begins);
+    assert!(rt; opens_other(&mut load, rt.alloc()));
+    assert!(rt; opens_own(&mut load, rt.alloc()));
     assert!(rt; is_confirmed(&mut load));
-    Ok(())
 }
 
 fn is_fenced(load: &mut RangeLoad) -> bool {
-    told(load, refused(2, Refusal::Stale)) == LoadPhase::Fenced
-        && told(load, confirmed(2)) == LoadPhase::Fenced
+    asks(load.confirm(&number(2)), &Asked::Confirm)
+        && told(load, refused(2, Refusal::Stale)) == LoadPhase::Fenced
+        && told(load, confirmed()) == LoadPhase::Fenced
         && load.phase() == LoadPhase::Fenced
         && !load.is_loaded()
 }
 
 #[test]
-fn never_counts_once_fenced(rt: HostRuntime) -> Result<(), Fail> {
-    let alloc = rt.alloc();
-    let mut load = begun()?;
-    assert!(rt; told(&mut load, opened(alloc, 1, 1)) == LoadPhase::Opened);
-    assert!(rt; confirms(&mut load));
+fn never_counts_once_fenced(rt: HostRuntime) {
+    let (mut load, begins) = begun();
+    assert!(rt; begins);
+    assert!(rt; told(&mut load, opened(rt.alloc(), 1)) == LoadPhase::Opened);
     assert!(rt; is_fenced(&mut load));
     load.set_phase(LoadPhase::Opened);
     assert!(rt; load.phase() == LoadPhase::Opened);
-    Ok(())
 }

@@ -32,19 +32,13 @@ fn length_at(table: &MemTable) -> Option<usize> {
     }
 }
 
-// Each of these says whether every step comes to what it should, and each test lets go of its table by a call, before it says what
-// it saw: at the end of its block it is let go part by part, and each part costs the proof.
-fn has_the_later(table: &MemTable) -> bool {
-    length_at(table) == Some(1) && table.size() == 9 && table.live().len() == 1
+/// Whether the later change counts, and stands above a frozen layer once one is made.
+fn layers(alloc: Global, table: &mut MemTable) -> Result<bool, Fail> {
+    Ok(has_the_later(table) && freezes_once(alloc, table) && deletes_above(alloc, table)?)
 }
 
-#[test]
-fn is_the_later_change(rt: HostRuntime) -> Result<(), Fail> {
-    let table = filled(rt.alloc())?;
-    let told = has_the_later(&table);
-    drop(table);
-    assert!(rt; told);
-    Ok(())
+fn has_the_later(table: &MemTable) -> bool {
+    length_at(table) == Some(1) && table.size() == 9 && table.live().len() == 1
 }
 
 fn freezes_once(alloc: Global, table: &mut MemTable) -> bool {
@@ -56,33 +50,27 @@ fn deletes_above(alloc: Global, table: &mut MemTable) -> Result<bool, Fail> {
     Ok(length_at(table) == None && table.size() == 13 && table.fixed().is_some())
 }
 
-fn layers(alloc: Global, table: &mut MemTable) -> Result<bool, Fail> {
-    Ok(freezes_once(alloc, table) && deletes_above(alloc, table)?)
-}
-
+// Each test lets go of its table by a call, before it says what it saw: at the end of its block it is let go part by part, and
+// each part costs the proof.
 #[test]
 fn has_two_layers(rt: HostRuntime) -> Result<(), Fail> {
-    let alloc = rt.alloc();
-    let mut table = filled(alloc)?;
-    let told = layers(alloc, &mut table);
+    let mut table = filled(rt.alloc())?;
+    let told = layers(rt.alloc(), &mut table);
     drop(table);
     assert!(rt; told?);
     Ok(())
 }
 
 fn drops_layer(alloc: Global, table: &mut MemTable) -> bool {
-    if !table.freeze_layer(alloc) {
-        return false;
-    }
+    let frozen = table.freeze_layer(alloc);
     table.drop_layer();
-    length_at(table) == None && table.size() == 0
+    frozen && length_at(table) == None && table.size() == 0
 }
 
 #[test]
 fn has_one_layer_again(rt: HostRuntime) -> Result<(), Fail> {
-    let alloc = rt.alloc();
-    let mut table = filled(alloc)?;
-    let told = drops_layer(alloc, &mut table);
+    let mut table = filled(rt.alloc())?;
+    let told = drops_layer(rt.alloc(), &mut table);
     drop(table);
     assert!(rt; told);
     Ok(())
