@@ -21,7 +21,6 @@ pub(crate) enum Call {
     ReadSealed(usize),
     ReadChecked,
     GiveUp,
-    Reply(Answer),
 }
 
 /// An answer, first with the number that it repeats.
@@ -41,20 +40,26 @@ pub(crate) enum Answer {
 /// A packet that a client sends.
 pub(crate) enum Sent {
     Any,
-    /// An append of two blocks.
-    Append { node: u8, extent: u64 },
+    /// An append of two blocks, to this node and extent.
+    Append(u8, u64),
     /// The extent 1 is to be sealed.
     Seal,
     /// The first extent of the stream is asked for.
     FirstExtend,
     /// An extent behind the extent 1 is asked for.
     Extend,
-    Read { node: u8, upto: u32, sealed: bool },
+    /// A read of a sealed extent up to the length 6, at this node.
+    ReadSealed(u8),
+    /// A read of an open extent up to the length 5, at the node 1.
+    ReadOpen,
 }
 
-/// What an answer brings to an end.
-pub(crate) enum End {
-    /// At this extent and offset.
+/// What comes of a call or an answer: a packet, news, neither or a fault.
+pub(crate) enum Outcome {
+    Silent,
+    /// This packet, which bears this number.
+    Sends(u64, Sent),
+    /// The append stands at this extent and offset.
     Appended(u64, u32),
     /// The extent 1 has this length.
     Checked(u32),
@@ -63,16 +68,6 @@ pub(crate) enum End {
     /// The extent 1 was read up to this length.
     Content(u32),
     Fenced,
-}
-
-/// What comes of a call.
-pub(crate) enum Outcome {
-    /// No packet and no news.
-    Silent,
-    /// Just this packet, which bears this number.
-    Sends(u64, Sent),
-    /// Just this news.
-    Ends(End),
     Refused(ClientFault),
 }
 
@@ -95,9 +90,12 @@ pub(crate) enum Known {
     Checked(u32),
 }
 
+/// What is done with a client, which counts its packets by numbers, and what comes of it.
 pub(crate) enum Step {
-    /// Under this number this is done, and this comes of it.
+    /// It is called, and sends under this number.
     Does(u64, Call, Outcome),
+    /// An answer comes, and it sends under this number.
+    Gets(u64, Answer, Outcome),
     Knows(Known),
 }
 
@@ -108,19 +106,13 @@ pub(crate) struct Case {
     pub(crate) steps: &'static [Step],
 }
 
-/// An append to the extent 1 at its first node.
-const FIRST_APPEND: Sent = Sent::Append { node: 1, extent: 1 };
+const APPENDS: Step = Step::Does(1, Call::Append, Outcome::Sends(1, Sent::Append(1, 1)));
 
-/// A read of the extent 1, sealed at 6 bytes, at its first node.
-const FIRST_READ: Sent = Sent::Read {
-    node: 1,
-    upto: 6,
-    sealed: true,
-};
-
-const APPENDS: Step = Step::Does(1, Call::Append, Outcome::Sends(1, FIRST_APPEND));
-
-const READS: Step = Step::Does(1, Call::ReadSealed(0), Outcome::Sends(1, FIRST_READ));
+const READS: Step = Step::Does(
+    1,
+    Call::ReadSealed(0),
+    Outcome::Sends(1, Sent::ReadSealed(1)),
+);
 
 const CHECKS: Step = Step::Does(1, Call::CheckLength, Outcome::Sends(1, Sent::Any));
 
@@ -130,11 +122,7 @@ pub(crate) const CASES: &[Case] = &[
         last: Last::Open,
         steps: &[
             APPENDS,
-            Step::Does(
-                9,
-                Call::Reply(Answer::Appended(1, 7)),
-                Outcome::Ends(End::Appended(1, 7)),
-            ),
+            Step::Gets(9, Answer::Appended(1, 7), Outcome::Appended(1, 7)),
             Step::Knows(Known::AtRest),
             Step::Knows(Known::Pick),
         ],
@@ -165,24 +153,16 @@ pub(crate) const CASES: &[Case] = &[
         steps: &[
             APPENDS,
             Step::Does(2, Call::GiveUp, Outcome::Sends(2, Sent::Seal)),
-            Step::Does(9, Call::Reply(Answer::Appended(1, 0)), Outcome::Silent),
+            Step::Gets(9, Answer::Appended(1, 0), Outcome::Silent),
             Step::Does(3, Call::GiveUp, Outcome::Sends(2, Sent::Seal)),
-            Step::Does(
-                4,
-                Call::Reply(Answer::SealedIs(2, 3)),
-                Outcome::Sends(4, Sent::Extend),
-            ),
+            Step::Gets(4, Answer::SealedIs(2, 3), Outcome::Sends(4, Sent::Extend)),
             Step::Does(5, Call::GiveUp, Outcome::Sends(4, Sent::Extend)),
-            Step::Does(
+            Step::Gets(
                 6,
-                Call::Reply(Answer::Extended(4, 2)),
-                Outcome::Sends(6, Sent::Append { node: 3, extent: 2 }),
+                Answer::Extended(4, 2),
+                Outcome::Sends(6, Sent::Append(3, 2)),
             ),
-            Step::Does(
-                7,
-                Call::Reply(Answer::Appended(6, 0)),
-                Outcome::Ends(End::Appended(2, 0)),
-            ),
+            Step::Gets(7, Answer::Appended(6, 0), Outcome::Appended(2, 0)),
             Step::Knows(Known::Extents(2)),
         ],
     },
@@ -196,10 +176,10 @@ pub(crate) const CASES: &[Case] = &[
                 Outcome::Refused(ClientFault::NoSuchExtent),
             ),
             Step::Does(1, Call::Append, Outcome::Sends(1, Sent::FirstExtend)),
-            Step::Does(
+            Step::Gets(
                 2,
-                Call::Reply(Answer::Extended(1, 4)),
-                Outcome::Sends(2, Sent::Append { node: 3, extent: 4 }),
+                Answer::Extended(1, 4),
+                Outcome::Sends(2, Sent::Append(3, 4)),
             ),
         ],
     },
@@ -208,9 +188,9 @@ pub(crate) const CASES: &[Case] = &[
         last: Last::Open,
         steps: &[
             APPENDS,
-            Step::Does(
+            Step::Gets(
                 2,
-                Call::Reply(Answer::Refused(1, Refusal::ExtentFull)),
+                Answer::Refused(1, Refusal::ExtentFull),
                 Outcome::Sends(2, Sent::Seal),
             ),
         ],
@@ -225,16 +205,8 @@ pub(crate) const CASES: &[Case] = &[
         last: Last::Open,
         steps: &[
             APPENDS,
-            Step::Does(
-                2,
-                Call::Reply(Answer::Refused(1, Refusal::Busy)),
-                Outcome::Silent,
-            ),
-            Step::Does(
-                2,
-                Call::Reply(Answer::Refused(1, Refusal::Stale)),
-                Outcome::Ends(End::Fenced),
-            ),
+            Step::Gets(2, Answer::Refused(1, Refusal::Busy), Outcome::Silent),
+            Step::Gets(2, Answer::Refused(1, Refusal::Stale), Outcome::Fenced),
             Step::Knows(Known::Idle),
             Step::Does(3, Call::GiveUp, Outcome::Silent),
         ],
@@ -250,57 +222,31 @@ pub(crate) const CASES: &[Case] = &[
             ),
             CHECKS,
             Step::Does(2, Call::CheckLength, Outcome::Refused(ClientFault::Busy)),
-            Step::Does(
-                2,
-                Call::Reply(Answer::Checked(1, Some(5))),
-                Outcome::Ends(End::Checked(5)),
-            ),
+            Step::Gets(2, Answer::Checked(1, Some(5)), Outcome::Checked(5)),
             Step::Knows(Known::Checked(5)),
-            Step::Does(
-                2,
-                Call::ReadChecked,
-                Outcome::Sends(
-                    2,
-                    Sent::Read {
-                        node: 1,
-                        upto: 5,
-                        sealed: false,
-                    },
-                ),
-            ),
+            Step::Does(2, Call::ReadChecked, Outcome::Sends(2, Sent::ReadOpen)),
         ],
     },
     Case {
         name: "tells how far it read",
         last: Last::Sealed(6),
-        steps: &[
-            READS,
-            Step::Does(
-                2,
-                Call::Reply(Answer::Groups(1)),
-                Outcome::Ends(End::Content(6)),
-            ),
-        ],
+        steps: &[READS, Step::Gets(2, Answer::Groups(1), Outcome::Content(6))],
     },
     Case {
         name: "seals what cannot be checked",
         last: Last::Open,
         steps: &[
             CHECKS,
-            Step::Does(
-                2,
-                Call::Reply(Answer::Checked(1, None)),
-                Outcome::Sends(2, Sent::Seal),
-            ),
+            Step::Gets(2, Answer::Checked(1, None), Outcome::Sends(2, Sent::Seal)),
             Step::Does(3, Call::GiveUp, Outcome::Sends(2, Sent::Seal)),
-            Step::Does(
-                3,
-                Call::Reply(Answer::SealedIs(2, 6)),
-                Outcome::Ends(End::Sealed(6)),
-            ),
+            Step::Gets(3, Answer::SealedIs(2, 6), Outcome::Sealed(6)),
             Step::Does(4, Call::CheckLength, Outcome::Refused(ClientFault::NotOpen)),
             Step::Does(4, Call::ReadChecked, Outcome::Refused(ClientFault::NotOpen)),
-            Step::Does(4, Call::ReadSealed(0), Outcome::Sends(4, FIRST_READ)),
+            Step::Does(
+                4,
+                Call::ReadSealed(0),
+                Outcome::Sends(4, Sent::ReadSealed(1)),
+            ),
         ],
     },
     Case {
@@ -313,31 +259,9 @@ pub(crate) const CASES: &[Case] = &[
                 Outcome::Refused(ClientFault::NoSuchExtent),
             ),
             READS,
-            Step::Does(
-                2,
-                Call::GiveUp,
-                Outcome::Sends(
-                    1,
-                    Sent::Read {
-                        node: 2,
-                        upto: 6,
-                        sealed: true,
-                    },
-                ),
-            ),
-            Step::Does(
-                2,
-                Call::GiveUp,
-                Outcome::Sends(
-                    1,
-                    Sent::Read {
-                        node: 3,
-                        upto: 6,
-                        sealed: true,
-                    },
-                ),
-            ),
-            Step::Does(2, Call::GiveUp, Outcome::Sends(1, FIRST_READ)),
+            Step::Does(2, Call::GiveUp, Outcome::Sends(1, Sent::ReadSealed(2))),
+            Step::Does(2, Call::GiveUp, Outcome::Sends(1, Sent::ReadSealed(3))),
+            Step::Does(2, Call::GiveUp, Outcome::Sends(1, Sent::ReadSealed(1))),
         ],
     },
     Case {
@@ -351,7 +275,7 @@ pub(crate) const CASES: &[Case] = &[
             ),
             CHECKS,
             Step::Does(2, Call::GiveUp, Outcome::Sends(2, Sent::Seal)),
-            Step::Does(3, Call::Reply(Answer::Checked(1, Some(5))), Outcome::Silent),
+            Step::Gets(3, Answer::Checked(1, Some(5)), Outcome::Silent),
         ],
     },
 ];

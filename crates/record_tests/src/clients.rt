@@ -1,5 +1,5 @@
 //! The steps of a server's client: what each call and each answer makes it send, bring to an end or refuse.
-use crate::client_steps::{Answer, CASES, Call, Case, End, Known, Last, Outcome, Sent, Step};
+use crate::client_steps::{Answer, CASES, Call, Case, Known, Last, Outcome, Sent, Step};
 use blocks::{Groups, Nodes};
 use bytes::Bytes;
 use client::{Appending, ClientFault, Job, News, Reaction, StreamClient};
@@ -201,7 +201,6 @@ fn called(
         Call::ReadSealed(position) => begun(client.read_sealed(request, *position)),
         Call::ReadChecked => begun(client.read_checked(request)),
         Call::GiveUp => Ok(sent_again(client.give_up(request, &PLACES))),
-        Call::Reply(answer) => reply(client, alloc, request, answer),
     }
 }
 
@@ -267,55 +266,63 @@ fn is_read(packet: &Packet, node: u8, upto: u32, sealed: bool, count: u64) -> bo
 fn is_sent(packet: &Packet, sent: &Sent, count: u64) -> bool {
     match sent {
         Sent::Any => true,
-        Sent::Append { node, extent } => is_append(packet, *node, *extent, count),
+        Sent::Append(node, extent) => is_append(packet, *node, *extent, count),
         Sent::Seal => is_seal(packet, count),
         Sent::FirstExtend => is_extend(packet, false, count),
         Sent::Extend => is_extend(packet, true, count),
-        Sent::Read { node, upto, sealed } => is_read(packet, *node, *upto, *sealed, count),
+        Sent::ReadSealed(node) => is_read(packet, *node, 6, true, count),
+        Sent::ReadOpen => is_read(packet, 1, 5, false, count),
     }
 }
 
-fn news_of(end: &End) -> News {
+fn sends(packet: &Option<Packet>, outcome: &Outcome) -> bool {
+    match (packet, outcome) {
+        (Some(packet), Outcome::Sends(count, sent)) => is_sent(packet, sent, *count),
+        (Some(_packet), _) => false,
+        (None, Outcome::Sends(_count, _sent)) => false,
+        (None, _) => true,
+    }
+}
+
+fn news_of(outcome: &Outcome) -> Option<News> {
     let extent = ExtentId::new(1);
-    match end {
-        End::Appended(extent, offset) => News::Appended {
+    match outcome {
+        Outcome::Appended(extent, offset) => Some(News::Appended {
             extent: ExtentId::new(*extent),
             offset: *offset,
-        },
-        End::Checked(length) => News::Checked {
+        }),
+        Outcome::Checked(length) => Some(News::Checked {
             extent,
             length: *length,
-        },
-        End::Sealed(length) => News::Sealed {
+        }),
+        Outcome::Sealed(length) => Some(News::Sealed {
             extent,
             length: *length,
-        },
-        End::Content(upto) => News::Content {
+        }),
+        Outcome::Content(upto) => Some(News::Content {
             extent,
             upto: *upto,
-        },
-        End::Fenced => News::Fenced,
+        }),
+        Outcome::Fenced => Some(News::Fenced),
+        Outcome::Silent | Outcome::Sends(..) | Outcome::Refused(_) => None,
     }
 }
 
-fn reacts(reaction: &Reaction, outcome: &Outcome) -> bool {
-    let Reaction { packet, news } = reaction;
-    match (packet, outcome) {
-        (None, Outcome::Silent) => *news == None,
-        (None, Outcome::Ends(end)) => *news == Some(news_of(end)),
-        (Some(packet), Outcome::Sends(count, sent)) => {
-            *news == None && is_sent(packet, sent, *count)
-        }
-        _ => false,
-    }
-}
-
-fn comes_to(told: &Result<Reaction, ClientFault>, outcome: &Outcome) -> bool {
+fn is_outcome(told: &Result<Reaction, ClientFault>, outcome: &Outcome) -> bool {
     match (told, outcome) {
-        (Ok(reaction), _) => reacts(reaction, outcome),
         (Err(fault), Outcome::Refused(expected)) => *fault == *expected,
         (Err(_fault), _) => false,
+        (Ok(_reaction), Outcome::Refused(_expected)) => false,
+        (Ok(reaction), _) => {
+            reaction.news == news_of(outcome) && sends(&reaction.packet, outcome)
+        }
     }
+}
+
+fn comes_to(told: Result<Reaction, ClientFault>, outcome: &Outcome) -> bool {
+    let holds = is_outcome(&told, outcome);
+    drop(told);
+    holds
 }
 
 /// Whether a client with one open extent, which is at rest, tells what it was made of.
@@ -360,10 +367,10 @@ fn knows(client: &mut StreamClient, alloc: Global, known: &Known) -> bool {
 fn takes(client: &mut StreamClient, alloc: Global, step: &Step) -> bool {
     match step {
         Step::Does(count, call, outcome) => {
-            let told = called(client, alloc, &number(*count), call);
-            let holds = comes_to(&told, outcome);
-            drop(told);
-            holds
+            comes_to(called(client, alloc, &number(*count), call), outcome)
+        }
+        Step::Gets(count, answer, outcome) => {
+            comes_to(reply(client, alloc, &number(*count), answer), outcome)
         }
         Step::Knows(known) => knows(client, alloc, known),
     }
