@@ -3,13 +3,6 @@
 use client::ClientFault;
 use wire::Refusal;
 
-/// The last extent of a client's stream as it begins, with its length in bytes where it is sealed.
-pub(crate) enum Last {
-    None,
-    Open,
-    Sealed(u32),
-}
-
 /// What a client is called for.
 pub(crate) enum Call {
     /// An append of two blocks.
@@ -99,10 +92,12 @@ pub(crate) enum Step {
     Knows(Known),
 }
 
-/// What a client that begins with this last extent goes through.
+/// What a client goes through, whose stream begins with the extent 1 or with none.
 pub(crate) struct Case {
     pub(crate) name: &'static str,
-    pub(crate) last: Last,
+    pub(crate) has_extent: bool,
+    /// The length in bytes of the extent, if it is sealed.
+    pub(crate) length: Option<u32>,
     pub(crate) steps: &'static [Step],
 }
 
@@ -119,7 +114,8 @@ const CHECKS: Step = Step::Does(1, Call::CheckLength, Outcome::Sends(1, Sent::An
 pub(crate) const CASES: &[Case] = &[
     Case {
         name: "appends to an open extent",
-        last: Last::Open,
+        has_extent: true,
+        length: None,
         steps: &[
             APPENDS,
             Step::Gets(9, Answer::Appended(1, 7), Outcome::Appended(1, 7)),
@@ -129,7 +125,8 @@ pub(crate) const CASES: &[Case] = &[
     },
     Case {
         name: "appends what was made beforehand",
-        last: Last::Open,
+        has_extent: true,
+        length: None,
         steps: &[
             Step::Does(1, Call::AppendMade, Outcome::Sends(1, Sent::Any)),
             Step::Knows(Known::Awaits(1, true)),
@@ -139,7 +136,8 @@ pub(crate) const CASES: &[Case] = &[
     },
     Case {
         name: "takes content by itself",
-        last: Last::Sealed(6),
+        has_extent: true,
+        length: Some(6),
         steps: &[
             READS,
             Step::Knows(Known::Content(1, true)),
@@ -149,7 +147,8 @@ pub(crate) const CASES: &[Case] = &[
     },
     Case {
         name: "appends again behind a sealed extent",
-        last: Last::Open,
+        has_extent: true,
+        length: None,
         steps: &[
             APPENDS,
             Step::Does(2, Call::GiveUp, Outcome::Sends(2, Sent::Seal)),
@@ -168,7 +167,8 @@ pub(crate) const CASES: &[Case] = &[
     },
     Case {
         name: "begins a stream",
-        last: Last::None,
+        has_extent: false,
+        length: None,
         steps: &[
             Step::Does(
                 1,
@@ -185,7 +185,8 @@ pub(crate) const CASES: &[Case] = &[
     },
     Case {
         name: "leaves a full extent",
-        last: Last::Open,
+        has_extent: true,
+        length: None,
         steps: &[
             APPENDS,
             Step::Gets(
@@ -197,12 +198,14 @@ pub(crate) const CASES: &[Case] = &[
     },
     Case {
         name: "appends behind a sealed extent",
-        last: Last::Sealed(3),
+        has_extent: true,
+        length: Some(3),
         steps: &[Step::Does(1, Call::Append, Outcome::Sends(1, Sent::Extend))],
     },
     Case {
         name: "ends where its generation is old",
-        last: Last::Open,
+        has_extent: true,
+        length: None,
         steps: &[
             APPENDS,
             Step::Gets(2, Answer::Refused(1, Refusal::Busy), Outcome::Silent),
@@ -213,7 +216,8 @@ pub(crate) const CASES: &[Case] = &[
     },
     Case {
         name: "reads what was checked",
-        last: Last::Open,
+        has_extent: true,
+        length: None,
         steps: &[
             Step::Does(
                 1,
@@ -229,12 +233,14 @@ pub(crate) const CASES: &[Case] = &[
     },
     Case {
         name: "tells how far it read",
-        last: Last::Sealed(6),
+        has_extent: true,
+        length: Some(6),
         steps: &[READS, Step::Gets(2, Answer::Groups(1), Outcome::Content(6))],
     },
     Case {
         name: "seals what cannot be checked",
-        last: Last::Open,
+        has_extent: true,
+        length: None,
         steps: &[
             CHECKS,
             Step::Gets(2, Answer::Checked(1, None), Outcome::Sends(2, Sent::Seal)),
@@ -251,7 +257,8 @@ pub(crate) const CASES: &[Case] = &[
     },
     Case {
         name: "reads sealed extents at each place in turn",
-        last: Last::Sealed(6),
+        has_extent: true,
+        length: Some(6),
         steps: &[
             Step::Does(
                 1,
@@ -266,7 +273,8 @@ pub(crate) const CASES: &[Case] = &[
     },
     Case {
         name: "seals what is not checked in time",
-        last: Last::Open,
+        has_extent: true,
+        length: None,
         steps: &[
             Step::Does(
                 1,

@@ -1,5 +1,5 @@
 //! The steps of a server's client: what each call and each answer makes it send, bring to an end or refuse.
-use crate::client_steps::{Answer, CASES, Call, Case, Known, Last, Outcome, Sent, Step};
+use crate::client_steps::{Answer, CASES, Call, Case, Known, Outcome, Sent, Step};
 use blocks::{Groups, Nodes};
 use bytes::Bytes;
 use client::{Appending, ClientFault, Job, News, Reaction, StreamClient};
@@ -53,37 +53,31 @@ fn log() -> StreamName {
     }
 }
 
-/// The extents of a stream, whose last, if it has one, is the extent 1.
-fn extents(alloc: Global, last: &Last) -> Result<StreamExtents, Fail> {
+/// A client whose stream has the extent 1, sealed at this length if there is one, or no extent.
+fn client(
+    alloc: Global,
+    has_extent: bool,
+    length: Option<u32>,
+) -> Result<StreamClient, AllocError> {
     let mut items = Vec::new(alloc);
-    let length = match last {
-        Last::None => return Ok(StreamExtents::of(items)),
-        Last::Open => None,
-        Last::Sealed(length) => Some(*length),
-    };
-    items.push(StreamExtent {
-        extent: ExtentId::new(1),
-        places: PLACES,
-        length,
-    })?;
-    Ok(StreamExtents::of(items))
-}
-
-fn client(alloc: Global, last: &Last) -> Result<StreamClient, Fail> {
+    if has_extent {
+        items.push(StreamExtent {
+            extent: ExtentId::new(1),
+            places: PLACES,
+            length,
+        })?;
+    }
     let list = StreamList {
         base: 5,
-        extents: extents(alloc, last)?,
+        extents: StreamExtents::of(items),
     };
-    let made = StreamClient::new(alloc, ServerNo::new(1), log(), Fence::new(2), &list, PLACES);
-    drop(list);
-    Ok(made?)
+    StreamClient::new(alloc, ServerNo::new(1), log(), Fence::new(2), &list, PLACES)
 }
 
-fn blocks(alloc: Global, texts: &[&[u8]]) -> Result<Blocks, AllocError> {
+fn two_blocks(alloc: Global) -> Result<Blocks, AllocError> {
     let mut items = Vec::new(alloc);
-    for text in texts {
-        items.push(Bytes::copy_from_slice(alloc, *text)?)?;
-    }
+    items.push(Bytes::copy_from_slice(alloc, b"abc")?)?;
+    items.push(Bytes::copy_from_slice(alloc, b"de")?)?;
     Ok(Blocks::of(items))
 }
 
@@ -93,7 +87,7 @@ fn append(
     alloc: Global,
     request: &ReqNo,
 ) -> Result<Packet, ClientFault> {
-    match blocks(alloc, &[b"abc", b"de"]) {
+    match two_blocks(alloc) {
         Ok(group) => {
             let sent = client.append(alloc, request, &group);
             drop(group);
@@ -104,10 +98,9 @@ fn append(
 }
 
 fn appending(alloc: Global) -> Result<Appending, AllocError> {
-    let group = blocks(alloc, &[b"abc"])?;
-    let made = Appending::of(alloc, &group);
-    drop(group);
-    made
+    let mut items = Vec::new(alloc);
+    items.push(Bytes::copy_from_slice(alloc, b"abc")?)?;
+    Appending::of(alloc, &Blocks::of(items))
 }
 
 /// Begins an append of one block, made beforehand.
@@ -171,6 +164,10 @@ fn reply(
     };
     let told = client.on_reply(alloc, request, &packet);
     drop(packet);
+    reacted(told)
+}
+
+fn reacted(told: Result<Reaction, AllocError>) -> Result<Reaction, ClientFault> {
     match told {
         Ok(reaction) => Ok(reaction),
         Err(_full) => Err(ClientFault::Memory),
@@ -378,7 +375,7 @@ fn takes(client: &mut StreamClient, alloc: Global, step: &Step) -> bool {
 
 /// The first step of a case, counted from 0, that does not come to what it should.
 fn first_wrong(alloc: Global, case: &Case) -> Result<Option<usize>, Fail> {
-    let mut client = client(alloc, &case.last)?;
+    let mut client = client(alloc, case.has_extent, case.length)?;
     let mut wrong = None;
     for (index, step) in case.steps.iter().enumerate() {
         if !takes(&mut client, alloc, step) {

@@ -14,7 +14,7 @@ pub(crate) fn group_of(alloc: Global, texts: &[&[u8]]) -> Result<Group, BlockFau
     }
 }
 
-/// Whether the blocks of a group, which is let go, are just these.
+/// Whether the blocks of a group, which is let go, are just these, one or two.
 pub(crate) fn has_blocks(group: Group, texts: &[&[u8]]) -> bool {
     let told = are_blocks(&group, texts);
     drop(group);
@@ -22,11 +22,11 @@ pub(crate) fn has_blocks(group: Group, texts: &[&[u8]]) -> bool {
 }
 
 fn are_blocks(group: &Group, texts: &[&[u8]]) -> bool {
-    let blocks = group.blocks();
-    for (block, text) in blocks.iter().zip(texts) {
-        if block.as_slice() != *text {
-            return false;
+    match (group.blocks(), texts) {
+        ([only], [text]) => only.as_slice() == *text,
+        ([first, second], [text, value]) => {
+            first.as_slice() == *text && second.as_slice() == *value
         }
+        _ => false,
     }
-    blocks.len() == texts.len()
 }

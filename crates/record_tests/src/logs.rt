@@ -29,25 +29,40 @@ const LARGE_VALUE: &[u8] = &[b'x'; 5_000];
 
 const LARGE_RECORD: &[&[u8]] = &[LARGE, LARGE_VALUE];
 
-/// The blocks of two records.
-const SPELLINGS: &[&[&[u8]]] = &[&[TEXT], LARGE_RECORD];
+const SPELLED: Result<bool, BlockFault> = Ok(true);
 
-/// Blocks of no record: as `TEXT`, with a byte left over, first number 0, a key of no byte, and a cell of another kind; and
-/// `LARGE` without its value, with another one, and with one more.
-const DAMAGED: &[&[&[u8]]] = &[
-    &[&[
-        0, 0, 0, 25, 0, 0, 0, 0, 0, 0, 0, 1, 0, 1, 1, 0, 1, 97, 1, 0, 0, 0, 1, 120, 0,
-    ]],
-    &[&[
-        0, 0, 0, 24, 0, 0, 0, 0, 0, 0, 0, 0, 0, 1, 1, 0, 1, 97, 1, 0, 0, 0, 1, 120,
-    ]],
-    &[&[
-        0, 0, 0, 23, 0, 0, 0, 0, 0, 0, 0, 1, 0, 1, 1, 0, 0, 1, 0, 0, 0, 1, 120,
-    ]],
-    &[&[0, 0, 0, 19, 0, 0, 0, 0, 0, 0, 0, 1, 0, 1, 1, 0, 1, 97, 3]],
-    &[LARGE],
-    &[LARGE, &[b'x'; 5_001]],
-    &[LARGE, LARGE_VALUE, LARGE_VALUE],
+const DAMAGED: Result<bool, BlockFault> = Err(BlockFault::Damaged);
+
+/// Blocks of two records, and of none: as `TEXT`, with a byte left over, first number 0, a key of no byte, and a cell of
+/// another kind; and `LARGE` without its value, with another one, and with one more.
+const READINGS: &[(&[&[u8]], Result<bool, BlockFault>)] = &[
+    (&[TEXT], SPELLED),
+    (LARGE_RECORD, SPELLED),
+    (
+        &[&[
+            0, 0, 0, 25, 0, 0, 0, 0, 0, 0, 0, 1, 0, 1, 1, 0, 1, 97, 1, 0, 0, 0, 1, 120, 0,
+        ]],
+        DAMAGED,
+    ),
+    (
+        &[&[
+            0, 0, 0, 24, 0, 0, 0, 0, 0, 0, 0, 0, 0, 1, 1, 0, 1, 97, 1, 0, 0, 0, 1, 120,
+        ]],
+        DAMAGED,
+    ),
+    (
+        &[&[
+            0, 0, 0, 23, 0, 0, 0, 0, 0, 0, 0, 1, 0, 1, 1, 0, 0, 1, 0, 0, 0, 1, 120,
+        ]],
+        DAMAGED,
+    ),
+    (
+        &[&[0, 0, 0, 19, 0, 0, 0, 0, 0, 0, 0, 1, 0, 1, 1, 0, 1, 97, 3]],
+        DAMAGED,
+    ),
+    (&[LARGE], DAMAGED),
+    (&[LARGE, &[b'x'; 5_001]], DAMAGED),
+    (&[LARGE, LARGE_VALUE, LARGE_VALUE], DAMAGED),
 ];
 
 // Here and below much is let go by a call: at the end of its block a value is let go part by part, and each part costs the proof.
@@ -61,7 +76,7 @@ fn read(alloc: Global, texts: &[&[u8]]) -> Result<LogRecord, BlockFault>
 }
 
 /// Whether the record of these blocks is spelled as they are.
-fn is_spelled_again(alloc: Global, texts: &[&[u8]]) -> Result<bool, Fail> {
+fn is_spelled_again(alloc: Global, texts: &[&[u8]]) -> Result<bool, BlockFault> {
     let record = read(alloc, texts)?;
     let spelled = encode(alloc, &record);
     drop(record);
@@ -69,17 +84,9 @@ fn is_spelled_again(alloc: Global, texts: &[&[u8]]) -> Result<bool, Fail> {
 }
 
 #[test]
-fn is_spelled_so_by_hand(rt: HostRuntime) -> Result<(), Fail> {
-    for texts in SPELLINGS {
-        assert!(rt; is_spelled_again(rt.alloc(), *texts)?);
-    }
-    Ok(())
-}
-
-#[test]
-fn is_damaged_else(rt: HostRuntime) {
-    for texts in DAMAGED {
-        assert!(rt; read(rt.alloc(), *texts).err() == Some(BlockFault::Damaged));
+fn is_spelled_so_by_hand_and_damaged_else(rt: HostRuntime) {
+    for (texts, expected) in READINGS {
+        assert!(rt; is_spelled_again(rt.alloc(), *texts) == *expected);
     }
 }
 
@@ -149,12 +156,16 @@ fn front_taken(next: u64, first: u64, count: u64) -> Option<u64> {
     Replay::new(next).take_group(first, count).ok()
 }
 
+fn are_refused() -> bool {
+    is_refused(4, 5) && is_refused(u64::MAX, u64::MAX)
+}
+
+fn fronts_are_taken() -> bool {
+    front_taken(4, 2, 5) == Some(2) && front_taken(4, 5, 5) == None
+}
+
 #[test]
 fn is_taken_once(rt: HostRuntime) {
-    assert!(rt; are_taken(&mut Replay::new(1)));
-    assert!(rt; is_refused(4, 5));
-    assert!(rt; is_refused(u64::MAX, u64::MAX));
-    assert!(rt; front_taken(4, 2, 5) == Some(2));
-    assert!(rt; front_taken(4, 5, 5) == None);
+    assert!(rt; are_taken(&mut Replay::new(1)) && are_refused() && fronts_are_taken());
     one_spelling();
 }

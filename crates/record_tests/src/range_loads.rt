@@ -44,6 +44,7 @@ fn told(load: &mut RangeLoad, body: Body) -> LoadPhase {
 
 /// What a load asks for.
 enum Asked {
+    Nothing,
     /// That the streams be opened, under the first number.
     Open,
     /// That the generation be confirmed, under the second number.
@@ -80,20 +81,16 @@ fn is_request(packet: &Packet, asked: &Asked) -> bool {
     }
 }
 
-// The packets are let go by calls: at the end of its block a packet is let go part by part, and each part costs the proof.
+/// Whether a load sends just this. The packet is let go by a call: at the end of its block it is let go part by part, and each
+/// part costs the proof.
 fn asks(sent: Option<Packet>, asked: &Asked) -> bool {
-    let told = match &sent {
-        None => false,
-        Some(packet) => is_request(packet, asked),
+    let told = match (&sent, asked) {
+        (Some(packet), _) => is_request(packet, asked),
+        (None, Asked::Nothing) => true,
+        (None, _) => false,
     };
     drop(sent);
     told
-}
-
-fn is_silent(sent: Option<Packet>) -> bool {
-    let silent = sent.is_none();
-    drop(sent);
-    silent
 }
 
 /// A load that has just begun, and whether it asks for its streams.
@@ -108,7 +105,7 @@ fn begun() -> (RangeLoad, bool) {
 }
 
 fn opens_other(load: &mut RangeLoad, alloc: Global) -> bool {
-    is_silent(load.confirm(&number(2)))
+    asks(load.confirm(&number(2)), &Asked::Nothing)
         && told(load, opened(alloc, 2)) == LoadPhase::Opening { request: number(1) }
         && load.awaits(&number(1))
         && is_of_load(load.range(), load.generation())
@@ -118,7 +115,7 @@ fn opens_other(load: &mut RangeLoad, alloc: Global) -> bool {
 fn opens_own(load: &mut RangeLoad, alloc: Global) -> bool {
     told(load, opened(alloc, 1)) == LoadPhase::Opened
         && !load.is_loaded()
-        && is_silent(load.give_up())
+        && asks(load.give_up(), &Asked::Nothing)
 }
 
 fn is_confirmed(load: &mut RangeLoad) -> bool {
@@ -129,29 +126,32 @@ fn is_confirmed(load: &mut RangeLoad) -> bool {
         && load.is_loaded()
 }
 
+fn counts(load: &mut RangeLoad, alloc: Global) -> bool {
+    opens_other(load, alloc) && opens_own(load, alloc) && is_confirmed(load)
+}
+
 #[test]
 fn counts_once_confirmed(rt: HostRuntime) {
     let (mut load, begins) = begun();
-    assert!(rt; begins);
-    assert!(rt; opens_other(&mut load, rt.alloc()));
-    assert!(rt; opens_own(&mut load, rt.alloc()));
-    assert!(rt; is_confirmed(&mut load));
+    assert!(rt; begins && counts(&mut load, rt.alloc()));
 }
 
-fn is_fenced(load: &mut RangeLoad) -> bool {
-    asks(load.confirm(&number(2)), &Asked::Confirm)
+fn is_fenced(load: &mut RangeLoad, alloc: Global) -> bool {
+    told(load, opened(alloc, 1)) == LoadPhase::Opened
+        && asks(load.confirm(&number(2)), &Asked::Confirm)
         && told(load, refused(2, Refusal::Stale)) == LoadPhase::Fenced
         && told(load, confirmed()) == LoadPhase::Fenced
         && load.phase() == LoadPhase::Fenced
         && !load.is_loaded()
 }
 
+fn has_phase_set(load: &mut RangeLoad) -> bool {
+    load.set_phase(LoadPhase::Opened);
+    load.phase() == LoadPhase::Opened
+}
+
 #[test]
 fn never_counts_once_fenced(rt: HostRuntime) {
     let (mut load, begins) = begun();
-    assert!(rt; begins);
-    assert!(rt; told(&mut load, opened(rt.alloc(), 1)) == LoadPhase::Opened);
-    assert!(rt; is_fenced(&mut load));
-    load.set_phase(LoadPhase::Opened);
-    assert!(rt; load.phase() == LoadPhase::Opened);
+    assert!(rt; begins && is_fenced(&mut load, rt.alloc()) && has_phase_set(&mut load));
 }

@@ -1,4 +1,4 @@
-//! What no clause says: that calls succeed, and one walk through both layers.
+//! What no clause says: that calls succeed, and walks through both layers.
 ghost use Rattle.cells.specs.Cell.{IsCell};
 
 use bytes::Bytes;
@@ -7,21 +7,57 @@ use memtable::MemTable;
 use std::alloc::Global;
 use std::test::Fail;
 
-/// A table with these cells in its live layer: `a` deleted, then `a` a value of one byte.
-fn filled(alloc: Global) -> Result<MemTable, Fail> {
-    let mut table = MemTable::new(alloc);
-    put(alloc, &mut table, Cell::Deleted)?;
-    put(alloc, &mut table, Cell::Inline(Bytes::from_static(b"x")))?;
-    Ok(table)
+/// What is done with a table.
+enum Step {
+    /// `a` is deleted.
+    Delete,
+    /// `a` has a value of one byte.
+    Put,
+    /// The live layer is frozen.
+    Freeze,
+    /// There is a frozen layer already.
+    RefuseFreeze,
+    DropLayer,
 }
 
-fn put(alloc: Global, table: &mut MemTable, cell: Cell) -> Result<(), Fail>
+/// What is done with a new table, step by step, and what it is then: the length of the value at `a`, its size, how many cells
+/// the live layer has, and whether there is a frozen one.
+const WALKS: &[&[(Step, Option<usize>, u64, usize, bool)]] = &[
+    &[
+        (Step::Delete, None, 4, 1, false),
+        (Step::Put, Some(1), 9, 1, false),
+        (Step::Freeze, Some(1), 9, 0, true),
+        (Step::RefuseFreeze, Some(1), 9, 0, true),
+        (Step::Delete, None, 13, 1, true),
+    ],
+    &[
+        (Step::Delete, None, 4, 1, false),
+        (Step::Put, Some(1), 9, 1, false),
+        (Step::Freeze, Some(1), 9, 0, true),
+        (Step::DropLayer, None, 0, 0, false),
+    ],
+];
+
+fn put(alloc: Global, table: &mut MemTable, cell: Cell) -> Result<bool, Fail>
     requires { IsCell cell }
 {
     let mut changes = Vec::new(alloc);
     changes.push((Bytes::from_static(b"a"), cell))?;
     table.apply(alloc, changes)?;
-    Ok(())
+    Ok(true)
+}
+
+fn takes(alloc: Global, table: &mut MemTable, step: &Step) -> Result<bool, Fail> {
+    match step {
+        Step::Delete => put(alloc, table, Cell::Deleted),
+        Step::Put => put(alloc, table, Cell::Inline(Bytes::from_static(b"x"))),
+        Step::Freeze => Ok(table.freeze_layer(alloc)),
+        Step::RefuseFreeze => Ok(!table.freeze_layer(alloc)),
+        Step::DropLayer => {
+            table.drop_layer();
+            Ok(true)
+        }
+    }
 }
 
 /// The length of the value at `a`.
@@ -32,46 +68,32 @@ fn length_at(table: &MemTable) -> Option<usize> {
     }
 }
 
-/// Whether the later change counts, and stands above a frozen layer once one is made.
-fn layers(alloc: Global, table: &mut MemTable) -> Result<bool, Fail> {
-    Ok(has_the_later(table) && freezes_once(alloc, table) && deletes_above(alloc, table)?)
-}
-
-fn has_the_later(table: &MemTable) -> bool {
-    length_at(table) == Some(1) && table.size() == 9 && table.live().len() == 1
-}
-
-fn freezes_once(alloc: Global, table: &mut MemTable) -> bool {
-    table.freeze_layer(alloc) && !table.freeze_layer(alloc) && length_at(table) == Some(1)
-}
-
-fn deletes_above(alloc: Global, table: &mut MemTable) -> Result<bool, Fail> {
-    put(alloc, table, Cell::Deleted)?;
-    Ok(length_at(table) == None && table.size() == 13 && table.fixed().is_some())
-}
-
-// Each test lets go of its table by a call, before it says what it saw: at the end of its block it is let go part by part, and
-// each part costs the proof.
-#[test]
-fn has_two_layers(rt: HostRuntime) -> Result<(), Fail> {
-    let mut table = filled(rt.alloc())?;
-    let told = layers(rt.alloc(), &mut table);
-    drop(table);
-    assert!(rt; told?);
-    Ok(())
-}
-
-fn drops_layer(alloc: Global, table: &mut MemTable) -> bool {
-    let frozen = table.freeze_layer(alloc);
-    table.drop_layer();
-    frozen && length_at(table) == None && table.size() == 0
+/// The first step, counted from 0, that does not come to what it should.
+fn first_wrong(
+    alloc: Global,
+    table: &mut MemTable,
+    steps: &[(Step, Option<usize>, u64, usize, bool)],
+) -> Result<Option<usize>, Fail> {
+    for (index, (step, length, size, live, fixed)) in steps.iter().enumerate() {
+        let holds = takes(alloc, table, step)?
+            && length_at(table) == *length
+            && table.size() == *size
+            && table.live().len() == *live
+            && table.fixed().is_some() == *fixed;
+        if !holds {
+            return Ok(Some(index));
+        }
+    }
+    Ok(None)
 }
 
 #[test]
-fn has_one_layer_again(rt: HostRuntime) -> Result<(), Fail> {
-    let mut table = filled(rt.alloc())?;
-    let told = drops_layer(rt.alloc(), &mut table);
-    drop(table);
-    assert!(rt; told);
+fn each_step_comes_to_what_it_should(rt: HostRuntime) -> Result<(), Fail> {
+    for steps in WALKS {
+        let mut table = MemTable::new(rt.alloc());
+        let wrong = first_wrong(rt.alloc(), &mut table, *steps);
+        drop(table);
+        assert!(rt; wrong? == None);
+    }
     Ok(())
 }

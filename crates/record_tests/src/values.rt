@@ -19,11 +19,6 @@ fn size_of_copy(cell: Cell) -> Result<u64, Fail> {
     Ok(size)
 }
 
-fn size_of_inline(alloc: Global, count: usize) -> Result<u64, Fail> {
-    let cell = inline(alloc, count)?;
-    size_of_copy(cell)
-}
-
 #[test]
 fn cells_have_their_sizes(rt: HostRuntime) -> Result<(), Fail> {
     let place = Place {
@@ -33,17 +28,13 @@ fn cells_have_their_sizes(rt: HostRuntime) -> Result<(), Fail> {
     };
     assert!(rt; size_of_copy(Cell::Deleted)? == 1);
     assert!(rt; size_of_copy(Cell::Placed(place))? == 17);
-    assert!(rt; size_of_inline(rt.alloc(), 4_096)? == 4_101);
+    assert!(rt; size_of_copy(inline(rt.alloc(), 4_096)?)? == 4_101);
     Ok(())
 }
 
 #[test]
-fn an_entry_has_its_key_too(rt: HostRuntime) {
-    assert_eq!(rt; entry_size(b"abc", &Cell::Deleted), 6);
-}
-
-#[test]
-fn large_is_more_than_4096(rt: HostRuntime) {
+fn an_entry_has_its_key_too_and_large_is_more_than_4096(rt: HostRuntime) {
+    assert!(rt; entry_size(b"abc", &Cell::Deleted) == 6);
     assert!(rt; !is_large(&[0; 4_096]));
     assert!(rt; is_large(&[0; 4_097]));
 }
