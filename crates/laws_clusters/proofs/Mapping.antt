@@ -1,8 +1,7 @@
 -- The map of a run has range 1 alone, and tells servers of no other.
-use Rattle.std.proofs.Common.{◌≡◌, ◌⊎◌, ℕ, suc, ◌^◌, Bool, true, false, nat_lt, List, [], ◌∷◌, Option, Some, None, refl, sym, ap, ◌∙◌, subst, inl, inr, arith, if◌then◌else◌, ◌==◌}
+use Rattle.std.proofs.Common.{◌≡◌, ℕ, suc, ◌^◌, Bool, true, false, nat_lt, List, [], ◌∷◌, Option, Some, None, refl, sym, ◌∙◌, arith, if◌then◌else◌, ◌==◌}
 use Rattle.std.specs.Prelude.{map}
 use Rattle.std.proofs.lemmas.Bool.Decides.{nat_tests}
-use Rattle.std.proofs.lemmas.Option.{same_Some}
 use Rattle.wire.specs.declared.actor.ActorId.{ActorId}
 use Rattle.wire.specs.declared.actor.ActorId.TheVariants.{Map, Server}
 use Rattle.wire.specs.declared.actor.ReqNo.{ReqNo}
@@ -15,7 +14,7 @@ use Rattle.model.specs.Outcome.{Outcome, packet}
 use Rattle.model.specs.World.{is_told}
 use Rattle.model.proofs.Tests.{if_elim}
 use Rattle.model_map.specs.declared.range_entry.RangeEntry.{RangeEntry}
-use Rattle.model_map.specs.Map.{MapState, range_at, range_of_key, changed_if, assigned, renewed, assign_taken, assign_row, renew_row, route_row, told, map_row}
+use Rattle.model_map.specs.Map.{MapState, range_at, range_of_key, changed_if, assigned, renewed, assign_row, renew_row, route_row, told, map_row}
 
 -- what the map tells servers of leases is of range 1, and what it tells else says nothing to them
 abbrev pub IsMapWord : MapBody → Type 0

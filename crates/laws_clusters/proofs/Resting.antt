@@ -11,15 +11,12 @@ use Rattle.wire.specs.declared.actor.ActorId.{ActorId}
 use Rattle.wire.specs.declared.actor.ActorId.TheVariants.{Map, Server}
 use Rattle.wire.specs.declared.actor.ReqNo.{ReqNo}
 use Rattle.wire.specs.declared.body.Body.{Body}
-use Rattle.wire.specs.declared.body.Body.TheVariants as bodies
-use Rattle.wire.specs.declared.body.MapBody.TheVariants as maps
 use Rattle.wire.specs.declared.note.Note.{Note}
 use Rattle.wire.specs.declared.packet.Packet.{Packet}
-use Rattle.wire.specs.declared.refusal.Refusal.{Refusal}
 use Rattle.replica.specs.Groups.{Group}
 use Rattle.model.specs.Maps.{entry_at}
 use Rattle.model.specs.Outcome.{packet}
-use Rattle.model.specs.World.{Cell as MapCell, World, Move, sent_more, start, is_told}
+use Rattle.model.specs.World.{Cell as MapCell, World, Move, sent_more, start}
 use Rattle.model.specs.World.Move.{Says}
 use Rattle.laws_streams.proofs.Law.{run_moves_push}
 use Rattle.model_tables.specs.Servers.{ServerCell, with_told, cell_rests, cell_does, cell_stops, cell_starts, first_pick, at_server, server_stops, server_starts, told_moment}

@@ -1,11 +1,8 @@
 -- A cluster stands on through what the map does, its stops and its restarts.
-use Rattle.std.proofs.Common.{◌≡◌, ℕ, Bool, List, [], ◌∷◌, Option, Some, None, refl, sym, ap, subst, append-nil, ◌==◌}
-use Rattle.wire.specs.declared.actor.ActorId.{ActorId}
-use Rattle.wire.specs.declared.actor.ActorId.TheVariants.{Map}
-use Rattle.wire.specs.declared.body.Body.{Body}
+use Rattle.std.proofs.Common.{ℕ, Bool, List, [], Option, Some, None, refl, sym, subst, ◌==◌}
 use Rattle.wire.specs.declared.packet.Packet.{Packet}
 use Rattle.wire.specs.declared.refusal.Refusal.{Refusal}
-use Rattle.model.specs.Outcome.{Outcome, packet}
+use Rattle.model.specs.Outcome.{Outcome}
 use Rattle.model.specs.World.{Cell, running, down, armed, burnt, stops_in, stands_in, sent_more}
 use Rattle.model.proofs.Tests.{if_elim}
 use Rattle.model_map.specs.Map.{MapState, range_at, assign_fault, assign_row, renew_fault, renew_row, map_row}

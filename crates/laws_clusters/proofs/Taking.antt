@@ -40,14 +40,15 @@ use Rattle.laws_serving.proofs.Rows.{refused_plain}
 use Rattle.laws_serving.proofs.Shared.{taken}
 use Rattle.laws_serving.proofs.Sides.{asked_joined}
 use Rattle.laws_reads.specs.Reads.{HasReadIf}
-use Rattle.laws_servers.specs.Sending.{MaySendAll}
-use Rattle.laws_servers.proofs.Calling as calling
-use Rattle.laws_servers.proofs.Stepping.{refused_all, transact_tidy, get_tidy, answer_shows, give_up_tidy}
+use Rattle.laws_servers.specs.Sending.{AllFromServers}
+use Rattle.laws_servers.proofs.Calling.{all_both, may_send_all}
+use Rattle.laws_servers.proofs.Serving.{users_all}
+use Rattle.laws_servers.proofs.Stepping.{transact_tidy, get_tidy, answer_shows, give_up_tidy}
 use Rattle.laws_clusters.proofs.Going as going
 use Rattle.laws_clusters.proofs.Numbers.{entry_set}
 use Rattle.laws_clusters.proofs.Resting.{renew_stands, told_nothing, row_done, rests_quiet, quiet_stands, picks_stand, still_runs, cell_stands}
 use Rattle.laws_clusters.proofs.Rowing.{Done, both, unloading, transact_done, get_done, give_up_done, answer_done, assigned_done}
-use Rattle.laws_clusters.proofs.Senders.{AllFromServers, all_both, transact_sends, get_sends, answer_sends, give_up_all_sends, users_sends, none_from_map}
+use Rattle.laws_clusters.proofs.Senders.{none_from_map}
 use Rattle.laws_clusters.proofs.Mapping.{IsWord, IsMapWord}
 use Rattle.laws_clusters.proofs.Standing.{here, m_side, l_side, Holds, HeldAs, Standing}
 use Rattle.laws_clusters.proofs.Step as steps
@@ -87,11 +88,11 @@ module _ (generation : ℕ → ℕ) (plenty : (g n : ℕ) → (i : ℕ) × (n �
     rests_good = quiet_stands generation nodes target c s cell st at is (rests st) (rests_quiet st) x
 
     -- what a row of a range leaves
-    done_good : (i : ℕ) → ((t : ℕ) → (t ≡ s → ⊥) → x.incarnation t ≡ Some i → ⊥) → (o : RangeOutcome) → Done generation nodes target c x i st.desk o → MaySendAll o.packets → AllFromServers o.packets →
+    done_good : (i : ℕ) → ((t : ℕ) → (t ≡ s → ⊥) → x.incarnation t ≡ Some i → ⊥) → (o : RangeOutcome) → Done generation nodes target c x i st.desk o → AllFromServers o.packets →
         (after : ServerState) → after.desk ≡ record st.desk { count = o.count } → (after.ranges ≡ []) ⊎ ((r : RangeState) × (after.ranges ≡ (1, r) ∷ []) × (o.after ≡ Some r)) →
         Good (record { after = after; packets = o.packets; notes = o.notes })
-    done_good i alone o k may senders after desk_is shape =
-        steps.stepped generation nodes target c x s cell st at is i alone o k.row k.sound k.read o.packets may k.row.goes.asked (none_from_map o.packets senders) after desk_is shape k.rows k.told k.shows
+    done_good i alone o k senders after desk_is shape =
+        steps.stepped generation nodes target c x s cell st at is i alone o k.row k.sound k.read o.packets (may_send_all o.packets senders) k.row.goes.asked (none_from_map o.packets senders) after desk_is shape k.rows k.told k.shows
 
     -- ---- packets that are plain
 
@@ -128,11 +129,11 @@ module _ (generation : ℕ → ℕ) (plenty : (g n : ℕ) → (i : ℕ) × (n �
       }
 
       plain_good : (a : Option RangeState) → FollowsIf generation 1 w i a m l → IsSoundIf a → HasReadIf 1 w i l.stand.state a → (p : Packet) → AreAsked generation 1 w i (log_of 1) l.stand l.sent (p ∷ []) →
-          MaySendAll (p ∷ []) → AllFromServers (p ∷ []) → (st.ranges ≡ []) ⊎ ((r : RangeState) × (st.ranges ≡ (1, r) ∷ []) × (a ≡ Some r)) → Good (sends_one st p)
+          AllFromServers (p ∷ []) → (st.ranges ≡ []) ⊎ ((r : RangeState) × (st.ranges ≡ (1, r) ∷ []) × (a ≡ Some r)) → Good (sends_one st p)
       unfolding plain_tells
-      plain_good a f sound read p asked may senders shape =
+      plain_good a f sound read p asked senders shape =
           done_good i alone (record { after = a; count = st.desk.count; packets = p ∷ []; notes = [] })
-          (unloading generation nodes target c x i st.desk (record { after = a; count = st.desk.count; packets = p ∷ []; notes = [] }) (plain_tells a f (p ∷ []) asked) tt sound read) may senders st refl shape
+          (unloading generation nodes target c x i st.desk (record { after = a; count = st.desk.count; packets = p ∷ []; notes = [] }) (plain_tells a f (p ∷ []) asked) tt sound read) senders st refl shape
 
     -- ---- a server with no range
 
@@ -151,20 +152,17 @@ module _ (generation : ℕ → ℕ) (plenty : (g n : ℕ) → (i : ℕ) × (n �
       users_plain name y sent None = tt
       users_plain name y sent (Some r) = refused_plain generation 1 w i name y sent st.desk (waiting_out r.out ++ r.queue) r.gets refusals.NotOwner
 
-      users_may : (a : Option RangeState) → MaySendAll (users_of st.desk a)
-      users_may None = tt
-      users_may (Some r) = refused_all st.desk r
-
       taken_good : (ranges : List (ℕ × RangeState)) → ranges ≡ (1, new_range st.desk 1 (generation i) until) ∷ [] →
           Good (record { after = record { desk = used st.desk; ranges = ranges }; packets = users_of st.desk known ++ open_packet st.desk.server 1 (generation i) (request st.desk) ∷ []; notes = [] })
       taken_good ranges only =
           let a : Side = going.m_after generation nodes target x.moves x.streams i st.desk by o k.row in
           let b : Side = going.l_after generation nodes target x.moves x.streams i st.desk by o k.row in
+          let senders : AllFromServers (users_of st.desk known ++ o.packets) = all_both (users_of st.desk known) o.packets (users_all st.desk known) ((st.desk.server, refl, inl refl), tt) in
           steps.stepped generation nodes target c x s cell st at is i (fresh_alone i free) o k.row k.sound k.read (users_of st.desk known ++ o.packets)
-          (calling.all_both (users_of st.desk known) o.packets (users_may known) (inl (record { server = st.desk.server; from = refl; call = refl }), tt))
+          (may_send_all (users_of st.desk known ++ o.packets) senders)
           (asked_joined generation 1 w i (both generation nodes target c x) a b (users_of st.desk known) o.packets
           (asked_of_both generation 1 w i (both generation nodes target c x) a b k.row.goes.sent_by.apart (users_of st.desk known) (users_plain (log_of 1) b.stand b.sent known)) k.row.goes.asked)
-          (none_from_map (users_of st.desk known ++ o.packets) (all_both (users_of st.desk known) o.packets (users_sends st.desk known) ((st.desk.server, refl), tt)))
+          (none_from_map (users_of st.desk known ++ o.packets) senders)
           (record { desk = used st.desk; ranges = ranges }) refl (inr (new_range st.desk 1 (generation i) until, only, refl)) k.rows k.told k.shows
 
     assign_good : (known : Option RangeState) (g until : ℕ) (ranges : List (ℕ × RangeState)) → ((v : RangeState) → insert_entry nat_cmp ranges 1 v ≡ (1, v) ∷ []) → st.ranges ≡ ranges →
@@ -186,7 +184,7 @@ module _ (generation : ℕ → ℕ) (plenty : (g n : ℕ) → (i : ℕ) × (n �
 
     refuse_bare : st.ranges ≡ [] → (from : ActorId) (q : ReqNo) → Good (sends_one st (refuses st.desk from q refusals.NotOwner))
     refuse_bare none from q =
-        plain_good x.bound (fresh_alone x.bound (omega arith)) None tt tt tt (refuses st.desk from q refusals.NotOwner) (inl (λ n y z. tt), tt) (inr refl, tt) ((st.desk.server, refl), tt) (inl none)
+        plain_good x.bound (fresh_alone x.bound (omega arith)) None tt tt tt (refuses st.desk from q refusals.NotOwner) (inl (λ n y z. tt), tt) ((st.desk.server, refl, inr refl), tt) (inl none)
 
     -- ---- a server with a range
 
@@ -196,10 +194,10 @@ module _ (generation : ℕ → ℕ) (plenty : (g n : ℕ) → (i : ℕ) × (n �
 
       refuse_held : (from : ActorId) (q : ReqNo) → Good (sends_one st (refuses st.desk from q refusals.NotOwner))
       refuse_held from q =
-          plain_good i alone (Some r) h.follows h.sound h.read (refuses st.desk from q refusals.NotOwner) (inl (λ n y z. tt), tt) (inr refl, tt) ((st.desk.server, refl), tt) (inr (r, only, refl))
+          plain_good i alone (Some r) h.follows h.sound h.read (refuses st.desk from q refusals.NotOwner) (inl (λ n y z. tt), tt) ((st.desk.server, refl, inr refl), tt) (inr (r, only, refl))
 
-      step_good : (o : RangeOutcome) → Done generation nodes target c x i st.desk o → MaySendAll o.packets → AllFromServers o.packets → Good (stepped st 1 o)
-      step_good o k may senders = done_good i alone o k may senders (stepped st 1 o).after refl (shape o.after)
+      step_good : (o : RangeOutcome) → Done generation nodes target c x i st.desk o → AllFromServers o.packets → Good (stepped st 1 o)
+      step_good o k senders = done_good i alone o k senders (stepped st 1 o).after refl (shape o.after)
         where
           shape : (a : Option RangeState) → (set_range st.ranges 1 a ≡ []) ⊎ ((z : RangeState) × (set_range st.ranges 1 a ≡ (1, z) ∷ []) × (a ≡ Some z))
           shape None = inl (ap (λ z. set_range z 1 None) only)
@@ -210,7 +208,7 @@ module _ (generation : ℕ → ℕ) (plenty : (g n : ℕ) → (i : ℕ) × (n �
           subst (λ z. Good (transacts_in st p range changes q (range_of z range))) (sym only)
           (⊎_elim {C = Good (transacts_in st p range changes q (range_of ((1, r) ∷ []) range))}
           (λ same. subst (λ z. Good (transacts_in st p z changes q (range_of ((1, r) ∷ []) z))) (sym same)
-          (step_good (transact_row st.desk r p.from q changes) (transact_done generation nodes target c x i st.desk by r h p.from q changes) (transact_tidy st.desk r p.from q changes).0 (transact_sends st.desk r p.from q changes)))
+          (step_good (transact_row st.desk r p.from q changes) (transact_done generation nodes target c x i st.desk by r h p.from q changes) (transact_tidy st.desk r p.from q changes).0))
           (λ none. subst (λ z. Good (transacts_in st p range changes q z)) (sym none) (refuse_held p.from q)) (one_range r range))
 
       get_good : (p : Packet) (range : ℕ) (key : List ℕ) (q : ReqNo) (held : List (Place × List ℕ)) → Good (gets_in st p range key q held (range_of st.ranges range))
@@ -218,7 +216,7 @@ module _ (generation : ℕ → ℕ) (plenty : (g n : ℕ) → (i : ℕ) × (n �
           subst (λ z. Good (gets_in st p range key q held (range_of z range))) (sym only)
           (⊎_elim {C = Good (gets_in st p range key q held (range_of ((1, r) ∷ []) range))}
           (λ same. subst (λ z. Good (gets_in st p z key q held (range_of ((1, r) ∷ []) z))) (sym same)
-          (step_good (get_row st.desk r p.from q key held) (get_done generation nodes target c x i st.desk by r h p.from q key held) (get_tidy st.desk r p.from q key held).0 (get_sends st.desk r p.from q key held)))
+          (step_good (get_row st.desk r p.from q key held) (get_done generation nodes target c x i st.desk by r h p.from q key held) (get_tidy st.desk r p.from q key held).0))
           (λ none. subst (λ z. Good (gets_in st p range key q held z)) (sym none) (refuse_held p.from q)) (one_range r range))
 
       answer_good : (p : Packet) → Contains w.post (packet p.from (Server s) p.body) → is_answerer p.from p.body ≡ true → (v : ReqNo) → answered_number p.body ≡ Some v → (held : List (Place × List ℕ)) →
@@ -228,8 +226,7 @@ module _ (generation : ℕ → ℕ) (plenty : (g n : ℕ) → (i : ℕ) × (n �
           go : (b : Bool) → Good (answer_of st p v held (if b then Some 1 else None))
           go true =
               subst (λ z. Good (answer_in st p v held 1 (range_of z 1))) (sym only)
-              (step_good (answer_row st.desk r v p.body held) (answer_done generation nodes target c x i st.desk by r h p.from s p.body there gives v number held) (answer_shows st.desk r v p.body held).0
-              (answer_sends st.desk r v p.body held))
+              (step_good (answer_row st.desk r v p.body held) (answer_done generation nodes target c x i st.desk by r h p.from s p.body there gives v number held) (answer_shows st.desk r v p.body held).0)
           go false = rests_good
 
       give_up_good : (o : ServerOutcome) (range : ℕ) → gives_up st range (range_of st.ranges range) ≡ Some o → Good o
@@ -242,7 +239,7 @@ module _ (generation : ℕ → ℕ) (plenty : (g n : ℕ) → (i : ℕ) × (n �
           found same k = let is_it : (if has_numbers st.desk then stepped st 1 (give_up_all st.desk r) else rests st) ≡ o = cc in subst Good is_it (go (has_numbers st.desk))
             where
               go : (b : Bool) → Good (if b then stepped st 1 (give_up_all st.desk r) else rests st)
-              go true = step_good (give_up_all st.desk r) (give_up_done generation nodes target c x i st.desk by r h) (give_up_tidy st.desk r).0 (give_up_all_sends st.desk r)
+              go true = step_good (give_up_all st.desk r) (give_up_done generation nodes target c x i st.desk by r h) (give_up_tidy st.desk r).0
               go false = rests_good
 
     -- ---- any server

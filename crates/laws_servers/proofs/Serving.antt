@@ -20,34 +20,34 @@ use Rattle.model.proofs.Tests.{if_elim}
 use Rattle.model.specs.Maps.{entry_at}
 use Rattle.model_tables.specs.declared.desk.Desk.{Desk}
 use Rattle.model_tables.specs.Range.{RangeState}
-use Rattle.model_tables.specs.Answering.{answered_number, is_answerer, answer_row}
+use Rattle.model_tables.specs.Answering.{answered_number, is_answerer, answer_row, give_up_all}
 use Rattle.model_tables.specs.Server.{ServerState, ServerOutcome, range_of, awaiting, users_of, is_newer, assign_row, renew_row, told_by_map, map_row, transacts_in, gets_in, table_row, answer_in, answer_of, numbered_row, taken_row, has_numbers, server_row, gives_up}
 use Rattle.model_tables.specs.Servers.{Held, ArePlain, ShowsLoad, ServerCell, ServersOutcome, live_of, live_at, loads, cell_loads, server_loads, cell_takes, cell_given_up, cell_gives_up, cell_stops, cell_starts, at_server, server_takes, server_gives_up, server_stops, server_starts}
-use Rattle.laws_servers.specs.Sending.{MaySendAll}
-use Rattle.laws_servers.proofs.Calling.{all_both}
+use Rattle.laws_servers.specs.Sending.{MaySendAll, AllFromServers}
+use Rattle.laws_servers.proofs.Calling.{all_both, may_send_all}
 use Rattle.laws_servers.proofs.Stepping.{ShowsFrom, live_with, refused_all, transact_tidy, get_tidy, answer_shows, give_up_tidy}
 
--- it sends what a server may send, and shows no loaded table
+-- what it sends is from a server, and it shows no loaded table
 abbrev pub AreTidy : ServerOutcome → Type 0
-AreTidy o = MaySendAll o.packets × ArePlain o.notes
+AreTidy o = AllFromServers o.packets × ArePlain o.notes
 
--- it sends what a server may send, and shows no loaded table but this
+-- what it sends is from a server, and it shows no loaded table but this
 abbrev pub Shows : Option Entries → ServerOutcome → Type 0
-Shows loading o = MaySendAll o.packets × ShowsLoad loading o.notes
+Shows loading o = AllFromServers o.packets × ShowsLoad loading o.notes
 
 plainly : (loading : Option Entries) (o : ServerOutcome) → AreTidy o → Shows loading o
 plainly loading o h = (h.0, inl h.1)
 
 -- ---- what the map tells
 
-users_all : (d : Desk) (known : Option RangeState) → MaySendAll (users_of d known)
+pub users_all : (d : Desk) (known : Option RangeState) → AllFromServers (users_of d known)
 users_all d None = tt
 users_all d (Some r) = refused_all d r
 
 assign_tidy : (s : ServerState) (range generation until : ℕ) (known : Option RangeState) → AreTidy (assign_row s range generation until known)
 assign_tidy s range generation until known =
     if_elim AreTidy (is_newer generation known) _ _
-    (λ t. (all_both (users_of s.desk known) _ (users_all s.desk known) (inl (record { server = s.desk.server; from = refl; call = refl }), tt), tt))
+    (λ t. (all_both (users_of s.desk known) _ (users_all s.desk known) ((s.desk.server, refl, inl refl), tt), tt))
     (λ f. (tt, tt))
 
 renew_tidy : (s : ServerState) (range generation until : ℕ) (known : Option RangeState) → AreTidy (renew_row s range generation until known)
@@ -57,68 +57,40 @@ renew_tidy s range generation until (Some r) = if_elim AreTidy (r.load.generatio
 told_tidy : (s : ServerState) (body : MapBody) → AreTidy (told_by_map s body)
 told_tidy s (maps.Assign range generation until) = assign_tidy s range generation until (range_of s.ranges range)
 told_tidy s (maps.Renew range generation until) = renew_tidy s range generation until (range_of s.ranges range)
-told_tidy s (maps.Route key q) = (tt, tt)
-told_tidy s (maps.RouteIs q range server) = (tt, tt)
-told_tidy s (maps.BeginSplit range generation key q) = (tt, tt)
-told_tidy s (maps.SplitBegun q low high) = (tt, tt)
-told_tidy s (maps.CompleteSplit range generation q) = (tt, tt)
-told_tidy s (maps.SplitDone q) = (tt, tt)
-told_tidy s (maps.BeginMerge left left_generation right right_generation q) = (tt, tt)
-told_tidy s (maps.MergeBegun q range) = (tt, tt)
-told_tidy s (maps.CompleteMerge left left_generation right right_generation q) = (tt, tt)
-told_tidy s (maps.MergeDone q) = (tt, tt)
+told_tidy s body = (tt, tt)
 
 map_tidy : (s : ServerState) (from : ActorId) (body : MapBody) → AreTidy (map_row s from body)
-map_tidy s (actors.Node n) body = (tt, tt)
-map_tidy s actors.Manager body = (tt, tt)
 map_tidy s actors.Map body = told_tidy s body
-map_tidy s (actors.Server n) body = (tt, tt)
-map_tidy s (actors.User u) body = (tt, tt)
+map_tidy s from body = (tt, tt)
 
 -- ---- what users ask
 
 transacts_tidy : (s : ServerState) (p : Packet) (range : ℕ) (changes : List Change) (q : ReqNo) (known : Option RangeState) → AreTidy (transacts_in s p range changes q known)
-transacts_tidy s p range changes q None = ((inr refl, tt), tt)
+transacts_tidy s p range changes q None = (((s.desk.server, refl, inr refl), tt), tt)
 transacts_tidy s p range changes q (Some r) = transact_tidy s.desk r p.from q changes
 
 gets_tidy : (s : ServerState) (p : Packet) (range : ℕ) (key : List ℕ) (q : ReqNo) (held : Held) (known : Option RangeState) → AreTidy (gets_in s p range key q held known)
-gets_tidy s p range key q held None = ((inr refl, tt), tt)
+gets_tidy s p range key q held None = (((s.desk.server, refl, inr refl), tt), tt)
 gets_tidy s p range key q held (Some r) = get_tidy s.desk r p.from q key held
 
 table_tidy : (s : ServerState) (p : Packet) (body : TableBody) (held : Held) → AreTidy (table_row s p body held)
 table_tidy s p (tables.Transact range changes q) held = transacts_tidy s p range changes q (range_of s.ranges range)
-table_tidy s p (tables.Committed q number) held = (tt, tt)
 table_tidy s p (tables.Get range key q) held = gets_tidy s p range key q held (range_of s.ranges range)
-table_tidy s p (tables.Value q value) held = (tt, tt)
+table_tidy s p body held = (tt, tt)
 
 -- ---- answers
 
 -- the range that shows its table is the one that waits for the answer
 live_is : (s : ServerState) (body : StreamBody) (w : ReqNo) (range : ℕ) (r : RangeState) → answered_number (bodies.Stream body) ≡ Some w → awaiting s.ranges w ≡ Some range →
     range_of s.ranges range ≡ Some r → live_with r (bodies.Stream body) ≡ loads s (bodies.Stream body)
-live_is s (streams.CreateStream stream fence q) w range r number waits known = refl
-live_is s (streams.Created q) w range r number waits known = refl
-live_is s (streams.OpenStreams n generation q) w range r number waits known = refl
-live_is s (streams.Opened q lists) w range r number waits known = refl
-live_is s (streams.Confirm n generation q) w range r number waits known = refl
 live_is s (streams.Confirmed q) w range r number waits known =
     sym (ap (λ (x : ReqNo). live_at s (awaiting s.ranges x)) (same_Some q w number) ∙ ap (live_at s) waits ∙ ap live_of known)
-live_is s (streams.Extend stream generation last pick q) w range r number waits known = refl
-live_is s (streams.Extended q e at) w range r number waits known = refl
-live_is s (streams.Trim n generation before to_blob q) w range r number waits known = refl
-live_is s (streams.Trimmed q) w range r number waits known = refl
-live_is s (streams.MultiModify list q) w range r number waits known = refl
-live_is s (streams.Modified q) w range r number waits known = refl
+live_is s body w range r number waits known = refl
 
 live_loads : (s : ServerState) (body : Body) (w : ReqNo) (range : ℕ) (r : RangeState) → answered_number body ≡ Some w → awaiting s.ranges w ≡ Some range →
     range_of s.ranges range ≡ Some r → live_with r body ≡ loads s body
-live_loads s (bodies.Append body) w range r number waits known = refl
-live_loads s (bodies.Check body) w range r number waits known = refl
-live_loads s (bodies.Seal body) w range r number waits known = refl
-live_loads s (bodies.Read body) w range r number waits known = refl
 live_loads s (bodies.Stream body) w range r number waits known = live_is s body w range r number waits known
-live_loads s (bodies.Map body) w range r number waits known = refl
-live_loads s (bodies.Table body) w range r number waits known = refl
+live_loads s body w range r number waits known = refl
 
 answer_in_shows : (s : ServerState) (p : Packet) (w : ReqNo) (held : Held) (range : ℕ) (known : Option RangeState) → answered_number p.body ≡ Some w → awaiting s.ranges w ≡ Some range →
     range_of s.ranges range ≡ known → Shows (loads s p.body) (answer_in s p w held range known)
@@ -144,13 +116,9 @@ answered_shows s p held body is =
     subst (λ (b : Body). Shows (loads s b) (numbered_row s p held (answered_number b))) is (numbered_shows s p held (answered_number p.body) refl)
 
 taken_shows : (s : ServerState) (p : Packet) (body : Body) (held : Held) → p.body ≡ body → Shows (loads s body) (taken_row s p body held)
-taken_shows s p (bodies.Append body) held is = answered_shows s p held (bodies.Append body) is
-taken_shows s p (bodies.Check body) held is = answered_shows s p held (bodies.Check body) is
-taken_shows s p (bodies.Seal body) held is = answered_shows s p held (bodies.Seal body) is
-taken_shows s p (bodies.Read body) held is = answered_shows s p held (bodies.Read body) is
-taken_shows s p (bodies.Stream body) held is = answered_shows s p held (bodies.Stream body) is
 taken_shows s p (bodies.Map body) held is = plainly None (map_row s p.from body) (map_tidy s p.from body)
 taken_shows s p (bodies.Table body) held is = plainly None (table_row s p body held) (table_tidy s p body held)
+taken_shows s p body held is = answered_shows s p held body is
 
 pub server_shows : (s : ServerState) (p : Packet) (held : Held) → Shows (loads s p.body) (server_row s p p.body held)
 server_shows s p held = if_elim (Shows (loads s p.body)) (has_numbers s.desk) _ _ (λ t. taken_shows s p p.body held refl) (λ f. (tt, inl tt))
@@ -168,7 +136,7 @@ AllShow loading o = MaySendAll o.packets × ShowsLoad loading o.notes
 cell_shows : (cell : ServerCell) (p : Packet) (held : Held) (state : Option ServerState) →
     MaySendAll (cell_takes cell p held state).packets × ShowsLoad (cell_loads state p.body) (cell_takes cell p held state).notes
 cell_shows cell p held None = (tt, inl tt)
-cell_shows cell p held (Some s) = server_shows s p held
+cell_shows cell p held (Some s) = let h = server_shows s p held in (may_send_all (server_row s p p.body held).packets h.0, h.1)
 
 takes_shows : (servers : List ServerCell) (n : ℕ) (p : Packet) (held : Held) (cell : Option ServerCell) →
     AllShow (server_loads cell p.body) (at_server servers n (λ x. cell_takes x p held x.state) cell)
@@ -182,7 +150,9 @@ server_takes_shows servers n p held = takes_shows servers n p held (entry_at ser
 gives_up_tidy : (s : ServerState) (range : ℕ) (known : Option RangeState) (cell : ServerCell) →
     MaySendAll (cell_given_up cell (gives_up s range known)).packets × ArePlain (cell_given_up cell (gives_up s range known)).notes
 gives_up_tidy s range None cell = (tt, tt)
-gives_up_tidy s range (Some r) cell = if_elim AreTidy (has_numbers s.desk) _ _ (λ t. give_up_tidy s.desk r) (λ f. (tt, tt))
+gives_up_tidy s range (Some r) cell =
+    if_elim (λ (o : ServerOutcome). MaySendAll o.packets × ArePlain o.notes) (has_numbers s.desk) _ _
+    (λ t. let h = give_up_tidy s.desk r in (may_send_all (give_up_all s.desk r).packets h.0, h.1)) (λ f. (tt, tt))
 
 cell_gives_up_tidy : (cell : ServerCell) (range : ℕ) (pick : Nodes) (state : Option ServerState) →
     MaySendAll (cell_gives_up cell range pick state).packets × ArePlain (cell_gives_up cell range pick state).notes

@@ -1,4 +1,4 @@
--- What a step of a range sends a server may send, and what it shows is plain, but for the table that it loads.
+-- What a step of a range sends is from a server, and what it shows is plain, but for the table that it loads.
 use Rattle.std.proofs.Common.{ℕ, suc, not, ◌&&◌, ◌==◌, nat_lt, List, [], ◌∷◌, ◌++◌, Option, Some, None, refl, inl, inr, map, flat_map, slice_get, length, ◌-◌, ◌+◌, ◌^◌, take, is_some}
 use Rattle.std.specs.Prelude.{option_to_list}
 use Rattle.blocks.specs.declared.record.Nodes.{Nodes}
@@ -34,9 +34,9 @@ use Rattle.metadata.specs.declared.record.Region.{Region}
 use Rattle.model.proofs.Tests.{if_elim}
 use Rattle.model_tables.specs.declared.desk.Desk.{Desk}
 use Rattle.model_tables.specs.declared.stage.Stage.{Stage}
-use Rattle.model_tables.specs.declared.stage.Stage.TheVariants.{Opening, Checking, Reading, Confirming, Serving}
+use Rattle.model_tables.specs.declared.stage.Stage.TheVariants.{Checking, Reading}
 use Rattle.model_tables.specs.declared.table_note.TableNote.{TableNote}
-use Rattle.model_tables.specs.declared.table_note.TableNote.TheVariants.{Began, Done, Loaded}
+use Rattle.model_tables.specs.declared.table_note.TableNote.TheVariants.{Loaded}
 use Rattle.model_tables.specs.declared.waiting.PlaceRead.{PlaceRead}
 use Rattle.model_tables.specs.declared.waiting.WaitingGet.{WaitingGet}
 use Rattle.model_tables.specs.declared.waiting.WaitingTransaction.{WaitingTransaction}
@@ -46,16 +46,15 @@ use Rattle.model_tables.specs.Loading.{Group, said_after, replayed, read_by, rea
 use Rattle.model_tables.specs.Getting.{Lookup, Is, Needs, Tried, asks_place, answered, try, try_all, get_fault, gets, get_row, bytes_row, gives_up_read, gives_up_get, asks_again, moved_on, places_of, look, standing, without}
 use Rattle.model_tables.specs.Answering.{load_refused, load_told, load_reply, metadata_reply, serving_news, is_taken, log_taken, log_reply, bytes_reply, gets_reply, answer_row, give_up_all, groups_of}
 use Rattle.model_tables.specs.Servers.{ArePlain, ShowsLoad}
-use Rattle.laws_servers.specs.Sending.{MaySendAll}
+use Rattle.laws_servers.specs.Sending.{AllFromServers}
 use Rattle.laws_servers.proofs.Calling.{all_both, all_map, all_flat, listed, Calls, given_calls, append_row_calls, check_row_calls, read_sealed_calls, read_checked_calls, reply_calls, give_up_calls, again_calls}
 
 -- ---- what is shown
 
 plain_both : (xs ys : List TableNote) → ArePlain xs → ArePlain ys → ArePlain (xs ++ ys)
 plain_both [] ys a b = b
-plain_both (Began range generation number changes ∷ xs) ys a b = plain_both xs ys a b
-plain_both (Done range generation number ∷ xs) ys a b = plain_both xs ys a b
 plain_both (Loaded range generation entries indexes next ∷ xs) ys a b = absurd a
+plain_both (note ∷ xs) ys a b = plain_both xs ys a b
 
 began_plain : (range g s : ℕ) (ts : List WaitingTransaction) → ArePlain (began range g s ts)
 began_plain range g s [] = tt
@@ -65,24 +64,24 @@ dones_plain : (range g s : ℕ) (ts : List WaitingTransaction) → ArePlain (don
 dones_plain range g s [] = tt
 dones_plain range g s (t ∷ ts) = dones_plain range g (suc s) ts
 
--- it sends what a server may send, and shows no loaded table
+-- what it sends is from a server, and it shows no loaded table
 abbrev pub IsTidy : RangeOutcome → Type 0
-IsTidy o = MaySendAll o.packets × ArePlain o.notes
+IsTidy o = AllFromServers o.packets × ArePlain o.notes
 
--- it sends what a server may send, and shows no loaded table but this
+-- what it sends is from a server, and it shows no loaded table but this
 abbrev pub ShowsFrom : Option Entries → RangeOutcome → Type 0
-ShowsFrom loading o = MaySendAll o.packets × ShowsLoad loading o.notes
+ShowsFrom loading o = AllFromServers o.packets × ShowsLoad loading o.notes
 
 pub tidy_shows : (loading : Option Entries) (o : RangeOutcome) → IsTidy o → ShowsFrom loading o
 tidy_shows loading o h = (h.0, inl h.1)
 
 -- ---- steps
 
-pub refused_all : (d : Desk) (r : RangeState) → MaySendAll (refused_users d r)
+pub refused_all : (d : Desk) (r : RangeState) → AllFromServers (refused_users d r)
 refused_all d r =
     all_both _ _
-    (all_map (λ (t : WaitingTransaction). refuses d t.from t.request refusals.NotOwner) (λ t. inr refl) (waiting_out r.out ++ r.queue))
-    (all_map (λ (g : WaitingGet). refuses d g.from g.request refusals.NotOwner) (λ g. inr refl) r.gets)
+    (all_map (λ (t : WaitingTransaction). refuses d t.from t.request refusals.NotOwner) (λ t. (d.server, refl, inr refl)) (waiting_out r.out ++ r.queue))
+    (all_map (λ (g : WaitingGet). refuses d g.from g.request refusals.NotOwner) (λ g. (d.server, refl, inr refl)) r.gets)
 
 dropped_tidy : (d : Desk) (r : RangeState) → IsTidy (dropped d r)
 dropped_tidy d r = (refused_all d r, tt)
@@ -103,18 +102,18 @@ forms_tidy d r =
     (λ t. appends_tidy d r (group_count d r)) (λ f. (tt, tt))
 
 transacts_tidy : (d : Desk) (r : RangeState) (from : ActorId) (q : ReqNo) (changes : List Change) (fault : Option Refusal) → IsTidy (transacts d r from q changes fault)
-transacts_tidy d r from q changes (Some refusal) = ((inr refl, tt), tt)
+transacts_tidy d r from q changes (Some refusal) = (((d.server, refl, inr refl), tt), tt)
 transacts_tidy d r from q changes None =
     forms_tidy d (record r { queue = r.queue ++ record { from = from; request = q; changes = changes } ∷ [] })
 
 pub transact_tidy : (d : Desk) (r : RangeState) (from : ActorId) (q : ReqNo) (changes : List Change) → IsTidy (transact_row d r from q changes)
 transact_tidy d r from q changes = transacts_tidy d r from q changes (transact_fault d r changes)
 
-committed_all : (d : Desk) (s : ℕ) (ts : List WaitingTransaction) → MaySendAll (committed d s ts)
+committed_all : (d : Desk) (s : ℕ) (ts : List WaitingTransaction) → AllFromServers (committed d s ts)
 committed_all d s [] = tt
-committed_all d s (t ∷ ts) = (inr refl, committed_all d (suc s) ts)
+committed_all d s (t ∷ ts) = ((d.server, refl, inr refl), committed_all d (suc s) ts)
 
-after_tidy : (packets : List Packet) (notes : List TableNote) (o : RangeOutcome) → MaySendAll packets → ArePlain notes → IsTidy o → IsTidy (after_these packets notes o)
+after_tidy : (packets : List Packet) (notes : List TableNote) (o : RangeOutcome) → AllFromServers packets → ArePlain notes → IsTidy o → IsTidy (after_these packets notes o)
 after_tidy packets notes o sent plain h = (all_both packets o.packets sent h.0, plain_both notes o.notes plain h.1)
 
 applies_tidy : (d : Desk) (r : RangeState) (out : OutGroup) (extent offset : ℕ) → IsTidy (applies d r out extent offset)
@@ -133,24 +132,24 @@ log_done_tidy d r (Some out) extent offset = applies_tidy d r out extent offset
 
 -- ---- Gets
 
-asks_place_sends : (d : Desk) (g : WaitingGet) (place : Place) (places : Option Nodes) → MaySendAll (asks_place d g place places).packets
+asks_place_sends : (d : Desk) (g : WaitingGet) (place : Place) (places : Option Nodes) → AllFromServers (asks_place d g place places).packets
 asks_place_sends d g place None = tt
-asks_place_sends d g place (Some places) = (inl (record { server = d.server; from = refl; call = refl }), tt)
+asks_place_sends d g place (Some places) = ((d.server, refl, inl refl), tt)
 
-answered_sends : (d : Desk) (r : RangeState) (g : WaitingGet) (found : Lookup) → MaySendAll (answered d r g found).packets
-answered_sends d r g (Is value) = (inr refl, tt)
+answered_sends : (d : Desk) (r : RangeState) (g : WaitingGet) (found : Lookup) → AllFromServers (answered d r g found).packets
+answered_sends d r g (Is value) = ((d.server, refl, inr refl), tt)
 answered_sends d r g (Needs place) = asks_place_sends d g place (places_of r place.extent)
 
-try_sends : (d : Desk) (r : RangeState) (g : WaitingGet) → MaySendAll (try d r g).packets
+try_sends : (d : Desk) (r : RangeState) (g : WaitingGet) → AllFromServers (try d r g).packets
 try_sends d r g =
-    if_elim (λ (t : Tried). MaySendAll t.packets) (lease_ended d r) _ _ (λ t. (inr refl, tt)) (λ f. answered_sends d r g (look r.held (standing r g.key)))
+    if_elim (λ (t : Tried). AllFromServers t.packets) (lease_ended d r) _ _ (λ t. ((d.server, refl, inr refl), tt)) (λ f. answered_sends d r g (look r.held (standing r g.key)))
 
-try_all_sends : (d : Desk) (r : RangeState) (gs : List WaitingGet) → MaySendAll (try_all d r gs).packets
+try_all_sends : (d : Desk) (r : RangeState) (gs : List WaitingGet) → AllFromServers (try_all d r gs).packets
 try_all_sends d r [] = tt
 try_all_sends d r (g ∷ gs) = all_both (try d r g).packets _ (try_sends d r g) (try_all_sends (record d { count = (try d r g).count }) r gs)
 
 gets_tidy : (d : Desk) (r : RangeState) (from : ActorId) (q : ReqNo) (key : List ℕ) (held : List (Place × List ℕ)) (fault : Option Refusal) → IsTidy (gets d r from q key held fault)
-gets_tidy d r from q key held (Some refusal) = ((inr refl, tt), tt)
+gets_tidy d r from q key held (Some refusal) = (((d.server, refl, inr refl), tt), tt)
 gets_tidy d r from q key held None = (try_sends d r (record { from = from; request = q; key = key; reads = [] }), tt)
 
 pub get_tidy : (d : Desk) (r : RangeState) (from : ActorId) (q : ReqNo) (key : List ℕ) (held : List (Place × List ℕ)) → IsTidy (get_row d r from q key held)
@@ -173,7 +172,7 @@ reads_log_tidy d r position =
     let c : ClientState = picking d r.log in
     if_elim IsTidy (nat_lt position (length r.log.extents)) _ _
     (λ t. (listed (read_of d c position).packet (read_by_calls d c position (slice_get c.extents position)), tt))
-    (λ f. ((inl (record { server = r.load.server; from = refl; call = refl }), tt), tt))
+    (λ f. (((r.load.server, refl, inl refl), tt), tt))
 
 reads_log_from_tidy : (d : Desk) (r : RangeState) (position : Option ℕ) → IsTidy (reads_log_from d r position)
 reads_log_from_tidy d r None = dropped_tidy d r
@@ -235,69 +234,21 @@ log_read_tidy d r position e groups =
     (λ t. replays_tidy d r position (replayed r.said.keys e (record { index = r.log.base + position; offset = 0 }) (r.regions, r.live) groups))
     (λ f. dropped_tidy d r)
 
-metadata_news_tidy : (d : Desk) (r : RangeState) (groups : List Group) (stage : Stage) (told : Option News) (packets : List Packet) → MaySendAll packets → IsTidy (metadata_news d r groups stage told packets)
-metadata_news_tidy d r groups Opening None packets h = (h, tt)
-metadata_news_tidy d r groups Opening (Some (news.Appended e l)) packets h = (h, tt)
-metadata_news_tidy d r groups Opening (Some (news.Checked e l)) packets h = (h, tt)
-metadata_news_tidy d r groups Opening (Some (news.Sealed e l)) packets h = (h, tt)
-metadata_news_tidy d r groups Opening (Some (news.Content e upto)) packets h = (h, tt)
-metadata_news_tidy d r groups Opening (Some news.Fenced) packets h = dropped_tidy d r
-metadata_news_tidy d r groups (Checking kind) None packets h = (h, tt)
-metadata_news_tidy d r groups (Checking kind) (Some (news.Appended e l)) packets h = (h, tt)
+metadata_news_tidy : (d : Desk) (r : RangeState) (groups : List Group) (stage : Stage) (told : Option News) (packets : List Packet) → AllFromServers packets → IsTidy (metadata_news d r groups stage told packets)
+metadata_news_tidy d r groups stage (Some news.Fenced) packets h = dropped_tidy d r
 metadata_news_tidy d r groups (Checking kind) (Some (news.Checked e l)) packets h = reads_metadata_tidy d r 0
 metadata_news_tidy d r groups (Checking kind) (Some (news.Sealed e l)) packets h = reads_metadata_tidy d r 0
-metadata_news_tidy d r groups (Checking kind) (Some (news.Content e upto)) packets h = (h, tt)
-metadata_news_tidy d r groups (Checking kind) (Some news.Fenced) packets h = dropped_tidy d r
-metadata_news_tidy d r groups (Reading kind position) None packets h = (h, tt)
-metadata_news_tidy d r groups (Reading kind position) (Some (news.Appended e l)) packets h = (h, tt)
-metadata_news_tidy d r groups (Reading kind position) (Some (news.Checked e l)) packets h = (h, tt)
 metadata_news_tidy d r groups (Reading kind position) (Some (news.Sealed e l)) packets h = reads_metadata_tidy d r position
 metadata_news_tidy d r groups (Reading kind position) (Some (news.Content e upto)) packets h = says_tidy d r position (said_after r.said groups)
-metadata_news_tidy d r groups (Reading kind position) (Some news.Fenced) packets h = dropped_tidy d r
-metadata_news_tidy d r groups Confirming None packets h = (h, tt)
-metadata_news_tidy d r groups Confirming (Some (news.Appended e l)) packets h = (h, tt)
-metadata_news_tidy d r groups Confirming (Some (news.Checked e l)) packets h = (h, tt)
-metadata_news_tidy d r groups Confirming (Some (news.Sealed e l)) packets h = (h, tt)
-metadata_news_tidy d r groups Confirming (Some (news.Content e upto)) packets h = (h, tt)
-metadata_news_tidy d r groups Confirming (Some news.Fenced) packets h = dropped_tidy d r
-metadata_news_tidy d r groups Serving None packets h = (h, tt)
-metadata_news_tidy d r groups Serving (Some (news.Appended e l)) packets h = (h, tt)
-metadata_news_tidy d r groups Serving (Some (news.Checked e l)) packets h = (h, tt)
-metadata_news_tidy d r groups Serving (Some (news.Sealed e l)) packets h = (h, tt)
-metadata_news_tidy d r groups Serving (Some (news.Content e upto)) packets h = (h, tt)
-metadata_news_tidy d r groups Serving (Some news.Fenced) packets h = dropped_tidy d r
+metadata_news_tidy d r groups stage told packets h = (h, tt)
 
-log_news_tidy : (d : Desk) (r : RangeState) (groups : List Group) (stage : Stage) (told : Option News) (packets : List Packet) → MaySendAll packets → IsTidy (log_news d r groups stage told packets)
-log_news_tidy d r groups Opening None packets h = (h, tt)
-log_news_tidy d r groups Opening (Some (news.Appended e l)) packets h = (h, tt)
-log_news_tidy d r groups Opening (Some (news.Checked e l)) packets h = (h, tt)
-log_news_tidy d r groups Opening (Some (news.Sealed e l)) packets h = (h, tt)
-log_news_tidy d r groups Opening (Some (news.Content e upto)) packets h = (h, tt)
-log_news_tidy d r groups Opening (Some news.Fenced) packets h = dropped_tidy d r
-log_news_tidy d r groups (Checking kind) None packets h = (h, tt)
-log_news_tidy d r groups (Checking kind) (Some (news.Appended e l)) packets h = (h, tt)
+log_news_tidy : (d : Desk) (r : RangeState) (groups : List Group) (stage : Stage) (told : Option News) (packets : List Packet) → AllFromServers packets → IsTidy (log_news d r groups stage told packets)
+log_news_tidy d r groups stage (Some news.Fenced) packets h = dropped_tidy d r
 log_news_tidy d r groups (Checking kind) (Some (news.Checked e l)) packets h = reads_log_from_tidy d r (first_position r r.regions)
 log_news_tidy d r groups (Checking kind) (Some (news.Sealed e l)) packets h = reads_log_from_tidy d r (first_position r r.regions)
-log_news_tidy d r groups (Checking kind) (Some (news.Content e upto)) packets h = (h, tt)
-log_news_tidy d r groups (Checking kind) (Some news.Fenced) packets h = dropped_tidy d r
-log_news_tidy d r groups (Reading kind position) None packets h = (h, tt)
-log_news_tidy d r groups (Reading kind position) (Some (news.Appended e l)) packets h = (h, tt)
-log_news_tidy d r groups (Reading kind position) (Some (news.Checked e l)) packets h = (h, tt)
 log_news_tidy d r groups (Reading kind position) (Some (news.Sealed e l)) packets h = reads_log_tidy d r position
 log_news_tidy d r groups (Reading kind position) (Some (news.Content e upto)) packets h = log_read_tidy d r position e groups
-log_news_tidy d r groups (Reading kind position) (Some news.Fenced) packets h = dropped_tidy d r
-log_news_tidy d r groups Confirming None packets h = (h, tt)
-log_news_tidy d r groups Confirming (Some (news.Appended e l)) packets h = (h, tt)
-log_news_tidy d r groups Confirming (Some (news.Checked e l)) packets h = (h, tt)
-log_news_tidy d r groups Confirming (Some (news.Sealed e l)) packets h = (h, tt)
-log_news_tidy d r groups Confirming (Some (news.Content e upto)) packets h = (h, tt)
-log_news_tidy d r groups Confirming (Some news.Fenced) packets h = dropped_tidy d r
-log_news_tidy d r groups Serving None packets h = (h, tt)
-log_news_tidy d r groups Serving (Some (news.Appended e l)) packets h = (h, tt)
-log_news_tidy d r groups Serving (Some (news.Checked e l)) packets h = (h, tt)
-log_news_tidy d r groups Serving (Some (news.Sealed e l)) packets h = (h, tt)
-log_news_tidy d r groups Serving (Some (news.Content e upto)) packets h = (h, tt)
-log_news_tidy d r groups Serving (Some news.Fenced) packets h = dropped_tidy d r
+log_news_tidy d r groups stage told packets h = (h, tt)
 
 -- ---- the loaded table
 
@@ -326,115 +277,18 @@ live_with r body = None
 -- ---- answers
 
 load_refused_tidy : (d : Desk) (r : RangeState) (body : AppendBody) → IsTidy (load_refused d r body)
-load_refused_tidy d r (appends.Append e generation blocks w) = (tt, tt)
-load_refused_tidy d r (appends.Put e offset group) = (tt, tt)
-load_refused_tidy d r (appends.Have e l) = (tt, tt)
-load_refused_tidy d r (appends.Appended w e offset) = (tt, tt)
-load_refused_tidy d r (appends.Refused w refusals.NoSuchExtent) = (tt, tt)
-load_refused_tidy d r (appends.Refused w refusals.NotPrimary) = (tt, tt)
 load_refused_tidy d r (appends.Refused w refusals.Stale) = dropped_tidy d r
-load_refused_tidy d r (appends.Refused w refusals.NotOpen) = (tt, tt)
-load_refused_tidy d r (appends.Refused w refusals.BadBlock) = (tt, tt)
-load_refused_tidy d r (appends.Refused w refusals.TooManyBlocks) = (tt, tt)
-load_refused_tidy d r (appends.Refused w refusals.ExtentFull) = (tt, tt)
-load_refused_tidy d r (appends.Refused w refusals.PastEnd) = (tt, tt)
-load_refused_tidy d r (appends.Refused w refusals.NotSealed) = (tt, tt)
-load_refused_tidy d r (appends.Refused w refusals.NoReply) = (tt, tt)
-load_refused_tidy d r (appends.Refused w refusals.NoSuchStream) = (tt, tt)
-load_refused_tidy d r (appends.Refused w refusals.NameTaken) = (tt, tt)
-load_refused_tidy d r (appends.Refused w refusals.LastOpen) = (tt, tt)
-load_refused_tidy d r (appends.Refused w refusals.BadPick) = (tt, tt)
-load_refused_tidy d r (appends.Refused w refusals.DiskFailed) = (tt, tt)
-load_refused_tidy d r (appends.Refused w refusals.Damaged) = (tt, tt)
-load_refused_tidy d r (appends.Refused w refusals.Memory) = (tt, tt)
-load_refused_tidy d r (appends.Refused w refusals.NotOwner) = (tt, tt)
-load_refused_tidy d r (appends.Refused w refusals.LeaseHeld) = (tt, tt)
-load_refused_tidy d r (appends.Refused w refusals.LeaseEnded) = (tt, tt)
-load_refused_tidy d r (appends.Refused w refusals.OutOfRange) = (tt, tt)
-load_refused_tidy d r (appends.Refused w refusals.Paused) = (tt, tt)
-load_refused_tidy d r (appends.Refused w refusals.Busy) = (tt, tt)
-load_refused_tidy d r (appends.Refused w refusals.BadKey) = (tt, tt)
-load_refused_tidy d r (appends.Refused w refusals.TooLarge) = (tt, tt)
-load_refused_tidy d r (appends.Refused w refusals.Loading) = (tt, tt)
-load_refused_tidy d r (appends.Refused w refusals.BadSplitKey) = (tt, tt)
-load_refused_tidy d r (appends.Refused w refusals.NotAdjacent) = (tt, tt)
-load_refused_tidy d r (appends.Refused w refusals.GenerationChanged) = (tt, tt)
-load_refused_tidy d r (appends.Refused w refusals.TraceFull) = (tt, tt)
-load_refused_tidy d r (appends.Refused w refusals.Stopped) = (tt, tt)
-load_refused_tidy d r (appends.Refused w refusals.BadScript) = (tt, tt)
-load_refused_tidy d r (appends.Refused w refusals.BadConfig) = (tt, tt)
-load_refused_tidy d r (appends.Refused w refusals.NoFile) = (tt, tt)
+load_refused_tidy d r body = (tt, tt)
 
 load_told_shows : (d : Desk) (r : RangeState) (phase : LoadPhase) (body : StreamBody) → ShowsFrom (live_by r body) (load_told d r phase body)
-load_told_shows d r (phases.Opening q) (streams.CreateStream s fence w) = (tt, inl tt)
-load_told_shows d r (phases.Opening q) (streams.Created w) = (tt, inl tt)
-load_told_shows d r (phases.Opening q) (streams.OpenStreams range generation w) = (tt, inl tt)
 load_told_shows d r (phases.Opening q) (streams.Opened w lists) = tidy_shows None (opens d r lists) (opens_tidy d r lists)
-load_told_shows d r (phases.Opening q) (streams.Confirm range generation w) = (tt, inl tt)
-load_told_shows d r (phases.Opening q) (streams.Confirmed w) = (tt, inl tt)
-load_told_shows d r (phases.Opening q) (streams.Extend s generation last pick w) = (tt, inl tt)
-load_told_shows d r (phases.Opening q) (streams.Extended w e at) = (tt, inl tt)
-load_told_shows d r (phases.Opening q) (streams.Trim range generation before to_blob w) = (tt, inl tt)
-load_told_shows d r (phases.Opening q) (streams.Trimmed w) = (tt, inl tt)
-load_told_shows d r (phases.Opening q) (streams.MultiModify list w) = (tt, inl tt)
-load_told_shows d r (phases.Opening q) (streams.Modified w) = (tt, inl tt)
-load_told_shows d r phases.Opened (streams.CreateStream s fence w) = (tt, inl tt)
-load_told_shows d r phases.Opened (streams.Created w) = (tt, inl tt)
-load_told_shows d r phases.Opened (streams.OpenStreams range generation w) = (tt, inl tt)
-load_told_shows d r phases.Opened (streams.Opened w lists) = (tt, inl tt)
-load_told_shows d r phases.Opened (streams.Confirm range generation w) = (tt, inl tt)
-load_told_shows d r phases.Opened (streams.Confirmed w) = (tt, inl tt)
-load_told_shows d r phases.Opened (streams.Extend s generation last pick w) = (tt, inl tt)
-load_told_shows d r phases.Opened (streams.Extended w e at) = (tt, inl tt)
-load_told_shows d r phases.Opened (streams.Trim range generation before to_blob w) = (tt, inl tt)
-load_told_shows d r phases.Opened (streams.Trimmed w) = (tt, inl tt)
-load_told_shows d r phases.Opened (streams.MultiModify list w) = (tt, inl tt)
-load_told_shows d r phases.Opened (streams.Modified w) = (tt, inl tt)
-load_told_shows d r (phases.Confirming q) (streams.CreateStream s fence w) = (tt, inl tt)
-load_told_shows d r (phases.Confirming q) (streams.Created w) = (tt, inl tt)
-load_told_shows d r (phases.Confirming q) (streams.OpenStreams range generation w) = (tt, inl tt)
-load_told_shows d r (phases.Confirming q) (streams.Opened w lists) = (tt, inl tt)
-load_told_shows d r (phases.Confirming q) (streams.Confirm range generation w) = (tt, inl tt)
 load_told_shows d r (phases.Confirming q) (streams.Confirmed w) = serves_shows d r
-load_told_shows d r (phases.Confirming q) (streams.Extend s generation last pick w) = (tt, inl tt)
-load_told_shows d r (phases.Confirming q) (streams.Extended w e at) = (tt, inl tt)
-load_told_shows d r (phases.Confirming q) (streams.Trim range generation before to_blob w) = (tt, inl tt)
-load_told_shows d r (phases.Confirming q) (streams.Trimmed w) = (tt, inl tt)
-load_told_shows d r (phases.Confirming q) (streams.MultiModify list w) = (tt, inl tt)
-load_told_shows d r (phases.Confirming q) (streams.Modified w) = (tt, inl tt)
-load_told_shows d r phases.Confirmed (streams.CreateStream s fence w) = (tt, inl tt)
-load_told_shows d r phases.Confirmed (streams.Created w) = (tt, inl tt)
-load_told_shows d r phases.Confirmed (streams.OpenStreams range generation w) = (tt, inl tt)
-load_told_shows d r phases.Confirmed (streams.Opened w lists) = (tt, inl tt)
-load_told_shows d r phases.Confirmed (streams.Confirm range generation w) = (tt, inl tt)
-load_told_shows d r phases.Confirmed (streams.Confirmed w) = (tt, inl tt)
-load_told_shows d r phases.Confirmed (streams.Extend s generation last pick w) = (tt, inl tt)
-load_told_shows d r phases.Confirmed (streams.Extended w e at) = (tt, inl tt)
-load_told_shows d r phases.Confirmed (streams.Trim range generation before to_blob w) = (tt, inl tt)
-load_told_shows d r phases.Confirmed (streams.Trimmed w) = (tt, inl tt)
-load_told_shows d r phases.Confirmed (streams.MultiModify list w) = (tt, inl tt)
-load_told_shows d r phases.Confirmed (streams.Modified w) = (tt, inl tt)
-load_told_shows d r phases.Fenced (streams.CreateStream s fence w) = (tt, inl tt)
-load_told_shows d r phases.Fenced (streams.Created w) = (tt, inl tt)
-load_told_shows d r phases.Fenced (streams.OpenStreams range generation w) = (tt, inl tt)
-load_told_shows d r phases.Fenced (streams.Opened w lists) = (tt, inl tt)
-load_told_shows d r phases.Fenced (streams.Confirm range generation w) = (tt, inl tt)
-load_told_shows d r phases.Fenced (streams.Confirmed w) = (tt, inl tt)
-load_told_shows d r phases.Fenced (streams.Extend s generation last pick w) = (tt, inl tt)
-load_told_shows d r phases.Fenced (streams.Extended w e at) = (tt, inl tt)
-load_told_shows d r phases.Fenced (streams.Trim range generation before to_blob w) = (tt, inl tt)
-load_told_shows d r phases.Fenced (streams.Trimmed w) = (tt, inl tt)
-load_told_shows d r phases.Fenced (streams.MultiModify list w) = (tt, inl tt)
-load_told_shows d r phases.Fenced (streams.Modified w) = (tt, inl tt)
+load_told_shows d r phase body = (tt, inl tt)
 
 load_reply_shows : (d : Desk) (r : RangeState) (body : Body) → ShowsFrom (live_with r body) (load_reply d r body)
 load_reply_shows d r (bodies.Append body) = tidy_shows None (load_refused d r body) (load_refused_tidy d r body)
-load_reply_shows d r (bodies.Check body) = (tt, inl tt)
-load_reply_shows d r (bodies.Seal body) = (tt, inl tt)
-load_reply_shows d r (bodies.Read body) = (tt, inl tt)
 load_reply_shows d r (bodies.Stream body) = load_told_shows d r r.load.phase body
-load_reply_shows d r (bodies.Map body) = (tt, inl tt)
-load_reply_shows d r (bodies.Table body) = (tt, inl tt)
+load_reply_shows d r body = (tt, inl tt)
 
 metadata_reply_tidy : (d : Desk) (r : RangeState) (body : Body) → IsTidy (metadata_reply d r body)
 metadata_reply_tidy d r body =
@@ -442,19 +296,16 @@ metadata_reply_tidy d r body =
     metadata_news_tidy d (record r { metadata = o.after }) (groups_of body) r.stage o.news (option_to_list o.packet)
     (listed o.packet (reply_calls (picking d r.metadata) (request d) body))
 
-serving_news_tidy : (d : Desk) (r : RangeState) (told : Option News) (packets : List Packet) → MaySendAll packets → IsTidy (serving_news d r told packets)
-serving_news_tidy d r None packets h = (h, tt)
-serving_news_tidy d r (Some (news.Appended e offset)) packets h = log_done_tidy d r r.out e offset
-serving_news_tidy d r (Some (news.Checked e l)) packets h = (h, tt)
-serving_news_tidy d r (Some (news.Sealed e l)) packets h = (h, tt)
-serving_news_tidy d r (Some (news.Content e upto)) packets h = (h, tt)
+serving_news_tidy : (d : Desk) (r : RangeState) (told : Option News) (packets : List Packet) → AllFromServers packets → IsTidy (serving_news d r told packets)
 serving_news_tidy d r (Some news.Fenced) packets h = dropped_tidy d r
+serving_news_tidy d r (Some (news.Appended e offset)) packets h = log_done_tidy d r r.out e offset
+serving_news_tidy d r told packets h = (h, tt)
 
 log_taken_tidy : (d : Desk) (r : RangeState) (body : Body) → IsTidy (log_taken d r body)
 log_taken_tidy d r body =
     let o : Outcome = reply_row (picking d r.log) (request d) body in
     let now : RangeState = record r { log = o.after } in
-    let all : MaySendAll (option_to_list o.packet) = listed o.packet (reply_calls (picking d r.log) (request d) body) in
+    let all : AllFromServers (option_to_list o.packet) = listed o.packet (reply_calls (picking d r.log) (request d) body) in
     if_elim IsTidy (is_serving r.stage) _ _
     (λ t. serving_news_tidy d now o.news (option_to_list o.packet) all)
     (λ f. log_news_tidy d now (groups_of body) r.stage o.news (option_to_list o.packet) all)
@@ -463,19 +314,12 @@ log_reply_tidy : (d : Desk) (r : RangeState) (body : Body) → IsTidy (log_reply
 log_reply_tidy d r body = if_elim IsTidy (is_taken r body) _ _ (λ t. log_taken_tidy d r body) (λ f. (tt, tt))
 
 bytes_reply_tidy : (d : Desk) (r : RangeState) (w : ReqNo) (body : ReadBody) (held : List (Place × List ℕ)) → IsTidy (bytes_reply d r w body held)
-bytes_reply_tidy d r w (reads.ReadAt e offset l q) held = (tt, tt)
 bytes_reply_tidy d r w (reads.Bytes v e offset bytes) held = bytes_tidy d r w held
-bytes_reply_tidy d r w (reads.ReadGroups e upto sealed q) held = (tt, tt)
-bytes_reply_tidy d r w (reads.Groups q e groups) held = (tt, tt)
+bytes_reply_tidy d r w body held = (tt, tt)
 
 gets_reply_tidy : (d : Desk) (r : RangeState) (w : ReqNo) (body : Body) (held : List (Place × List ℕ)) → IsTidy (gets_reply d r w body held)
-gets_reply_tidy d r w (bodies.Append body) held = (tt, tt)
-gets_reply_tidy d r w (bodies.Check body) held = (tt, tt)
-gets_reply_tidy d r w (bodies.Seal body) held = (tt, tt)
 gets_reply_tidy d r w (bodies.Read body) held = bytes_reply_tidy d r w body held
-gets_reply_tidy d r w (bodies.Stream body) held = (tt, tt)
-gets_reply_tidy d r w (bodies.Map body) held = (tt, tt)
-gets_reply_tidy d r w (bodies.Table body) held = (tt, tt)
+gets_reply_tidy d r w body held = (tt, tt)
 
 pub answer_shows : (d : Desk) (r : RangeState) (w : ReqNo) (body : Body) (held : List (Place × List ℕ)) → ShowsFrom (live_with r body) (answer_row d r w body held)
 answer_shows d r w body held =
@@ -489,11 +333,11 @@ answer_shows d r w body held =
 
 -- ---- giving up
 
-asks_again_all : (d : Desk) (read : PlaceRead) (places : Option Nodes) → MaySendAll (asks_again d read places)
+asks_again_all : (d : Desk) (read : PlaceRead) (places : Option Nodes) → AllFromServers (asks_again d read places)
 asks_again_all d read None = tt
-asks_again_all d read (Some places) = (inl (record { server = d.server; from = refl; call = refl }), tt)
+asks_again_all d read (Some places) = ((d.server, refl, inl refl), tt)
 
-gives_up_read_all : (d : Desk) (r : RangeState) (g : WaitingGet) (read : Option PlaceRead) → MaySendAll (gives_up_read d r g read).1
+gives_up_read_all : (d : Desk) (r : RangeState) (g : WaitingGet) (read : Option PlaceRead) → AllFromServers (gives_up_read d r g read).1
 gives_up_read_all d r g None = tt
 gives_up_read_all d r g (Some read) = asks_again_all d (moved_on read) (places_of r read.place.extent)
 

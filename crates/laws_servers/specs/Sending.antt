@@ -18,6 +18,14 @@ abbrev pub MaySendAll : List Packet → Type 0
 MaySendAll [] = Unit {0}
 MaySendAll (p ∷ packets) = MaySend p × MaySendAll packets
 
+-- it is from a server, and asks what servers may ask, or tells what no node takes
+abbrev pub IsFromServer : Packet → Type 0
+IsFromServer p = (server : ℕ) × (p.from ≡ Server server) × ((is_server_call p.body ≡ true) ⊎ (is_told p.body ≡ true))
+
+abbrev pub AllFromServers : List Packet → Type 0
+AllFromServers [] = Unit {0}
+AllFromServers (p ∷ packets) = IsFromServer p × AllFromServers packets
+
 -- some moves lead from one world to the other
 pub record ByMoves (v w : World) : Type 0 where
   pub moves : List Move
