@@ -18,25 +18,24 @@ use Rattle.wire.specs.declared.streams.StreamName.{StreamName}
 use Rattle.replica.specs.Groups.{Group}
 use Rattle.client.specs.Requests.{is_same}
 use Rattle.model.specs.Outcome.{packet}
-use Rattle.model.specs.World.{World, Move, run_moves, start, sent_more, is_table_note}
+use Rattle.model.specs.World.{World, Move, run_moves, start, sent_more}
 use Rattle.model.specs.World.Move.{Asks, Says, Observes}
 use Rattle.laws_streams.proofs.Law.{run_moves_push}
 use Rattle.laws_streams.proofs.ContentAnswers.{content_answered}
 use Rattle.laws_streams.proofs.StreamAnswers.{openings_answered, confirmations_answered, extensions_answered}
 use Rattle.model_tables.specs.declared.table_note.TableNote.{TableNote}
-use Rattle.model_tables.specs.declared.table_note.TableNote.TheVariants as notes
 use Rattle.model_tables.specs.Servers.{told, noted, with_told}
-use Rattle.model_tables.specs.Turns.{Turn, Whole, Above, after_all, AreMoves}
+use Rattle.model_tables.specs.Turns.{Turn, Whole, after_all}
 use Rattle.model_tables.specs.Turns as machine
 use Rattle.laws_runs.specs.Ties.{Purpose, Sent, purpose_of, asked_number, meant_number, IsAsked}
 use Rattle.laws_runs.proofs.Walks.{onward_refl}
 use Rattle.laws_runs.proofs.Posts.{asked_on, ahead_same}
-use Rattle.laws_runs.proofs.Asking.{Unused}
+use Rattle.laws_runs.proofs.Asking.{Unused, same_request}
 use Rattle.laws_runs.proofs.Below.{Below, below_above, below_asks, below_says, below_observes, below_sends}
 use Rattle.laws_serving.specs.Serves.{metadata_of, log_of, sent_with}
-use Rattle.laws_serving.proofs.Steps.{same_request}
 use Rattle.laws_serving.proofs.Moves.{moves_of}
 use Rattle.laws_servers.specs.Sending.{MaySend, MaySendAll}
+use Rattle.laws_servers.proofs.Moving.{is_shown}
 
 module _ (generation : ℕ → ℕ) (range nodes target : ℕ) where
   abbrev pub world : List Move → World
@@ -257,11 +256,6 @@ module _ (generation : ℕ → ℕ) (range nodes target : ℕ) where
         subst (λ v. Further moves v m m_sent l l_sent) ends (further moves (sent_more w (p ∷ [])) (sent_more (world next) ps) one two)
 
     -- ---- observations
-
-    is_shown : (seen : List Note) (note : TableNote) → is_table_note (told seen note) ≡ true
-    is_shown seen (notes.Began r g number changes) = refl
-    is_shown seen (notes.Done r g number) = refl
-    is_shown seen (notes.Loaded r g entries indexes next) = refl
 
     one_shown : (moves : List Move) (note : TableNote) → Beside moves m m_sent l l_sent → Further moves (record (world moves) { notes = (world moves).notes ++ told (world moves).notes note ∷ [] }) m m_sent l l_sent
     one_shown moves note b =

@@ -7,6 +7,7 @@ use Rattle.model_tables.specs.Turns.{Phase, Idle, Opening, Checking, Sealing, Co
 use Rattle.laws_tables.proofs.Range.{older}
 use Rattle.laws_tables.proofs.Fenced.{sound}
 use Rattle.laws_tables.proofs.Extents.{Inv, followed}
+use Rattle.laws_tables.proofs.Members.{in_left, in_right}
 use Rattle.laws_tables.proofs.Turns.{all_good}
 use Rattle.laws_runs.proofs.Asking.{turn_upper}
 use Rattle.laws_serving.proofs.Moves.{moves_of}
@@ -19,28 +20,19 @@ IsMade story c = (g : ℕ) × (event_at story c.append ≡ Some (Made g c.group)
 abbrev pub AllMade : Story Group → List (Copy Group) → Type 0
 AllMade story cs = (c : Copy Group) → In c cs → IsMade story c
 
-in_first : {X : Type 0} (x : X) (us vs : List X) → In x us → In x (us ++ vs)
-in_first x [] vs h = absurd h
-in_first x (u ∷ us) vs (inl e) = inl e
-in_first x (u ∷ us) vs (inr h) = inr (in_first x us vs h)
-
-in_second : {X : Type 0} (x : X) (us vs : List X) → In x vs → In x (us ++ vs)
-in_second x [] vs h = h
-in_second x (u ∷ us) vs h = inr (in_second x us vs h)
-
 -- what stands in a sealed extent stands in the stream
 in_shut : (e : ℕ) (shut : List (Shut Group)) (y : Shut Group) → shut_at e shut ≡ Some y → (c : Copy Group) → In c y.copies → In c (all_shut shut)
 in_shut e [] y is c there = absurd cc
 in_shut e (x ∷ older) y is c there = go (e == length older) is (λ t. in_shut e older y t c there)
   where
     go : (b : Bool) → (if b then Some x else shut_at e older) ≡ Some y → (shut_at e older ≡ Some y → In c (all_shut older)) → In c (all_shut older ++ x.copies)
-    go true t deeper = let same : x ≡ y = cc in in_second c (all_shut older) x.copies (subst (λ (z : Shut Group). In c z.copies) (sym same) there)
-    go false t deeper = in_first c (all_shut older) x.copies (deeper t)
+    go true t deeper = let same : x ≡ y = cc in in_right c (all_shut older) x.copies (subst (λ (z : Shut Group). In c z.copies) (sym same) there)
+    go false t deeper = in_left c (all_shut older) x.copies (deeper t)
 
 module _ (generation : ℕ → ℕ) where
   in_all : (k : Core Group) (o : Option (Live Group)) (c : Copy Group) → In c (all_shut k.shut) → In c (all_copies Group generation k o)
   in_all k None c there = there
-  in_all k (Some v) c there = in_first c (all_shut k.shut) v.kept there
+  in_all k (Some v) c there = in_left c (all_shut k.shut) v.kept there
 
   -- what stands in the stream
   pub record Stands (s : State Group) : Type 0 where
@@ -67,7 +59,7 @@ module _ (generation : ℕ → ℕ) where
   CheckedMade s = (i e : ℕ) (stood : List (Copy Group)) (end : ℕ) → In (Found_there i e stood end) s.facts → AllMade s.story stood
 
   live_made : (s : State Group) (v : Live Group) → Stands s → s.core.live ≡ Some v → AllMade s.story v.kept
-  live_made s v k is c there = k.all c (subst (λ o. In c (all_copies Group generation s.core o)) (sym is) (in_second c (all_shut s.core.shut) v.kept there))
+  live_made s v k is c there = k.all c (subst (λ o. In c (all_copies Group generation s.core o)) (sym is) (in_right c (all_shut s.core.shut) v.kept there))
 
   -- a fact that is none of a check
   one_more : (s : State Group) (f : Fact Group) → ((i e : ℕ) (stood : List (Copy Group)) (end : ℕ) → Found_there i e stood end ≡ f → ⊥) → CheckedMade s →

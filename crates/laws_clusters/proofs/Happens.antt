@@ -43,12 +43,12 @@ use Rattle.model.specs.Outcome.{Outcome, packet, all_met, silent, sends, refused
 use Rattle.model.specs.World.{World, stops_in, stands_in, unsent, halted, after_row, node_does, desk_halted, after_ruling, manager_does, sent_more, delivered, delivered_if, is_request, node_stops, manager_stops, stop, is_present, restart, happens}
 use Rattle.model.proofs.Tests.{if_elim}
 use Rattle.model_tables.specs.Past.{table_notes}
+use Rattle.laws_tables.proofs.Others.{others-append}
 use Rattle.laws_streams.proofs.Tests.{each-contains, contains_pushed}
 use Rattle.laws_streams.proofs.ManagerAnswers as manager
 use Rattle.laws_streams.proofs.NodeAnswers as node
 use Rattle.laws_streams.proofs.DecisionAnswers as decision
 use Rattle.laws_clusters.specs.Senders.{IsOfLayer}
-use Rattle.laws_clusters.proofs.Telling.{table_both}
 
 -- it shows nothing of tables
 abbrev IsBare : {S : Type 0} → Outcome S → Type 0
@@ -320,7 +320,7 @@ record Leaves (w v : World) : Type 0 where
   senders : (p : Packet) → Contains v.post p → Contains w.post p ⊎ IsOfLayer p.from
 
 tables_same : (xs ys : List Note) → table_notes ys ≡ [] → table_notes (xs ++ ys) ≡ table_notes xs
-tables_same xs ys bare = table_both xs ys ∙ ap (λ l. table_notes xs ++ l) bare ∙ append-nil (table_notes xs)
+tables_same xs ys bare = others-append xs ys ∙ ap (λ l. table_notes xs ++ l) bare ∙ append-nil (table_notes xs)
 
 unsent_leaves : (w v : World) → v.post ≡ w.post → table_notes v.notes ≡ table_notes w.notes → Leaves w v
 unsent_leaves w v same tables = record { tables = tables; senders = λ p c. inl (subst (λ xs. Contains xs p) same c) }

@@ -1,5 +1,5 @@
 -- A cluster stands on through each event of the stream layer.
-use Rattle.std.proofs.Common.{◌≡◌, ℕ, zero, suc, ◌<◌, List, [], ◌∷◌, ◌++◌, length, map, Contains, slice_get, refl, sym, ap, ◌∙◌, subst, arith}
+use Rattle.std.proofs.Common.{◌≡◌, ℕ, List, [], ◌∷◌, ◌++◌, length, map, Contains, slice_get, refl, sym, ap, ◌∙◌, subst, arith}
 use Rattle.std.proofs.lemmas.List.{length-append}
 use Rattle.std.proofs.lemmas.Option.{slice_get_within}
 use Rattle.wire.specs.declared.actor.ActorId.TheVariants as actors
@@ -16,11 +16,11 @@ use Rattle.model_clusters.specs.Cluster.{Cluster}
 use Rattle.model_tables.specs.Extents.{State, Step}
 use Rattle.model_tables.specs.Log.{ShowsTables, next_number, observed}
 use Rattle.model_tables.specs.Range.{RangeState}
-use Rattle.model_tables.specs.Turns.{Whole, Below, after_all, AreMoves}
+use Rattle.model_tables.specs.Turns.{Below, after_all, AreMoves}
 use Rattle.model_tables.specs.Turns as machine
 use Rattle.laws_loads.specs.Renaming.{renamed, decoded}
 use Rattle.laws_runs.specs.Ties.{Sent, extents_in}
-use Rattle.laws_runs.proofs.Posts.{Ahead}
+use Rattle.laws_runs.proofs.Posts.{Ahead, get_same}
 use Rattle.laws_runs.proofs.Below.{Happened, below_happens}
 use Rattle.laws_serving.specs.Serves.{metadata_of, log_of, Wider}
 use Rattle.laws_serving.proofs.Grow.{follows_on}
@@ -32,18 +32,13 @@ use Rattle.laws_clusters.proofs.Served.{fit_below}
 use Rattle.laws_clusters.proofs.Standing.{Streams, here, m_side, l_side, Holds, Standing}
 use Rattle.laws_clusters.proofs.Step.{held_on}
 
-same_first : {A : Type 0} (xs ys : List A) (k : ℕ) → k < length xs → slice_get (xs ++ ys) k ≡ slice_get xs k
-same_first [] ys k l = absurd (omega (arith, l))
-same_first (x ∷ xs) ys zero l = refl
-same_first (x ∷ xs) ys (suc k) l = same_first xs ys k (omega (arith, l))
-
 -- where a run goes on, nothing is taken back
 wider_ahead : (name : StreamName) (w v : World) (s t : State Group) (sent : List Sent) → Ahead name w s v t → Wider name w v s t sent sent
 wider_ahead name w v s t sent a = record {
   facts = a.onward.facts;
   shut = a.onward.shut;
   extents = λ index e at.
-      ap (λ xs. slice_get xs index) a.begins.is ∙ same_first (extents_in w name) a.begins.rest index (slice_get_within (extents_in w name) index e at) ∙ at;
+      ap (λ xs. slice_get xs index) a.begins.is ∙ get_same (extents_in w name) a.begins.rest index (slice_get_within (extents_in w name) index e at) ∙ at;
   known = (let long = ap length a.begins.is ∙ length-append (extents_in w name) a.begins.rest in omega (arith, long));
   purposes = λ q p e. e;
 }

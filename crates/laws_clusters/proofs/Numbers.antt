@@ -8,8 +8,8 @@ use Rattle.model.specs.Maps.{entry_at}
 use Rattle.model_tables.specs.Server.{ServerState, moment_row, started}
 use Rattle.model_tables.specs.Servers.{ServerCell, cell_stops, cell_starts, first_pick, told_moment}
 use Rattle.laws_runs.specs.Ties.{Purpose, Sent, purpose_of}
+use Rattle.laws_runs.proofs.Asking.{same_request}
 use Rattle.laws_serving.specs.Serves.{sent_with, AreUnused}
-use Rattle.laws_serving.proofs.Steps.{same_request}
 
 -- a number of a session of this cell that is over, or of the one that lasts, and used
 abbrev pub PastAt : ServerCell → ℕ → ℕ → Type 0

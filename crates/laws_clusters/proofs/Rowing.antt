@@ -15,7 +15,6 @@ use Rattle.client.specs.declared.load.LoadPhase.TheVariants as phases
 use Rattle.model.specs.Outcome.{packet}
 use Rattle.model.specs.World.{World}
 use Rattle.model_tables.specs.declared.desk.Desk.{Desk}
-use Rattle.model_tables.specs.declared.stage.Stage.{Stage}
 use Rattle.model_tables.specs.declared.stage.Stage.TheVariants as stages
 use Rattle.model_tables.specs.Answering.{answered_number, is_answerer, answer_row, give_up_all}
 use Rattle.model_tables.specs.Servers.{noted, rows_of}
@@ -25,12 +24,12 @@ use Rattle.model_tables.specs.Loading.{open_region, are_counted, serves_region, 
 use Rattle.model_tables.specs.Log.{ShowsTables, line_shown}
 use Rattle.model_tables.specs.Range.{RangeState, RangeOutcome, dropped, is_serving}
 use Rattle.model_tables.specs.Serving.{transact_row}
-use Rattle.model_tables.specs.Turns.{Phase, after_all}
+use Rattle.model_tables.specs.Turns.{after_all}
 use Rattle.model_tables.specs.Turns as machine
 use Rattle.laws_loads.specs.Renaming.{renamed, decoded}
 use Rattle.laws_runs.specs.Ties.{Purpose, Sent, purpose_of, Means}
 use Rattle.laws_runs.proofs.Below.{below_made, below_index, below_of_other}
-use Rattle.laws_serving.specs.Serves.{Stand, Side, after_turns, AreShown, is_live, metadata_of, log_of, next_behind, BothListed, IsCounted, IsConfirming, StageIs, FollowsIf, IsSentBy, RowTells}
+use Rattle.laws_serving.specs.Serves.{Stand, Side, after_turns, AreShown, is_live, metadata_of, log_of, next_behind, BothListed, IsCounted, IsConfirming, FollowsIf, IsSentBy, RowTells}
 use Rattle.laws_serving.specs.Quiet.{IsLoading}
 use Rattle.laws_serving.specs.Sound.{IsSoundIf}
 use Rattle.laws_serving.specs.Still.{Stays, IsUnserved, IsConfirmation}
@@ -53,9 +52,9 @@ use Rattle.model_tables.specs.Past.{Bytes, stored, after_line, empty_table}
 use Rattle.model_tables.specs.Story.{Showed, placed, from_place}
 use Rattle.laws_loads.specs.Renaming.{renamed_copy}
 use Rattle.laws_serving.proofs.Answer.{answer_both}
-use Rattle.laws_serving.proofs.Answers.{serving_only, assigned_tells, transact_all_tells, get_all_tells, give_up_all_tells, confirming_at, answer_tells}
+use Rattle.laws_serving.proofs.Answers.{serving_only, assigned_tells, transact_all_tells, give_up_all_tells, confirming_stage, confirming_at, answer_tells}
 use Rattle.laws_serving.proofs.Confirmed.{confirmed_all}
-use Rattle.laws_serving.proofs.Gets.{get_all, refused_both}
+use Rattle.laws_serving.proofs.Gets.{get_tells}
 use Rattle.laws_serving.proofs.GiveUpLoading.{give_up_all_both}
 use Rattle.laws_serving.proofs.Shared.{taken}
 use Rattle.laws_serving.proofs.Sound.{transact_sound}
@@ -175,13 +174,13 @@ module _ (generation : ℕ → ℕ) (nodes target : ℕ) (c : Cluster) (x : Stan
       pub transact_done : (from : ActorId) (v : ReqNo) (changes : List Change) → Done (transact_row d r from v changes)
       transact_done from v changes =
           stays_done (transact_row d r from v changes)
-          (transact_all_tells generation 1 w i both m l d by r h.follows h.sound from v changes (λ e. refused_both generation 1 w i both m l d by r h.follows e from v changes))
+          (transact_all_tells generation 1 w i both m l d by r h.follows h.sound from v changes)
           (λ e. transact_stays d r from v changes e) (transact_sound d r from v changes h.sound) (transact_left 1 w i l.stand.state d r from v changes h.read)
 
       pub get_done : (from : ActorId) (q : ReqNo) (key : List ℕ) (held : List (Place × List ℕ)) → Done (get_row d r from q key held)
       get_done from q key held =
           stays_done (get_row d r from q key held)
-          (get_all_tells generation 1 w i both m l d by r h.follows from q key held (λ e. get_all generation 1 w i both m l d by r h.follows from q key held))
+          (get_tells generation 1 w i both m l d by r h.follows from q key held)
           (λ e. get_stays d r from q key held) (get_sound d r from q key held h.sound) (get_left 1 w i l.stand.state d r from q key held h.read)
 
       pub give_up_done : Done (give_up_all d r)
@@ -205,22 +204,8 @@ module _ (generation : ℕ → ℕ) (nodes target : ℕ) (c : Cluster) (x : Stan
         once : StandsOnce 1 w i l.stand.state
         once = stands_once (stream_of w.book.stream (log_of 1)) x.streams.beside.log.follows.ground l.stand.state x.streams.l_sent x.streams.beside.log.follows.shaped.settled 1 w i
 
-        -- the stage of a range that waits for its confirmation
-        confirming_stage : (stage : Stage) (q : ReqNo) → StageIs generation 1 w i m l r stage → r.load.phase ≡ phases.Confirming q → stage ≡ stages.Confirming
-        confirming_stage stages.Opening q b e = absurd (let z : phases.Opening b.q ≡ phases.Confirming q = sym b.phase ∙ e in cc)
-        confirming_stage (stages.Checking kinds.Metadata) q b e = absurd (let z : phases.Opened ≡ phases.Confirming q = sym b.phase ∙ e in cc)
-        confirming_stage (stages.Checking kinds.Log) q b e = absurd (let z : phases.Opened ≡ phases.Confirming q = sym b.phase ∙ e in cc)
-        confirming_stage (stages.Checking kinds.RowData) q b e = absurd b
-        confirming_stage (stages.Checking kinds.BlobData) q b e = absurd b
-        confirming_stage (stages.Reading kinds.Metadata position) q b e = absurd (let z : phases.Opened ≡ phases.Confirming q = sym b.phase ∙ e in cc)
-        confirming_stage (stages.Reading kinds.Log position) q b e = absurd (let z : phases.Opened ≡ phases.Confirming q = sym b.phase ∙ e in cc)
-        confirming_stage (stages.Reading kinds.RowData position) q b e = absurd b
-        confirming_stage (stages.Reading kinds.BlobData position) q b e = absurd b
-        confirming_stage stages.Confirming q b e = refl
-        confirming_stage stages.Serving q b e = absurd (let z : phases.Confirmed ≡ phases.Confirming q = sym b.phase ∙ e in cc)
-
         stage_of : (b : IsConfirming generation 1 w i m l r) → r.stage ≡ stages.Confirming
-        stage_of b = confirming_stage r.stage b.q h.follows.stage b.phase
+        stage_of b = confirming_stage generation 1 w i both m l d by r h.follows b.q b.phase
 
         behind : (b : IsConfirming generation 1 w i m l r) (region : Region) → open_region r.regions ≡ Some region → region.next ≡ next_behind b.log.read
         behind b region open_is = (loaded_rightly 1 w i l.stand.state r (stage_of b) h.read b.log.read once b.log.of).number region open_is
@@ -283,7 +268,7 @@ module _ (generation : ℕ → ℕ) (nodes target : ℕ) (c : Cluster) (x : Stan
 
         confirmed_done : (k : IsConfirmation d r v body (answer_row d r v body held)) → is_serving r.stage ≡ false → Done (answer_row d r v body held)
         confirmed_done k unserved =
-            let b : IsConfirming generation 1 w i m l r = confirming_at generation 1 w i both m l d by r h.follows v body held r.stage k.q h.follows.stage k.phase in
+            let b : IsConfirming generation 1 w i m l r = confirming_at generation 1 w i both m l d by r h.follows k.q k.phase in
             let same : phases.Confirming b.q ≡ phases.Confirming k.q = sym b.phase ∙ k.phase in
             let q_is : b.q ≡ k.q = cc in
             let told_as : Some k.told ≡ Some v = ap answered_number (sym k.body_is) ∙ number in

@@ -4,8 +4,8 @@ use Rattle.std.proofs.lemmas.Bool.Decides.{nat_tests}
 use Rattle.replica.specs.Groups.{Group}
 use Rattle.model_tables.specs.Log.{Allowed, IsServed, next_number}
 use Rattle.model_tables.specs.Story.{Placed, StreamEvent, Made, Answered, Showed, Story, event_at, placed, from_place}
-use Rattle.model_tables.specs.Extents.{In, Opened as OpenedAs, Fact, State, Step, TakesOpen, TakesExtend, TakesConfirm, TakesCheck, AnswersCheck, AnswersLate, TakesAppend, Keeps, AnswersAppend, Seals, Opens, Checks, ReadsSealed, ReadsChecked, Begins, Appends, Extends, TakesConfirmed, TakesAppended, Begun, next}
-use Rattle.model_tables.specs.Turns.{Phase, Idle, Opening, Checking, Sealing, Confirming, Serving, Sent, Closing, Growing, Turn, Assigned, AllSealed, LastOpen, Found, Fails, IsShut, ConfirmedIs, Forms, AppendedAt, ExtendedTo, IsTurn, becomes, does, forms, formed, all_next, Whole, Move, Below, Above, is_layer, after_all, AreMoves}
+use Rattle.model_tables.specs.Extents.{In, Opened as OpenedAs, Fact, State, Step, Opens, Checks, ReadsSealed, ReadsChecked, Begins, Appends, Extends, TakesConfirmed, TakesAppended, Begun, next}
+use Rattle.model_tables.specs.Turns.{Phase, Idle, Opening, Checking, Sealing, Confirming, Serving, Sent, Closing, Growing, Turn, Assigned, AllSealed, LastOpen, Found, Fails, IsShut, ConfirmedIs, Forms, AppendedAt, ExtendedTo, IsTurn, becomes, does, forms, formed, all_next, Whole, Move, Below, Above, after_all, AreMoves}
 use Rattle.laws_tables.proofs.Range.{newest, bound, older, event_cases}
 use Rattle.laws_tables.proofs.Extents.{Inv, followed}
 use Rattle.laws_tables.proofs.Turns.{stays, Knows, all_good}
@@ -14,6 +14,7 @@ use Rattle.laws_loads.proofs.Renaming.{made_at, made_from, answered_at, showed_a
 use Rattle.laws_serving.specs.Serves.{IsFit, AreFit}
 use Rattle.laws_serving.proofs.Moves.{stand_of, moves_of, stands_after}
 use Rattle.laws_clusters.specs.Fitting.{AreFitMoves}
+use Rattle.laws_clusters.proofs.Copies.{layer_same}
 
 module _ (generation : ℕ → ℕ) where
   -- fit turns are fit moves
@@ -289,27 +290,6 @@ module _ (generation : ℕ → ℕ) where
 
   -- ---- the steps below
 
-  layer_story : (s : State Group) (x : Step Group) → is_layer Group generation x ≡ true → (next Group generation s x).story ≡ s.story
-  layer_story s (TakesOpen i) t = refl
-  layer_story s (TakesExtend i n) t = refl
-  layer_story s (TakesConfirm i read end) t = refl
-  layer_story s (TakesCheck i v) t = refl
-  layer_story s (AnswersCheck i v) t = refl
-  layer_story s (AnswersLate i e x) t = refl
-  layer_story s (TakesAppend i append group to v) t = refl
-  layer_story s (Keeps c rest v) t = refl
-  layer_story s (AnswersAppend i append from to group) t = refl
-  layer_story s (Seals v) t = refl
-  layer_story s (Opens i) t = absurd cc
-  layer_story s (Checks i e) t = absurd cc
-  layer_story s (ReadsSealed i n) t = absurd cc
-  layer_story s (ReadsChecked i e stood end) t = absurd cc
-  layer_story s (Begins i group) t = absurd cc
-  layer_story s (Appends i e append group) t = absurd cc
-  layer_story s (Extends i n) t = absurd cc
-  layer_story s (TakesConfirmed i start end read) t = absurd cc
-  layer_story s (TakesAppended i append from to) t = absurd cc
-
   below_holds : (s t : State Group) (phase : ℕ → Phase Group) → Holds s phase → t.story ≡ s.story → ((f : Fact Group) → In f s.facts → In f t.facts) → Holds t phase
   below_holds s t phase h same more = record {
     opened = λ i. opened_on s t i (phase i) more (h.opened i);
@@ -473,7 +453,7 @@ module _ (generation : ℕ → ℕ) where
   holds (Below x ∷ earlier) ok fit =
       let w : Whole Group generation = after_all Group generation earlier in
       let before : Left w.state w.phase = holds earlier ok.1 fit in
-      let same : (next Group generation w.state x).story ≡ w.state.story = layer_story w.state x ok.0.0 in
+      let same : (next Group generation w.state x).story ≡ w.state.story = layer_same generation w.state x ok.0.0 in
       record {
         holds = below_holds w.state (next Group generation w.state x) w.phase before.holds same (stays Group generation w.state x);
         told = subst Told (sym same) before.told;

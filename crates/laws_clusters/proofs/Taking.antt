@@ -38,7 +38,7 @@ use Rattle.laws_serving.specs.Sound.{IsSoundIf}
 use Rattle.laws_serving.proofs.Both.{asked_of_both}
 use Rattle.laws_serving.proofs.Rows.{refused_plain}
 use Rattle.laws_serving.proofs.Shared.{taken}
-use Rattle.laws_serving.proofs.Sides.{asked_joined}
+use Rattle.laws_serving.proofs.Sides.{asked_joined, still_tells}
 use Rattle.laws_reads.specs.Reads.{HasReadIf}
 use Rattle.laws_servers.specs.Sending.{AllFromServers}
 use Rattle.laws_servers.proofs.Calling.{all_both, may_send_all}
@@ -105,32 +105,11 @@ module _ (generation : ℕ → ℕ) (plenty : (g n : ℕ) → (i : ℕ) × (n �
 
       plain_tells : (a : Option RangeState) → FollowsIf generation 1 w i a m l → (ps : List Packet) → AreAsked generation 1 w i (log_of 1) l.stand l.sent ps →
           RowTells generation 1 w i m l st.desk (record { after = a; count = st.desk.count; packets = ps; notes = [] })
-      plain_tells a f ps asked = record {
-        goes = record {
-          metadata_turns = [];
-          log_turns = [];
-          metadata_allowed = tt;
-          log_allowed = tt;
-          none = λ e. (refl, refl);
-          metadata_sent = m.sent;
-          log_sent = l.sent;
-          metadata_keeps = λ q p e. e;
-          log_keeps = λ q p e. e;
-          rises = omega arith;
-          metadata_adds = record { number = st.desk.count; from = omega arith; purpose = None; is = refl };
-          log_adds = record { number = st.desk.count; from = omega arith; purpose = None; is = refl };
-          sent_by = by;
-          then = f;
-          asked = asked_of_both generation 1 w i (both generation nodes target c x) m l by.apart ps asked;
-        };
-        unformed = tt;
-        fit = tt;
-        shown = refl;
-      }
+      plain_tells a f ps asked = still_tells generation 1 w i (both generation nodes target c x) m l st.desk by a st.desk.count ps f (omega arith) asked
 
       plain_good : (a : Option RangeState) → FollowsIf generation 1 w i a m l → IsSoundIf a → HasReadIf 1 w i l.stand.state a → (p : Packet) → AreAsked generation 1 w i (log_of 1) l.stand l.sent (p ∷ []) →
           AllFromServers (p ∷ []) → (st.ranges ≡ []) ⊎ ((r : RangeState) × (st.ranges ≡ (1, r) ∷ []) × (a ≡ Some r)) → Good (sends_one st p)
-      unfolding plain_tells
+      unfolding plain_tells still_tells
       plain_good a f sound read p asked senders shape =
           done_good i alone (record { after = a; count = st.desk.count; packets = p ∷ []; notes = [] })
           (unloading generation nodes target c x i st.desk (record { after = a; count = st.desk.count; packets = p ∷ []; notes = [] }) (plain_tells a f (p ∷ []) asked) tt sound read) senders st refl shape
@@ -326,19 +305,20 @@ module _ (generation : ℕ → ℕ) (plenty : (g n : ℕ) → (i : ℕ) × (n �
 
   -- ---- events
 
+  -- a server that is down stays so
+  stopped : (c : Cluster) → Standing generation nodes target c → (s : ℕ) (cell : ServerCell) → entry_at c.servers s ≡ Some cell → Standing generation nodes target (does c (at_server c.servers s (λ z. cell_rests z) (Some cell)))
+  stopped c x s cell at =
+      subst (λ o. Standing generation nodes target (does c (at_server c.servers s (λ z. cell_rests z) o))) at
+      (cell_stands generation nodes target c s (λ z. z) (λ z n k past. past) (λ z st found up. still_runs c.servers s z st found up) x)
+
   -- a server takes a packet
   pub takes_stands : (c : Cluster) → Standing generation nodes target c → (s : ℕ) (p : Packet) (held : Held) → Contains c.world.post p → p.to ≡ Server s → Standing generation nodes target (does c (server_takes c.servers s p held))
   takes_stands c x s p held there to = go (entry_at c.servers s) refl
     where
-      stopped : (cell : ServerCell) → entry_at c.servers s ≡ Some cell → Standing generation nodes target (does c (at_server c.servers s (λ z. cell_rests z) (Some cell)))
-      stopped cell at =
-          subst (λ o. Standing generation nodes target (does c (at_server c.servers s (λ z. cell_rests z) o))) at
-          (cell_stands generation nodes target c s (λ z. z) (λ z n k past. past) (λ z st found up. still_runs c.servers s z st found up) x)
-
       by_state : (cell : ServerCell) → entry_at c.servers s ≡ Some cell → (o : Option ServerState) → cell.state ≡ o →
           Standing generation nodes target
           (does c (record { servers = slice_set c.servers (s - 1) (cell_takes cell p held o).cell; packets = (cell_takes cell p held o).packets; notes = (cell_takes cell p held o).notes }))
-      by_state cell at None is = stopped cell at
+      by_state cell at None is = stopped c x s cell at
       by_state cell at (Some st) is = row_good c x s cell st at is p there to held
 
       go : (o : Option ServerCell) → entry_at c.servers s ≡ o → Standing generation nodes target (does c (at_server c.servers s (λ cell. cell_takes cell p held cell.state) o))
@@ -349,11 +329,6 @@ module _ (generation : ℕ → ℕ) (plenty : (g n : ℕ) → (i : ℕ) × (n �
   pub gives_up_stands : (c : Cluster) → Standing generation nodes target c → (s range : ℕ) (pick : Nodes) → Standing generation nodes target (does c (server_gives_up c.servers s range pick))
   gives_up_stands c x s range pick = go (entry_at c.servers s) refl
     where
-      stopped : (cell : ServerCell) → entry_at c.servers s ≡ Some cell → Standing generation nodes target (does c (at_server c.servers s (λ z. cell_rests z) (Some cell)))
-      stopped cell at =
-          subst (λ o. Standing generation nodes target (does c (at_server c.servers s (λ z. cell_rests z) o))) at
-          (cell_stands generation nodes target c s (λ z. z) (λ z n k past. past) (λ z st found up. still_runs c.servers s z st found up) x)
-
       picked : (cell : ServerCell) (st : ServerState) → entry_at c.servers s ≡ Some cell → cell.state ≡ Some st → (o : ServerOutcome) →
           gives_up (record st { desk = record st.desk { pick = pick } }) range (range_of st.ranges range) ≡ Some o → Standing generation nodes target (row_done c s cell o)
       picked cell st at is o e =
@@ -367,13 +342,13 @@ module _ (generation : ℕ → ℕ) (plenty : (g n : ℕ) → (i : ℕ) × (n �
       by_row : (cell : ServerCell) (st : ServerState) → entry_at c.servers s ≡ Some cell → cell.state ≡ Some st → (o : Option ServerOutcome) → give_up_row st range pick ≡ o →
           Standing generation nodes target
           (does c (record { servers = slice_set c.servers (s - 1) (cell_given_up cell o).cell; packets = (cell_given_up cell o).packets; notes = (cell_given_up cell o).notes }))
-      by_row cell st at is None e = stopped cell at
+      by_row cell st at is None e = stopped c x s cell at
       by_row cell st at is (Some o) e = picked cell st at is o e
 
       by_state : (cell : ServerCell) → entry_at c.servers s ≡ Some cell → (o : Option ServerState) → cell.state ≡ o →
           Standing generation nodes target
           (does c (record { servers = slice_set c.servers (s - 1) (cell_gives_up cell range pick o).cell; packets = (cell_gives_up cell range pick o).packets; notes = (cell_gives_up cell range pick o).notes }))
-      by_state cell at None is = stopped cell at
+      by_state cell at None is = stopped c x s cell at
       by_state cell at (Some st) is = by_row cell st at is (give_up_row st range pick) refl
 
       go : (o : Option ServerCell) → entry_at c.servers s ≡ o → Standing generation nodes target (does c (at_server c.servers s (λ cell. cell_gives_up cell range pick cell.state) o))

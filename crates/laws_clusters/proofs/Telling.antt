@@ -2,7 +2,7 @@
 use Rattle.std.proofs.Common.{◌≡◌, ◌⊎◌, inl, inr, ℕ, zero, suc, ◌<◌, Bool, true, false, List, [], ◌∷◌, ◌++◌, length, map, Some, refl, sym, ap, ◌∙◌, subst, arith, if◌then◌else◌, ◌==◌, nat_lt, append_assoc, append-nil}
 use Rattle.std.proofs.lemmas.Bool.Decides.{nat_tests}
 use Rattle.wire.specs.declared.note.Note.{Note}
-use Rattle.wire.specs.declared.note.Note.TheVariants.{Acked, SealedAt, Content, Seen, Began, Done, Loaded, Split, Merged}
+use Rattle.wire.specs.declared.note.Note.TheVariants.{Began, Done, Loaded}
 use Rattle.wire.specs.declared.rows.Row.{Row}
 use Rattle.memtable.specs.Entries.{Entries}
 use Rattle.metadata.specs.declared.record.IndexRange.{IndexRange}
@@ -18,6 +18,7 @@ use Rattle.model_tables.specs.Extents.{State, Begins}
 use Rattle.model_tables.specs.Turns.{Phase, Idle, Opening, Checking, Sealing, Confirming, Serving, Sent, Closing, Growing, Turn, Assigned, AllSealed, LastOpen, Found, Fails, IsShut, ConfirmedIs, Forms, AppendedAt, ExtendedTo, IsTurn, does, forms, all_next, Move, after_all, AreMoves}
 use Rattle.laws_tables.proofs.Range.{bound, event_cases}
 use Rattle.laws_tables.proofs.Turns.{Knows, all_good}
+use Rattle.laws_tables.proofs.Others.{others-append}
 use Rattle.laws_loads.specs.Renaming.{renamed, renamed_copy, renamed_placed, renamed_event, decoded}
 use Rattle.laws_loads.proofs.Renaming.{made_at, mapped_length, from_place_renamed}
 use Rattle.laws_serving.specs.Serves.{Stand, after_turns, AreTurns, begun_notes, done_notes, next_behind, IsShown, AreShown}
@@ -28,18 +29,6 @@ use Rattle.laws_clusters.proofs.Others.{still_up}
 use Rattle.laws_serving.specs.Quiet.{AreQuiet}
 
 -- ---- lists of observations
-
-pub table_both : (xs ys : List Note) → table_notes (xs ++ ys) ≡ table_notes xs ++ table_notes ys
-table_both [] ys = refl
-table_both (Acked e o group ∷ xs) ys = table_both xs ys
-table_both (SealedAt e l ∷ xs) ys = table_both xs ys
-table_both (Content e n groups ∷ xs) ys = table_both xs ys
-table_both (Seen e n o bytes ∷ xs) ys = table_both xs ys
-table_both (Began r g s t ∷ xs) ys = ap (λ l. Began r g s t ∷ l) (table_both xs ys)
-table_both (Done r g s ∷ xs) ys = ap (λ l. Done r g s ∷ l) (table_both xs ys)
-table_both (Loaded r g rows next ∷ xs) ys = ap (λ l. Loaded r g rows next ∷ l) (table_both xs ys)
-table_both (Split a b c key ∷ xs) ys = ap (λ l. Split a b c key ∷ l) (table_both xs ys)
-table_both (Merged a b c ∷ xs) ys = ap (λ l. Merged a b c ∷ l) (table_both xs ys)
 
 begun_noted : (n : List Note) (g s : ℕ) (ts : List Transaction) → noted n (begun_notes 1 g s ts) ≡ n ++ begins_of g s ts
 begun_noted n g s [] = sym (append-nil n)
@@ -77,14 +66,14 @@ module _ (generation : ℕ → ℕ) (i : ℕ) (rows : ℕ → List Row) where
       Tells rows n story → Tells rows (noted n shown) (Made (generation i) group ∷ story)
   begins_told n story group shown is t =
       let x : Numbered Transaction = decoded group in
-      ap (λ l. table_notes (noted n l)) is ∙ ap table_notes (begun_noted n (generation i) x.first x.items) ∙ table_both n (begins_of (generation i) x.first x.items)
+      ap (λ l. table_notes (noted n l)) is ∙ ap table_notes (begun_noted n (generation i) x.first x.items) ∙ others-append n (begins_of (generation i) x.first x.items)
       ∙ ap (λ l. l ++ table_notes (begins_of (generation i) x.first x.items)) t ∙ ap (λ l. observed rows (renamed decoded story) ++ l) (table_begins (generation i) x.first x.items)
 
   dones_told : (n : List Note) (story : Story Group) (append from to : ℕ) (group : Group) (shown : List TableNote) → shown ≡ done_notes 1 (generation i) (decoded group).first (decoded group).items →
       event_at story append ≡ Some (Made (generation i) group) → Tells rows n story → Tells rows (noted n shown) (Answered append from to ∷ story)
   dones_told n story append from to group shown is made t =
       let x : Numbered Transaction = decoded group in
-      ap (λ l. table_notes (noted n l)) is ∙ ap table_notes (done_noted n (generation i) x.first x.items) ∙ table_both n (dones_of (generation i) x.first x.items)
+      ap (λ l. table_notes (noted n l)) is ∙ ap table_notes (done_noted n (generation i) x.first x.items) ∙ others-append n (dones_of (generation i) x.first x.items)
       ∙ ap (λ l. l ++ table_notes (dones_of (generation i) x.first x.items)) t ∙ ap (λ l. observed rows (renamed decoded story) ++ l) (table_dones (generation i) x.first x.items)
       ∙ ap (λ e. observed rows (renamed decoded story) ++ dones_at e) (sym (made_at decoded story append (generation i) group made))
 
@@ -180,7 +169,7 @@ module _ (generation : ℕ → ℕ) (i end : ℕ) (read : List (Copy Group)) (ro
   pub load_told : Tells rows n story → Tells new_rows (noted n (tables.Loaded 1 (generation i) entries indexes (next_behind read) ∷ [])) (loaded ∷ story)
   load_told t =
       let note : Note = Loaded 1 (generation i) (rows_of n entries) (next_behind read) in
-      table_both n (note ∷ [])
+      others-append n (note ∷ [])
       ∙ ap (λ l. l ++ note ∷ []) t
       ∙ ap (λ l. l ++ note ∷ []) (observed_same rows new_rows (renamed decoded story) (λ l less. sym (new_below l (omega (arith, less, lengths)))))
       ∙ (λ j. observed new_rows (renamed decoded story) ++ Loaded 1 (generation i) ((sym new_here ∙ ap new_rows (sym lengths)) j) (suc (length (line_shown (sym groups_are j)))) ∷ [])

@@ -122,14 +122,11 @@ covered whole offset bytes place value s is =
     by true false low high e = absurd cc
     by false b low high e = absurd cc
 
-same_extent : (a b : ℕ) → (a == b) ≡ true → a ≡ b
-same_extent a b e = eqb-true a b e
-
 module _ (texts : ℕ → Bytes) where
   by_place : (e : ℕ) (place : Place) (offset : ℕ) (bytes value : Bytes) → (b : Bool) → (e == place.extent) ≡ b → StandsAt (texts e) offset bytes →
       cond b (part offset bytes place) None ≡ Some value → value ≡ take place.length (drop place.offset (texts place.extent))
   by_place e place offset bytes value true is s shown =
-      let same : e ≡ place.extent = same_extent e place.extent is in
+      let same : e ≡ place.extent = eqb-true e place.extent is in
       covered (texts place.extent) offset bytes place value (subst (λ x. StandsAt (texts x) offset bytes) same s) shown
   by_place e place offset bytes value false is s shown = absurd cc
 

@@ -27,8 +27,8 @@ use Rattle.model_tables.specs.Range.{RangeState, RangeOutcome, request, answers,
 use Rattle.model_tables.specs.Loading.{open_region, opens, are_counted, serves_region, serves_from, serves, log_news}
 use Rattle.model_tables.specs.Answering.{answered_number, stream_number, groups_of, load_refused, load_told, load_reply, metadata_reply, serving_news, is_taken, log_taken, log_reply, bytes_reply, gets_reply, answer_row}
 use Rattle.laws_runs.specs.Ties.{Opens, purpose_of, Means, StreamMeans}
+use Rattle.laws_runs.proofs.Asking.{same_request}
 use Rattle.laws_serving.specs.Serves.{Side, metadata_of, log_of, IsOpening, StageIs, Follows, BothListed}
-use Rattle.laws_serving.proofs.Steps.{same_request}
 use Rattle.laws_reads.specs.Reads.{HasReadAt, HasRead, HasReadIf, IsSpelled, IsEmpty, Shows}
 use Rattle.laws_reads.proofs.Starting.{opens_left}
 use Rattle.laws_reads.proofs.MetadataRows.{metadata_reply_left}

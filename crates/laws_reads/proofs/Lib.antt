@@ -1,7 +1,6 @@
 pub mod Within
 pub mod Table
 pub mod Asking
-pub mod Replies
 pub mod Reading
 pub mod Rightly
 pub mod Same

@@ -21,12 +21,12 @@ use Rattle.model_tables.specs.Range.{RangeState, RangeOutcome, request, picking}
 use Rattle.model_tables.specs.Loading.{log_news, log_read}
 use Rattle.model_tables.specs.Answering.{groups_of}
 use Rattle.laws_runs.specs.Ties.{Reads, purpose_of, IsAt, Means}
+use Rattle.laws_runs.proofs.Asking.{same_request}
 use Rattle.laws_serving.specs.Serves.{Side, log_of, LoadsBy, LoadsLog, ReadingIs, StageIs, BothListed}
-use Rattle.laws_serving.proofs.Steps.{same_request}
 use Rattle.laws_serving.proofs.Tells.{sealed_length}
 use Rattle.laws_reads.specs.Reads.{ReadsAt, ReadsBy, Loads, HasReadTo, HasReadAt, HasRead, HasReadIf, IsSpelled, IsShown, ReadShows, Shows}
 use Rattle.laws_reads.proofs.Asking.{by_same}
-use Rattle.laws_reads.proofs.Replies.{ByJob, reply_takes, idle_takes}
+use Rattle.laws_serving.proofs.Replies.{ByJob, reply_takes, idle_takes}
 use Rattle.laws_reads.proofs.Rightly.{Rightly, IsShut, IsStood, rightly, told_shut}
 use Rattle.laws_reads.proofs.Reading.{IsRead, ItsSealed, ItStood, LogTold, reads_log_left, log_read_left}
 use Rattle.laws_reads.proofs.Same.{Same, same_left}
@@ -61,7 +61,7 @@ module _ (generation : ℕ → ℕ) (range : ℕ) (w : World) (i : ℕ) (both : 
       checking_by (jobs.Growing last q) a = absurd a
       checking_by (jobs.Checking n q) a = (
         checking_stays (shuts c n (request d)).after,
-        λ found. from_first generation range w i both.log l d (record r { log = (ends_checked c n found).after }) (fresh (ends_checked c n found).after b.log.told.tells refl) h.metadata h.log.1,
+        λ v found same is. from_first generation range w i both.log l d (record r { log = (ends_checked c n found).after }) (fresh (ends_checked c n found).after b.log.told.tells refl) h.metadata h.log.1,
       )
       checking_by (jobs.Shutting n q) a =
           λ v k t same is.
@@ -72,7 +72,7 @@ module _ (generation : ℕ → ℕ) (range : ℕ) (w : World) (i : ℕ) (both : 
       checking_by (jobs.Reading n places upto sealed place q) a = λ v k groups same is. checking_stays (ends c (news.Content n upto)).after
 
       pub checking_news : AtChecking (reply_row c (request d) body)
-      checking_news = reply_takes (request d) AtChecking c body (checking_stays c) tt (checking_by r.log.job b.log.job)
+      checking_news = reply_takes (request d) AtChecking c body (checking_stays c) (λ v t. tt) (checking_by r.log.job b.log.job)
 
     -- ---- an extent is read
 
@@ -168,13 +168,13 @@ module _ (generation : ℕ → ℕ) (range : ℕ) (w : World) (i : ℕ) (both : 
       reading_by spelled shows (jobs.Sent n q) a s = absurd a
       reading_by spelled shows (jobs.Closing n q) a s = absurd a
       reading_by spelled shows (jobs.Growing last q) a s = absurd a
-      reading_by spelled shows (jobs.Checking n q) a s = (reading_stays (shuts c n (request d)).after refl tt, λ found. reading_stays (ends_checked c n found).after refl tt)
+      reading_by spelled shows (jobs.Checking n q) a s = (reading_stays (shuts c n (request d)).after refl tt, λ v found same is. reading_stays (ends_checked c n found).after refl tt)
       reading_by spelled shows (jobs.Shutting n q) a s = λ v k t same is. shut_left n q a v k t same is means
       reading_by spelled shows (jobs.Reading n places upto sealed place q) a s = λ v k groups same is. came_left spelled shows n upto sealed q a s v k groups same is
 
       pub reading_news : IsSpelled range w i l.stand.state → Shows range w i l.stand.state l.sent body → AtReading (reply_row c (request d) body)
       reading_news spelled shows =
-          reply_takes (request d) AtReading c body (reading_stays c refl (by_same r.log c refl refl position r.log.job h.log.job)) tt (reading_by spelled shows r.log.job b.log.job h.log.job)
+          reply_takes (request d) AtReading c body (reading_stays c refl (by_same r.log c refl refl position r.log.job h.log.job)) (λ v t. tt) (reading_by spelled shows r.log.job b.log.job h.log.job)
 
   -- ---- a log that waits for nothing
 

@@ -19,7 +19,7 @@ use Rattle.laws_runs.specs.Ties.{Means}
 use Rattle.laws_serving.specs.Serves.{Side, metadata_of, LoadsBy, LoadsMetadata, StageIs, Follows, BothListed}
 use Rattle.laws_reads.specs.Reads.{groups_in, ReadsSome, Loads, HasReadAt, HasRead, HasReadIf, IsEmpty}
 use Rattle.laws_reads.proofs.Asking.{LastOpen, some_same}
-use Rattle.laws_reads.proofs.Replies.{ByJob, reply_takes, idle_takes}
+use Rattle.laws_serving.proofs.Replies.{ByJob, reply_takes, idle_takes}
 use Rattle.laws_reads.proofs.Rightly.{Rightly, IsShut, IsStood, rightly, told_shut}
 use Rattle.laws_reads.proofs.Same.{Same, same_left}
 use Rattle.laws_reads.proofs.Starting.{Fresh, reads_metadata_left}
@@ -64,7 +64,7 @@ module _ (generation : ℕ → ℕ) (range : ℕ) (w : World) (i : ℕ) (both : 
       checking_by (jobs.Closing n q) a = absurd a
       checking_by (jobs.Growing last q) a = absurd a
       checking_by (jobs.Checking n q) a =
-          (checking_stays (shuts c n (request d)).after tt, λ found. next (ends_checked c n found).after b.metadata.told.tells.unsealed refl 0)
+          (checking_stays (shuts c n (request d)).after tt, λ v found same is. next (ends_checked c n found).after b.metadata.told.tells.unsealed refl 0)
       checking_by (jobs.Shutting n q) a =
           λ v k t same is.
           next (ends_sealed c n t).after
@@ -73,7 +73,7 @@ module _ (generation : ℕ → ℕ) (range : ℕ) (w : World) (i : ℕ) (both : 
       checking_by (jobs.Reading n places upto sealed place q) a = λ v k groups same is. checking_stays (ends c (news.Content n upto)).after tt
 
       checking_news : AtChecking (reply_row c (request d) body)
-      checking_news = reply_takes (request d) AtChecking c body (checking_stays c same_some) tt (checking_by r.metadata.job b.metadata.job)
+      checking_news = reply_takes (request d) AtChecking c body (checking_stays c same_some) (λ v t. tt) (checking_by r.metadata.job b.metadata.job)
 
     module _ (position : ℕ) (e : r.stage ≡ stages.Reading kinds.Metadata position) where
       reading_stays : (k : ClientState) → ReadsSome k k.job → HasRead range w i l.stand.state (record r { metadata = k })
@@ -87,7 +87,7 @@ module _ (generation : ℕ → ℕ) (range : ℕ) (w : World) (i : ℕ) (both : 
       reading_by (jobs.Sent n q) a s = absurd a
       reading_by (jobs.Closing n q) a s = absurd a
       reading_by (jobs.Growing last q) a s = absurd a
-      reading_by (jobs.Checking n q) a s = (reading_stays (shuts c n (request d)).after tt, λ found. reading_stays (ends_checked c n found).after tt)
+      reading_by (jobs.Checking n q) a s = (reading_stays (shuts c n (request d)).after tt, λ v found same is. reading_stays (ends_checked c n found).after tt)
       reading_by (jobs.Shutting n q) a s =
           λ v k t same is.
           next (ends_sealed c n t).after
@@ -104,7 +104,7 @@ module _ (generation : ℕ → ℕ) (range : ℕ) (w : World) (i : ℕ) (both : 
           (next (ends c (news.Content n upto)).after b.metadata.told.tells.unsealed refl (suc position))
 
       reading_news : AtReading (reply_row c (request d) body)
-      reading_news = reply_takes (request d) AtReading c body (reading_stays c same_some) tt (reading_by r.metadata.job b.metadata.job h.metadata)
+      reading_news = reply_takes (request d) AtReading c body (reading_stays c same_some) (λ v t. tt) (reading_by r.metadata.job b.metadata.job h.metadata)
 
   -- ---- a metadata that waits for nothing
 

@@ -1,11 +1,9 @@
 -- Rows that read nothing keep what was read: those of users, giving up, and all rows of a range that is served.
-use Rattle.std.proofs.Common.{◌≡◌, ℕ, ◌+◌, ◌-◌, ◌^◌, List, [], ◌∷◌, ◌++◌, length, map, flat_map, Bool, true, false, not, ◌&&◌, ◌||◌, ◌==◌, nat_lt, Option, Some, None, is_some, refl, sym, subst, if◌then◌else◌}
-use Rattle.std.specs.List.{list_any}
+use Rattle.std.proofs.Common.{◌≡◌, ℕ, ◌+◌, ◌-◌, ◌^◌, List, [], ◌∷◌, ◌++◌, length, map, flat_map, Bool, true, false, not, ◌&&◌, nat_lt, Option, Some, None, is_some, refl, sym, subst, if◌then◌else◌}
 use Rattle.wire.specs.declared.actor.ActorId.{ActorId}
 use Rattle.wire.specs.declared.actor.ReqNo.{ReqNo}
 use Rattle.wire.specs.declared.packet.Packet.{Packet}
 use Rattle.wire.specs.declared.refusal.Refusal.{Refusal}
-use Rattle.wire.specs.declared.refusal.Refusal.TheVariants as refusals
 use Rattle.wire.specs.declared.transaction.Change.{Change}
 use Rattle.client.specs.declared.job.News.{News}
 use Rattle.client.specs.declared.job.News.TheVariants as news
@@ -13,7 +11,6 @@ use Rattle.client.specs.Client.{ClientState, Outcome, give_up_row}
 use Rattle.cells.specs.declared.cell.Place.{Place}
 use Rattle.commitlog.specs.Places.{kept}
 use Rattle.memtable.specs.Entries.{put_all}
-use Rattle.metadata.specs.Keys.{within}
 use Rattle.model.specs.World.{World}
 use Rattle.model.proofs.Tests.{none_met}
 use Rattle.model_tables.specs.declared.desk.Desk.{Desk}
@@ -21,27 +18,16 @@ use Rattle.model_tables.specs.declared.stage.Stage.{Stage}
 use Rattle.model_tables.specs.declared.stage.Stage.TheVariants as stages
 use Rattle.model_tables.specs.declared.waiting.WaitingGet.{WaitingGet}
 use Rattle.model_tables.specs.Range.{OutGroup, RangeState, RangeOutcome, request, used, goes, picking, is_serving}
-use Rattle.model_tables.specs.Serving.{lease_ended, is_key, value_size, is_full, group_count, appends, forms, transact_fault, transacts, transact_row, record_of, out_size, log_done}
+use Rattle.model_tables.specs.Serving.{group_count, appends, forms, transact_fault, transacts, transact_row, record_of, out_size, log_done}
 use Rattle.model_tables.specs.Getting.{get_fault, gets, get_row, bytes_row, gives_up_get}
 use Rattle.model_tables.specs.Server.{new_range}
 use Rattle.model_tables.specs.Answering.{serving_news, give_up_all}
 use Rattle.model_tables.specs.Extents as machine
 use Rattle.replica.specs.Groups.{Group}
+use Rattle.laws_serving.proofs.Sound.{tests}
 use Rattle.laws_reads.specs.Reads.{HasReadAt, HasRead, HasReadIf}
 use Rattle.laws_reads.proofs.Asking.{Keeps, by_same, some_same, gives_up_there, gives_up_by, gives_up_some}
 use Rattle.laws_reads.proofs.Same.{same_left}
-
--- what a transaction is tested for
-abbrev tests : Desk → RangeState → List Change → List (Refusal × Bool)
-tests d r changes =
-    (refusals.Loading, not (is_serving r.stage))
-    ∷ (refusals.LeaseEnded, lease_ended d r)
-    ∷ (refusals.TooLarge, (length changes == 0) || nat_lt 32 (length changes))
-    ∷ (refusals.BadKey, list_any (λ c. not (is_key c.key)) changes)
-    ∷ (refusals.TooLarge, list_any (λ c. nat_lt 65536 (value_size c.value)) changes)
-    ∷ (refusals.OutOfRange, list_any (λ c. not (within r.said.keys c.key)) changes)
-    ∷ (refusals.Busy, is_full r)
-    ∷ []
 
 module _ (range : ℕ) (w : World) (i : ℕ) (s : machine.State Group) where
   abbrev Leaves : RangeOutcome → Type 0

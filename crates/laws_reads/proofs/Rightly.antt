@@ -8,13 +8,14 @@ use Rattle.wire.specs.declared.streams.StreamExtent.{StreamExtent}
 use Rattle.wire.specs.declared.streams.StreamName.{StreamName}
 use Rattle.replica.specs.Groups.{Group}
 use Rattle.client.specs.Requests.{is_same}
-use Rattle.client.specs.Client.{ClientState, last_extent, sealed_last}
+use Rattle.client.specs.Client.{ClientState, sealed_last}
 use Rattle.model.specs.World.{World}
 use Rattle.model_tables.specs.Story.{Copy}
 use Rattle.model_tables.specs.Extents as machine
 use Rattle.laws_runs.specs.Ties.{Sent, Reads, Seals, purpose_of, IsAt, Tells, ReadsRightly, Means, ReadMeans, SealMeans}
-use Rattle.laws_serving.specs.Serves.{Stand, is_live, LastIs, IsTold, FoundIs, Readable, WasSealed, WasFound, WasShut, ReadingIs, ShuttingIs, Listed}
-use Rattle.laws_serving.proofs.Steps.{same_request}
+use Rattle.laws_runs.proofs.Asking.{same_request}
+use Rattle.laws_serving.specs.Serves.{Stand, is_live, LastIs, IsTold, FoundIs, ReadingIs, ShuttingIs, Listed}
+use Rattle.laws_serving.proofs.Load.{found_of}
 use Rattle.laws_serving.proofs.Tells.{told_sealed}
 use Rattle.laws_reads.specs.Reads.{groups_in, ReadsAt}
 
@@ -25,11 +26,6 @@ module _ (generation : ℕ → ℕ) (name : StreamName) (w : World) (i : ℕ) (l
         Rightly c position known groups
     IsStood : (found : ℕ) (is : known.length ≡ None) (checked : c.checked ≡ Some found) (stood : List (Copy Group))
         (fact : machine.In (machine.Checked i position stood (machine.base position + found)) x.state.facts) (same : groups ≡ groups_in stood) → Rightly c position known groups
-
-  found_of : (c : ClientState) → Readable generation name w i x sent c → is_live (last_extent c.extents) ≡ true → FoundIs generation name w i x sent c
-  found_of c (WasSealed live stands) open_one = absurd (let z : false ≡ true = sym live ∙ open_one in cc)
-  found_of c (WasFound f) open_one = f
-  found_of c (WasShut index index_is live stands) open_one = absurd (let z : false ≡ true = sym live ∙ open_one in cc)
 
   module _ (c : ClientState) (told : Tells generation name w x.state sent (record { base = c.base; extents = c.extents })) (e upto : ℕ) (r : ReqNo) (position : ℕ) (groups : List Group) where
     pub index_is : (sealed : Bool) (b : ReadingIs generation name w i x sent c e upto sealed r) → ReadsAt c e upto sealed position → b.index ≡ position
@@ -42,7 +38,7 @@ module _ (generation : ℕ → ℕ) (name : StreamName) (w : World) (i : ℕ) (l
         IsShut upto at.far y.0 y.1 (means.whole y.0 y.1 y.2)
     rightly_by false b at means =
         let last : LastIs c e b.index = b.is_last refl in
-        let f : FoundIs generation name w i x sent c = found_of c b.readable (ap is_live last.last) in
+        let f : FoundIs generation name w i x sent c = found_of generation name w i x sent c b.readable (ap is_live last.last) in
         let here : b.index ≡ position = index_is false b at in
         let same : f.index ≡ position = omega (arith, f.last.index_is, last.index_is, here) in
         let both : Some f.found ≡ Some upto = sym f.checked ∙ at.far.1 in

@@ -27,7 +27,7 @@ use Rattle.laws_streams.proofs.Ground.{Ground}
 use Rattle.model_tables.specs.Story.{Copy}
 use Rattle.model_tables.specs.Answering.{stream_number}
 use Rattle.model_tables.specs.Extents as machine
-use Rattle.model_tables.specs.Extents.{In, Live, Core, shut_at, Fact, State, Step, TakesOpen, TakesExtend, TakesConfirm, TakesCheck, AnswersCheck, AnswersLate, TakesAppend, Keeps, AnswersAppend, Seals as SealsLast, Opens, Checks, ReadsSealed, ReadsChecked, Begins, Appends, Extends, TakesConfirmed, TakesAppended, next}
+use Rattle.model_tables.specs.Extents.{In, Core, shut_at, Fact, State, Step, Opens, Checks, ReadsSealed, ReadsChecked, Begins, Appends, Extends, TakesConfirmed, TakesAppended, next}
 use Rattle.model_tables.specs.Turns.{Phase, Idle, Opening, Checking, Sealing, Confirming, Serving, Sent as SentOut, Closing, Growing, Turn, Assigned, AllSealed, LastOpen, Found, IsShut, ConfirmedIs, Forms, AppendedAt, ExtendedTo, does, forms, all_next, is_layer}
 use Rattle.laws_runs.specs.Ties.{Purpose, Sent, purpose_of, asked_number, meant_number, AsksToOpen, AsksToConfirm, AsksToExtend, AsksToCheck, AsksToAppend, AsksToRead, AsksToSeal, OfExtent, OfStream, IsAsked, Tells, list_of, AppendMeans, CheckMeans, StreamMeans, purpose_if}
 use Rattle.laws_runs.specs.Ties as ties
@@ -152,16 +152,17 @@ upper_follows generation name w s t sent u a =
 
 -- ---- one more number
 
-same_is : (a b : ReqNo) → is_same a b ≡ true → a ≡ b
-same_is (requests.Server s session count) (requests.Server t other number) is =
+-- only one request has a number
+pub same_request : (a b : ReqNo) → is_same a b ≡ true → a ≡ b
+same_request (requests.Server s session count) (requests.Server t other number) is =
     let k = both_parts (s == t) ((session == other) && (count == number)) is in
     let m = both_parts (session == other) (count == number) k.1 in
     rw (tested s t k.0, tested session other m.0, tested count number m.1) refl
-same_is (requests.User u ticket) (requests.User v number) is =
+same_request (requests.User u ticket) (requests.User v number) is =
     let k = both_parts (u == v) (ticket == number) is in
     rw (tested u v k.0, tested ticket number k.1) refl
-same_is requests.NoRequest requests.NoRequest is = refl
-same_is a b is = absurd cc
+same_request requests.NoRequest requests.NoRequest is = refl
+same_request a b is = absurd cc
 
 -- no server has asked under this number, and none was told what it means
 abbrev pub Unused : World → ReqNo → Type 0
@@ -176,7 +177,7 @@ module _ (generation : ℕ → ℕ) (name : StreamName) (w : World) (s : State G
   old_purpose fresh q p is = by_test (is_same x.request q) refl
     where
       by_test : (b : Bool) → is_same x.request q ≡ b → purpose_of (x ∷ sent) q ≡ Some p
-      by_test true t = let c : None ≡ Some p = sym fresh ∙ ap (purpose_of sent) (same_is x.request q t) ∙ is in absurd cc
+      by_test true t = let c : None ≡ Some p = sym fresh ∙ ap (purpose_of sent) (same_request x.request q t) ∙ is in absurd cc
       by_test false t = other_purpose q t ∙ is
 
   more_sourced : purpose_of sent x.request ≡ None → (g : Ground) (e index : ℕ) (copies : List (Copy Group)) → Sourced g sent e index copies → Sourced g (x ∷ sent) e index copies

@@ -14,6 +14,7 @@ use Rattle.laws_streams.proofs.Lasting.{sealed_beyond}
 use Rattle.model_tables.specs.Story.{Copy}
 use Rattle.model_tables.specs.Extents as machine
 use Rattle.model_tables.specs.Extents.{In, Shut, Live, base, count, one_if_live, all_shut, shut_at, Chain, State, TakesCheck, AnswersCheck, AnswersLate, AnswersAppend, all_copies}
+use Rattle.laws_tables.proofs.Members.{in_left, in_right}
 use Rattle.laws_runs.specs.Ties.{Sent, purpose_of, Appends, extents_of}
 use Rattle.laws_runs.proofs.Bound.{Sized, group_of, TiedLive, FoundFront, chain_len, chain_both, floor_above, floor_low, live_end, find_front, keep_tied, end_after, after_chain}
 use Rattle.laws_runs.proofs.Walks.{Onward, Walk, walk_on, steps_to, with_lived, keep_all, shut_within}
@@ -43,15 +44,6 @@ in_got : {A : Type 0} (xs : List A) (k : ℕ) (x : A) → slice_get xs k ≡ Som
 in_got [] k x is = absurd cc
 in_got (y ∷ xs) zero x is = let c : y ≡ x = cc in inl (sym c)
 in_got (y ∷ xs) (suc k) x is = inr (in_got xs k x is)
-
-in_left : {A : Type 0} (x : A) (xs ys : List A) → In x xs → In x (xs ++ ys)
-in_left x [] ys m = absurd m
-in_left x (y ∷ xs) ys (inl is) = inl is
-in_left x (y ∷ xs) ys (inr m) = inr (in_left x xs ys m)
-
-in_right : {A : Type 0} (x : A) (xs ys : List A) → In x ys → In x (xs ++ ys)
-in_right x [] ys m = m
-in_right x (y ∷ xs) ys m = inr (in_right x xs ys m)
 
 -- what ends within what is kept is kept
 kept_got : (a : ℕ) (loose : List (Copy Group)) (b k : ℕ) (c : Copy Group) → Chain a loose b → slice_get loose k ≡ Some c → a < c.to

@@ -83,7 +83,7 @@ decision_calls_not b e after to (bodies.Seal body) tells t = cc
 
 -- ---- lists
 
-get_same : {A : Type 0} (xs ys : List A) (k : ℕ) → k < length xs → slice_get (xs ++ ys) k ≡ slice_get xs k
+pub get_same : {A : Type 0} (xs ys : List A) (k : ℕ) → k < length xs → slice_get (xs ++ ys) k ≡ slice_get xs k
 get_same [] ys k l = absurd (omega (arith, l))
 get_same (x ∷ xs) ys zero l = refl
 get_same (x ∷ xs) ys (suc k) l = get_same xs ys k (omega (arith, l))

@@ -24,14 +24,11 @@ use Rattle.model_tables.specs.declared.table_note.TableNote.TheVariants.{Began, 
 use Rattle.model_tables.specs.Servers.{Held, ServersOutcome, told, noted, with_told, server_takes, server_gives_up, server_stops, server_starts}
 use Rattle.model_clusters.specs.Cluster.{Cluster, map_does, map_does_if, map_takes, goes_to, delivers, stops, restarts, comes, assigns, renews, shows_moment, LeadTo}
 use Rattle.laws_streams.proofs.Law.{agree_in_moves, kept_in_moves}
+use Rattle.laws_streams.proofs.Rising.{run_more}
 use Rattle.laws_servers.specs.Sending.{MaySend, MaySendAll, ByMoves}
 use Rattle.laws_servers.proofs.Serving.{IsStill, server_takes_shows, server_gives_up_tidy, server_stops_still, server_starts_still}
 
 -- ---- moves one after the other
-
-run_both : (xs ys : List Move) (w : World) → run_moves (xs ++ ys) w ≡ run_moves ys (run_moves xs w)
-run_both [] ys w = refl
-run_both (x ∷ xs) ys w = run_both xs ys (moved w x)
 
 pub none : (w : World) → ByMoves w w
 none w = record { moves = []; is = refl }
@@ -40,7 +37,7 @@ pub one : (w : World) (move : Move) → ByMoves w (moved w move)
 one w move = record { moves = move ∷ []; is = refl }
 
 pub both : (u v w : World) → ByMoves u v → ByMoves v w → ByMoves u w
-both u v w a b = record { moves = a.moves ++ b.moves; is = run_both a.moves b.moves u ∙ ap (run_moves b.moves) a.is ∙ b.is }
+both u v w a b = record { moves = a.moves ++ b.moves; is = run_more a.moves b.moves u ∙ ap (run_moves b.moves) a.is ∙ b.is }
 
 -- ---- packets and observations
 
@@ -61,7 +58,7 @@ sent_by w (p ∷ packets) h =
     subst (ByMoves w) (ap (λ (l : List Packet). record w { post = l }) (append_assoc w.post (p ∷ []) packets))
     (both w (sent_more w (p ∷ [])) (sent_more (sent_more w (p ∷ [])) packets) (one_packet w p h.0) (sent_by (sent_more w (p ∷ [])) packets h.1))
 
-is_shown : (notes : List Note) (note : TableNote) → is_table_note (told notes note) ≡ true
+pub is_shown : (notes : List Note) (note : TableNote) → is_table_note (told notes note) ≡ true
 is_shown notes (Began range generation number changes) = refl
 is_shown notes (Done range generation number) = refl
 is_shown notes (Loaded range generation entries indexes next) = refl

@@ -1,9 +1,7 @@
 -- What a range does with an answer that it waits for, and with a transaction, whatever its stage, as both streams see it.
 use Rattle.std.proofs.Common.{◌≡◌, ℕ, List, Bool, true, false, Some, refl, if◌then◌else◌}
-use Rattle.wire.specs.declared.actor.ActorId.{ActorId}
 use Rattle.wire.specs.declared.actor.ReqNo.{ReqNo}
 use Rattle.wire.specs.declared.body.Body.{Body}
-use Rattle.wire.specs.declared.transaction.Change.{Change}
 use Rattle.cells.specs.declared.cell.Place.{Place}
 use Rattle.client.specs.Client.{awaits}
 use Rattle.client.specs.Load.{load_awaits}
@@ -12,27 +10,21 @@ use Rattle.model.specs.World.{World}
 use Rattle.model_tables.specs.Loading.{open_region}
 use Rattle.model_tables.specs.declared.desk.Desk.{Desk}
 use Rattle.model_tables.specs.Range.{RangeState}
-use Rattle.model_tables.specs.Serving.{transact_row}
 use Rattle.model_tables.specs.Answering.{answered_number, load_reply, metadata_reply, log_reply, gets_reply, answer_row}
 use Rattle.laws_runs.specs.Ties.{Means}
 use Rattle.laws_serving.specs.Serves.{Side, next_behind, metadata_of, log_of, IsConfirming, Follows, BothListed, IsSentBy, IsCounted, RowGoes}
 use Rattle.laws_serving.specs.Sound.{IsSound}
-use Rattle.laws_serving.proofs.Both.{transact_both, log_reply_both}
+use Rattle.laws_serving.proofs.Both.{log_reply_both}
 use Rattle.laws_serving.proofs.Confirmed.{confirmed_both}
 use Rattle.laws_serving.proofs.News.{metadata_news_both, log_news_by}
 use Rattle.laws_serving.proofs.LoadTold.{load_reply_by}
-use Rattle.laws_serving.proofs.Gets.{gets_both, transact_by}
+use Rattle.laws_serving.proofs.Gets.{gets_reply_tells}
 
 module _ (generation : ℕ → ℕ) (range : ℕ) (w : World) (i : ℕ) (both : BothListed w range) (m l : Side) (d : Desk) (by : IsSentBy d d.count m.sent l.sent)
     (r : RangeState) (f : Follows generation range w i m l r) where
   -- the number behind what was read is that of the region without end
   abbrev pub IsBehind : Type 0
   IsBehind = (b : IsConfirming generation range w i m l r) (region : Region) → open_region r.regions ≡ Some region → region.next ≡ next_behind b.log.read
-
-  -- a transaction
-  pub transact_all : IsSound r → (from : ActorId) (v : ReqNo) (changes : List Change) → RowGoes generation range w i m l d (transact_row d r from v changes)
-  transact_all sound from v changes =
-      transact_by generation range w i both m l d by r f from v changes (λ served. transact_both generation range w i both m l d by r f served sound from v changes)
 
   -- an answer that the load waits for, which means what it says to both streams
   pub load_reply_both : IsBehind → (v : ReqNo) → load_awaits r.load.phase v ≡ true → (body : Body) → answered_number body ≡ Some v → Means generation (metadata_of range) w m.stand.state m.sent body →
@@ -53,7 +45,7 @@ module _ (generation : ℕ → ℕ) (range : ℕ) (w : World) (i : ℕ) (both : 
     where
       log_third : (t : Bool) → awaits r.log.job v ≡ t → RowGoes generation range w i m l d (if t then log_reply d r body else gets_reply d r v body held)
       log_third true e = log_news_both sound counted v e body two
-      log_third false e = gets_both generation range w i both m l d by r f v body held
+      log_third false e = (gets_reply_tells generation range w i both m l d by r f v body held).goes
 
       metadata_second : (t : Bool) → awaits r.metadata.job v ≡ t →
           RowGoes generation range w i m l d (if t then metadata_reply d r body else if awaits r.log.job v then log_reply d r body else gets_reply d r v body held)

@@ -18,7 +18,6 @@ use Rattle.model_tables.specs.declared.stage.Stage.{Stage}
 use Rattle.model_tables.specs.declared.stage.Stage.TheVariants as stages
 use Rattle.model_tables.specs.Range.{RangeState, is_serving}
 use Rattle.model_tables.specs.Serving.{transact_row}
-use Rattle.model_tables.specs.Getting.{get_row}
 use Rattle.model_tables.specs.Loading.{open_region}
 use Rattle.model_tables.specs.Answering.{answered_number, answer_row, give_up_all}
 use Rattle.model_tables.specs.Turns as turns
@@ -28,10 +27,10 @@ use Rattle.laws_serving.specs.Sound.{IsSound}
 use Rattle.laws_serving.specs.Still.{Stays, IsConfirmation}
 use Rattle.laws_serving.proofs.Both.{transact_tells, log_reply_tells}
 use Rattle.laws_serving.proofs.GiveUp.{give_up_tells}
-use Rattle.laws_serving.proofs.ServedGets.{get_tells, gets_reply_tells}
+use Rattle.laws_serving.proofs.Gets.{gets_reply_tells, transact_by}
 use Rattle.laws_serving.proofs.Confirmed.{confirmed_tells}
 use Rattle.laws_serving.proofs.Shared.{taken, assigned_both}
-use Rattle.laws_serving.proofs.Still.{answer_stays, give_up_stays, get_stays, transact_stays}
+use Rattle.laws_serving.proofs.Still.{answer_stays, give_up_stays}
 use Rattle.laws_serving.proofs.Untold.{stays_tells, unserved_tells}
 
 -- the stage of a range that is served
@@ -58,24 +57,35 @@ module _ (generation : ℕ → ℕ) (range : ℕ) (w : World) (i : ℕ) (both : 
         go false e = unserved e
 
     -- a transaction
-    pub transact_all_tells : IsSound r → (from : ActorId) (v : ReqNo) (changes : List Change) → (is_serving r.stage ≡ false → RowGoes generation range w i m l d (transact_row d r from v changes)) →
-        RowTells generation range w i m l d (transact_row d r from v changes)
-    transact_all_tells sound from v changes goes =
-        by_stage (λ stage. transact_tells generation range w i both m l d by r f stage sound from v changes)
-        (λ e. stays_tells generation range w i m l d r (transact_row d r from v changes) (goes e) e (transact_stays d r from v changes e))
-
-    -- a Get
-    pub get_all_tells : (from : ActorId) (q : ReqNo) (key : List ℕ) (held : List (Place × List ℕ)) → (is_serving r.stage ≡ false → RowGoes generation range w i m l d (get_row d r from q key held)) →
-        RowTells generation range w i m l d (get_row d r from q key held)
-    get_all_tells from q key held goes =
-        by_stage (λ stage. get_tells generation range w i both m l d by r f stage from q key held)
-        (λ e. stays_tells generation range w i m l d r (get_row d r from q key held) (goes e) e (get_stays d r from q key held))
+    pub transact_all_tells : IsSound r → (from : ActorId) (v : ReqNo) (changes : List Change) → RowTells generation range w i m l d (transact_row d r from v changes)
+    transact_all_tells sound from v changes =
+        transact_by generation range w i both m l d by r f from v changes (λ stage. transact_tells generation range w i both m l d by r f stage sound from v changes)
 
     -- it is told to give up
     pub give_up_all_tells : (is_serving r.stage ≡ false → RowGoes generation range w i m l d (give_up_all d r)) → RowTells generation range w i m l d (give_up_all d r)
     give_up_all_tells goes =
         by_stage (λ stage. give_up_tells generation range w i both m l d by r f stage)
         (λ e. stays_tells generation range w i m l d r (give_up_all d r) (goes e) e (give_up_stays d r))
+
+    -- a range that waits for its confirmation
+    confirming_by : (stage : Stage) (q : ReqNo) → StageIs generation range w i m l r stage → r.load.phase ≡ phases.Confirming q → stage ≡ stages.Confirming
+    confirming_by stages.Opening q b e = absurd (let z : phases.Opening b.q ≡ phases.Confirming q = sym b.phase ∙ e in cc)
+    confirming_by (stages.Checking kinds.Metadata) q b e = absurd (let z : phases.Opened ≡ phases.Confirming q = sym b.phase ∙ e in cc)
+    confirming_by (stages.Checking kinds.Log) q b e = absurd (let z : phases.Opened ≡ phases.Confirming q = sym b.phase ∙ e in cc)
+    confirming_by (stages.Checking kinds.RowData) q b e = absurd b
+    confirming_by (stages.Checking kinds.BlobData) q b e = absurd b
+    confirming_by (stages.Reading kinds.Metadata position) q b e = absurd (let z : phases.Opened ≡ phases.Confirming q = sym b.phase ∙ e in cc)
+    confirming_by (stages.Reading kinds.Log position) q b e = absurd (let z : phases.Opened ≡ phases.Confirming q = sym b.phase ∙ e in cc)
+    confirming_by (stages.Reading kinds.RowData position) q b e = absurd b
+    confirming_by (stages.Reading kinds.BlobData position) q b e = absurd b
+    confirming_by stages.Confirming q b e = refl
+    confirming_by stages.Serving q b e = absurd (let z : phases.Confirmed ≡ phases.Confirming q = sym b.phase ∙ e in cc)
+
+    pub confirming_stage : (q : ReqNo) → r.load.phase ≡ phases.Confirming q → r.stage ≡ stages.Confirming
+    confirming_stage q e = confirming_by r.stage q f.stage e
+
+    pub confirming_at : (q : ReqNo) → r.load.phase ≡ phases.Confirming q → IsConfirming generation range w i m l r
+    confirming_at q e = subst (λ z. StageIs generation range w i m l r z) (confirming_stage q e) f.stage
 
     -- ---- answers
 
@@ -86,7 +96,7 @@ module _ (generation : ℕ → ℕ) (range : ℕ) (w : World) (i : ℕ) (both : 
           (λ k. if_elim (RowTells generation range w i m l d) (awaits r.metadata.job v) _ _ (λ t. absurd (no_metadata t))
           (λ k. if_elim (RowTells generation range w i m l d) (awaits r.log.job v) _ _
           (λ t. log_reply_tells generation range w i both m l d by r f stage sound counted body means)
-          (λ k. gets_reply_tells generation range w i both m l d by r f stage v body held)))
+          (λ k. gets_reply_tells generation range w i both m l d by r f v body held)))
         where
           b : IsServing generation range w i m l r
           b = subst (λ z. StageIs generation range w i m l r z) stage f.stage
@@ -97,20 +107,6 @@ module _ (generation : ℕ → ℕ) (range : ℕ) (w : World) (i : ℕ) (both : 
           no_metadata : awaits r.metadata.job v ≡ true → ⊥
           no_metadata t = let z : awaits r.metadata.job v ≡ false = ap (λ j. awaits j v) b.metadata_idle in cc
 
-      -- a range that waits for its confirmation
-      pub confirming_at : (stage : Stage) (q : ReqNo) → StageIs generation range w i m l r stage → r.load.phase ≡ phases.Confirming q → IsConfirming generation range w i m l r
-      confirming_at stages.Opening q b e = absurd (let z : phases.Opening b.q ≡ phases.Confirming q = sym b.phase ∙ e in cc)
-      confirming_at (stages.Checking kinds.Metadata) q b e = absurd (let z : phases.Opened ≡ phases.Confirming q = sym b.phase ∙ e in cc)
-      confirming_at (stages.Checking kinds.Log) q b e = absurd (let z : phases.Opened ≡ phases.Confirming q = sym b.phase ∙ e in cc)
-      confirming_at (stages.Checking kinds.RowData) q b e = absurd b
-      confirming_at (stages.Checking kinds.BlobData) q b e = absurd b
-      confirming_at (stages.Reading kinds.Metadata position) q b e = absurd (let z : phases.Opened ≡ phases.Confirming q = sym b.phase ∙ e in cc)
-      confirming_at (stages.Reading kinds.Log position) q b e = absurd (let z : phases.Opened ≡ phases.Confirming q = sym b.phase ∙ e in cc)
-      confirming_at (stages.Reading kinds.RowData position) q b e = absurd b
-      confirming_at (stages.Reading kinds.BlobData position) q b e = absurd b
-      confirming_at stages.Confirming q b e = b
-      confirming_at stages.Serving q b e = absurd (let z : phases.Confirmed ≡ phases.Confirming q = sym b.phase ∙ e in cc)
-
       -- the number behind what was read is that of the region without end
       abbrev pub IsBehind : Type 0
       IsBehind = (b : IsConfirming generation range w i m l r) (region : Region) → open_region r.regions ≡ Some region → region.next ≡ next_behind b.log.read
@@ -118,7 +114,7 @@ module _ (generation : ℕ → ℕ) (range : ℕ) (w : World) (i : ℕ) (both : 
       confirmation_tells : IsBehind → answered_number body ≡ Some v → Means generation (metadata_of range) w m.stand.state m.sent body → Means generation (log_of range) w l.stand.state l.sent body →
           IsConfirmation d r v body (answer_row d r v body held) → RowTells generation range w i m l d (answer_row d r v body held)
       confirmation_tells behind number one two c =
-          let b : IsConfirming generation range w i m l r = confirming_at r.stage c.q f.stage c.phase in
+          let b : IsConfirming generation range w i m l r = confirming_at c.q c.phase in
           let same : phases.Confirming b.q ≡ phases.Confirming c.q = sym b.phase ∙ c.phase in
           let q_is : b.q ≡ c.q = cc in
           let told : Some c.told ≡ Some v = ap answered_number (sym c.body_is) ∙ number in

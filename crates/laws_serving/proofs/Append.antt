@@ -32,6 +32,11 @@ module _ (generation : ℕ → ℕ) (name : StreamName) (w : World) (i : ℕ) wh
       IsTold generation name w i x sent c → IsTold generation name w i (after_turns generation i x ts) (sent_with q o sent) c
   told_after x ts sent q o fresh c t = told_on generation name w w i x (after_turns generation i x ts) sent (sent_with q o sent) (wider_turns generation i name w x ts sent q o fresh) c t
 
+  -- turns from a known phase, and perhaps a request
+  pub turn_told : (sent : List Sent) (q : ReqNo) → purpose_of sent q ≡ None → (x : Stand) (p : turns.Phase Group) (ts : List (turns.Turn Group)) (o : Option Purpose) (c : ClientState) → IsTold generation name w i x sent c →
+      IsTold generation name w i (after_turns generation i (record { state = x.state; phase = p }) ts) (sent_with q o sent) c
+  turn_told sent q fresh x p ts o c told = told_after (record { state = x.state; phase = p }) ts sent q o fresh c (told_here x p sent c told)
+
   -- where the incarnation stands in a known phase
   pub at_phase : (x : Stand) (p : turns.Phase Group) (sent : List Sent) (q : ReqNo) (Then : Stand → List Sent → Type 0) (packet : Option _) → x.phase ≡ p →
       Goes generation name w i (record { state = x.state; phase = p }) sent q Then packet → Goes generation name w i x sent q Then packet

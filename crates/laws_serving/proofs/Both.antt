@@ -31,9 +31,10 @@ use Rattle.model_tables.specs.Answering.{serving_news, log_taken, log_reply, is_
 use Rattle.model_tables.specs.Extents as machine
 use Rattle.replica.specs.Groups.{Group}
 use Rattle.laws_runs.specs.Ties.{Purpose, Sent, purpose_of, asked_number, Opens, Checks, Seals, Reads, Confirms, Appends, Extends, IsAsked, Means}
+use Rattle.laws_runs.proofs.Asking.{same_request}
 use Rattle.laws_serving.specs.Serves.{Side, IsPlain, after_turns, metadata_of, log_of, is_alone, sent_with, IsOwn, AreAsked, ServingIs, IsCounted, ServesLog, ServesLogIf, LogRow, IsServing, StageIs, Follows, Apart, BothListed, AreUnused, IsSentBy, FollowsIf, AskedOfBoth, RowGoes, RowTells}
 use Rattle.laws_serving.specs.Sound.{IsSound}
-use Rattle.laws_serving.proofs.Steps.{same_request, purposes_on, newest}
+use Rattle.laws_serving.proofs.Steps.{purposes_on, newest}
 use Rattle.laws_serving.proofs.Rows.{transact_goes, log_reply_goes}
 
 -- ---- numbers
@@ -75,7 +76,7 @@ apart_on m l q (Some p) a fresh = record { here = here; there = there }
 
 -- ---- what is asked of one stream says nothing of the other
 
-kinds_differ : (range : ℕ) → metadata_of range ≡ log_of range → ⊥
+pub kinds_differ : (range : ℕ) → metadata_of range ≡ log_of range → ⊥
 kinds_differ range e = let z : kinds.Metadata ≡ kinds.Log = ap (λ (n : StreamName). n.kind) e in cc
 
 module _ (generation : ℕ → ℕ) (range : ℕ) (w : World) (i : ℕ) (both : BothListed w range) where
@@ -283,9 +284,6 @@ module _ (generation : ℕ → ℕ) (range : ℕ) (w : World) (i : ℕ) (both : 
     transact_tells sound from v changes =
         tells_of_log m l d r (transact_row d r from v changes) by f is_served (transacts_keep d r from v changes (transact_fault d r changes))
         (transact_goes generation range w i both.log d l.stand l.sent (by.log d.count (omega arith)) r from v changes served_log sound)
-
-    pub transact_both : IsSound r → (from : ActorId) (v : ReqNo) (changes : List Change) → RowGoes generation range w i m l d (transact_row d r from v changes)
-    transact_both sound from v changes = (transact_tells sound from v changes).goes
 
     -- an answer to its log, which means what it says
     pub log_reply_tells : IsSound r → IsCounted i l.stand → (body : Body) → Means generation (log_of range) w l.stand.state l.sent body → RowTells generation range w i m l d (log_reply d r body)

@@ -14,20 +14,16 @@ use Rattle.client.specs.Client.{ClientState, last_extent, new_client}
 use Rattle.model.specs.World.{World}
 use Rattle.model_tables.specs.Extents as machine
 use Rattle.model_tables.specs.Turns as turns
-use Rattle.laws_runs.specs.Ties.{Purpose, Sent, purpose_of, Opens, Confirms, Tells, IsAsked}
-use Rattle.laws_serving.specs.Serves.{Stand, after_turns, is_live, IsTold, Readable, WasSealed, WasFound, WasShut, LoadsBy, LoadingIs, UnreadIs, OpeningIs, ConfirmingIs, OfSealed, OfStood, ServingIs, ServesBy, Goes, sent_with}
+use Rattle.laws_runs.specs.Ties.{Sent, purpose_of, Opens, Confirms, Tells, IsAsked}
+use Rattle.laws_serving.specs.Serves.{Stand, after_turns, is_live, IsTold, Readable, WasSealed, WasFound, WasShut, LoadsBy, LoadingIs, UnreadIs, OpeningIs, ConfirmingIs, OfSealed, OfStood, ServingIs, ServesBy, Goes}
 use Rattle.laws_serving.proofs.Steps.{newest, is_within}
 use Rattle.laws_serving.proofs.Asks.{none_last, some_last}
-use Rattle.laws_serving.proofs.Append.{told_here, told_after, at_phase, rests}
+use Rattle.laws_serving.proofs.Append.{turn_told, at_phase, rests}
 
 none_past : {A : Type 0} (xs : List A) (k : ℕ) → slice_get xs k ≡ None → length xs ≤ k
 none_past xs k none = elim (slice_get_cases xs k).1 [ inl there ↦ absurd (let z : None ≡ Some there.0 = sym none ∙ there.2 in cc) | inr past ↦ past.0 ]
 
 module _ (generation : ℕ → ℕ) (name : StreamName) (w : World) (i : ℕ) (sent : List Sent) (q : ReqNo) (fresh : purpose_of sent q ≡ None) (x : Stand) where
-  turn_told : (p : turns.Phase Group) (ts : List (turns.Turn Group)) (o : Option Purpose) (c : ClientState) → IsTold generation name w i x sent c →
-      IsTold generation name w i (after_turns generation i (record { state = x.state; phase = p }) ts) (sent_with q o sent) c
-  turn_told p ts o c told = told_after generation name w i (record { state = x.state; phase = p }) ts sent q o fresh c (told_here generation name w i x p sent c told)
-
   -- a range is taken
   pub assigned_goes : x.phase ≡ turns.Idle → Goes generation name w i x sent q (λ y more. OpeningIs generation name w i y more q × (more ≡ record { request = q; purpose = Opens i } ∷ sent)) None
   assigned_goes stands =
@@ -106,7 +102,7 @@ module _ (generation : ℕ → ℕ) (name : StreamName) (w : World) (i : ℕ) (s
             purpose = Some (Confirms i read end);
             then = (
               record {
-                told = turn_told turns.Opening ts (Some (Confirms i read end)) c b.told;
+                told = turn_told generation name w i sent q fresh x turns.Opening ts (Some (Confirms i read end)) c b.told;
                 idle = idle;
                 read = read;
                 end = end;
@@ -130,7 +126,7 @@ module _ (generation : ℕ → ℕ) (name : StreamName) (w : World) (i : ℕ) (s
             purpose = Some (Confirms i read end);
             then = (
               record {
-                told = turn_told (turns.Checking f.index) ts (Some (Confirms i read end)) c b.told;
+                told = turn_told generation name w i sent q fresh x (turns.Checking f.index) ts (Some (Confirms i read end)) c b.told;
                 idle = idle;
                 read = read;
                 end = end;
@@ -155,7 +151,7 @@ module _ (generation : ℕ → ℕ) (name : StreamName) (w : World) (i : ℕ) (s
             purpose = Some (Confirms i read end);
             then = (
               record {
-                told = turn_told (turns.Sealing index) ts (Some (Confirms i read end)) c b.told;
+                told = turn_told generation name w i sent q fresh x (turns.Sealing index) ts (Some (Confirms i read end)) c b.told;
                 idle = idle;
                 read = read;
                 end = end;
@@ -183,7 +179,7 @@ module _ (generation : ℕ → ℕ) (name : StreamName) (w : World) (i : ℕ) (s
         purpose = None;
         then = (
           record {
-            told = turn_told p ts None c b.told;
+            told = turn_told generation name w i sent q fresh x p ts None c b.told;
             job = subst (λ j. ServesBy generation name w i y sent c j) (sym b.idle) refl;
           },
           refl,

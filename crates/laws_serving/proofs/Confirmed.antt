@@ -22,41 +22,22 @@ use Rattle.model_tables.specs.Extents as machine
 use Rattle.model_tables.specs.Turns as turns
 use Rattle.laws_loads.specs.Renaming.{renamed, decoded}
 use Rattle.laws_runs.specs.Ties.{Sent, purpose_of, Means, StreamMeans}
+use Rattle.laws_runs.proofs.Asking.{same_request}
 use Rattle.laws_serving.specs.Serves.{Stand, Side, AreUnformed, after_turns, is_live, next_behind, IsLoaded, AreFit, AreShown, sent_with, metadata_of, log_of, OutIs, ServesBy, ServingIs, ConfirmingIs, Apart, BothListed, IsSentBy, IsConfirming, RowGoes, RowTells}
 use Rattle.laws_serving.specs.Quiet.{ShowsOnly}
-use Rattle.laws_serving.proofs.Steps.{purposes_on, same_request}
+use Rattle.laws_serving.proofs.Steps.{purposes_on}
 use Rattle.laws_serving.proofs.Append.{GoesBy, told_here, told_after, at_phase_by}
 use Rattle.laws_serving.proofs.Decoded.{next_confirmed}
 use Rattle.laws_serving.proofs.Rows.{refused_plain}
-use Rattle.laws_serving.proofs.Both.{unused_on, asked_of_both}
+use Rattle.laws_serving.proofs.Both.{unused_on}
+use Rattle.laws_serving.proofs.Sides.{still_tells}
 
 module _ (generation : ℕ → ℕ) (range : ℕ) (w : World) (i : ℕ) (both : BothListed w range) (m l : Side) (d : Desk) (by : IsSentBy d d.count m.sent l.sent) where
   -- a range that is dropped makes no turn
   pub dropped_tells : (r : RangeState) → RowTells generation range w i m l d (dropped d r)
   dropped_tells r =
-      record {
-        goes = record {
-          metadata_turns = [];
-          log_turns = [];
-          metadata_allowed = tt;
-          log_allowed = tt;
-          none = λ e. (refl, refl);
-          metadata_sent = m.sent;
-          log_sent = l.sent;
-          metadata_keeps = λ q p e. e;
-          log_keeps = λ q p e. e;
-          rises = omega arith;
-          metadata_adds = record { number = d.count; from = omega arith; purpose = None; is = refl };
-          log_adds = record { number = d.count; from = omega arith; purpose = None; is = refl };
-          sent_by = record { apart = by.apart; metadata = λ k le. by.metadata k (omega (arith, le)); log = λ k le. by.log k (omega (arith, le)) };
-          then = tt;
-          asked = asked_of_both generation range w i both m l by.apart (dropped d r).packets
-              (refused_plain generation range w i (log_of range) l.stand l.sent d (waiting_out r.out ++ r.queue) r.gets refusals.NotOwner);
-        };
-        unformed = tt;
-        fit = tt;
-        shown = refl;
-      }
+      still_tells generation range w i both m l d by None (suc d.count) (dropped d r).packets tt (omega arith)
+      (refused_plain generation range w i (log_of range) l.stand l.sent d (waiting_out r.out ++ r.queue) r.gets refusals.NotOwner)
 
   pub dropped_both : (r : RangeState) → RowGoes generation range w i m l d (dropped d r)
   dropped_both r = (dropped_tells r).goes

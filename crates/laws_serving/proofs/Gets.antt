@@ -22,9 +22,9 @@ use Rattle.model_tables.specs.Serving.{transact_fault, transacts, transact_row, 
 use Rattle.model_tables.specs.Getting.{Lookup, Is, Needs, Tried, asks_place, answered, try, try_all, get_fault, gets, get_row, bytes_row, places_of, look, standing, without}
 use Rattle.model_tables.specs.Answering.{bytes_reply, gets_reply}
 use Rattle.laws_runs.specs.Ties.{Sent}
-use Rattle.laws_serving.specs.Serves.{Stand, Side, log_of, AreAsked, Follows, BothListed, IsSentBy, RowGoes}
+use Rattle.laws_serving.specs.Serves.{Stand, Side, log_of, AreAsked, Follows, BothListed, IsSentBy, RowTells}
 use Rattle.laws_serving.proofs.Rows.{asked_both}
-use Rattle.laws_serving.proofs.Sides.{still_both, follows_same}
+use Rattle.laws_serving.proofs.Sides.{still_tells, follows_same}
 
 -- ---- what is tried
 
@@ -63,41 +63,41 @@ module _ (generation : ℕ → ℕ) (range : ℕ) (w : World) (i : ℕ) (name : 
 
 module _ (generation : ℕ → ℕ) (range : ℕ) (w : World) (i : ℕ) (both : BothListed w range) (m l : Side) (d : Desk) (by : IsSentBy d d.count m.sent l.sent)
     (r : RangeState) (f : Follows generation range w i m l r) where
-  refused : (from : ActorId) (v : ReqNo) (why : Refusal) → RowGoes generation range w i m l d (answers d r (refuses d from v why ∷ []))
-  refused from v why = still_both generation range w i both m l d by r d.count (refuses d from v why ∷ []) f (omega arith) (inl (λ n s z. tt), tt)
+  refused : (from : ActorId) (v : ReqNo) (why : Refusal) → RowTells generation range w i m l d (answers d r (refuses d from v why ∷ []))
+  refused from v why = still_tells generation range w i both m l d by (Some r) d.count (refuses d from v why ∷ []) f (omega arith) (inl (λ n s z. tt), tt)
 
-  gets_by : (from : ActorId) (v : ReqNo) (key : List ℕ) (held : List (Place × List ℕ)) (fault : Option Refusal) → RowGoes generation range w i m l d (gets d r from v key held fault)
-  gets_by from v key held (Some why) = refused from v why
-  gets_by from v key held None =
+  gets_tells : (from : ActorId) (v : ReqNo) (key : List ℕ) (held : List (Place × List ℕ)) (fault : Option Refusal) → RowTells generation range w i m l d (gets d r from v key held fault)
+  gets_tells from v key held (Some why) = refused from v why
+  gets_tells from v key held None =
       let g : WaitingGet = record { from = from; request = v; key = key; reads = [] } in
       let t : Tried = try d r g in
       let is : IsTry generation range w i (log_of range) l.stand l.sent d t = one_try generation range w i (log_of range) l.stand l.sent d r g in
-      still_both generation range w i both m l d by (record r { gets = r.gets ++ t.waiting; held = held }) t.count t.packets
+      still_tells generation range w i both m l d by (Some (record r { gets = r.gets ++ t.waiting; held = held })) t.count t.packets
       (follows_same generation range w i m l r r.until (r.gets ++ t.waiting) held f) is.0 is.1
 
   -- a Get
-  pub get_all : (from : ActorId) (v : ReqNo) (key : List ℕ) (held : List (Place × List ℕ)) → RowGoes generation range w i m l d (get_row d r from v key held)
-  get_all from v key held = gets_by from v key held (get_fault d r key)
+  pub get_tells : (from : ActorId) (v : ReqNo) (key : List ℕ) (held : List (Place × List ℕ)) → RowTells generation range w i m l d (get_row d r from v key held)
+  get_tells from v key held = gets_tells from v key held (get_fault d r key)
 
   -- the bytes of a value
-  bytes_all : (v : ReqNo) (held : List (Place × List ℕ)) → RowGoes generation range w i m l d (bytes_row d r v held)
-  bytes_all v held =
+  bytes_tells : (v : ReqNo) (held : List (Place × List ℕ)) → RowTells generation range w i m l d (bytes_row d r v held)
+  bytes_tells v held =
       let now : RangeState = record r { held = held } in
       let t : Tried = try_all d now (map (without v) r.gets) in
       let is : IsTry generation range w i (log_of range) l.stand l.sent d t = all_try generation range w i (log_of range) l.stand l.sent d now (map (without v) r.gets) in
-      still_both generation range w i both m l d by (record r { gets = t.waiting; held = held }) t.count t.packets
+      still_tells generation range w i both m l d by (Some (record r { gets = t.waiting; held = held })) t.count t.packets
       (follows_same generation range w i m l r r.until t.waiting held f) is.0 is.1
 
-  rested : RowGoes generation range w i m l d (answers d r [])
-  rested = still_both generation range w i both m l d by r d.count [] f (omega arith) tt
+  rested : RowTells generation range w i m l d (answers d r [])
+  rested = still_tells generation range w i both m l d by (Some r) d.count [] f (omega arith) tt
 
-  bytes_reply_all : (v : ReqNo) (body : ReadBody) (held : List (Place × List ℕ)) → RowGoes generation range w i m l d (bytes_reply d r v body held)
-  bytes_reply_all v (reads.Bytes u e offset bytes) held = bytes_all v held
-  bytes_reply_all v body held = rested
+  read_tells : (v : ReqNo) (body : ReadBody) (held : List (Place × List ℕ)) → RowTells generation range w i m l d (bytes_reply d r v body held)
+  read_tells v (reads.Bytes u e offset bytes) held = bytes_tells v held
+  read_tells v body held = rested
 
-  pub gets_both : (v : ReqNo) (body : Body) (held : List (Place × List ℕ)) → RowGoes generation range w i m l d (gets_reply d r v body held)
-  gets_both v (bodies.Read body) held = bytes_reply_all v body held
-  gets_both v body held = rested
+  pub gets_reply_tells : (v : ReqNo) (body : Body) (held : List (Place × List ℕ)) → RowTells generation range w i m l d (gets_reply d r v body held)
+  gets_reply_tells v (bodies.Read body) held = read_tells v body held
+  gets_reply_tells v body held = rested
 
   -- ---- transactions
 
@@ -113,21 +113,13 @@ module _ (generation : ℕ → ℕ) (range : ℕ) (w : World) (i : ℕ) (both : 
   is_served (stages.Reading kind position) e = absurd (cc)
   is_served stages.Confirming e = absurd (cc)
 
-  transacts_by : (from : ActorId) (v : ReqNo) (changes : List Change) → (r.stage ≡ stages.Serving → RowGoes generation range w i m l d (transact_row d r from v changes)) →
-      (fault : Option Refusal) → transact_fault d r changes ≡ fault → RowGoes generation range w i m l d (transacts d r from v changes fault)
+  transacts_by : (from : ActorId) (v : ReqNo) (changes : List Change) → (r.stage ≡ stages.Serving → RowTells generation range w i m l d (transact_row d r from v changes)) →
+      (fault : Option Refusal) → transact_fault d r changes ≡ fault → RowTells generation range w i m l d (transacts d r from v changes fault)
   transacts_by from v changes served (Some why) e = refused from v why
   transacts_by from v changes served None e =
-      subst (λ o. RowGoes generation range w i m l d (transacts d r from v changes o)) e (served (is_served r.stage (unserved_fault (is_serving r.stage) _ e)))
+      subst (λ o. RowTells generation range w i m l d (transacts d r from v changes o)) e (served (is_served r.stage (unserved_fault (is_serving r.stage) _ e)))
 
   -- a transaction, whatever the stage; where the range is served that is another's
-  pub transact_by : (from : ActorId) (v : ReqNo) (changes : List Change) → (r.stage ≡ stages.Serving → RowGoes generation range w i m l d (transact_row d r from v changes)) →
-      RowGoes generation range w i m l d (transact_row d r from v changes)
+  pub transact_by : (from : ActorId) (v : ReqNo) (changes : List Change) → (r.stage ≡ stages.Serving → RowTells generation range w i m l d (transact_row d r from v changes)) →
+      RowTells generation range w i m l d (transact_row d r from v changes)
   transact_by from v changes served = transacts_by from v changes served (transact_fault d r changes) refl
-
-  unserved_by : (t : Bool) (from : ActorId) (v : ReqNo) (changes : List Change) (other : Option Refusal) → t ≡ false →
-      RowGoes generation range w i m l d (transacts d r from v changes (if not t then Some refusals.Loading else other))
-  unserved_by true from v changes other e = absurd (cc)
-  unserved_by false from v changes other e = refused from v refusals.Loading
-
-  pub refused_both : is_serving r.stage ≡ false → (from : ActorId) (v : ReqNo) (changes : List Change) → RowGoes generation range w i m l d (transact_row d r from v changes)
-  refused_both unserved from v changes = unserved_by (is_serving r.stage) from v changes _ unserved

@@ -4,6 +4,7 @@ pub mod Steps
 pub mod Asks
 pub mod Append
 pub mod Tells
+pub mod Replies
 pub mod Reply
 pub mod Out
 pub mod Quiet
@@ -30,5 +31,4 @@ pub mod GiveUpLoading
 pub mod Answer
 pub mod Still
 pub mod Untold
-pub mod ServedGets
 pub mod Answers

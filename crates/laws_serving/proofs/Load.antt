@@ -15,11 +15,11 @@ use Rattle.model_tables.specs.Story.{Copy}
 use Rattle.model_tables.specs.Extents as machine
 use Rattle.model_tables.specs.Turns as turns
 use Rattle.laws_runs.specs.Ties.{Purpose, Sent, purpose_of, Checks, Seals, Reads, IsAt}
-use Rattle.laws_serving.specs.Serves.{Stand, after_turns, LastIs, is_live, IsTold, CheckingIs, ShuttingIs, FoundIs, Readable, WasSealed, WasFound, WasShut, ReadingIs, LoadsBy, LoadingIs, UnreadIs, Listed, sent_with, Goes}
+use Rattle.laws_serving.specs.Serves.{Stand, after_turns, LastIs, is_live, IsTold, CheckingIs, ShuttingIs, FoundIs, Readable, WasSealed, WasFound, WasShut, ReadingIs, LoadsBy, LoadingIs, UnreadIs, Listed, Goes}
 use Rattle.laws_serving.proofs.Steps.{newest}
 use Rattle.laws_serving.proofs.Asks.{at_last, check_asked, seal_asked, read_asked}
 use Rattle.laws_serving.proofs.Tells.{sealed_length, sealed_end, told_sealed}
-use Rattle.laws_serving.proofs.Append.{told_here, told_after, at_phase, rests}
+use Rattle.laws_serving.proofs.Append.{turn_told, told_after, at_phase, rests}
 
 -- a last extent that is open is there
 pub live_last : (c : ClientState) (e index : ℕ) → LastIs c e index → is_live (last_extent c.extents) ≡ true
@@ -32,14 +32,15 @@ module _ (generation : ℕ → ℕ) (name : StreamName) (w : World) (i : ℕ) (x
     pub idle : c.job ≡ jobs.Idle
     pub silent : packet ≡ None
 
+  -- what is read of an open last extent was checked
+  pub found_of : (c : ClientState) → Readable generation name w i x sent c → is_live (last_extent c.extents) ≡ true → FoundIs generation name w i x sent c
+  found_of c (WasSealed live stands) open_one = absurd (let z : false ≡ true = sym live ∙ open_one in cc)
+  found_of c (WasFound f) open_one = f
+  found_of c (WasShut index index_is live stands) open_one = absurd (let z : false ≡ true = sym live ∙ open_one in cc)
+
 module _ (generation : ℕ → ℕ) (name : StreamName) (w : World) (i : ℕ) (listed : Listed w name) (sent : List Sent) (q : ReqNo) (fresh : purpose_of sent q ≡ None) (x : Stand) where
   abbrev Loads : ClientState → Stand → List Sent → Type 0
   Loads c = λ y more. LoadingIs generation name w i y more c
-
-  -- a turn that sends nothing, or one request of this stream
-  turn_told : (p : turns.Phase Group) (ts : List (turns.Turn Group)) (o : Option Purpose) (c : ClientState) → IsTold generation name w i x sent c →
-      IsTold generation name w i (after_turns generation i (record { state = x.state; phase = p }) ts) (sent_with q o sent) c
-  turn_told p ts o c told = told_after generation name w i (record { state = x.state; phase = p }) ts sent q o fresh c (told_here generation name w i x p sent c told)
 
   -- ---- the length of the last extent is checked
 
@@ -50,7 +51,7 @@ module _ (generation : ℕ → ℕ) (name : StreamName) (w : World) (i : ℕ) (l
       let o : Purpose = Checks i index in
       let y : Stand = after_turns generation i (record { state = x.state; phase = turns.Opening }) ts in
       let more : List Sent = record { request = q; purpose = o } ∷ sent in
-      let here : IsTold generation name w i y more c = turn_told turns.Opening ts (Some o) c b.told in
+      let here : IsTold generation name w i y more c = turn_told generation name w i sent q fresh x turns.Opening ts (Some o) c b.told in
       at_phase generation name w i x turns.Opening sent q _ _ b.stands
       (record {
         list = ts;
@@ -103,7 +104,7 @@ module _ (generation : ℕ → ℕ) (name : StreamName) (w : World) (i : ℕ) (l
       let o : Purpose = Seals i index in
       let y : Stand = after_turns generation i (record { state = x.state; phase = turns.Checking index }) ts in
       let more : List Sent = record { request = q; purpose = o } ∷ sent in
-      let here : IsTold generation name w i y more c = turn_told (turns.Checking index) ts (Some o) c told in
+      let here : IsTold generation name w i y more c = turn_told generation name w i sent q fresh x (turns.Checking index) ts (Some o) c told in
       at_phase generation name w i x (turns.Checking index) sent q _ _ stands
       (record {
         list = ts;
@@ -201,12 +202,6 @@ module _ (generation : ℕ → ℕ) (name : StreamName) (w : World) (i : ℕ) (l
         };
       }
 
-  -- what is read of an open last extent was checked
-  pub found_of : (c : ClientState) → Readable generation name w i x sent c → is_live (last_extent c.extents) ≡ true → FoundIs generation name w i x sent c
-  found_of c (WasSealed live stands) open_one = absurd (let z : false ≡ true = sym live ∙ open_one in cc)
-  found_of c (WasFound f) open_one = f
-  found_of c (WasShut index index_is live stands) open_one = absurd (let z : false ≡ true = sym live ∙ open_one in cc)
-
   -- ---- giving up
 
   give_up_reading : (c : ClientState) (e upto : ℕ) (places : Nodes) (sealed : Bool) (place : Place) (r : ReqNo) → IsTold generation name w i x sent c →
@@ -227,7 +222,7 @@ module _ (generation : ℕ → ℕ) (name : StreamName) (w : World) (i : ℕ) (l
       }
   give_up_reading c e upto places false place r told opened b =
       let last : LastIs c e b.index = b.is_last refl in
-      let f : FoundIs generation name w i x sent c = found_of c b.readable (live_last c e b.index last) in
+      let f : FoundIs generation name w i x sent c = found_of generation name w i x sent c b.readable (live_last c e b.index last) in
       let same : f.index ≡ b.index = omega (arith, f.last.index_is, last.index_is) in
       shuts_goes c e b.index told opened last (f.stands ∙ ap turns.Checking same)
 

@@ -17,8 +17,8 @@ use Rattle.model_tables.specs.declared.stage.Stage.TheVariants as stages
 use Rattle.model_tables.specs.Range.{RangeState, dropped, given, picking, request}
 use Rattle.model_tables.specs.Loading.{read_of, metadata_goes, log_goes, reads_log_from, checks_log, begins_log, reads_metadata, begins_metadata, opens, first_position, open_region}
 use Rattle.laws_runs.specs.Ties.{purpose_of, Means, StreamMeans}
+use Rattle.laws_runs.proofs.Asking.{same_request}
 use Rattle.laws_serving.specs.Serves.{Side, is_live, metadata_of, log_of, LoadingIs, UnreadIs, IsOpening, Goes, BothListed, IsSentBy, RowGoes}
-use Rattle.laws_serving.proofs.Steps.{same_request}
 use Rattle.laws_serving.proofs.Confirm.{readable_goes}
 use Rattle.laws_serving.proofs.Confirmed.{dropped_both}
 use Rattle.laws_serving.proofs.Shared.{AllRead}

@@ -34,7 +34,7 @@ module _ (generation : ℕ → ℕ) (name : StreamName) (w : World) (i : ℕ) (l
       let back : length before.extents - 1 ≡ position = omega (arith, index_is) in
       let end : last_extent before.extents ≡ Some z = subst (λ k. slice_get before.extents k ≡ Some z) (sym back) at in
       let last : LastIs Reader z.extent position = record { places = z.places; last = end ∙ ap (λ k. Some (record z { length = k })) e; index_is = index_is } in
-      let f : FoundIs generation name w i x sent Reader = found_of generation name w i listed sent (request d) fresh x Reader l.job (live_last Reader z.extent position last) in
+      let f : FoundIs generation name w i x sent Reader = found_of generation name w i x sent Reader l.job (live_last Reader z.extent position last) in
       subst (λ s. Reads (given Reader (read_checked_at Reader (request d) s))) (sym end)
       (subst (λ k. Reads (given Reader (read_open Reader (request d) z k before.checked))) (sym e)
       (subst (λ k. Reads (given Reader (read_open Reader (request d) z None k))) (sym f.checked)

@@ -1,5 +1,5 @@
 -- A step of the client of one stream of a range, as both streams see it; and steps that turn neither.
-use Rattle.std.proofs.Common.{◌≡◌, ℕ, suc, ◌≤◌, List, [], ◌∷◌, ◌++◌, Option, Some, None, option_to_list, refl, sym, ap, ◌∙◌, inl, inr, arith}
+use Rattle.std.proofs.Common.{◌≡◌, ℕ, suc, ◌≤◌, List, [], ◌∷◌, ◌++◌, Option, Some, None, option_to_list, refl, sym, ◌∙◌, inl, inr, arith}
 use Rattle.wire.specs.declared.actor.ReqNo.{ReqNo}
 use Rattle.wire.specs.declared.body.AppendBody.TheVariants as appends
 use Rattle.wire.specs.declared.body.CheckBody.TheVariants as checks
@@ -10,7 +10,6 @@ use Rattle.wire.specs.declared.body.Body.{Body}
 use Rattle.wire.specs.declared.body.Body.TheVariants as bodies
 use Rattle.wire.specs.declared.packet.Packet.{Packet}
 use Rattle.wire.specs.declared.streams.StreamKind.TheVariants as kinds
-use Rattle.wire.specs.declared.streams.StreamName.{StreamName}
 use Rattle.replica.specs.Groups.{Group}
 use Rattle.model.specs.World.{World}
 use Rattle.cells.specs.declared.cell.Place.{Place}
@@ -21,13 +20,10 @@ use Rattle.model_tables.specs.declared.waiting.WaitingGet.{WaitingGet}
 use Rattle.model_tables.specs.Range.{RangeState, request, goes}
 use Rattle.model_tables.specs.Extents as machine
 use Rattle.laws_runs.specs.Ties.{Purpose, Sent, purpose_of, IsAsked}
-use Rattle.laws_serving.specs.Serves.{Stand, Side, after_turns, metadata_of, log_of, sent_with, IsOwn, AreAsked, Goes, StageIs, LoadsMetadata, LoadsLog, Follows, Apart, BothListed, IsSentBy, AskedOfBoth, RowGoes}
+use Rattle.laws_serving.specs.Serves.{Stand, Side, after_turns, metadata_of, log_of, sent_with, IsOwn, AreAsked, Goes, StageIs, LoadsMetadata, LoadsLog, Follows, FollowsIf, Apart, BothListed, IsSentBy, AskedOfBoth, RowGoes, RowTells}
 use Rattle.laws_serving.proofs.Steps.{purposes_on}
 use Rattle.laws_serving.proofs.Rows.{asked_if}
-use Rattle.laws_serving.proofs.Both.{unused_on, same_unused, apart_on, asked_of_both, own_known}
-
-kinds_differ : (range : ℕ) → metadata_of range ≡ log_of range → ⊥
-kinds_differ range e = let z : kinds.Metadata ≡ kinds.Log = ap (λ (n : StreamName). n.kind) e in cc
+use Rattle.laws_serving.proofs.Both.{kinds_differ, unused_on, same_unused, apart_on, asked_of_both, own_known}
 
 -- ---- numbers
 
@@ -132,26 +128,35 @@ module _ (generation : ℕ → ℕ) (range : ℕ) (w : World) (i : ℕ) (both : 
 
     -- ---- a step that turns neither
 
+    unfoldable pub still_tells : (after : Option RangeState) (count : ℕ) (packets : List Packet) → FollowsIf generation range w i after m l → d.count ≤ count →
+        AreAsked generation range w i (log_of range) l.stand l.sent packets → RowTells generation range w i m l d (record { after = after; count = count; packets = packets; notes = [] })
+    still_tells after count packets follows more asked =
+        record {
+          goes = record {
+            metadata_turns = [];
+            log_turns = [];
+            metadata_allowed = tt;
+            log_allowed = tt;
+            none = λ e. (refl, refl);
+            metadata_sent = m.sent;
+            log_sent = l.sent;
+            metadata_keeps = λ q z e. e;
+            log_keeps = λ q z e. e;
+            rises = more;
+            metadata_adds = record { number = d.count; from = omega arith; purpose = None; is = refl };
+            log_adds = record { number = d.count; from = omega arith; purpose = None; is = refl };
+            sent_by = record { apart = by.apart; metadata = λ k le. by.metadata k (omega (arith, le, more)); log = λ k le. by.log k (omega (arith, le, more)) };
+            then = follows;
+            asked = asked_of_both generation range w i both m l by.apart packets asked;
+          };
+          unformed = tt;
+          fit = tt;
+          shown = refl;
+        }
+
     pub still_both : (after : RangeState) (count : ℕ) (packets : List Packet) → Follows generation range w i m l after → d.count ≤ count →
         AreAsked generation range w i (log_of range) l.stand l.sent packets → RowGoes generation range w i m l d (record { after = Some after; count = count; packets = packets; notes = [] })
-    still_both after count packets follows more asked =
-        record {
-          metadata_turns = [];
-          log_turns = [];
-          metadata_allowed = tt;
-          log_allowed = tt;
-          none = λ e. absurd cc;
-          metadata_sent = m.sent;
-          log_sent = l.sent;
-          metadata_keeps = λ q z e. e;
-          log_keeps = λ q z e. e;
-          rises = more;
-          metadata_adds = record { number = d.count; from = omega arith; purpose = None; is = refl };
-          log_adds = record { number = d.count; from = omega arith; purpose = None; is = refl };
-          sent_by = record { apart = by.apart; metadata = λ k le. by.metadata k (omega (arith, le, more)); log = λ k le. by.log k (omega (arith, le, more)) };
-          then = follows;
-          asked = asked_of_both generation range w i both m l by.apart packets asked;
-        }
+    still_both after count packets follows more asked = (still_tells (Some after) count packets follows more asked).goes
 
 -- ---- what the lease and the Gets of a range do not matter for
 

@@ -15,8 +15,9 @@ use Rattle.model_tables.specs.declared.desk.Desk.{Desk}
 use Rattle.model_tables.specs.declared.waiting.WaitingTransaction.{WaitingTransaction}
 use Rattle.model_tables.specs.Range.{RangeState, RangeOutcome, is_serving}
 use Rattle.model_tables.specs.Serving.{record_of, fits_a_group, grown, group_count, appends, forms, is_key, value_size, lease_ended, waiting_count, is_full, transact_fault, transacts, transact_row}
-use Rattle.laws_streams.proofs.Tests.{is_below, not_below, at_most, above, none_of, untested}
+use Rattle.laws_streams.proofs.Tests.{is_below, not_below, at_most, above, none_of, untested, not_true}
 use Rattle.laws_loads.proofs.Renaming.{mapped_length}
+use Rattle.laws_serving.proofs.Tells.{more_length}
 use Rattle.laws_serving.specs.Sound.{AreTransactions, IsSound, IsSoundIf}
 
 pub none_there : {A : Type 0} (o : Option A) → not (is_some o) ≡ true → o ≡ None
@@ -53,15 +54,7 @@ parts_count {A} zero (t ∷ ts) = omega arith
 parts_count {A} (suc n) [] = refl
 parts_count {A} (suc n) (t ∷ ts) = omega (arith, parts_count n ts)
 
-more_count : {A : Type 0} (ts : List A) (t : A) → length (ts ++ t ∷ []) ≡ suc (length ts)
-more_count {A} [] t = refl
-more_count {A} (u ∷ ts) t = ap suc (more_count ts t)
-
 -- ---- a transaction that is taken
-
-unmet_not : (b : Bool) → not b ≡ false → b ≡ true
-unmet_not true e = refl
-unmet_not false e = absurd (cc)
 
 value_fits : (value : Option (List ℕ)) → nat_lt 65536 (value_size value) ≡ false → HasValue value
 value_fits None e = tt
@@ -69,7 +62,7 @@ value_fits (Some v) e = not_below 65536 (length v) e
 
 key_fits : (key : List ℕ) → not (is_key key) ≡ false → (1 ≤ length key) × (length key ≤ 256)
 key_fits key e =
-    let b = both_parts (nat_le 1 (length key)) (nat_le (length key) 256) (unmet_not (is_key key) e) in
+    let b = both_parts (nat_le 1 (length key)) (nat_le (length key) 256) (not_true (is_key key) e) in
     (at_most 1 (length key) b.0, at_most (length key) 256 b.1)
 
 changes_fit : (changes : List Change) → list_any (λ c. not (is_key c.key)) changes ≡ false → list_any (λ c. nat_lt 65536 (value_size c.value)) changes ≡ false → AllByRecursion IsChange changes
@@ -79,7 +72,8 @@ changes_fit (c ∷ changes) keys values =
     let v = none_of (nat_lt 65536 (value_size c.value)) (list_any (λ c. nat_lt 65536 (value_size c.value)) changes) values in
     ((key_fits c.key k.0, value_fits c.value v.0), changes_fit changes k.1 v.1)
 
-abbrev tests : Desk → RangeState → List Change → List (Refusal × Bool)
+-- what a transaction is tested for
+abbrev pub tests : Desk → RangeState → List Change → List (Refusal × Bool)
 tests d r changes =
     (refusals.Loading, not (is_serving r.stage))
     ∷ (refusals.LeaseEnded, lease_ended d r)
@@ -92,7 +86,7 @@ tests d r changes =
 
 -- what is not refused comes to a range that is served
 pub taken_served : (d : Desk) (r : RangeState) (changes : List Change) → transact_fault d r changes ≡ None → is_serving r.stage ≡ true
-taken_served d r changes e = let unmet = none_met (tests d r changes) e in unmet_not (is_serving r.stage) unmet.0
+taken_served d r changes e = let unmet = none_met (tests d r changes) e in not_true (is_serving r.stage) unmet.0
 
 -- it is a transaction, and has room
 taken_fits : (d : Desk) (r : RangeState) (changes : List Change) → transact_fault d r changes ≡ None → IsTransaction changes × (waiting_count r < 1024)
@@ -116,7 +110,7 @@ pushed_sound d r from v changes e h =
     record {
       queue_fits = more_sound r.queue t h.queue_fits fits.0;
       out_fits = h.out_fits;
-      counted = omega (arith, fits.1, more_count r.queue t);
+      counted = omega (arith, fits.1, more_length r.queue t);
       numbered = h.numbered;
     }
 

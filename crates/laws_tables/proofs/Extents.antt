@@ -1,6 +1,5 @@
 -- What a stream of extents shows keeps its order: it is what users see of a log with a fence.
 use Rattle.std.proofs.Common.{◌≡◌, ℕ, suc, ◌+◌, ◌<◌, ◌≤◌, List, [], ◌∷◌, ◌++◌, length, map, Bool, true, false, Option, Some, None, refl, sym, ap, ◌∙◌, subst, inl, inr, ◌⊎◌, ⊎_elim, arith, append_assoc, if◌then◌else◌, ◌==◌, nat_le}
-use Rattle.std.specs.Prelude.{Contains}
 use Rattle.std.proofs.lemmas.List.{append-nil}
 use Rattle.std.proofs.lemmas.Bool.{cases_lt}
 use Rattle.std.proofs.lemmas.Bool.Decides.{nat_tests}
@@ -9,30 +8,8 @@ use Rattle.laws_tables.specs.Fenced.{Seen, Landed, Fenced, LogRun, visible, land
 use Rattle.laws_tables.specs.Fenced.{May as Allows}
 use Rattle.laws_tables.proofs.Range.{older, newest}
 use Rattle.laws_tables.proofs.Fenced.{keeps_order}
+use Rattle.laws_tables.proofs.Members.{contains_in, in_left}
 use Rattle.model_tables.specs.Extents.{In, Shut, Live, Core, base, one_if_live, count, all_shut, last_end, first, shut_at, Chain, Fact, AsksOpen, Opened, AsksCheck, Checked, AsksConfirm, Confirmed, Serves, Begun, AsksAppend, Appended, AsksExtend, Extended, State, Step, TakesOpen, TakesExtend, TakesConfirm, TakesCheck, AnswersCheck, AnswersLate, TakesAppend, Keeps, AnswersAppend, Seals, Opens, Checks, ReadsSealed, ReadsChecked, Begins, Appends, Extends, TakesConfirmed, TakesAppended, knows, sees, with_live, new_live, extended, new_copy, NotYet, all_copies, May, extend_facts, next, nothing, after, IsRun}
-
--- ---------------------------------------------------------------- lists
-
-contains_in : {A : Type 0} (x : A) (xs : List A) → In x xs → Contains xs x
-contains_in x [] h = absurd h
-contains_in x (y ∷ ys) (inl e) = (0, omega arith, sym e)
-contains_in x (y ∷ ys) (inr h) =
-    let r : Contains ys x = contains_in x ys h in
-    (suc r.0, (let b : r.0 < length ys = r.1 in omega arith), r.2)
-
-in_right : {A : Type 0} (x : A) (us vs : List A) → In x vs → In x (us ++ vs)
-in_right x [] vs h = h
-in_right x (u ∷ us) vs h = inr (in_right x us vs h)
-
-in_left : {A : Type 0} (x : A) (us vs : List A) → In x us → In x (us ++ vs)
-in_left x [] vs h = absurd h
-in_left x (u ∷ us) vs (inl e) = inl e
-in_left x (u ∷ us) vs (inr h) = inr (in_left x us vs h)
-
-in_cases : {A : Type 0} (x : A) (us vs : List A) → In x (us ++ vs) → In x us ⊎ In x vs
-in_cases x [] vs h = inr h
-in_cases x (u ∷ us) vs (inl e) = inl (inl e)
-in_cases x (u ∷ us) vs (inr h) = ⊎_elim (λ m. inl (inr m)) (λ m. inr m) (in_cases x us vs h)
 
 module _ (A : Type 0) (gen : ℕ → ℕ) where
   -- ---------------------------------------------------------------- the invariant
@@ -88,9 +65,6 @@ module _ (A : Type 0) (gen : ℕ → ℕ) where
   read_longer run run' (m, e) g read end r =
       (m ++ r.0, r.1, e ∙ ap (λ z. m ++ z) r.2 ∙ sym (append_assoc m r.0 (Fenced g end ∷ r.1)), r.3)
 
-  below : (a b : ℕ) → (a < b) ⊎ (b ≤ a)
-  below a b = cases_lt a b
-
   ok_grows : (c : Core A) (run : LogRun A) (d : Core A) (run' : LogRun A) → Grows c run d run' → (f : Fact A) → Ok c run f → Ok d run' f
   ok_grows c run d run' w (AsksOpen i) ok = tt
   ok_grows c run d run' w (Opened i n) (pos, low, is) =
@@ -119,7 +93,7 @@ module _ (A : Type 0) (gen : ℕ → ℕ) where
         λ at. ⊎_elim {C = Read run' (gen i) read end}
             (λ (lt : fence run < gen i). let k : (gen i ≡ c.fence) × (Whole c (gen i) read end → Read run' (gen i) read end) = w.confirms (gen i) read end at lt in k.1 (whole k.0 lt))
             (λ (le : gen i ≤ fence run). let same : gen i ≡ fence run = omega arith in read_longer run run' w.longer (gen i) read end (was same))
-            (below (fence run) (gen i)),
+            (cases_lt (fence run) (gen i)),
       )
   ok_grows c run d run' w (Confirmed i read end) (low, was) =
       let rose : fence run ≤ fence run' = w.fence_run in
@@ -601,7 +575,7 @@ module _ (A : Type 0) (gen : ℕ → ℕ) where
       let low : fence run ≤ s.core.fence = inv.low in
       let same : gen i ≡ fence run = omega arith in
       (run, know s run inv (Confirmed i read end) (le, ok.2 same) (λ j n e. cc) (λ j r e q. cc)))
-      (below (fence run) (gen i))
+      (cases_lt (fence run) (gen i))
 
   -- an incarnation that has not asked is not confirmed
   not_confirmed : (s : State A) (run : LogRun A) → Inv s run → (i n : ℕ) → In (Opened i n) s.facts → NotYet A gen i s.facts → gen i ≡ fence run → ⊥

@@ -6,7 +6,8 @@ use Rattle.model_tables.specs.Story.{Placed, StreamEvent, Made, Answered, Showed
 use Rattle.laws_tables.specs.Fenced.{Seen, Landed, Fenced, LogRun, visible, landed, fence, end_of, May, IsLogRun, stood}
 use Rattle.laws_tables.proofs.Lines.{split_at}
 use Rattle.laws_tables.proofs.Range.{bound, older, event_cases, eq_test, ne_test}
-use Rattle.laws_tables.proofs.Replay.{In, in_contains, contains_in, in_left, in_cases}
+use Rattle.model_tables.specs.Extents.{In}
+use Rattle.laws_tables.proofs.Members.{in_contains, contains_in, in_left, in_cases}
 
 module _ (A : Type 0) where
   -- a copy and its append

@@ -2,6 +2,7 @@ pub mod Extents
 pub mod Families
 pub mod Fenced
 pub mod Index
+pub mod Members
 mod Lines
 pub mod Others
 pub mod Range

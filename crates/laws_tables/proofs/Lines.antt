@@ -3,31 +3,15 @@ use Rattle.std.proofs.Common.{◌≡◌, ℕ, zero, suc, ◌+◌, ◌-◌, ◌<�
 use Rattle.std.proofs.lemmas.List.{append-nil, drop_all}
 use Rattle.std.proofs.lemmas.Bool.{cases_lt, cases_eq}
 use Rattle.commitlog.specs.Replay.{Numbered as Group, taken}
+use Rattle.model_tables.specs.Extents.{In}
 use Rattle.model_tables.specs.Lines.{next_after, StandsIn}
+use Rattle.laws_tables.proofs.Members.{in_left, in_middle, in_cases, in_split}
 
-abbrev pub Member : ℕ → List ℕ → Type 0
-Member a [] = ⊥
-Member a (b ∷ bs) = (a ≡ b) ⊎ Member a bs
-
-pub member_left : (a : ℕ) (xs ys : List ℕ) → Member a xs → Member a (xs ++ ys)
-member_left a [] ys h = absurd h
-member_left a (x ∷ xs) ys (inl e) = inl e
-member_left a (x ∷ xs) ys (inr h) = inr (member_left a xs ys h)
-
-pub member_right : (a : ℕ) (xs ys : List ℕ) → Member a ys → Member a (xs ++ ys)
-member_right a [] ys h = h
-member_right a (x ∷ xs) ys h = inr (member_right a xs ys h)
-
-pub member_cases : (a : ℕ) (xs ys : List ℕ) → Member a (xs ++ ys) → Member a xs ⊎ Member a ys
-member_cases a [] ys h = inr h
-member_cases a (x ∷ xs) ys (inl e) = inl (inl e)
-member_cases a (x ∷ xs) ys (inr h) = ⊎_elim (λ m. inl (inr m)) (λ m. inr m) (member_cases a xs ys h)
-
-pub member_or_not : (a : ℕ) (xs : List ℕ) → Member a xs ⊎ (Member a xs → ⊥)
-member_or_not a [] = inr (λ h. h)
-member_or_not a (x ∷ xs) = go (cases_eq a x) (member_or_not a xs)
+pub in_or_not : (a : ℕ) (xs : List ℕ) → In a xs ⊎ (In a xs → ⊥)
+in_or_not a [] = inr (λ h. h)
+in_or_not a (x ∷ xs) = go (cases_eq a x) (in_or_not a xs)
   where
-    go : (a ≡ x) ⊎ (a ≡ x → ⊥) → Member a xs ⊎ (Member a xs → ⊥) → Member a (x ∷ xs) ⊎ (Member a (x ∷ xs) → ⊥)
+    go : (a ≡ x) ⊎ (a ≡ x → ⊥) → In a xs ⊎ (In a xs → ⊥) → In a (x ∷ xs) ⊎ (In a (x ∷ xs) → ⊥)
     go (inl e) _ = inl (inl e)
     go (inr n) (inl m) = inl (inr m)
     go (inr n) (inr k) = inr (λ h. ⊎_elim n k h)
@@ -113,25 +97,15 @@ module _ (A : Type 0) (group : ℕ → Group A) (gen : ℕ → ℕ) where
   gapless-append [] ys line g h = h
   gapless-append (x ∷ xs) ys line g h = (g.0, gapless-append xs ys (taken line (group x)) g.1 h)
 
-pub member_split : (a : ℕ) (xs : List ℕ) → Member a xs → (us : List ℕ) × (vs : List ℕ) × (xs ≡ us ++ a ∷ vs)
-member_split a [] h = absurd h
-member_split a (x ∷ xs) (inl e) = ([], xs, ap (λ y. y ∷ xs) (sym e))
-member_split a (x ∷ xs) (inr h) =
-    let r : (us : List ℕ) × (vs : List ℕ) × (xs ≡ us ++ a ∷ vs) = member_split a xs h in
-    (x ∷ r.0, r.1, ap (λ l. x ∷ l) r.2)
-
-pub member_at : (a : ℕ) (xs ys : List ℕ) → Member a (xs ++ a ∷ ys)
-member_at a xs ys = member_right a xs (a ∷ ys) (inl refl)
-
 -- What the servers and the log keep to, for the loads (by an index) and the appends (by the order in which they were made).
 pub record Rules (A : Type 0) (group : ℕ → Group A) (gen : ℕ → ℕ) (IsMade : ℕ → Type 0) (home : ℕ → ℕ)
     (IsLoad : ℕ → Type 0) (load_gen : ℕ → ℕ) (shows : ℕ → List ℕ) : Type 0 where
   -- of the log
-  pub made : (l a : ℕ) → IsLoad l → Member a (shows l) → IsMade a
-  pub below : (l a : ℕ) → IsLoad l → Member a (shows l) → gen a < load_gen l
+  pub made : (l a : ℕ) → IsLoad l → In a (shows l) → IsMade a
+  pub below : (l a : ℕ) → IsLoad l → In a (shows l) → gen a < load_gen l
   pub begins : (l m : ℕ) → IsLoad l → IsLoad m → load_gen l < load_gen m →
-      (rest : List ℕ) × (shows m ≡ shows l ++ rest) × ((a : ℕ) → Member a rest → load_gen l ≤ gen a)
-  pub answered_first : (l a b : ℕ) (xs ys : List ℕ) → IsLoad l → IsMade a → IsMade b → gen a ≡ gen b → a < b → shows l ≡ xs ++ b ∷ ys → Member a xs
+      (rest : List ℕ) × (shows m ≡ shows l ++ rest) × ((a : ℕ) → In a rest → load_gen l ≤ gen a)
+  pub answered_first : (l a b : ℕ) (xs ys : List ℕ) → IsLoad l → IsMade a → IsMade b → gen a ≡ gen b → a < b → shows l ≡ xs ++ b ∷ ys → In a xs
   -- of the servers: an append is made by the incarnation that a load of its generation began, from the number after that load's line on
   pub home_load : (a : ℕ) → IsMade a → IsLoad (home a) × (load_gen (home a) ≡ gen a)
   pub one_home : (a b : ℕ) → IsMade a → IsMade b → gen a ≡ gen b → home a ≡ home b
@@ -143,7 +117,7 @@ pub record Rules (A : Type 0) (group : ℕ → Group A) (gen : ℕ → ℕ) (IsM
 -- the item that stands behind these items is one of these appends', at its number
 pub record ComesFrom (A : Type 0) (group : ℕ → Group A) (xs : List ℕ) (us : List A) (t : A) : Type 0 where
   pub append : ℕ
-  pub is_one : Member append xs
+  pub is_one : In append xs
   pub front : List A
   pub back : List A
   pub items : (group append).items ≡ front ++ t ∷ back
@@ -151,8 +125,8 @@ pub record ComesFrom (A : Type 0) (group : ℕ → Group A) (xs : List ℕ) (us 
 
 -- after these appends the line has each of them at its numbers, and ends with one of them
 pub record Passed (A : Type 0) (group : ℕ → Group A) (line : List A) (xs : List ℕ) : Type 0 where
-  pub each : (a : ℕ) → Member a xs → StandsIn line (group a)
-  pub top : (length line ≡ 0) ⊎ ((a : ℕ) × Member a xs × (next_after (group a) ≡ suc (length line)))
+  pub each : (a : ℕ) → In a xs → StandsIn line (group a)
+  pub top : (length line ≡ 0) ⊎ ((a : ℕ) × In a xs × (next_after (group a) ≡ suc (length line)))
   -- each of the line comes from one of them, at its number
   pub comes_from : (us vs : List A) (t : A) → line ≡ us ++ t ∷ vs → ComesFrom A group xs us t
 
@@ -166,100 +140,100 @@ module _ (A : Type 0) (group : ℕ → Group A) (gen : ℕ → ℕ) (IsMade : �
 
   -- what is shown before an append's copy begins with what its own load showed
   pub after_own_load : (l a : ℕ) (xs ys : List ℕ) → IsLoad l → shows l ≡ xs ++ a ∷ ys → IsLoad (home a) × (load_gen (home a) ≡ gen a) →
-      (between : List ℕ) × (xs ≡ shows (home a) ++ between) × ((b : ℕ) → Member b between → gen a ≤ gen b)
+      (between : List ℕ) × (xs ≡ shows (home a) ++ between) × ((b : ℕ) → In b between → gen a ≤ gen b)
   after_own_load l a xs ys is_load e h =
-      let here : Member a (shows l) = subst (Member a) (sym e) (member_at a xs ys) in
+      let here : In a (shows l) = subst (In a) (sym e) (in_middle a xs ys) in
       let low : gen a < load_gen l = rules.below l a is_load here in
       let ge : load_gen (home a) ≡ gen a = h.1 in
       let first : load_gen (home a) < load_gen l = omega arith in
-      let b : (rest : List ℕ) × (shows l ≡ shows (home a) ++ rest) × ((a' : ℕ) → Member a' rest → load_gen (home a) ≤ gen a') = rules.begins (home a) l h.0 is_load first in
-      ⊎_elim {C = (between : List ℕ) × (xs ≡ shows (home a) ++ between) × ((c : ℕ) → Member c between → gen a ≤ gen c)}
+      let b : (rest : List ℕ) × (shows l ≡ shows (home a) ++ rest) × ((a' : ℕ) → In a' rest → load_gen (home a) ≤ gen a') = rules.begins (home a) l h.0 is_load first in
+      ⊎_elim {C = (between : List ℕ) × (xs ≡ shows (home a) ++ between) × ((c : ℕ) → In c between → gen a ≤ gen c)}
       (λ s.
-      let inside : Member a (shows (home a)) = subst (Member a) (sym s.1) (member_at a xs s.0) in
+      let inside : In a (shows (home a)) = subst (In a) (sym s.1) (in_middle a xs s.0) in
       let no : gen a < load_gen (home a) = rules.below (home a) a h.0 inside in
       absurd (omega arith))
       (λ s. (
         s.0,
         s.1,
         λ c m.
-            let in_rest : Member c b.0 = subst (Member c) (sym s.2) (member_left c s.0 (a ∷ ys) m) in
+            let in_rest : In c b.0 = subst (In c) (sym s.2) (in_left c s.0 (a ∷ ys) m) in
             let k : load_gen (home a) ≤ gen c = b.2 c in_rest in
             omega arith,
       ))
       (split_at a xs ys (shows (home a)) b.0 (sym e ∙ b.1))
 
   -- the copy of one append and an earlier member of the same list: of no greater generation
-  pub never_back : (l a f : ℕ) (xs ys : List ℕ) → IsLoad l → shows l ≡ xs ++ a ∷ ys → Member f xs → gen f ≤ gen a
+  pub never_back : (l a f : ℕ) (xs ys : List ℕ) → IsLoad l → shows l ≡ xs ++ a ∷ ys → In f xs → gen f ≤ gen a
   never_back l a f xs ys is_load e m =
-      let f_here : Member f (shows l) = subst (Member f) (sym e) (member_left f xs (a ∷ ys) m) in
+      let f_here : In f (shows l) = subst (In f) (sym e) (in_left f xs (a ∷ ys) m) in
       let f_made : IsMade f = rules.made l f is_load f_here in
       let h : IsLoad (home f) × (load_gen (home f) ≡ gen f) = rules.home_load f f_made in
       let low : gen f < load_gen l = rules.below l f is_load f_here in
       let same : load_gen (home f) ≡ gen f = h.1 in
       let first : load_gen (home f) < load_gen l = omega arith in
-      let b : (rest : List ℕ) × (shows l ≡ shows (home f) ++ rest) × ((c : ℕ) → Member c rest → load_gen (home f) ≤ gen c) = rules.begins (home f) l h.0 is_load first in
+      let b : (rest : List ℕ) × (shows l ≡ shows (home f) ++ rest) × ((c : ℕ) → In c rest → load_gen (home f) ≤ gen c) = rules.begins (home f) l h.0 is_load first in
       ⊎_elim {C = gen f ≤ gen a}
       (λ s.
-      let inside : Member f (shows (home f)) = subst (Member f) (sym s.1) (member_left f xs (a ∷ s.0) m) in
+      let inside : In f (shows (home f)) = subst (In f) (sym s.1) (in_left f xs (a ∷ s.0) m) in
       let no : gen f < load_gen (home f) = rules.below (home f) f h.0 inside in
       absurd (omega arith))
       (λ s.
-      let in_rest : Member a b.0 = subst (Member a) (sym s.2) (member_at a s.0 ys) in
+      let in_rest : In a b.0 = subst (In a) (sym s.2) (in_middle a s.0 ys) in
       let k : load_gen (home f) ≤ gen a = b.2 a in_rest in
       omega arith)
       (split_at a xs ys (shows (home f)) b.0 (sym e ∙ b.1))
 
   -- an append whose copy has not come before: everything before it ends below it
-  pub all_below : (l a : ℕ) (xs ys : List ℕ) → IsLoad l → shows l ≡ xs ++ a ∷ ys → (Member a xs → ⊥) →
+  pub all_below : (l a : ℕ) (xs ys : List ℕ) → IsLoad l → shows l ≡ xs ++ a ∷ ys → (In a xs → ⊥) →
       ((m : ℕ) → IsLoad m → load_gen m < load_gen l → PassedAll (shows m)) →
-      (f : ℕ) → Member f xs → next_after (group f) ≤ (group a).first
+      (f : ℕ) → In f xs → next_after (group f) ≤ (group a).first
   all_below l a xs ys is_load e new lower f m =
-      let a_here : Member a (shows l) = subst (Member a) (sym e) (member_at a xs ys) in
+      let a_here : In a (shows l) = subst (In a) (sym e) (in_middle a xs ys) in
       let a_made : IsMade a = rules.made l a is_load a_here in
-      let f_here : Member f (shows l) = subst (Member f) (sym e) (member_left f xs (a ∷ ys) m) in
+      let f_here : In f (shows l) = subst (In f) (sym e) (in_left f xs (a ∷ ys) m) in
       let f_made : IsMade f = rules.made l f is_load f_here in
       let low : gen a < load_gen l = rules.below l a is_load a_here in
       let h : IsLoad (home a) × (load_gen (home a) ≡ gen a) = rules.home_load a a_made in
       let same : load_gen (home a) ≡ gen a = h.1 in
       let first : load_gen (home a) < load_gen l = omega arith in
-      let own : (between : List ℕ) × (xs ≡ shows (home a) ++ between) × ((b : ℕ) → Member b between → gen a ≤ gen b) = after_own_load l a xs ys is_load e h in
+      let own : (between : List ℕ) × (xs ≡ shows (home a) ++ between) × ((b : ℕ) → In b between → gen a ≤ gen b) = after_own_load l a xs ys is_load e h in
       let order : gen f ≤ gen a = never_back l a f xs ys is_load e m in
       let after : suc (length (line_of_load (home a))) ≤ (group a).first = rules.after_home a a_made in
-      let in_own : Member f (shows (home a)) → next_after (group f) ≤ (group a).first = λ (i : Member f (shows (home a))).
+      let in_own : In f (shows (home a)) → next_after (group f) ≤ (group a).first = λ (i : In f (shows (home a))).
       let w : next_after (group f) ≤ suc (length (line_of_load (home a))) = stands_within (line_of_load (home a)) (group f) ((lower (home a) h.0 first).each f i) in
       omega arith in
       ⊎_elim {C = next_after (group f) ≤ (group a).first}
       (λ (less : gen f < gen a).
       ⊎_elim {C = next_after (group f) ≤ (group a).first} in_own
       (λ i. let k : gen a ≤ gen f = own.2 f i in absurd (omega arith))
-      (member_cases f (shows (home a)) own.0 (subst (Member f) own.1 m)))
+      (in_cases f (shows (home a)) own.0 (subst (In f) own.1 m)))
       (λ (ge : gen a ≤ gen f).
       let eq : gen f ≡ gen a = omega arith in
       ⊎_elim {C = next_after (group f) ≤ (group a).first}
       (λ (fa : f < a). rules.in_turn f a f_made a_made eq fa)
       (λ (af : a ≤ f).
       ⊎_elim {C = next_after (group f) ≤ (group a).first}
-      (λ (is : a ≡ f). absurd (new (subst (λ z. Member z xs) (sym is) m)))
+      (λ (is : a ≡ f). absurd (new (subst (λ z. In z xs) (sym is) m)))
       (λ (other : a ≡ f → ⊥).
-      let s : (us : List ℕ) × (vs : List ℕ) × (xs ≡ us ++ f ∷ vs) = member_split f xs m in
+      let s : (us : List ℕ) × (vs : List ℕ) × (xs ≡ us ++ f ∷ vs) = in_split f xs m in
       let lt : a < f = omega arith in
       let whole : shows l ≡ s.0 ++ f ∷ (s.1 ++ a ∷ ys) = e ∙ ap (λ z. z ++ a ∷ ys) s.2 ∙ append_assoc s.0 (f ∷ s.1) (a ∷ ys) in
-      let was : Member a s.0 = rules.answered_first l a f s.0 (s.1 ++ a ∷ ys) is_load a_made f_made (sym eq) lt whole in
-      absurd (new (subst (Member a) (sym s.2) (member_left a s.0 (f ∷ s.1) was))))
+      let was : In a s.0 = rules.answered_first l a f s.0 (s.1 ++ a ∷ ys) is_load a_made f_made (sym eq) lt whole in
+      absurd (new (subst (In a) (sym s.2) (in_left a s.0 (f ∷ s.1) was))))
       (cases_eq a f))
       (cases_lt f a))
       (cases_lt (gen f) (gen a))
 
   -- it has the next number
-  pub has_next : (l a : ℕ) (xs ys : List ℕ) → IsLoad l → shows l ≡ xs ++ a ∷ ys → (Member a xs → ⊥) →
+  pub has_next : (l a : ℕ) (xs ys : List ℕ) → IsLoad l → shows l ≡ xs ++ a ∷ ys → (In a xs → ⊥) →
       ((m : ℕ) → IsLoad m → load_gen m < load_gen l → PassedAll (shows m)) → PassedAll xs →
       (group a).first ≡ suc (length (along A group gen [] xs))
   has_next l a xs ys is_load e new lower passed =
       let line : List A = along A group gen [] xs in
-      let a_here : Member a (shows l) = subst (Member a) (sym e) (member_at a xs ys) in
+      let a_here : In a (shows l) = subst (In a) (sym e) (in_middle a xs ys) in
       let a_made : IsMade a = rules.made l a is_load a_here in
       let h : IsLoad (home a) × (load_gen (home a) ≡ gen a) = rules.home_load a a_made in
-      let own : (between : List ℕ) × (xs ≡ shows (home a) ++ between) × ((b : ℕ) → Member b between → gen a ≤ gen b) = after_own_load l a xs ys is_load e h in
+      let own : (between : List ℕ) × (xs ≡ shows (home a) ++ between) × ((b : ℕ) → In b between → gen a ≤ gen b) = after_own_load l a xs ys is_load e h in
       let after : suc (length (line_of_load (home a))) ≤ (group a).first = rules.after_home a a_made in
       let grown : (more : List A) × (along A group gen (line_of_load (home a)) own.0 ≡ line_of_load (home a) ++ more) = along_grows A group gen own.0 (line_of_load (home a)) in
       let is_line : line ≡ line_of_load (home a) ++ grown.0 = ap (along A group gen []) own.1 ∙ along-append A group gen (shows (home a)) own.0 [] ∙ grown.1 in
@@ -268,7 +242,7 @@ module _ (A : Type 0) (group : ℕ → Group A) (gen : ℕ → ℕ) (IsMade : �
       ⊎_elim {C = (group a).first ≤ suc (length line)}
       (λ (q : (group a).first ≡ suc (length (line_of_load (home a)))). omega arith)
       (λ (q : (b : ℕ) × IsMade b × (b < a) × (gen b ≡ gen a) × (next_after (group b) ≡ (group a).first)).
-      let was : Member q.0 xs = rules.answered_first l q.0 a xs ys is_load q.1 a_made q.3 q.2 e in
+      let was : In q.0 xs = rules.answered_first l q.0 a xs ys is_load q.1 a_made q.3 q.2 e in
       let w : next_after (group q.0) ≤ suc (length line) = stands_within line (group q.0) (passed.each q.0 was) in
       let n : next_after (group q.0) ≡ (group a).first = q.4 in
       omega arith)
@@ -276,7 +250,7 @@ module _ (A : Type 0) (group : ℕ → Group A) (gen : ℕ → ℕ) (IsMade : �
       let lower_bound : suc (length line) ≤ (group a).first =
       ⊎_elim {C = suc (length line) ≤ (group a).first}
       (λ (z : length line ≡ 0). omega arith)
-      (λ (t : (f : ℕ) × Member f xs × (next_after (group f) ≡ suc (length line))).
+      (λ (t : (f : ℕ) × In f xs × (next_after (group f) ≡ suc (length line))).
       let w : next_after (group t.0) ≤ (group a).first = all_below l a xs ys is_load e new lower t.0 t.1 in
       let n : next_after (group t.0) ≡ suc (length line) = t.2 in
       omega arith)
@@ -287,7 +261,7 @@ module _ (A : Type 0) (group : ℕ → Group A) (gen : ℕ → ℕ) (IsMade : �
   GaplessAll xs = Gapless A group gen [] xs
 
   comes_later : (xs more : List ℕ) (us : List A) (t : A) → ComesFrom A group xs us t → ComesFrom A group (xs ++ more) us t
-  comes_later xs more us t c = record { append = c.append; is_one = member_left c.append xs more c.is_one; front = c.front; back = c.back; items = c.items; number = c.number }
+  comes_later xs more us t c = record { append = c.append; is_one = in_left c.append xs more c.is_one; front = c.front; back = c.back; items = c.items; number = c.number }
 
   -- one more copy
   pub one_more : (l a : ℕ) (xs ys : List ℕ) → IsLoad l → shows l ≡ xs ++ a ∷ ys →
@@ -298,37 +272,37 @@ module _ (A : Type 0) (group : ℕ → Group A) (gen : ℕ → ℕ) (IsMade : �
       let is : along A group gen [] (xs ++ a ∷ []) ≡ taken line (group a) = along-append A group gen xs (a ∷ []) [] in
       let by_gap : (group a).first ≤ suc (length line) → GaplessAll (xs ++ a ∷ []) = λ (low : (group a).first ≤ suc (length line)). gapless-append A group gen xs (a ∷ []) [] passed.1 (low, tt) in
       ⊎_elim {C = PassedAll (xs ++ a ∷ []) × GaplessAll (xs ++ a ∷ [])}
-      (λ (again : Member a xs).
+      (λ (again : In a xs).
       let stands : StandsIn line (group a) = passed.0.each a again in
       let same : line ≡ along A group gen [] (xs ++ a ∷ []) = sym (is ∙ taken_again line (group a) stands) in
       let w : next_after (group a) ≤ suc (length line) = stands_within line (group a) stands in
       let kept : Passed A group line (xs ++ a ∷ []) = record {
         each = λ b m. ⊎_elim {C = StandsIn line (group b)} (λ i. passed.0.each b i)
             (λ i. ⊎_elim {C = StandsIn line (group b)} (λ (eq : b ≡ a). subst (λ z. StandsIn line (group z)) (sym eq) stands) (λ no. absurd no) i)
-            (member_cases b xs (a ∷ []) m);
-        top = ⊎_elim {C = (length line ≡ 0) ⊎ ((f : ℕ) × Member f (xs ++ a ∷ []) × (next_after (group f) ≡ suc (length line)))} (λ z. inl z) (λ t. inr (t.0, member_left t.0 xs (a ∷ []) t.1, t.2)) passed.0.top;
+            (in_cases b xs (a ∷ []) m);
+        top = ⊎_elim {C = (length line ≡ 0) ⊎ ((f : ℕ) × In f (xs ++ a ∷ []) × (next_after (group f) ≡ suc (length line)))} (λ z. inl z) (λ t. inr (t.0, in_left t.0 xs (a ∷ []) t.1, t.2)) passed.0.top;
         comes_from = λ us vs t q. comes_later xs (a ∷ []) us t (passed.0.comes_from us vs t q);
       } in
       (subst (λ z. Passed A group z (xs ++ a ∷ [])) same kept, by_gap (omega arith)))
-      (λ (new : Member a xs → ⊥).
+      (λ (new : In a xs → ⊥).
       let next : (group a).first ≡ suc (length line) = has_next l a xs ys is_load e new lower passed.0 in
       let is_new : line ++ (group a).items ≡ along A group gen [] (xs ++ a ∷ []) = sym (is ∙ taken_next line (group a) next) in
       let len : length (line ++ (group a).items) ≡ length line + length (group a).items = length-append line (group a).items in
       let kept : Passed A group (line ++ (group a).items) (xs ++ a ∷ []) = record {
         each = λ b m. ⊎_elim {C = StandsIn (line ++ (group a).items) (group b)} (λ i. stands_longer line (group a).items (group b) (passed.0.each b i))
             (λ i. ⊎_elim {C = StandsIn (line ++ (group a).items) (group b)} (λ (eq : b ≡ a). subst (λ z. StandsIn (line ++ (group a).items) (group z)) (sym eq) (stands_at_end line (group a) next)) (λ no. absurd no) i)
-            (member_cases b xs (a ∷ []) m);
-        top = inr (a, member_at a xs [], omega arith);
+            (in_cases b xs (a ∷ []) m);
+        top = inr (a, in_middle a xs [], omega arith);
         comes_from = λ us vs t q.
             ⊎_elim {C = ComesFrom A group (xs ++ a ∷ []) us t}
             (λ (s : (more : List A) × (line ≡ us ++ t ∷ more)). comes_later xs (a ∷ []) us t (passed.0.comes_from us s.0 t s.1))
             (λ (s : (between : List A) × (us ≡ line ++ between) × ((group a).items ≡ between ++ t ∷ vs)).
             let len' : length us ≡ length line + length s.0 = ap length s.1 ∙ length-append line s.0 in
-            record { append = a; is_one = member_at a xs []; front = s.0; back = vs; items = s.2; number = omega arith })
+            record { append = a; is_one = in_middle a xs []; front = s.0; back = vs; items = s.2; number = omega arith })
             (split_at t us vs line (group a).items (sym q));
       } in
       (subst (λ z. Passed A group z (xs ++ a ∷ [])) is_new kept, by_gap (omega arith)))
-      (member_or_not a xs)
+      (in_or_not a xs)
 
   pub walk : (ys : List ℕ) (l : ℕ) (xs : List ℕ) → IsLoad l → shows l ≡ xs ++ ys →
       ((m : ℕ) → IsLoad m → load_gen m < load_gen l → PassedAll (shows m)) → PassedAll xs × GaplessAll xs → PassedAll (xs ++ ys) × GaplessAll (xs ++ ys)
@@ -355,17 +329,17 @@ module _ (A : Type 0) (group : ℕ → Group A) (gen : ℕ → ℕ) (IsMade : �
       (front_walk ys l (xs ++ a ∷ []) zs is_load again (one_more l a xs (ys ++ zs) is_load at (λ m is_m less. (shown_up_to (load_gen l) m less is_m).0) passed))
 
   -- an append before the copy of another, if it is no later one of its generation, ends no later
-  ends_below : (l a f : ℕ) (xs ys : List ℕ) → IsLoad l → shows l ≡ xs ++ a ∷ ys → Member f xs → ((g : ℕ) → Member g xs → gen g ≡ gen a → a < g → ⊥) → next_after (group f) ≤ next_after (group a)
+  ends_below : (l a f : ℕ) (xs ys : List ℕ) → IsLoad l → shows l ≡ xs ++ a ∷ ys → In f xs → ((g : ℕ) → In g xs → gen g ≡ gen a → a < g → ⊥) → next_after (group f) ≤ next_after (group a)
   ends_below l a f xs ys is_load e m none_later =
-      let a_here : Member a (shows l) = subst (Member a) (sym e) (member_at a xs ys) in
+      let a_here : In a (shows l) = subst (In a) (sym e) (in_middle a xs ys) in
       let a_made : IsMade a = rules.made l a is_load a_here in
-      let f_made : IsMade f = rules.made l f is_load (subst (Member f) (sym e) (member_left f xs (a ∷ ys) m)) in
+      let f_made : IsMade f = rules.made l f is_load (subst (In f) (sym e) (in_left f xs (a ∷ ys) m)) in
       let low : gen a < load_gen l = rules.below l a is_load a_here in
       let h : IsLoad (home a) × (load_gen (home a) ≡ gen a) = rules.home_load a a_made in
       let same : load_gen (home a) ≡ gen a = h.1 in
       let less : load_gen (home a) < load_gen l = omega arith in
       let after : suc (length (line_of_load (home a))) ≤ (group a).first = rules.after_home a a_made in
-      let own : (between : List ℕ) × (xs ≡ shows (home a) ++ between) × ((b : ℕ) → Member b between → gen a ≤ gen b) = after_own_load l a xs ys is_load e h in
+      let own : (between : List ℕ) × (xs ≡ shows (home a) ++ between) × ((b : ℕ) → In b between → gen a ≤ gen b) = after_own_load l a xs ys is_load e h in
       let order : gen f ≤ gen a = never_back l a f xs ys is_load e m in
       ⊎_elim {C = next_after (group f) ≤ next_after (group a)}
       (λ (lt : gen f < gen a).
@@ -374,7 +348,7 @@ module _ (A : Type 0) (group : ℕ → Group A) (gen : ℕ → ℕ) (IsMade : �
       let w : next_after (group f) ≤ suc (length (line_of_load (home a))) = stands_within (line_of_load (home a)) (group f) ((shown_up_to (load_gen l) (home a) less h.0).0.each f i) in
       omega arith)
       (λ i. let k : gen a ≤ gen f = own.2 f i in absurd (omega arith))
-      (member_cases f (shows (home a)) own.0 (subst (Member f) own.1 m)))
+      (in_cases f (shows (home a)) own.0 (subst (In f) own.1 m)))
       (λ (ge : gen a ≤ gen f).
       let eq : gen f ≡ gen a = omega arith in
       ⊎_elim {C = next_after (group f) ≤ next_after (group a)}
@@ -391,7 +365,7 @@ module _ (A : Type 0) (group : ℕ → Group A) (gen : ℕ → ℕ) (IsMade : �
       (cases_lt (gen f) (gen a))
 
   -- THE THEOREM: each group that a load shows stands in the load's line at its numbers, and replay never meets a number above the next
-  pub shown_in_line : (l a : ℕ) → IsLoad l → Member a (shows l) → StandsIn (line_of_load l) (group a)
+  pub shown_in_line : (l a : ℕ) → IsLoad l → In a (shows l) → StandsIn (line_of_load l) (group a)
   shown_in_line l a is_load m = (shown_up_to (suc (load_gen l)) l (omega arith) is_load).0.each a m
 
   pub never_above : (l : ℕ) → IsLoad l → GaplessAll (shows l)
@@ -400,7 +374,7 @@ module _ (A : Type 0) (group : ℕ → Group A) (gen : ℕ → ℕ) (IsMade : �
   -- the line of a lower generation begins that of a higher one
   pub lines_in_order : (l m : ℕ) → IsLoad l → IsLoad m → load_gen l < load_gen m → (more : List A) × (line_of_load l ++ more ≡ line_of_load m)
   lines_in_order l m is_l is_m less =
-      let b : (rest : List ℕ) × (shows m ≡ shows l ++ rest) × ((a : ℕ) → Member a rest → load_gen l ≤ gen a) = rules.begins l m is_l is_m less in
+      let b : (rest : List ℕ) × (shows m ≡ shows l ++ rest) × ((a : ℕ) → In a rest → load_gen l ≤ gen a) = rules.begins l m is_l is_m less in
       let g : (more : List A) × (along A group gen (line_of_load l) b.0 ≡ line_of_load l ++ more) = along_grows A group gen b.0 (line_of_load l) in
       (g.0, sym (ap (along A group gen []) b.1 ∙ along-append A group gen (shows l) b.0 [] ∙ g.1))
 
@@ -416,23 +390,23 @@ module _ (A : Type 0) (group : ℕ → Group A) (gen : ℕ → ℕ) (IsMade : �
 
   -- A position behind a copy of an append, before which no later group of its generation stands: what stands before the position leaves the line up to that group's end.
   pub line_at_position : (l a : ℕ) (xs ys : List ℕ) → IsLoad l → shows l ≡ xs ++ a ∷ ys →
-      ((f : ℕ) → Member f xs → gen f ≡ gen a → a < f → ⊥) → suc (length (along A group gen [] (xs ++ a ∷ []))) ≡ next_after (group a)
+      ((f : ℕ) → In f xs → gen f ≡ gen a → a < f → ⊥) → suc (length (along A group gen [] (xs ++ a ∷ []))) ≡ next_after (group a)
   line_at_position l a xs ys is_load e none_later =
       let here : shows l ≡ (xs ++ a ∷ []) ++ ys = e ∙ sym (append_assoc xs (a ∷ []) ys) in
       let p : PassedAll (xs ++ a ∷ []) = front_passed l (xs ++ a ∷ []) ys is_load here in
       let line : List A = along A group gen [] (xs ++ a ∷ []) in
-      let in_line : next_after (group a) ≤ suc (length line) = stands_within line (group a) (p.each a (member_at a xs [])) in
+      let in_line : next_after (group a) ≤ suc (length line) = stands_within line (group a) (p.each a (in_middle a xs [])) in
       let upper : suc (length line) ≤ next_after (group a) =
       ⊎_elim {C = suc (length line) ≤ next_after (group a)}
       (λ (z : length line ≡ 0).
-      let a_made : IsMade a = rules.made l a is_load (subst (Member a) (sym e) (member_at a xs ys)) in
+      let a_made : IsMade a = rules.made l a is_load (subst (In a) (sym e) (in_middle a xs ys)) in
       let h : suc (length (line_of_load (home a))) ≤ (group a).first = rules.after_home a a_made in omega arith)
-      (λ (t : (f : ℕ) × Member f (xs ++ a ∷ []) × (next_after (group f) ≡ suc (length line))).
+      (λ (t : (f : ℕ) × In f (xs ++ a ∷ []) × (next_after (group f) ≡ suc (length line))).
       let n : next_after (group t.0) ≡ suc (length line) = t.2 in
       let w : next_after (group t.0) ≤ next_after (group a) =
       ⊎_elim {C = next_after (group t.0) ≤ next_after (group a)} (λ i. ends_below l a t.0 xs ys is_load e i none_later)
       (λ i. ⊎_elim {C = next_after (group t.0) ≤ next_after (group a)} (λ (q : t.0 ≡ a). subst (λ z. next_after (group z) ≤ next_after (group a)) (sym q) (omega arith)) (λ no. absurd no) i)
-      (member_cases t.0 xs (a ∷ []) t.1) in
+      (in_cases t.0 xs (a ∷ []) t.1) in
       omega arith)
       p.top in
       omega arith

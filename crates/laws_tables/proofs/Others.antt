@@ -1,14 +1,15 @@
 -- Observations of extents say nothing of tables.
 use Rattle.std.proofs.Common.{◌≡◌, ℕ, ◌<◌, List, [], ◌∷◌, ◌++◌, cond, Some, refl, sym, ap, ◌∙◌, subst, inl, inr}
 use Rattle.std.specs.Prelude.{◌&&◌, ◌||◌, ◌==◌, Contains, reverse}
-use Rattle.std.proofs.lemmas.List.{reverse-append}
+use Rattle.std.proofs.lemmas.List.{append-nil, reverse-append}
 use Rattle.wire.specs.declared.note.Note.{Note}
 use Rattle.wire.specs.declared.note.Note.TheVariants.{Acked, SealedAt, Content, Seen, Began, Done, Loaded, Split, Merged}
 use Rattle.metadata.specs.declared.record.KeyRange.{KeyRange}
 use Rattle.model_tables.specs.Past.{Bytes, Transaction, Past, From_nothing, From_pair, owners, owners_back, eldest, eldest_back, kin, kin_back, keys_of, keys_back, kept, union, after_line, empty_table, table_of, begun, AllBegan, AllDone, IsMember, IsPastOf, IsComplete, Replays, table_notes}
-use Rattle.laws_tables.proofs.Replay.{In, in_contains, contains_in}
+use Rattle.model_tables.specs.Extents.{In}
+use Rattle.laws_tables.proofs.Members.{in_contains, contains_in}
 
-others-append : (xs ys : List Note) → table_notes (xs ++ ys) ≡ table_notes xs ++ table_notes ys
+pub others-append : (xs ys : List Note) → table_notes (xs ++ ys) ≡ table_notes xs ++ table_notes ys
 others-append [] ys = refl
 others-append (Acked e o grp ∷ h) ys = others-append h ys
 others-append (SealedAt e l ∷ h) ys = others-append h ys
@@ -23,16 +24,12 @@ others-append (Merged c d e ∷ h) ys = ap (λ z. Merged c d e ∷ z) (others-ap
 step : (o : Note) (h : List Note) → table_notes (reverse h) ≡ reverse (table_notes h) → table_notes (reverse (o ∷ h)) ≡ reverse (table_notes h) ++ table_notes (o ∷ [])
 step o h ih = ap table_notes (reverse-append (o ∷ []) h) ∙ others-append (reverse h) (o ∷ []) ∙ ap (λ z. z ++ table_notes (o ∷ [])) ih
 
-append-nothing : (xs : List Note) → xs ++ [] ≡ xs
-append-nothing [] = refl
-append-nothing (x ∷ xs) = ap (λ z. x ∷ z) (append-nothing xs)
-
 others-reverse : (h : List Note) → table_notes (reverse h) ≡ reverse (table_notes h)
 others-reverse [] = refl
-others-reverse (Acked e o grp ∷ h) = step (Acked e o grp) h (others-reverse h) ∙ append-nothing (reverse (table_notes h))
-others-reverse (SealedAt e l ∷ h) = step (SealedAt e l) h (others-reverse h) ∙ append-nothing (reverse (table_notes h))
-others-reverse (Content e n grps ∷ h) = step (Content e n grps) h (others-reverse h) ∙ append-nothing (reverse (table_notes h))
-others-reverse (Seen e n o bytes ∷ h) = step (Seen e n o bytes) h (others-reverse h) ∙ append-nothing (reverse (table_notes h))
+others-reverse (Acked e o grp ∷ h) = step (Acked e o grp) h (others-reverse h) ∙ append-nil (reverse (table_notes h))
+others-reverse (SealedAt e l ∷ h) = step (SealedAt e l) h (others-reverse h) ∙ append-nil (reverse (table_notes h))
+others-reverse (Content e n grps ∷ h) = step (Content e n grps) h (others-reverse h) ∙ append-nil (reverse (table_notes h))
+others-reverse (Seen e n o bytes ∷ h) = step (Seen e n o bytes) h (others-reverse h) ∙ append-nil (reverse (table_notes h))
 others-reverse (Began r g s t ∷ h) = step (Began r g s t) h (others-reverse h) ∙ sym (reverse-append (Began r g s t ∷ []) (table_notes h))
 others-reverse (Done r g s ∷ h) = step (Done r g s) h (others-reverse h) ∙ sym (reverse-append (Done r g s ∷ []) (table_notes h))
 others-reverse (Loaded r g rows next ∷ h) = step (Loaded r g rows next) h (others-reverse h) ∙ sym (reverse-append (Loaded r g rows next ∷ []) (table_notes h))

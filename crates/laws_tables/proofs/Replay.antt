@@ -1,72 +1,32 @@
 -- A served log that keeps its order has the rules of `Lines`.
-use Rattle.std.proofs.Common.{◌≡◌, ℕ, zero, suc, ◌<◌, ◌≤◌, List, [], ◌∷◌, ◌++◌, length, map, false, cond, Option, Some, None, refl, sym, ap, ◌∙◌, subst, inl, inr, ◌⊎◌, ⊎_elim, arith, append_assoc, eqb, ltb}
-use Rattle.std.specs.Prelude.{Contains, slice_index_or}
+use Rattle.std.proofs.Common.{◌≡◌, ℕ, suc, ◌<◌, ◌≤◌, List, [], ◌∷◌, ◌++◌, length, map, false, cond, Option, Some, None, refl, sym, ap, ◌∙◌, subst, inl, inr, ◌⊎◌, ⊎_elim, arith, append_assoc, eqb, ltb}
+use Rattle.std.specs.Prelude.{Contains}
 use Rattle.std.proofs.lemmas.List.{map-append}
 use Rattle.std.proofs.lemmas.Bool.Decides.{nat_tests}
 use Rattle.commitlog.specs.Replay.{Numbered as Group, taken, replayed as replay}
+use Rattle.model_tables.specs.Extents.{In}
 use Rattle.model_tables.specs.Lines.{next_after}
 use Rattle.model_tables.specs.Story.{Placed, StreamEvent, Made, Answered, Showed, Story, event_at, Copy, placed, from_place, Ascending, KeepsOrder}
 use Rattle.model_tables.specs.Log.{line_shown, IsServed}
-use Rattle.laws_tables.proofs.Lines.{Member, member_right, along, Rules}
+use Rattle.laws_tables.proofs.Lines.{along, Rules}
+use Rattle.laws_tables.proofs.Members.{in_contains, contains_in, in_right, in_cases, in_split}
 use Rattle.laws_tables.proofs.Range.{IsMadeAt, IsShownAt, Origin, Kept, EndedAt, eq_test, ne_test, made_shown, answered_shown, shown_cases, event_cases, kept_by_servers}
-
--- membership by cases
-abbrev pub In : {A : Type 0} → A → List A → Type 0
-In x [] = ⊥
-In x (y ∷ ys) = (x ≡ y) ⊎ In x ys
-
-in_at : {A : Type 0} (x : A) (xs : List A) (k : ℕ) → k < length xs → slice_index_or xs k x ≡ x → In x xs
-in_at x [] k h e = absurd (omega arith)
-in_at x (y ∷ ys) zero h e = inl (sym e)
-in_at x (y ∷ ys) (suc k) h e = inr (in_at x ys k (omega arith) e)
-
-pub in_contains : {A : Type 0} (x : A) (xs : List A) → Contains xs x → In x xs
-in_contains x xs h = in_at x xs h.0 h.1 h.2
-
-pub contains_in : {A : Type 0} (x : A) (xs : List A) → In x xs → Contains xs x
-contains_in x [] h = absurd h
-contains_in x (y ∷ ys) (inl e) = (0, omega arith, sym e)
-contains_in x (y ∷ ys) (inr h) =
-    let r : Contains ys x = contains_in x ys h in
-    let lt : r.0 < length ys = r.1 in
-    (suc r.0, omega arith, r.2)
-
-pub in_right : {A : Type 0} (x : A) (us vs : List A) → In x vs → In x (us ++ vs)
-in_right x [] vs h = h
-in_right x (u ∷ us) vs h = inr (in_right x us vs h)
-
-pub in_left : {A : Type 0} (x : A) (us vs : List A) → In x us → In x (us ++ vs)
-in_left x [] vs h = absurd h
-in_left x (u ∷ us) vs (inl e) = inl e
-in_left x (u ∷ us) vs (inr h) = inr (in_left x us vs h)
-
-pub in_cases : {A : Type 0} (x : A) (us vs : List A) → In x (us ++ vs) → In x us ⊎ In x vs
-in_cases x [] vs h = inr h
-in_cases x (u ∷ us) vs (inl e) = inl (inl e)
-in_cases x (u ∷ us) vs (inr h) = ⊎_elim (λ m. inl (inr m)) (λ m. inr m) (in_cases x us vs h)
 
 module _ (A : Type 0) where
   abbrev pub numbers : List (Copy A) → List ℕ
   numbers copies = map (λ c. c.append) copies
 
-  pub member_number : (a : ℕ) (copies : List (Copy A)) → Member a (numbers copies) → (c : Copy A) × In c copies × (c.append ≡ a)
+  pub member_number : (a : ℕ) (copies : List (Copy A)) → In a (numbers copies) → (c : Copy A) × In c copies × (c.append ≡ a)
   member_number a [] h = absurd h
   member_number a (c ∷ copies) (inl e) = (c, inl refl, sym e)
   member_number a (c ∷ copies) (inr h) =
       let r : (d : Copy A) × In d copies × (d.append ≡ a) = member_number a copies h in
       (r.0, inr r.1, r.2)
 
-  pub number_member : (c : Copy A) (copies : List (Copy A)) → In c copies → Member c.append (numbers copies)
+  pub number_member : (c : Copy A) (copies : List (Copy A)) → In c copies → In c.append (numbers copies)
   number_member c [] h = absurd h
   number_member c (d ∷ copies) (inl e) = inl (ap (λ x. x.append) e)
   number_member c (d ∷ copies) (inr h) = inr (number_member c copies h)
-
-  pub in_split : (c : Copy A) (copies : List (Copy A)) → In c copies → (front : List (Copy A)) × (back : List (Copy A)) × (copies ≡ front ++ c ∷ back)
-  in_split c [] h = absurd h
-  in_split c (d ∷ copies) (inl e) = ([], copies, ap (λ y. y ∷ copies) (sym e))
-  in_split c (d ∷ copies) (inr h) =
-      let r : (front : List (Copy A)) × (back : List (Copy A)) × (copies ≡ front ++ c ∷ back) = in_split c copies h in
-      (d ∷ r.0, r.1, ap (λ l. d ∷ l) r.2)
 
   -- a split of the numbers is one of the copies
   numbers_split : (copies : List (Copy A)) (xs : List ℕ) (b : ℕ) (ys : List ℕ) → numbers copies ≡ xs ++ b ∷ ys →
@@ -193,7 +153,7 @@ module _ (A : Type 0) where
     group_is a g grp h = ap group_in h
 
     -- the copy of an append that a load shows
-    pub copy_of : (l a : ℕ) → IsLoad l → Member a (shows l) →
+    pub copy_of : (l a : ℕ) → IsLoad l → In a (shows l) →
         (c : Copy (Group A)) × In c (order.copies l) × (c.append ≡ a) × (g : ℕ) × IsMadeAt A story a g c.group × (g < gen l) × (a < l)
     copy_of l a is_load m =
         let r : (c : Copy (Group A)) × In c (order.copies l) × (c.append ≡ a) = member_number (Group A) a (order.copies l) m in
@@ -205,12 +165,12 @@ module _ (A : Type 0) where
         let before : (r.0).append < l = h.3 in
         (r.0, r.1, r.2, h.0, subst (λ z. IsMadeAt A story z h.0 (r.0).group) r.2 h.1, omega arith, omega arith)
 
-    made_by_load : (l a : ℕ) → IsLoad l → Member a (shows l) → IsMade a
+    made_by_load : (l a : ℕ) → IsLoad l → In a (shows l) → IsMade a
     made_by_load l a is_load m =
         let c : (c : Copy (Group A)) × In c (order.copies l) × (c.append ≡ a) × (g : ℕ) × IsMadeAt A story a g c.group × (g < gen l) × (a < l) = copy_of l a is_load m in
         (c.3, (c.0).group, c.4)
 
-    below : (l a : ℕ) → IsLoad l → Member a (shows l) → gen a < gen l
+    below : (l a : ℕ) → IsLoad l → In a (shows l) → gen a < gen l
     below l a is_load m =
         let c : (c : Copy (Group A)) × In c (order.copies l) × (c.append ≡ a) × (g : ℕ) × IsMadeAt A story a g c.group × (g < gen l) × (a < l) = copy_of l a is_load m in
         let e : gen a ≡ c.3 = gen_is a c.3 (c.0).group c.4 in
@@ -218,7 +178,7 @@ module _ (A : Type 0) where
         omega arith
 
     begins : (l m : ℕ) → IsLoad l → IsLoad m → gen l < gen m →
-        (rest : List ℕ) × (shows m ≡ shows l ++ rest) × ((a : ℕ) → Member a rest → gen l ≤ gen a)
+        (rest : List ℕ) × (shows m ≡ shows l ++ rest) × ((a : ℕ) → In a rest → gen l ≤ gen a)
     begins l m is_l is_m less =
         let el : gen l ≡ is_l.0 = load_gen_is l is_l.0 is_l.1 is_l.2 is_l.3 is_l.4 in
         let em : gen m ≡ is_m.0 = load_gen_is m is_m.0 is_m.1 is_m.2 is_m.3 is_m.4 in
@@ -231,7 +191,7 @@ module _ (A : Type 0) where
           whole,
           λ a i.
               let r : (c : Copy (Group A)) × In c b.0 × (c.append ≡ a) = member_number (Group A) a b.0 i in
-              let there : Member a (shows m) = subst (Member a) (sym whole) (member_right a (shows l) (numbers (Group A) b.0) i) in
+              let there : In a (shows m) = subst (In a) (sym whole) (in_right a (shows l) (numbers (Group A) b.0) i) in
               let made : IsMade a = made_by_load m a is_m there in
               let at : IsMadeAt A story (r.0).append made.0 made.1 = subst (λ z. IsMadeAt A story z made.0 made.1) (sym r.2) made.2 in
               let k : is_l.0 ≤ made.0 = (b.2 r.0 (contains_in r.0 b.0 r.1)).1 made.0 made.1 at in
@@ -239,10 +199,10 @@ module _ (A : Type 0) where
               omega arith,
         )
 
-    answered_first : (l a b : ℕ) (xs ys : List ℕ) → IsLoad l → IsMade a → IsMade b → gen a ≡ gen b → a < b → shows l ≡ xs ++ b ∷ ys → Member a xs
+    answered_first : (l a b : ℕ) (xs ys : List ℕ) → IsLoad l → IsMade a → IsMade b → gen a ≡ gen b → a < b → shows l ≡ xs ++ b ∷ ys → In a xs
     answered_first l a b xs ys is_load ma mb same lt e =
         let s : (front : List (Copy (Group A))) × (c : Copy (Group A)) × (back : List (Copy (Group A))) × (order.copies l ≡ front ++ c ∷ back) × (numbers (Group A) front ≡ xs) × (c.append ≡ b) = numbers_split (Group A) (order.copies l) xs b ys e in
-        let b_in : Member b (shows l) = subst (Member b) (sym e) (member_right b xs (b ∷ ys) (inl refl)) in
+        let b_in : In b (shows l) = subst (In b) (sym e) (in_right b xs (b ∷ ys) (inl refl)) in
         let b_low : gen b < gen l = below l b is_load b_in in
         let ga : gen a ≡ ma.0 = gen_is a ma.0 ma.1 ma.2 in
         let gb : gen b ≡ mb.0 = gen_is b mb.0 mb.1 mb.2 in
@@ -260,7 +220,7 @@ module _ (A : Type 0) where
         let later : p.1 < (s.1).append = omega arith in
         let le : p.3 ≤ (s.1).from = order.after l a p.1 p.2 p.3 s.1 (contains_in s.1 (order.copies l) c_in) p.6 later in
         let in_front : In d s.0 = before_in (Group A) (order.copies l) s.0 s.2 s.1 d (order.ascending l) (order.not_empty l) s.3 d_in le in
-        subst (Member a) s.4 (number_member (Group A) d s.0 in_front)
+        subst (In a) s.4 (number_member (Group A) d s.0 in_front)
 
     home_load : (a : ℕ) → IsMade a → IsLoad (home a) × (gen (home a) ≡ gen a)
     home_load a m =

@@ -13,9 +13,11 @@ use Rattle.commitlog.specs.Replay.{Numbered as Group}
 use Rattle.model_tables.specs.Lines.{next_after, StandsIn}
 use Rattle.model_tables.specs.Story.{Placed, StreamEvent, Made, Answered, Showed, Story, event_at, Copy, KeepsOrder}
 use Rattle.model_tables.specs.Log.{line_shown, IsServed, begins_of, dones_of, dones_at, notes, observed, ShowsTables}
-use Rattle.laws_tables.proofs.Lines.{Member, along, Rules, shown_in_line, lines_in_order, line_from_shown, ComesFrom, split_at}
+use Rattle.laws_tables.proofs.Lines.{along, Rules, shown_in_line, lines_in_order, line_from_shown, ComesFrom, split_at}
 use Rattle.laws_tables.proofs.Range.{IsMadeAt, IsShownAt, Kept, kept_by_servers, bound, older, event_cases, newest, eq_test, ne_test}
-use Rattle.laws_tables.proofs.Replay.{In, in_contains, contains_in, in_right, in_left, in_cases, found, found_is, generation_in, group_in, rules, line_is, numbers, copy_of, number_member}
+use Rattle.model_tables.specs.Extents.{In}
+use Rattle.laws_tables.proofs.Members.{in_contains, contains_in, in_right, in_left, in_cases}
+use Rattle.laws_tables.proofs.Replay.{found, found_is, generation_in, group_in, rules, line_is, numbers, copy_of, number_member}
 
 -- no split and no merge
 abbrev Plain : List Note → Type 0
@@ -547,7 +549,7 @@ module _ (rows : ℕ → List Row) where
         let there : Contains (order.copies l) (record { from = d.from; to = d.to; append = d.append; group = d.group }) =
         order.answered l g at.start at.end d.append g' d.answer d.from d.to at.groups d.group is_load d.made lower d.answered in
         let copy : Copy (Group Transaction) = record { from = d.from; to = d.to; append = d.append; group = d.group } in
-        let member : Member d.append (numbers (Group Transaction) (order.copies l)) = number_member (Group Transaction) copy (order.copies l) (in_contains copy (order.copies l) there) in
+        let member : In d.append (numbers (Group Transaction) (order.copies l)) = number_member (Group Transaction) copy (order.copies l) (in_contains copy (order.copies l) there) in
         let stands : StandsIn (line_at l) (group_in Transaction (event_at story d.append)) =
         shown_in_line Transaction (λ a. group_in Transaction (event_at story a)) (λ a. generation_in Transaction (event_at story a))
         (λ a. (g : ℕ) × (grp : Group Transaction) × IsMadeAt Transaction story a g grp) (λ a. found Transaction story (generation_in Transaction (event_at story a)))
