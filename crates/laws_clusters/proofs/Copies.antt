@@ -10,6 +10,7 @@ use Rattle.laws_tables.proofs.Extents.{Inv, followed}
 use Rattle.laws_tables.proofs.Members.{in_left, in_right}
 use Rattle.laws_tables.proofs.Turns.{all_good}
 use Rattle.laws_runs.proofs.Asking.{turn_upper}
+use Rattle.laws_runs.proofs.Kept.{in_shut}
 use Rattle.laws_serving.proofs.Moves.{moves_of}
 use Rattle.laws_serving.specs.Serves.{IsUnformed, AreUnformed}
 use Rattle.laws_clusters.specs.Fitting.{AreUnformedMoves}
@@ -19,15 +20,6 @@ IsMade story c = (g : ℕ) × (event_at story c.append ≡ Some (Made g c.group)
 
 abbrev pub AllMade : Story Group → List (Copy Group) → Type 0
 AllMade story cs = (c : Copy Group) → In c cs → IsMade story c
-
--- what stands in a sealed extent stands in the stream
-in_shut : (e : ℕ) (shut : List (Shut Group)) (y : Shut Group) → shut_at e shut ≡ Some y → (c : Copy Group) → In c y.copies → In c (all_shut shut)
-in_shut e [] y is c there = absurd cc
-in_shut e (x ∷ older) y is c there = go (e == length older) is (λ t. in_shut e older y t c there)
-  where
-    go : (b : Bool) → (if b then Some x else shut_at e older) ≡ Some y → (shut_at e older ≡ Some y → In c (all_shut older)) → In c (all_shut older ++ x.copies)
-    go true t deeper = let same : x ≡ y = cc in in_right c (all_shut older) x.copies (subst (λ (z : Shut Group). In c z.copies) (sym same) there)
-    go false t deeper = in_left c (all_shut older) x.copies (deeper t)
 
 module _ (generation : ℕ → ℕ) where
   in_all : (k : Core Group) (o : Option (Live Group)) (c : Copy Group) → In c (all_shut k.shut) → In c (all_copies Group generation k o)
@@ -52,7 +44,7 @@ module _ (generation : ℕ → ℕ) where
       subst Stands (sym ran.2) (stands_of _ f.0 f.1)
 
   pub shut_made : (s : State Group) → Stands s → (e : ℕ) (y : Shut Group) → shut_at e s.core.shut ≡ Some y → AllMade s.story y.copies
-  shut_made s k e y is c there = k.all c (in_all s.core s.core.live c (in_shut e s.core.shut y is c there))
+  shut_made s k e y is c there = k.all c (in_all s.core s.core.live c (in_shut s.core.shut e y c is there))
 
   -- what checks have found
   abbrev CheckedMade : State Group → Type 0

@@ -20,7 +20,8 @@ use Rattle.model_tables.specs.Turns.{Below, after_all, AreMoves}
 use Rattle.model_tables.specs.Turns as machine
 use Rattle.laws_loads.specs.Renaming.{renamed, decoded}
 use Rattle.laws_runs.specs.Ties.{Sent, extents_in}
-use Rattle.laws_runs.proofs.Posts.{Ahead, get_same}
+use Rattle.laws_runs.proofs.Posts.{Ahead}
+use Rattle.laws_runs.proofs.Shapes.{get_same}
 use Rattle.laws_runs.proofs.Below.{Happened, below_happens}
 use Rattle.laws_serving.specs.Serves.{metadata_of, log_of, Wider}
 use Rattle.laws_serving.proofs.Grow.{follows_on}

@@ -1,6 +1,7 @@
 -- What nodes answer of an extent, as steps of the machine of its stream: appends that all places have, and checks.
 use Rattle.std.proofs.Common.{◌≡◌, ◌⊎◌, ℕ, zero, suc, ◌+◌, ◌<◌, ◌≤◌, List, [], ◌∷◌, ◌++◌, length, map, take, Option, Some, None, slice_get, refl, sym, ap, ◌∙◌, subst, inl, inr, arith, append-nil, append_assoc, ◌==◌}
 use Rattle.std.proofs.lemmas.Bool.{cases_lt}
+use Rattle.std.proofs.lemmas.Option.{slice_get_within}
 use Rattle.blocks.specs.declared.record.Nodes.{Nodes}
 use Rattle.wire.specs.declared.streams.StreamName.{StreamName}
 use Rattle.replica.specs.Groups.{Group, size, text_length}
@@ -18,7 +19,7 @@ use Rattle.laws_tables.proofs.Members.{in_left, in_right}
 use Rattle.laws_runs.specs.Ties.{Sent, purpose_of, Appends, extents_of}
 use Rattle.laws_runs.proofs.Bound.{Sized, group_of, TiedLive, FoundFront, chain_len, chain_both, floor_above, floor_low, live_end, find_front, keep_tied, end_after, after_chain}
 use Rattle.laws_runs.proofs.Walks.{Onward, Walk, walk_on, steps_to, with_lived, keep_all, shut_within}
-use Rattle.laws_runs.proofs.Shapes.{IsIn, FencedBy, Sourced, ShutThere, LiveThere, StoodThere, Shaped, settled_lived, settled_later, sourced_later, live_count_is, same_got, got_within, get_front}
+use Rattle.laws_runs.proofs.Shapes.{IsIn, FencedBy, Sourced, ShutThere, LiveThere, StoodThere, Shaped, settled_lived, settled_later, sourced_later, live_count_is, same_got, get_front}
 use Rattle.laws_runs.proofs.Managing.{known_more}
 
 -- ---- copies of a chain
@@ -56,7 +57,8 @@ got_either [] ys k c is = inr (k, is)
 got_either (x ∷ xs) ys zero c is = inl is
 got_either (x ∷ xs) ys (suc k) c is = got_either xs ys k c is
 
-in_shut : (shut : List (Shut Group)) (index : ℕ) (x : Shut Group) (c : Copy Group) → shut_at index shut ≡ Some x → In c x.copies → In c (all_shut shut)
+-- what stands in a sealed extent stands in the stream
+pub in_shut : (shut : List (Shut Group)) (index : ℕ) (x : Shut Group) (c : Copy Group) → shut_at index shut ≡ Some x → In c x.copies → In c (all_shut shut)
 in_shut [] index x c is m = absurd cc
 in_shut (y ∷ shut) index x c is m =
     if_elim (λ o. o ≡ Some x → In c (all_shut shut ++ y.copies)) (index == length shut) (Some y) (shut_at index shut)
@@ -87,9 +89,9 @@ pub last_there : (o : Option Stream) (g : Ground) (sent : List Sent) (s : State 
 last_there o g sent s shaped e index at beyond = by_live s.core.live refl
   where
     by_live : (l : Option (Live Group)) → s.core.live ≡ l → LastThere o g sent s e index
-    by_live None none = let within = got_within (extents_of o) index e at in absurd (omega (arith, within, beyond, shaped.settled.counts, ap one_if_live none))
+    by_live None none = let within = slice_get_within (extents_of o) index e at in absurd (omega (arith, within, beyond, shaped.settled.counts, ap one_if_live none))
     by_live (Some v) is =
-        let within = got_within (extents_of o) index e at in
+        let within = slice_get_within (extents_of o) index e at in
         let which : index ≡ length s.core.shut = omega (arith, within, beyond, shaped.settled.counts, ap one_if_live is) in
         let b = shaped.live v is in
         let same : b.extent ≡ e = same_got (extents_of o) (length s.core.shut) b.extent e b.at (subst (λ i. slice_get (extents_of o) i ≡ Some e) which at) in

@@ -1,6 +1,7 @@
 -- What the manager tells of a stream, and what it leaves of its streams.
 use Rattle.std.proofs.Common.{◌≡◌, ◌⊎◌, ℕ, zero, suc, ◌+◌, ◌≤◌, Bool, true, false, ◌&&◌, List, [], ◌∷◌, length, Option, Some, None, slice_get, refl, sym, ap, ◌∙◌, subst, inl, inr, arith, ◌==◌, eq-eqb}
 use Rattle.std.proofs.lemmas.Bool.{cases_lt}
+use Rattle.std.proofs.lemmas.Option.{slice_get_within}
 use Rattle.wire.specs.declared.actor.ActorId.{ActorId}
 use Rattle.wire.specs.declared.actor.ActorId.TheVariants.{Node, Manager, Map, Server, User}
 use Rattle.wire.specs.declared.actor.ReqNo.{ReqNo}
@@ -23,7 +24,7 @@ use Rattle.laws_streams.proofs.Listing.{same_name, kind_same}
 use Rattle.model_tables.specs.Extents.{Live, Shut, base, one_if_live, shut_at, State}
 use Rattle.laws_runs.specs.Ties.{Sent, extents_of}
 use Rattle.laws_runs.proofs.Posts.{is_outside}
-use Rattle.laws_runs.proofs.Shapes.{IsIn, Shaped, same_got, got_within}
+use Rattle.laws_runs.proofs.Shapes.{IsIn, Shaped, same_got}
 
 -- ---- who asks
 
@@ -102,10 +103,10 @@ module _ (o : Option Stream) (g : Ground) (s : State Group) (sent : List Sent) (
     where
       by_live : (l : Option (Live Group)) → s.core.live ≡ l → length s.core.shut ≤ index → SealedOrLast
       by_live None none beyond =
-          let within = got_within (extents_of o) index e at in
+          let within = slice_get_within (extents_of o) index e at in
           absurd (omega (arith, within, beyond, shaped.settled.counts, ap one_if_live none))
       by_live (Some v) is beyond =
-          let within = got_within (extents_of o) index e at in
+          let within = slice_get_within (extents_of o) index e at in
           let one = ap one_if_live is in
           let which : index ≡ length s.core.shut = omega (arith, within, beyond, shaped.settled.counts, one) in
           let b = shaped.live v is in

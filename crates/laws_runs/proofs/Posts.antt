@@ -1,5 +1,5 @@
 -- What was asked and answered stays so when more is known.
-use Rattle.std.proofs.Common.{◌≡◌, ℕ, zero, suc, ◌-◌, ◌<◌, ◌≤◌, Bool, true, false, List, [], ◌∷◌, ◌++◌, length, Option, Some, None, slice_get, Contains, refl, sym, ap, ◌∙◌, subst, arith, length-append, ◌==◌}
+use Rattle.std.proofs.Common.{◌≡◌, ℕ, zero, suc, ◌-◌, ◌≤◌, Bool, true, false, List, ◌++◌, length, Option, Some, None, slice_get, Contains, refl, sym, ap, ◌∙◌, subst, arith, length-append, ◌==◌}
 use Rattle.std.proofs.lemmas.Bool.Decides.{nat_tests}
 use Rattle.wire.specs.declared.actor.ActorId.{ActorId}
 use Rattle.wire.specs.declared.actor.ActorId.TheVariants.{Node, Manager, Map, Server, User}
@@ -34,6 +34,7 @@ use Rattle.laws_streams.proofs.DecisionAnswers as decision
 use Rattle.model_tables.specs.Answering.{stream_number}
 use Rattle.model_tables.specs.Extents as machine
 use Rattle.laws_runs.specs.Ties.{Purpose, Opens, Checks, Confirms, Appends, Extends, Sent, purpose_of, extents_of, extents_in, IsAt, last_known, AsksToOpen, AsksToConfirm, AsksToExtend, AsksToCheck, AsksToAppend, AsksToRead, AsksToSeal, OfExtent, OfStream, IsAsked, Tells, list_of, AppendMeans, CheckMeans, StreamMeans, purpose_if}
+use Rattle.laws_runs.proofs.Shapes.{get_same}
 use Rattle.laws_runs.proofs.Walks.{Onward}
 
 -- ---- who asks
@@ -82,11 +83,6 @@ decision_calls_not b e after to (bodies.Seal (SealExtent k q)) tells t = tells
 decision_calls_not b e after to (bodies.Seal body) tells t = cc
 
 -- ---- lists
-
-pub get_same : {A : Type 0} (xs ys : List A) (k : ℕ) → k < length xs → slice_get (xs ++ ys) k ≡ slice_get xs k
-get_same [] ys k l = absurd (omega (arith, l))
-get_same (x ∷ xs) ys zero l = refl
-get_same (x ∷ xs) ys (suc k) l = get_same xs ys k (omega (arith, l))
 
 last_stays : (xs ys : List ℕ) (n : ℕ) → n ≤ length xs → last_known (xs ++ ys) n ≡ last_known xs n
 last_stays xs ys zero l = refl

@@ -2,6 +2,7 @@
 use Rattle.std.proofs.Common.{◌≡◌, ◌≢◌, ◌⊎◌, ℕ, zero, suc, ◌+◌, ◌-◌, ◌<◌, ◌≤◌, List, [], ◌∷◌, ◌++◌, length, map, Option, Some, None, slice_get, refl, sym, ap, ◌∙◌, subst, inl, inr, arith, append_assoc, length-append, ◌==◌}
 use Rattle.std.proofs.lemmas.List.{append_cancel_left}
 use Rattle.std.proofs.lemmas.Bool.Decides.{nat_tests}
+use Rattle.std.proofs.lemmas.Option.{slice_get_within}
 use Rattle.blocks.specs.declared.record.Nodes.{Nodes}
 use Rattle.wire.specs.declared.actor.ReqNo.{ReqNo}
 use Rattle.wire.specs.declared.body.AppendBody.TheVariants.{Append}
@@ -81,15 +82,13 @@ pub length_map : (xs : List (Copy Group)) → length (map group_of xs) ≡ lengt
 length_map [] = refl
 length_map (x ∷ xs) = ap suc (length_map xs)
 
-pub got_within : {A : Type 0} (xs : List A) (k : ℕ) (x : A) → slice_get xs k ≡ Some x → k < length xs
-got_within [] k x is = absurd cc
-got_within (y ∷ xs) zero x is = omega arith
-got_within (y ∷ xs) (suc k) x is = let m = got_within xs k x is in omega (arith, m)
+pub get_same : {A : Type 0} (xs ys : List A) (k : ℕ) → k < length xs → slice_get (xs ++ ys) k ≡ slice_get xs k
+get_same [] ys k l = absurd (omega (arith, l))
+get_same (x ∷ xs) ys zero l = refl
+get_same (x ∷ xs) ys (suc k) l = get_same xs ys k (omega (arith, l))
 
 pub get_front : {A : Type 0} (xs ys : List A) (k : ℕ) (x : A) → k < length xs → slice_get (xs ++ ys) k ≡ Some x → slice_get xs k ≡ Some x
-get_front [] ys k x l is = absurd (omega (arith, l))
-get_front (y ∷ xs) ys zero x l is = is
-get_front (y ∷ xs) ys (suc k) x l is = get_front xs ys k x (omega (arith, l)) is
+get_front xs ys k x l is = sym (get_same xs ys k l) ∙ is
 
 pub same_got : {A : Type 0} (xs : List A) (k : ℕ) (x y : A) → slice_get xs k ≡ Some x → slice_get xs k ≡ Some y → x ≡ y
 same_got xs k x y a b = let c : Some x ≡ Some y = sym a ∙ b in cc
@@ -158,7 +157,7 @@ pub sourced_later : (g h : Ground) → Later g h → (sent : List Sent) (e index
     Sourced g sent e index copies → Sourced h sent e index copies
 sourced_later g h later sent e index copies fits old k c from is at =
     let (news, origins, newer) = later.origin e in
-    let within = got_within copies k c is in
+    let within = slice_get_within copies k c is in
     old k c from is (get_front (g.origin e) news k from (omega (arith, fits, within)) (subst (λ z. slice_get z k ≡ Some from) origins at))
 
 pub shut_fits : (g : Ground) → Sound g → (e index : ℕ) (x : Shut Group) → TiedShut g e index x → length x.copies ≤ length (g.origin e)
@@ -177,7 +176,7 @@ grown_sources : (g h : Ground) (sent : List Sent) (e index : ℕ) (copies : List
 grown_sources g h sent e index copies new from count old origins mine k c origin is at =
     let there : slice_get (g.origin e ++ from ∷ []) k ≡ Some origin = subst (λ z. slice_get z k ≡ Some origin) origins at in
     elim (pushed_get copies new k c is) [
-      | inl m ↦ let within = got_within copies k c m in old k c origin m (get_front (g.origin e) (from ∷ []) k origin (omega (arith, count, within)) there)
+      | inl m ↦ let within = slice_get_within copies k c m in old k c origin m (get_front (g.origin e) (from ∷ []) k origin (omega (arith, count, within)) there)
       | inr m ↦
           let last : slice_get (g.origin e ++ from ∷ []) (length (g.origin e)) ≡ Some origin = subst (λ z. slice_get (g.origin e ++ from ∷ []) z ≡ Some origin) (m.0 ∙ count) there in
           let same : from ≡ origin = same_got (g.origin e ++ from ∷ []) (length (g.origin e)) from origin (get_next (g.origin e) [] from) last in

@@ -25,12 +25,10 @@ use Rattle.laws_runs.specs.Ties.{Sent, purpose_of, Means, StreamMeans}
 use Rattle.laws_runs.proofs.Asking.{same_request}
 use Rattle.laws_serving.specs.Serves.{Stand, Side, AreUnformed, after_turns, is_live, next_behind, IsLoaded, AreFit, AreShown, sent_with, metadata_of, log_of, OutIs, ServesBy, ServingIs, ConfirmingIs, Apart, BothListed, IsSentBy, IsConfirming, RowGoes, RowTells}
 use Rattle.laws_serving.specs.Quiet.{ShowsOnly}
-use Rattle.laws_serving.proofs.Steps.{purposes_on}
 use Rattle.laws_serving.proofs.Append.{GoesBy, told_here, told_after, at_phase_by}
 use Rattle.laws_serving.proofs.Decoded.{next_confirmed}
 use Rattle.laws_serving.proofs.Rows.{refused_plain}
-use Rattle.laws_serving.proofs.Both.{unused_on}
-use Rattle.laws_serving.proofs.Sides.{still_tells}
+use Rattle.laws_serving.proofs.Sides.{both_step, still_tells}
 
 module _ (generation : ℕ → ℕ) (range : ℕ) (w : World) (i : ℕ) (both : BothListed w range) (m l : Side) (d : Desk) (by : IsSentBy d d.count m.sent l.sent) where
   -- a range that is dropped makes no turn
@@ -75,6 +73,7 @@ module _ (generation : ℕ → ℕ) (range : ℕ) (w : World) (i : ℕ) (both : 
     ShowsAll o = (t : RowTells generation range w i m l d o) × ((t.goes.log_turns ≡ turns.ConfirmedIs 0 b.log.end b.log.read ∷ []) ⊎ (o.after ≡ None))
 
     region_tells : (region : Region) → region.next ≡ next_behind b.log.read → ShowsAll (serves_region d r region)
+    unfolding both_step
     region_tells region next =
         let q : ReqNo = request d in
         let first = shows_goes (metadata_of range) m.stand m.sent q (by.metadata d.count (omega arith)) r.metadata b.q b.metadata one_fact in
@@ -84,39 +83,22 @@ module _ (generation : ℕ → ℕ) (range : ℕ) (w : World) (i : ℕ) (both : 
         let shown : List TableNote = notes.Loaded r.load.range r.load.generation r.live r.said.indexes region.next ∷ [] in
         let loaded : IsLoaded range (generation i) (next_behind b.log.read) shown = record { entries = r.live; indexes = r.said.indexes; is = loaded_as r.live r.said.indexes region.next next } in
         let tells : RowTells generation range w i m l d (serves_region d r region) = record {
-          goes = record {
-            metadata_turns = one.list;
-            log_turns = two.list;
-            metadata_allowed = one.allowed;
-            log_allowed = two.allowed;
-            none = λ e. absurd cc;
-            metadata_sent = sent_with q one.purpose m.sent;
-            log_sent = sent_with q two.purpose l.sent;
-            metadata_keeps = purposes_on q one.purpose m.sent (by.metadata d.count (omega arith));
-            log_keeps = purposes_on q two.purpose l.sent (by.log d.count (omega arith));
-            rises = omega arith;
-            metadata_adds = record { number = d.count; from = omega arith; purpose = one.purpose; is = refl };
-            log_adds = record { number = d.count; from = omega arith; purpose = two.purpose; is = refl };
-            sent_by = record {
-              apart = subst (λ z. Apart z (sent_with q two.purpose l.sent)) (sym one.then.1) (subst (λ z. Apart m.sent z) (sym two.then.1) by.apart);
-              metadata = unused_on d (suc d.count) one.purpose m.sent by.metadata (inl refl);
-              log = unused_on d (suc d.count) two.purpose l.sent by.log (inl refl);
-            };
-            then = record {
-              range_is = range_is;
-              under = under;
-              stage = record {
-                phase = refl;
-                metadata = one.then.0;
-                metadata_idle = b.metadata.idle;
-                log = two.then.0;
-                out = subst (λ j. OutIs j r.log.group None) (sym b.log.idle) refl;
-                next = subst (λ ts. region.next ≡ next_number (renamed decoded (after_turns generation i l.stand ts).state.story) (generation i)) (sym went.1)
-                    (next ∙ sym (next_confirmed generation i l.stand (length r.log.extents) b.log.end (is_live (last_extent r.log.extents)) b.log.read b.log.stands));
-              };
-            };
-            asked = tt;
-          };
+          goes = both_step generation range w i m l d by _ _ None None one two _ _ shown
+              (subst (λ z. Apart z (sent_with q two.purpose l.sent)) (sym one.then.1) (subst (λ z. Apart m.sent z) (sym two.then.1) by.apart))
+              (record {
+                range_is = range_is;
+                under = under;
+                stage = record {
+                  phase = refl;
+                  metadata = one.then.0;
+                  metadata_idle = b.metadata.idle;
+                  log = two.then.0;
+                  out = subst (λ j. OutIs j r.log.group None) (sym b.log.idle) refl;
+                  next = subst (λ ts. region.next ≡ next_number (renamed decoded (after_turns generation i l.stand ts).state.story) (generation i)) (sym went.1)
+                      (next ∙ sym (next_confirmed generation i l.stand (length r.log.extents) b.log.end (is_live (last_extent r.log.extents)) b.log.read b.log.stands));
+                };
+              })
+              tt;
           unformed = subst (λ ts. AreUnformed ts) (sym first.1) (tt, tt);
           fit = subst (λ ts. AreFit generation i l.stand ts) (sym went.1) (refl, tt);
           shown = subst (λ ts. AreShown generation i range l.stand ts shown) (sym went.1) ([], shown, refl, refl, loaded);

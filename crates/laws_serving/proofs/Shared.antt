@@ -1,5 +1,5 @@
 -- The rows that ask for both streams of a range at once: it is taken, and it is to be confirmed.
-use Rattle.std.proofs.Common.{◌≡◌, ℕ, suc, List, [], ◌∷◌, Bool, true, false, Some, None, refl, sym, ◌∙◌, ap, subst, inl, arith, if◌then◌else◌}
+use Rattle.std.proofs.Common.{◌≡◌, ℕ, suc, List, [], ◌∷◌, Bool, true, false, Some, None, refl, sym, ◌∙◌, ap, subst, arith, if◌then◌else◌}
 use Rattle.wire.specs.declared.actor.ReqNo.{ReqNo}
 use Rattle.wire.specs.declared.body.Body.TheVariants as bodies
 use Rattle.wire.specs.declared.body.StreamBody.TheVariants as streams
@@ -14,9 +14,8 @@ use Rattle.model_tables.specs.Server.{new_range}
 use Rattle.model_tables.specs.Turns as turns
 use Rattle.laws_runs.specs.Ties.{Purpose, Sent, purpose_of, Opens, Confirms, IsAsked}
 use Rattle.laws_serving.specs.Serves.{Side, after_turns, sent_with, is_alone, metadata_of, log_of, LoadingIs, Goes, Apart, IsSentBy, RowGoes}
-use Rattle.laws_serving.proofs.Steps.{purposes_on}
 use Rattle.laws_serving.proofs.Confirm.{assigned_goes, confirms_goes, ConfirmsNow, open_asked, confirm_asked}
-use Rattle.laws_serving.proofs.Both.{unused_on}
+use Rattle.laws_serving.proofs.Sides.{both_step}
 
 abbrev asks : ReqNo → Purpose → List Sent → List Sent
 asks q p sent = record { request = q; purpose = p } ∷ sent
@@ -70,38 +69,21 @@ module _ (generation : ℕ → ℕ) (range : ℕ) (w : World) (i : ℕ) (m l : S
       subst (λ g. IsAsked generation (log_of range) w k.stand.state k.sent (bodies.Stream (streams.Confirm r.load.range g q))) (sym b.under)
       (subst (λ g. IsAsked generation (log_of range) w k.stand.state k.sent (bodies.Stream (streams.Confirm g (generation i) q))) (sym b.range_is)
       (confirm_asked generation (log_of range) w i k.stand k.sent r.log q two.then.0)) in
-      record {
-        metadata_turns = one.list;
-        log_turns = two.list;
-        metadata_allowed = one.allowed;
-        log_allowed = two.allowed;
-        none = λ e. absurd cc;
-        metadata_sent = n.sent;
-        log_sent = k.sent;
-        metadata_keeps = purposes_on q one.purpose m.sent metadata_fresh;
-        log_keeps = purposes_on q two.purpose l.sent log_fresh;
-        rises = omega arith;
-        metadata_adds = record { number = d.count; from = omega arith; purpose = one.purpose; is = refl };
-        log_adds = record { number = d.count; from = omega arith; purpose = two.purpose; is = refl };
-        sent_by = record {
-          apart = subst (λ z. Apart z k.sent) (sym one.then.1)
-              (subst (λ z. Apart (asks q (Confirms i one.then.0.read one.then.0.end) m.sent) z) (sym two.then.1)
-              (apart_shared m.sent l.sent q (Confirms i one.then.0.read one.then.0.end) (Confirms i two.then.0.read two.then.0.end) refl refl by.apart));
-          metadata = unused_on d (suc d.count) one.purpose m.sent by.metadata (inl refl);
-          log = unused_on d (suc d.count) two.purpose l.sent by.log (inl refl);
+      both_step generation range w i m l d by _ _ None None one two _ _ []
+      (subst (λ z. Apart z k.sent) (sym one.then.1)
+      (subst (λ z. Apart (asks q (Confirms i one.then.0.read one.then.0.end) m.sent) z) (sym two.then.1)
+      (apart_shared m.sent l.sent q (Confirms i one.then.0.read one.then.0.end) (Confirms i two.then.0.read two.then.0.end) refl refl by.apart)))
+      (record {
+        range_is = b.range_is;
+        under = b.under;
+        stage = record {
+          q = q;
+          phase = refl;
+          metadata = one.then.0;
+          log = two.then.0;
         };
-        then = record {
-          range_is = b.range_is;
-          under = b.under;
-          stage = record {
-            q = q;
-            phase = refl;
-            metadata = one.then.0;
-            log = two.then.0;
-          };
-        };
-        asked = ((metadata_asked, log_asked, λ v is none other. (let same : q ≡ v = cc in let k : Some (Confirms i one.then.0.read one.then.0.end) ≡ None = sym one.then.0.for ∙ ap (purpose_of n.sent) same ∙ none in cc)), tt);
-      }
+      })
+      ((metadata_asked, log_asked, λ v is none other. (let same : q ≡ v = cc in let k : Some (Confirms i one.then.0.read one.then.0.end) ≡ None = sym one.then.0.for ∙ ap (purpose_of n.sent) same ∙ none in cc)), tt)
 
   -- what is left of a range that is taken
   abbrev pub taken : ℕ → RangeOutcome
@@ -115,36 +97,19 @@ module _ (generation : ℕ → ℕ) (range : ℕ) (w : World) (i : ℕ) (m l : S
       let two = assigned_goes generation (log_of range) w i l.sent q log_fresh l.stand log_idle in
       let n : Side = record { stand = after_turns generation i m.stand one.list; sent = sent_with q one.purpose m.sent } in
       let k : Side = record { stand = after_turns generation i l.stand two.list; sent = sent_with q two.purpose l.sent } in
-      record {
-        metadata_turns = one.list;
-        log_turns = two.list;
-        metadata_allowed = one.allowed;
-        log_allowed = two.allowed;
-        none = λ e. absurd cc;
-        metadata_sent = n.sent;
-        log_sent = k.sent;
-        metadata_keeps = purposes_on q one.purpose m.sent metadata_fresh;
-        log_keeps = purposes_on q two.purpose l.sent log_fresh;
-        rises = omega arith;
-        metadata_adds = record { number = d.count; from = omega arith; purpose = one.purpose; is = refl };
-        log_adds = record { number = d.count; from = omega arith; purpose = two.purpose; is = refl };
-        sent_by = record {
-          apart = subst (λ z. Apart z k.sent) (sym one.then.1)
-              (subst (λ z. Apart (asks q (Opens i) m.sent) z) (sym two.then.1) (apart_shared m.sent l.sent q (Opens i) (Opens i) refl refl by.apart));
-          metadata = unused_on d (suc d.count) one.purpose m.sent by.metadata (inl refl);
-          log = unused_on d (suc d.count) two.purpose l.sent by.log (inl refl);
+      both_step generation range w i m l d by _ _ None None one two _ _ []
+      (subst (λ z. Apart z k.sent) (sym one.then.1)
+      (subst (λ z. Apart (asks q (Opens i) m.sent) z) (sym two.then.1) (apart_shared m.sent l.sent q (Opens i) (Opens i) refl refl by.apart)))
+      (record {
+        range_is = refl;
+        under = refl;
+        stage = record {
+          q = q;
+          phase = refl;
+          metadata = one.then.0;
+          log = two.then.0;
+          metadata_idle = refl;
+          log_idle = refl;
         };
-        then = record {
-          range_is = refl;
-          under = refl;
-          stage = record {
-            q = q;
-            phase = refl;
-            metadata = one.then.0;
-            log = two.then.0;
-            metadata_idle = refl;
-            log_idle = refl;
-          };
-        };
-        asked = ((open_asked generation (metadata_of range) w i n.stand n.sent q one.then.0, open_asked generation (log_of range) w i k.stand k.sent q two.then.0, λ v is none other. (let same : q ≡ v = cc in let k : Some (Opens i) ≡ None = sym one.then.0.for ∙ ap (purpose_of n.sent) same ∙ none in cc)), tt);
-      }
+      })
+      ((open_asked generation (metadata_of range) w i n.stand n.sent q one.then.0, open_asked generation (log_of range) w i k.stand k.sent q two.then.0, λ v is none other. (let same : q ≡ v = cc in let k : Some (Opens i) ≡ None = sym one.then.0.for ∙ ap (purpose_of n.sent) same ∙ none in cc)), tt)

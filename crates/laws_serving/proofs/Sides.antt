@@ -17,13 +17,14 @@ use Rattle.model_tables.specs.declared.desk.Desk.{Desk}
 use Rattle.model_tables.specs.declared.stage.Stage.{Stage}
 use Rattle.model_tables.specs.declared.stage.Stage.TheVariants as stages
 use Rattle.model_tables.specs.declared.waiting.WaitingGet.{WaitingGet}
+use Rattle.model_tables.specs.declared.table_note.TableNote.{TableNote}
 use Rattle.model_tables.specs.Range.{RangeState, request, goes}
 use Rattle.model_tables.specs.Extents as machine
 use Rattle.laws_runs.specs.Ties.{Purpose, Sent, purpose_of, IsAsked}
 use Rattle.laws_serving.specs.Serves.{Stand, Side, after_turns, metadata_of, log_of, sent_with, IsOwn, AreAsked, Goes, StageIs, LoadsMetadata, LoadsLog, Follows, FollowsIf, Apart, BothListed, IsSentBy, AskedOfBoth, RowGoes, RowTells}
 use Rattle.laws_serving.proofs.Steps.{purposes_on}
 use Rattle.laws_serving.proofs.Rows.{asked_if}
-use Rattle.laws_serving.proofs.Both.{kinds_differ, unused_on, same_unused, apart_on, asked_of_both, own_known}
+use Rattle.laws_serving.proofs.Both.{kinds_differ, unused_on, apart_on, asked_of_both, own_known}
 
 -- ---- numbers
 
@@ -33,6 +34,42 @@ turned_apart m l a = record { here = a.there; there = a.here }
 -- a number that neither list has may be used in the first
 pub apart_first : (m l : List Sent) (q : ReqNo) (o : Option Purpose) → Apart m l → purpose_of l q ≡ None → Apart (sent_with q o m) l
 apart_first m l q o a fresh = turned_apart l (sent_with q o m) (apart_on l m q o (turned_apart m l a) fresh)
+
+-- ---- a step of both clients, with one number
+
+module _ (generation : ℕ → ℕ) (range : ℕ) (w : World) (i : ℕ) (m l : Side) (d : Desk) (by : IsSentBy d d.count m.sent l.sent) where
+  module _ (One Two : Stand → List Sent → Type 0) (first second : Option Packet) (one : Goes generation (metadata_of range) w i m.stand m.sent (request d) One first)
+      (two : Goes generation (log_of range) w i l.stand l.sent (request d) Two second) where
+    abbrev first_side : Side
+    first_side = record { stand = after_turns generation i m.stand one.list; sent = sent_with (request d) one.purpose m.sent }
+
+    abbrev second_side : Side
+    second_side = record { stand = after_turns generation i l.stand two.list; sent = sent_with (request d) two.purpose l.sent }
+
+    unfoldable pub both_step : (after : RangeState) (packets : List Packet) (shown : List TableNote) → Apart first_side.sent second_side.sent → Follows generation range w i first_side second_side after →
+        AskedOfBoth generation range w i first_side second_side packets → RowGoes generation range w i m l d (goes d after packets shown)
+    both_step after packets shown apart follows asked =
+        record {
+          metadata_turns = one.list;
+          log_turns = two.list;
+          metadata_allowed = one.allowed;
+          log_allowed = two.allowed;
+          none = λ e. absurd cc;
+          metadata_sent = first_side.sent;
+          log_sent = second_side.sent;
+          metadata_keeps = purposes_on (request d) one.purpose m.sent (by.metadata d.count (omega arith));
+          log_keeps = purposes_on (request d) two.purpose l.sent (by.log d.count (omega arith));
+          rises = omega arith;
+          metadata_adds = record { number = d.count; from = omega arith; purpose = one.purpose; is = refl };
+          log_adds = record { number = d.count; from = omega arith; purpose = two.purpose; is = refl };
+          sent_by = record {
+            apart = apart;
+            metadata = unused_on d (suc d.count) one.purpose m.sent by.metadata (inl refl);
+            log = unused_on d (suc d.count) two.purpose l.sent by.log (inl refl);
+          };
+          then = follows;
+          asked = asked;
+        }
 
 module _ (generation : ℕ → ℕ) (range : ℕ) (w : World) (i : ℕ) (both : BothListed w range) where
   -- ---- what is asked of the metadata alone says nothing of the log
@@ -72,59 +109,21 @@ module _ (generation : ℕ → ℕ) (range : ℕ) (w : World) (i : ℕ) (both : 
         Follows generation range w i m (record { stand = after_turns generation i l.stand went.list; sent = sent_with (request d) went.purpose l.sent }) after →
         RowGoes generation range w i m l d (goes d after (option_to_list p) [])
     log_step after p Then went follows =
-        let more : List Sent = sent_with (request d) went.purpose l.sent in
-        let k : Side = record { stand = after_turns generation i l.stand went.list; sent = more } in
-        let apart : Apart m.sent more = apart_on m.sent l.sent (request d) went.purpose by.apart (by.metadata d.count (omega arith)) in
-        record {
-          metadata_turns = [];
-          log_turns = went.list;
-          metadata_allowed = tt;
-          log_allowed = went.allowed;
-          none = λ e. absurd cc;
-          metadata_sent = m.sent;
-          log_sent = more;
-          metadata_keeps = λ q z e. e;
-          log_keeps = purposes_on (request d) went.purpose l.sent (by.log d.count (omega arith));
-          rises = omega arith;
-          metadata_adds = record { number = d.count; from = omega arith; purpose = None; is = refl };
-          log_adds = record { number = d.count; from = omega arith; purpose = went.purpose; is = refl };
-          sent_by = record {
-            apart = apart;
-            metadata = same_unused d (suc d.count) went.purpose m.sent by.metadata (inl refl);
-            log = unused_on d (suc d.count) went.purpose l.sent by.log (inl refl);
-          };
-          then = follows;
-          asked = asked_of_both generation range w i both m k apart (option_to_list p) (asked_if generation range w i (log_of range) k.stand more p went.asked);
-        }
+        let idle : Goes generation (metadata_of range) w i m.stand m.sent (request d) (λ y more. Unit {0}) None = record { list = []; allowed = tt; purpose = None; then = tt; asked = tt } in
+        let k : Side = record { stand = after_turns generation i l.stand went.list; sent = sent_with (request d) went.purpose l.sent } in
+        let apart : Apart m.sent k.sent = apart_on m.sent l.sent (request d) went.purpose by.apart (by.metadata d.count (omega arith)) in
+        both_step generation range w i m l d by (λ y more. Unit {0}) Then None p idle went after (option_to_list p) [] apart follows
+        (asked_of_both generation range w i both m k apart (option_to_list p) (asked_if generation range w i (log_of range) k.stand k.sent p went.asked))
 
     pub metadata_step : (after : RangeState) (p : Option Packet) (Then : Stand → List Sent → Type 0) (went : Goes generation (metadata_of range) w i m.stand m.sent (request d) Then p) →
         Follows generation range w i (record { stand = after_turns generation i m.stand went.list; sent = sent_with (request d) went.purpose m.sent }) l after →
         RowGoes generation range w i m l d (goes d after (option_to_list p) [])
     metadata_step after p Then went follows =
-        let more : List Sent = sent_with (request d) went.purpose m.sent in
-        let n : Side = record { stand = after_turns generation i m.stand went.list; sent = more } in
-        let apart : Apart more l.sent = apart_first m.sent l.sent (request d) went.purpose by.apart (by.log d.count (omega arith)) in
-        record {
-          metadata_turns = went.list;
-          log_turns = [];
-          metadata_allowed = went.allowed;
-          log_allowed = tt;
-          none = λ e. absurd cc;
-          metadata_sent = more;
-          log_sent = l.sent;
-          metadata_keeps = purposes_on (request d) went.purpose m.sent (by.metadata d.count (omega arith));
-          log_keeps = λ q z e. e;
-          rises = omega arith;
-          metadata_adds = record { number = d.count; from = omega arith; purpose = went.purpose; is = refl };
-          log_adds = record { number = d.count; from = omega arith; purpose = None; is = refl };
-          sent_by = record {
-            apart = apart;
-            metadata = unused_on d (suc d.count) went.purpose m.sent by.metadata (inl refl);
-            log = same_unused d (suc d.count) went.purpose l.sent by.log (inl refl);
-          };
-          then = follows;
-          asked = asked_of_metadata n l apart (option_to_list p) (asked_if generation range w i (metadata_of range) n.stand more p went.asked);
-        }
+        let idle : Goes generation (log_of range) w i l.stand l.sent (request d) (λ y more. Unit {0}) None = record { list = []; allowed = tt; purpose = None; then = tt; asked = tt } in
+        let n : Side = record { stand = after_turns generation i m.stand went.list; sent = sent_with (request d) went.purpose m.sent } in
+        let apart : Apart n.sent l.sent = apart_first m.sent l.sent (request d) went.purpose by.apart (by.log d.count (omega arith)) in
+        both_step generation range w i m l d by Then (λ y more. Unit {0}) p None went idle after (option_to_list p) [] apart follows
+        (asked_of_metadata n l apart (option_to_list p) (asked_if generation range w i (metadata_of range) n.stand n.sent p went.asked))
 
     -- ---- a step that turns neither
 

@@ -9,6 +9,7 @@ use Rattle.model.specs.World.{World}
 use Rattle.model_tables.specs.Extents as machine
 use Rattle.replica.specs.Groups.{Group}
 use Rattle.laws_runs.specs.Ties.{Sent, IsAt, extents_in}
+use Rattle.laws_runs.proofs.Shapes.{pushed_get}
 use Rattle.laws_serving.specs.Serves.{Stand, LastIs, is_live, IsTold}
 
 set_length : {A : Type 0} (xs : List A) (k : ℕ) (y : A) → length (slice_set xs k y) ≡ length xs
@@ -28,13 +29,6 @@ set_at : {A : Type 0} (xs : List A) (k : ℕ) (y : A) → k < length xs → slic
 set_at {A} [] k y lt = absurd (omega (arith, lt))
 set_at {A} (x ∷ xs) zero y lt = refl
 set_at {A} (x ∷ xs) (suc k) y lt = set_at xs k y (omega (arith, lt))
-
--- what stands in a list with one more behind it
-more_get : {A : Type 0} (xs : List A) (y : A) (j : ℕ) (z : A) → slice_get (xs ++ y ∷ []) j ≡ Some z → ((j ≡ length xs) × (z ≡ y)) ⊎ (slice_get xs j ≡ Some z)
-more_get {A} [] y zero z e = inl (refl, cc)
-more_get {A} [] y (suc j) z e = absurd (cc)
-more_get {A} (x ∷ xs) y zero z e = inr e
-more_get {A} (x ∷ xs) y (suc j) z e = ⊎_elim {C = ((suc j ≡ suc (length xs)) × (z ≡ y)) ⊎ (slice_get xs j ≡ Some z)} (λ p. inl (ap suc p.0, p.1)) (λ p. inr p) (more_get xs y j z e)
 
 pub more_length : {A : Type 0} (xs : List A) (y : A) → length (xs ++ y ∷ []) ≡ suc (length xs)
 more_length {A} [] y = refl
@@ -132,14 +126,14 @@ module _ (generation : ℕ → ℕ) (name : StreamName) (w : World) (i : ℕ) (x
 
       are : (j : ℕ) (z : StreamExtent) → slice_get (c.extents ++ new ∷ []) j ≡ Some z → IsAt w name j z.extent
       are j z t = ⊎_elim {C = IsAt w name j z.extent}
-          (λ p. subst (λ v. IsAt w name j v.extent) (sym p.1) (subst (λ v. IsAt w name v e) (sym p.0) at))
-          (λ p. told.tells.are j z p) (more_get c.extents new j z t)
+          (λ p. told.tells.are j z p)
+          (λ p. subst (λ v. IsAt w name j v.extent) (sym p.1) (subst (λ v. IsAt w name v e) (sym p.0) at)) (pushed_get c.extents new j z t)
 
       lengths : (j : ℕ) (z : StreamExtent) (m : ℕ) → slice_get (c.extents ++ new ∷ []) j ≡ Some z → z.length ≡ Some m →
           (v : machine.Shut Group) × (machine.shut_at j x.state.core.shut ≡ Some v) × (v.end ≡ machine.base j + m)
       lengths j z m t is = ⊎_elim {C = (v : machine.Shut Group) × (machine.shut_at j x.state.core.shut ≡ Some v) × (v.end ≡ machine.base j + m)}
-          (λ p. (let same : None ≡ Some m = sym (ap (λ (v : StreamExtent). v.length) p.1) ∙ is in absurd (cc)))
-          (λ p. told.tells.sealed j z m p is) (more_get c.extents new j z t)
+          (λ p. told.tells.sealed j z m p is)
+          (λ p. (let same : None ≡ Some m = sym (ap (λ (v : StreamExtent). v.length) p.1) ∙ is in absurd (cc))) (pushed_get c.extents new j z t)
 
       was_sealed : (j : ℕ) (z : StreamExtent) → slice_get c.extents j ≡ Some z → z.length ≡ None → ⊥
       was_sealed j z t none =
@@ -151,5 +145,5 @@ module _ (generation : ℕ → ℕ) (name : StreamName) (w : World) (i : ℕ) (x
 
       open_ones : (j : ℕ) (z : StreamExtent) → slice_get (c.extents ++ new ∷ []) j ≡ Some z → z.length ≡ None → suc j ≡ length (c.extents ++ new ∷ [])
       open_ones j z t none = ⊎_elim {C = suc j ≡ length (c.extents ++ new ∷ [])}
-          (λ p. ap suc p.0 ∙ sym (more_length c.extents new))
-          (λ p. absurd (was_sealed j z p none)) (more_get c.extents new j z t)
+          (λ p. absurd (was_sealed j z p none))
+          (λ p. ap suc p.0 ∙ sym (more_length c.extents new)) (pushed_get c.extents new j z t)
