@@ -4,3 +4,5 @@ pub mod Crash
 pub mod Files
 pub mod Appending
 pub mod Scanning
+pub mod Rereading
+pub mod Steps

@@ -12,7 +12,7 @@ use Rattle.replica.specs.Content.{new_content}
 use Rattle.model.specs.Node.{Replica, fresh, make_taken}
 use Rattle.enode.specs.Node.{find}
 use Rattle.enode.specs.Took.{Took}
-use Rattle.serving.proofs.Rowing.{appends_with}
+use Rattle.disk.proofs.Steps.{appends_with}
 
 pub made_ok : {D : Type 0} (state : D → DiskState) (was is : List (ℕ × Replica)) (old new : Filed D) (e : ℕ) (made : Replica) (places : Nodes) (target fence : ℕ) (s : Step) (w : Result Unit DiskFault) →
     find is e ≡ Some made → made ≡ fresh (new_content places target fence) → ((f : ℕ) → f ≢ e → find is f ≡ find was f) → w ≡ Ok tt → s.packets ≡ [] → s.notes ≡ [] →

@@ -1,6 +1,7 @@
 -- A node's replicas stay what the records of its file make of them.
 use Rattle.std.proofs.Common.{◌≡◌, ◌≢◌, ℕ, true, false, List, ◌++◌, Option, Some, None, Result, Ok, Err, IfOk, ap, sym, subst, ◌∙◌, refl, ⊎_elim, append-nil}
 use Rattle.std.proofs.lemmas.Bool.Decides.{eqb_tells}
+use Rattle.disk.proofs.Steps.{records_ok, records_short, records_broken}
 use Rattle.disk.specs.declared.device.DiskFault.{DiskFault}
 use Rattle.disk.specs.declared.device.DiskFault.TheVariants.{Failed, Memory}
 use Rattle.disk.specs.Disk.{DiskState}
@@ -18,24 +19,6 @@ use Rattle.model.proofs.Bounds.{Bounded}
 use Rattle.model.proofs.Replay.{Replays, IsWritten, applied_if}
 use Rattle.enode.specs.Node.{find, IsReplay}
 use Rattle.enode.specs.Took.{Took, listed}
-
--- the records after a row that was taken
-records_ok : {D : Type 0} (state : D → DiskState) (old new : Filed D) (written : Option Record) (s : Step) →
-    Records state old new (listed written) (Ok s) → new.records ≡ old.records ++ listed written
-records_ok state old new None s h = ap (λ (f : Filed _). f.records) h.0 ∙ sym (append-nil old.records)
-records_ok state old new (Some r) s h = h.ok.2
-
--- without memory they are the old ones
-records_short : {D : Type 0} (state : D → DiskState) (old new : Filed D) (written : Option Record) →
-    Records {T = Step} state old new (listed written) (Err Memory) → new.records ≡ old.records
-records_short state old new None h = ap (λ (f : Filed _). f.records) h.0
-records_short state old new (Some r) h = (h.memory refl).records
-
--- and where the disk failed the file is stopped
-records_broken : {D : Type 0} (state : D → DiskState) (old new : Filed D) (written : Option Record) →
-    Records {T = Step} state old new (listed written) (Err Failed) → new.stopped ≡ false → ⊥
-records_broken state old new None h up = h.1 refl
-records_broken state old new (Some r) h up = absurd (let down = (h.failed refl).0 in cc)
 
 -- replay over the old records and what was written of extent e
 module _ (n e : ℕ) (rs : List Record) (was : Option Replica) (before : contents was ≡ replay e rs) where
@@ -67,13 +50,13 @@ stays state n was is old new e o (Ok s) before row bounded h up =
           (eqb_tells f e);
     }
 stays state n was is old new e o (Err Memory) before row bounded h up =
-    let records = records_short state old new o.written h.file in
+    let records = records_short Step state old new o.written h.file in
     record {
       each = λ f. ap contents (h.same f) ∙ before.each f ∙ ap (λ (x : List Record). replay f x) (sym records);
       fits = ap (λ (x : List Record). fit n x) records ∙ before.fits;
       few = λ f. subst FewWait (sym (h.same f)) (before.few f);
     }
-stays state n was is old new e o (Err Failed) before row bounded h up = absurd (records_broken state old new o.written h.file up)
+stays state n was is old new e o (Err Failed) before row bounded h up = absurd (records_broken Step state old new o.written h.file up)
 
 pub took_few : {D : Type 0} (state : D → DiskState) (was is : List (ℕ × Replica)) (old new : Filed D) (e : ℕ) (o : Outcome (Option Replica)) (w : Result Step DiskFault) →
     Bounded o → Took state was is old new e o w → IfOk w (λ step. AreFew step.packets step.notes)

@@ -2,6 +2,7 @@
 use Rattle.std.proofs.Common.{◌≡◌, false, List, ◌++◌, Option, Some, None, Result, Ok, Err, IfOk, OnOk, refl, sym, ap, ◌∙◌, subst, append-nil}
 use Rattle.blocks.specs.declared.record.Record.{Record}
 use Rattle.blocks.specs.declared.record.Record.TheVariants.{Manage}
+use Rattle.disk.proofs.Steps.{records_ok, records_short, records_broken}
 use Rattle.disk.specs.declared.device.DiskFault.{DiskFault}
 use Rattle.disk.specs.declared.device.DiskFault.TheVariants.{Failed, Memory}
 use Rattle.disk.specs.Disk.{DiskState}
@@ -69,32 +70,14 @@ ruled state t u old new plan o w done again row ledger = record {
     notes (Ok s) e = ap (λ (x : Step). x.notes) e ∙ row.notes
     notes (Err x) e = tt
 
--- the records after a step that was done
-records_ok : {D : Type 0} (state : D → DiskState) (old new : Filed D) (written : Option Record) (s : Step) →
-    Records state old new (listed written) (Ok s) → new.records ≡ old.records ++ listed written
-records_ok state old new None s h = ap (λ (f : Filed _). f.records) h.0 ∙ sym (append-nil old.records)
-records_ok state old new (Some r) s h = h.ok.2
-
--- without memory they are the old ones
-records_short : {D : Type 0} (state : D → DiskState) (old new : Filed D) (written : Option Record) →
-    Records {T = Step} state old new (listed written) (Err Memory) → new.records ≡ old.records
-records_short state old new None h = ap (λ (f : Filed _). f.records) h.0
-records_short state old new (Some r) h = (h.memory refl).records
-
--- and where the disk failed the file is stopped
-records_broken : {D : Type 0} (state : D → DiskState) (old new : Filed D) (written : Option Record) →
-    Records {T = Step} state old new (listed written) (Err Failed) → new.stopped ≡ false → ⊥
-records_broken state old new None h up = h.1 refl
-records_broken state old new (Some r) h up = absurd (let down = (h.failed refl).0 in cc)
-
 pub stays : {D : Type 0} (state : D → DiskState) (t u : TableState) (old new : Filed D) (plan : Plan) (w : Result Step DiskFault) →
     Done state t u old new plan w → IsReadAgain plan.change → CanChange t plan.change → Ledgered t old.records → new.stopped ≡ false → Ledgered u new.records
 stays state t u old new plan (Ok s) done again can ledger up =
     subst (λ (x : TableState). Ledgered x new.records) (sym done.after)
     (subst (Ledgered (changed_by t plan.change)) (sym (records_ok state old new (written_by plan.change) s done.file)) (ledger_after t old.records ledger plan.change can again))
 stays state t u old new plan (Err Memory) done again can ledger up =
-    subst (λ (x : TableState). Ledgered x new.records) (sym done.same) (subst (Ledgered t) (sym (records_short state old new (written_by plan.change) done.file)) ledger)
-stays state t u old new plan (Err Failed) done again can ledger up = absurd (records_broken state old new (written_by plan.change) done.file up)
+    subst (λ (x : TableState). Ledgered x new.records) (sym done.same) (subst (Ledgered t) (sym (records_short Step state old new (written_by plan.change) done.file)) ledger)
+stays state t u old new plan (Err Failed) done again can ledger up = absurd (records_broken Step state old new (written_by plan.change) done.file up)
 
 pub step_few : (plan : Plan) (w : Result Step DiskFault) → AreFew plan.step.packets plan.step.notes → IfOk w (λ s. s ≡ plan.step) → IfOk w (λ s. AreFew s.packets s.notes)
 step_few plan (Ok s) few e = subst (λ (x : Step). AreFew x.packets x.notes) (sym e) few

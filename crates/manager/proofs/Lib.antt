@@ -1,4 +1,3 @@
 pub mod Rowing
 pub mod Keeping
 pub mod Deciding
-pub mod Crashing

@@ -3,4 +3,3 @@ pub mod Routing
 pub mod Making
 pub mod Doing
 pub mod Keeping
-pub mod Crashing

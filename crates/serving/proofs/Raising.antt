@@ -9,7 +9,7 @@ use Rattle.wire.specs.declared.packet.Packet.{Packet}
 use Rattle.wire.specs.declared.packet.Step.{Step}
 use Rattle.model.specs.Node.{Replica}
 use Rattle.serving.specs.Rowed.{Rowed, listed}
-use Rattle.serving.proofs.Rowing.{appends_with, bare}
+use Rattle.disk.proofs.Steps.{appends_with, bare}
 
 records_ok : {D : Type 0} (state : D → DiskState) (old new : Filed D) (written : Option Record) (s : Step) →
     Records {T = Unit} state old new (listed written) (Ok tt) → Records {T = Step} state old new (listed written) (Ok s)

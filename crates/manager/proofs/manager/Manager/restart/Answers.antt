@@ -1,6 +1,6 @@
 use Rattle.std.proofs.Common.{ap, ◌∙◌, sym, Result, Ok, Err, IfOk}
 use Rattle.model.specs.Replay.{book_fits}
-use Rattle.manager.proofs.Crashing.{read_since}
+use Rattle.disk.proofs.Rereading.{read_since}
 use Rattle.manager.proofs.manager.Manager.restart.Goals as goal
 
 -- what follows of an `Ok` from what is known of it

@@ -1,6 +1,6 @@
 use Rattle.std.proofs.Common.{ap, ◌∙◌, Result, Ok, Err, IfOk}
 use Rattle.model_map.specs.Replay.{map_fits}
-use Rattle.pmap.proofs.Crashing.{read_since}
+use Rattle.disk.proofs.Rereading.{read_since}
 use Rattle.pmap.proofs.partition_map.PartitionMap.restart.Goals as goal
 
 -- what follows of an `Ok` from what is known of it
