@@ -5,7 +5,7 @@ use wire::{
     StreamList,
 };
 
-/// What a story wants of a step. Where no more is said, the step sends one packet, which says this.
+/// What a case wants of a step. Where no more is said, the step sends one packet, which says this.
 #[derive(Clone, Copy)]
 pub enum Answer {
     /// The step is taken, whatever it sends.

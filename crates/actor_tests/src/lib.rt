@@ -1,17 +1,17 @@
 //! What no clause says of a node and of the stream manager: that their calls succeed where there is memory, and their tables
 //! followed by hand. The tests of `enode` and `manager` stand here, so that neither is proved a second time for its tests.
 //!
-//! A test is a story: a list of events in their order. An event is a packet with the answer that is wanted, or what is seen
-//! of the actor then. Stories are tables, so that a test costs the proof no more than the few functions that play them.
+//! A test goes through cases, each a list of events in their order. An event is a packet with the answer that is wanted, or what is seen
+//! of the actor then. Cases are tables, so that a test costs the proof no more than the few functions that run them.
 #![tactic(auto)]
 
 #[cfg(test)]
 mod answers;
+#[cfg(test)]
+mod cases;
 #[cfg(test)]
 mod managers;
 #[cfg(test)]
 mod nodes;
 #[cfg(test)]
 mod senders;
-#[cfg(test)]
-mod stories;

@@ -1,12 +1,12 @@
-//! Stories of the stream manager.
+//! Cases of the stream manager.
 mod asking;
 mod ranges;
 mod sealing;
 mod starting;
 
 use crate::answers::{Answer, comes_to, counts, is_answer};
+use crate::cases::{Actor, holds};
 use crate::senders::{Sender, actor_of};
-use crate::stories::{Actor, holds};
 use asking::{Ask, body_of};
 use disk::MemDisk;
 use manager::{Manager, ManagerFault};
@@ -40,8 +40,8 @@ pub enum Event {
     IsCopied,
 }
 
-/// What a story shows, and its parts.
-type Story = (&'static str, &'static [&'static [Event]]);
+/// What a case shows, and its parts.
+type Case = (&'static str, &'static [&'static [Event]]);
 
 /// One stream.
 const CREATES: &[Event] = &[Event::Takes(Sender::User, Ask::Create(0), Answer::Taken)];
@@ -169,7 +169,7 @@ impl Actor for Manager<MemDisk> {
     }
 }
 
-/// Whether a story holds of a new manager.
-fn holds_of(alloc: Global, story: &[&[Event]]) -> bool {
-    holds(alloc, begun(alloc), story)
+/// Whether a case holds of a new manager.
+fn holds_of(alloc: Global, case: &[&[Event]]) -> bool {
+    holds(alloc, begun(alloc), case)
 }

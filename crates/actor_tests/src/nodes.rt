@@ -1,12 +1,12 @@
-//! Stories of extent nodes.
+//! Cases of extent nodes.
 mod appending;
 mod asking;
 mod checking;
 mod sealing;
 
 use crate::answers::{Answer, comes_to};
+use crate::cases::{Actor, holds};
 use crate::senders::{Sender, actor_of};
-use crate::stories::{Actor, holds};
 use asking::{Ask, body_of};
 use blocks::Version;
 use disk::{DiskFault, MemDisk, RecordFile};
@@ -32,8 +32,8 @@ pub enum Event {
     Restarts,
 }
 
-/// What a story shows, the number of its node, and its parts.
-type Story = (&'static str, u8, &'static [&'static [Event]]);
+/// What a case shows, the number of its node, and its parts.
+type Case = (&'static str, u8, &'static [&'static [Event]]);
 
 /// A replica of extent 1 with no groups.
 const MAKES: &[Event] = &[Event::Takes(Sender::Manager, Ask::Make(0, 4096), Answer::Taken)];
@@ -136,7 +136,7 @@ fn node_of(alloc: Global, number: u8, file: Option<RecordFile<MemDisk>>) -> Opti
     started(alloc, number, file?.into_disk())
 }
 
-/// Whether a story holds of a new node of this number.
-fn holds_of(alloc: Global, number: u8, story: &[&[Event]]) -> bool {
-    holds(alloc, node_of(alloc, number, formatted(alloc)), story)
+/// Whether a case holds of a new node of this number.
+fn holds_of(alloc: Global, number: u8, case: &[&[Event]]) -> bool {
+    holds(alloc, node_of(alloc, number, formatted(alloc)), case)
 }

@@ -1,4 +1,4 @@
-//! Who sends the packets of the stories.
+//! Who sends the packets of the cases.
 use wire::{ActorId, ServerNo};
 
 /// One of each kind of actor: user 7, server 2, and a node of any number.

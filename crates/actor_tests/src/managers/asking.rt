@@ -1,4 +1,4 @@
-//! What the stories ask of a manager. Where no extent is said, it is extent 1.
+//! What the cases ask of a manager. Where no extent is said, it is extent 1.
 use blocks::Nodes;
 use std::alloc::Global;
 use wire::{

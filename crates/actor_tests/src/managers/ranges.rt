@@ -1,6 +1,6 @@
 //! Streams of ranges, which a server opens for a generation.
 use super::asking::Ask;
-use super::{Event, FREEZES, Story, holds_of};
+use super::{Case, Event, FREEZES, holds_of};
 use crate::answers::Answer;
 use crate::senders::Sender;
 use Answer::{Confirms, Names, Opens, Refuses, Sends, Taken};
@@ -65,7 +65,7 @@ const KEEPS_FENCES: &[Event] = &[
     Takes(Server, Lengthen(4, Some(1), 3), Names(4, 2)),
 ];
 
-const STORIES: &[Story] = &[
+const CASES: &[Case] = &[
     ("a range is opened", &[RANGE_1]),
     (
         "an opened range is told its extents",
@@ -86,7 +86,7 @@ const STORIES: &[Story] = &[
 
 #[test]
 fn streams_of_ranges(rt: HostRuntime) {
-    for (shows, parts) in STORIES {
+    for (shows, parts) in CASES {
         assert!(rt; holds_of(rt.alloc(), parts), "{shows}");
     }
 }

@@ -1,6 +1,6 @@
 //! Streams of a user, their extents, and how these are sealed.
 use super::asking::Ask;
-use super::{ASKS, CREATES, Event, FREEZES, OPENS, Story, holds_of};
+use super::{ASKS, CREATES, Case, Event, FREEZES, OPENS, holds_of};
 use crate::answers::Answer;
 use crate::senders::Sender;
 use Answer::{Names, Refuses, Sends, Tells};
@@ -54,7 +54,7 @@ const NO_DECISION: &[Event] = &[
     Runs,
 ];
 
-const STORIES: &[Story] = &[
+const CASES: &[Case] = &[
     ("one stream is made", &[ONE_STREAM]),
     ("a stream is extended by one extent", &[CREATES, ONE_EXTENT]),
     (
@@ -74,7 +74,7 @@ const STORIES: &[Story] = &[
 
 #[test]
 fn streams_of_a_user(rt: HostRuntime) {
-    for (shows, parts) in STORIES {
+    for (shows, parts) in CASES {
         assert!(rt; holds_of(rt.alloc(), parts), "{shows}");
     }
 }

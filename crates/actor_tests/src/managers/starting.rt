@@ -1,6 +1,6 @@
 //! Starts from a disk: after a stop, from a copy, and from bytes that are no ledger.
 use super::asking::Ask;
-use super::{ASKS, CREATES, Event, FREEZES, OPENS, Story, holds_of};
+use super::{ASKS, CREATES, Case, Event, FREEZES, OPENS, holds_of};
 use crate::answers::Answer;
 use crate::senders::Sender;
 use Answer::{Sends, Taken};
@@ -47,7 +47,7 @@ const STOPS_AND_GOES_ON: &[Event] = &[
 
 const KNOWS_ITS_EXTENT: &[Event] = &[IsCopied, Runs, HasExtent(1, Some(None))];
 
-const STORIES: &[Story] = &[
+const CASES: &[Case] = &[
     (
         "a decision is made anew after a restart",
         &[CREATES, OPENS, ASKS, FREEZES, DECIDES_ANEW],
@@ -88,7 +88,7 @@ const STORIES: &[Story] = &[
 
 #[test]
 fn starts_again(rt: HostRuntime) {
-    for (shows, parts) in STORIES {
+    for (shows, parts) in CASES {
         assert!(rt; holds_of(rt.alloc(), parts), "{shows}");
     }
 }

@@ -1,9 +1,9 @@
 //! Making of replicas, appends, and reads of what is there.
 use super::asking::Ask;
-use super::{Event, FILLS, MAKES, Story, formatted, holds_of, node_of};
+use super::{Case, Event, FILLS, MAKES, formatted, holds_of, node_of};
 use crate::answers::Answer;
+use crate::cases::holds;
 use crate::senders::Sender;
-use crate::stories::holds;
 use Answer::{Fails, Gives, GivesGroups, Has, Puts, Refuses, Sends, Taken};
 use Ask::{Append, Have, Make, Put, ReadAt, ReadGroups};
 use Event::{HasLength, HasStopped, Restarts, Runs, Takes, TakesMany};
@@ -104,7 +104,7 @@ const READS_GROUPS_WITHIN: &[Event] = &[
     Takes(User, ReadGroups(8, true), Refuses(Refusal::NotSealed)),
 ];
 
-const STORIES: &[Story] = &[
+const CASES: &[Case] = &[
     (
         "a node comes back from its records",
         1,
@@ -150,7 +150,7 @@ const STORIES: &[Story] = &[
 
 #[test]
 fn appends_and_reads(rt: HostRuntime) {
-    for (shows, number, parts) in STORIES {
+    for (shows, number, parts) in CASES {
         assert!(rt; holds_of(rt.alloc(), *number, parts), "{shows}");
     }
 }

@@ -1,4 +1,4 @@
-//! What the stories ask of a node. Where no extent is said, it is extent 1.
+//! What the cases ask of a node. Where no extent is said, it is extent 1.
 use blocks::{Group, Groups, Nodes};
 use bytes::Bytes;
 use disk::DiskFault;
@@ -61,7 +61,7 @@ fn append(alloc: Global, extent: u64, generation: u64, words: &[&str]) -> Result
     }))
 }
 
-// The words of the stories make groups, so that memory alone can be wanting.
+// The words of the cases make groups, so that memory alone can be wanting.
 fn group(alloc: Global, word: &str) -> Result<Group, DiskFault> {
     let mut texts = Vec::new(alloc);
     texts.push(word.as_bytes().to_vec(alloc)?)?;

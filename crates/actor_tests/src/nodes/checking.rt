@@ -1,6 +1,6 @@
 //! Checks of an open extent's length.
 use super::asking::Ask;
-use super::{Event, FILLS, MAKES, Story, holds_of};
+use super::{Case, Event, FILLS, MAKES, holds_of};
 use crate::answers::Answer;
 use crate::senders::Sender;
 use Answer::{Checks, Finds, Probes, Puts, Refuses, Sends, Taken};
@@ -97,7 +97,7 @@ const USER_FOR_0: &[Event] = &[
     Takes(User, Check(1, 9), Refuses(Refusal::Stale)),
 ];
 
-const STORIES: &[Story] = &[
+const CASES: &[Case] = &[
     (
         "a check raises the fence at the primary",
         1,
@@ -176,7 +176,7 @@ const STORIES: &[Story] = &[
 
 #[test]
 fn checks_lengths(rt: HostRuntime) {
-    for (shows, number, parts) in STORIES {
+    for (shows, number, parts) in CASES {
         assert!(rt; holds_of(rt.alloc(), *number, parts), "{shows}");
     }
 }

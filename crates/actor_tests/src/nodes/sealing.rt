@@ -1,6 +1,6 @@
 //! Freezing, sealing, and tails.
 use super::asking::Ask;
-use super::{Event, FILLS, MAKES, Story, holds_of};
+use super::{Case, Event, FILLS, MAKES, holds_of};
 use crate::answers::Answer;
 use crate::senders::Sender;
 use Answer::{Freezes, IsSealed, IsShort, Refuses, Sends, SendsTail, Taken};
@@ -55,7 +55,7 @@ const TELLS_THE_MANAGER: &[Event] = &[
     Takes(User, Freeze(2), Sends(0, 0)),
 ];
 
-const STORIES: &[Story] = &[
+const CASES: &[Case] = &[
     (
         "a freeze survives a restart",
         1,
@@ -82,7 +82,7 @@ const STORIES: &[Story] = &[
 
 #[test]
 fn freezes_and_seals(rt: HostRuntime) {
-    for (shows, number, parts) in STORIES {
+    for (shows, number, parts) in CASES {
         assert!(rt; holds_of(rt.alloc(), *number, parts), "{shows}");
     }
 }
