@@ -1,5 +1,5 @@
 -- What the lines of a script spell, line by line.
-use Rattle.std.proofs.Common.{◌≡◌, ◌∙◌, ◌∷◌, ℕ, Bor, List, [], ap, map, refl, sym, subst}
+use Rattle.std.proofs.Common.{◌≡◌, ◌∙◌, ◌∷◌, ℕ, Bor, List, ap, sym, subst}
 use Rattle.std.specs.Str.Parse.{digits_value}
 use Rattle.script_lines.specs.declared.line.Line.{Line}
 use Rattle.scripts.specs.Script.{Size, SpellsAll, SpellsPlan, SpellsSetup, words_of}

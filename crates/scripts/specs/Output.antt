@@ -1,5 +1,5 @@
 -- What a script prints.
-use Rattle.std.specs.Prelude.{◌≡◌, ℕ, List, [], ◌∷◌, ◌++◌, drop, length, Option, Some, None, option_map}
+use Rattle.std.specs.Prelude.{◌≡◌, ℕ, List, [], ◌∷◌, ◌++◌, drop, length, Option, Some, None}
 use Rattle.std.specs.Io.KnownBytes.{Appends}
 use Rattle.wire.specs.declared.note.Note.{Note}
 use Rattle.wire.specs.declared.refusal.Refusal.{Refusal}
@@ -10,7 +10,7 @@ use Rattle.replica.specs.Groups.{text_length}
 use Rattle.model.specs.declared.event.Event.{Event}
 use Rattle.model.specs.Node.{contents}
 use Rattle.enode.specs.Node.{find}
-use Rattle.layer.specs.Nodes.{NodeSeen, running_at}
+use Rattle.layer.specs.Nodes.{NodeSeen}
 use Rattle.reports.specs.declared.report.Report.{Report}
 use Rattle.reports.specs.declared.report.Report.TheVariants.{Refused, Replica, NoReplica, Stopped}
 use Rattle.reports.specs.declared.report.Standing.{Standing}

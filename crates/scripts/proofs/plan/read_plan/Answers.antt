@@ -1,5 +1,4 @@
-use Rattle.std.proofs.Common.{◌∙◌, List, map, sym, subst}
-use Rattle.script_lines.specs.declared.line.Line.{Line}
+use Rattle.std.proofs.Common.{◌∙◌, map, sym, subst}
 use Rattle.scripts.specs.Script.{Size, SpellsAll, size_of}
 use Rattle.scripts.proofs.Refusing.{passed_on}
 use Rattle.scripts.proofs.Setups.{one_setup, parts}
