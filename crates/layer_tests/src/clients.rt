@@ -1,14 +1,96 @@
-//! Clients of servers, driven by hand over real nodes and the real manager.
-use crate::runs::{PLACES, decide, deliver, started};
-use bytes::Bytes;
-use client::{LoadPhase, News, RangeLoad, Reaction, StreamClient};
+//! Clients of servers, over real nodes and the real manager.
+use crate::requests::{PLACES, abc};
+use crate::runs::{Run, decides, settles, started};
+use Step::{Appends, Checks, Confirms, GivesUp, HasExtents, HearsOfSeal, Opens};
+use Told::{Appended, Checked, Fenced, Nothing};
+use client::{ClientFault, LoadPhase, News, RangeLoad, Reaction, StreamClient};
 use layer::Layer;
-use std::alloc::Global;
-use std::test::Fail;
+use std::alloc::{AllocError, Global};
 use wire::{
-    ActorId, Blocks, Body, ExtentId, Fence, Packet, RangeId, ReqNo, ServerNo, StreamBody,
-    StreamKind, StreamName,
+    ActorId, Body, ExtentId, Fence, Packet, RangeId, ReqNo, ServerNo, StreamBody, StreamKind,
+    StreamList, StreamName,
 };
+
+/// What a client is told once nothing more follows.
+enum Told {
+    Nothing,
+    /// The append stands at this extent and offset.
+    Appended(u64, u32),
+    /// The extent has this length.
+    Checked(u64, u32),
+    Fenced,
+}
+
+/// What a server does, and what comes of it. All that is sent comes, but for what is sent to nodes that are cut off.
+enum Step {
+    /// It has this number, opens the streams of range 1 for the generation of the same number, and has the log.
+    Opens(u8),
+    /// It asks whether its load counts: it does, or is fenced.
+    Confirms(bool),
+    /// It appends "abc" to the log, while these nodes are cut off.
+    Appends(&'static [u8], Told),
+    /// It checks the length of the last extent of the log.
+    Checks(Told),
+    /// It gives up on what it waits for.
+    GivesUp(Told),
+    /// The manager seals extent 1, and answers it.
+    HearsOfSeal(Told),
+    /// It knows so many extents of the log.
+    HasExtents(usize),
+}
+
+/// The servers of the cases, by their position among those that opened the streams.
+const FIRST: usize = 0;
+
+const SECOND: usize = 1;
+
+/// What a case shows, and its steps.
+type Case = (&'static str, &'static [(usize, Step)]);
+
+const CASES: &[Case] = &[
+    (
+        "a client appends across a seal",
+        &[
+            (FIRST, Opens(1)),
+            (FIRST, Confirms(true)),
+            (FIRST, Appends(&[], Appended(1, 0))),
+            (FIRST, Appends(&[3], Nothing)),
+            (FIRST, GivesUp(Nothing)),
+            (FIRST, HearsOfSeal(Appended(2, 0))),
+            (FIRST, HasExtents(2)),
+        ],
+    ),
+    (
+        "a second generation fences the first",
+        &[
+            (FIRST, Opens(1)),
+            (FIRST, Confirms(true)),
+            (FIRST, Appends(&[], Appended(1, 0))),
+            (SECOND, Opens(2)),
+            (SECOND, Checks(Checked(1, 3))),
+            (SECOND, Confirms(true)),
+            (FIRST, Appends(&[], Fenced)),
+            (SECOND, Appends(&[], Appended(1, 3))),
+        ],
+    ),
+    (
+        "an old load never counts",
+        &[
+            (FIRST, Opens(1)),
+            (SECOND, Opens(2)),
+            (FIRST, Confirms(false)),
+            (SECOND, Confirms(true)),
+        ],
+    ),
+];
+
+/// A server that opened the streams of range 1.
+#[derive(Drop)]
+struct Server {
+    number: u8,
+    load: RangeLoad,
+    log: StreamClient,
+}
 
 fn number(server: u8, count: u64) -> ReqNo {
     ReqNo::Server {
@@ -18,354 +100,297 @@ fn number(server: u8, count: u64) -> ReqNo {
     }
 }
 
-/// Has everything delivered that is sent from this packet on, but what goes to the node that is cut off.
-fn settle(alloc: Global, run: &mut Layer, from: usize, cut: u8) -> Result<usize, Fail> {
-    for next in from..1000 {
-        let to = match run.sent().get(next) {
-            None => return Ok(next),
-            Some(packet) => packet.to,
-        };
-        if to != ActorId::Node(cut) {
-            let _refused = deliver(alloc, run, next)?;
-        }
-    }
-    Err(Fail::from("it does not settle"))
-}
-
-/// A server sends what its client says, and all is delivered. The packets before this one were there before.
-fn asks(
-    alloc: Global,
-    run: &mut Layer,
-    server: u8,
-    packet: Packet,
-    cut: u8,
-) -> Result<usize, Fail> {
-    let before = run.sent().len();
+/// Whether a server sends what its client says, and all comes but for what is sent to these nodes.
+fn asks(alloc: Global, run: &mut Run, server: u8, packet: Packet, cut: &[u8]) -> bool {
     let Packet { from: _, to, body } = packet;
-    match run.ask(ServerNo::new(server), to, body) {
-        Ok(()) => {}
-        Err(_fault) => return Err(Fail::from("no memory was left")),
+    match run.layer.ask(ServerNo::new(server), to, body) {
+        Ok(()) => settles(alloc, run, cut),
+        Err(_fault) => false,
     }
-    let _end = settle(alloc, run, before, cut)?;
-    Ok(before)
 }
 
-/// The number of the first packet to a server from this one on.
-fn answer_from(run: &Layer, server: u8, from: usize) -> Option<usize> {
-    for next in from..1000 {
-        match run.sent().get(next) {
-            None => return None,
-            Some(packet) => {
-                if packet.to == ActorId::Server(ServerNo::new(server)) {
-                    return Some(next);
-                }
-            }
+/// The first packet to a server from this one on.
+fn answer(layer: &Layer, server: u8, from: usize) -> Option<&Packet> {
+    let to = ActorId::Server(ServerNo::new(server));
+    let sent = layer.sent();
+    for number in from..sent.len() {
+        if sent[number].to == to {
+            return Some(&sent[number]);
         }
     }
     None
 }
 
-fn take(
-    alloc: Global,
-    run: &Layer,
-    client: &mut StreamClient,
-    server: u8,
-    count: u64,
-    number_of: usize,
-) -> Result<Reaction, Fail> {
-    match run.sent().get(number_of) {
-        None => Err(Fail::from("no such packet")),
-        Some(packet) => Ok(client.on_reply(alloc, &number(server, count), packet)?),
-    }
-}
-
-/// One request, and what its answer has the client do: nothing where none comes.
-fn turn(
-    alloc: Global,
-    run: &mut Layer,
-    client: &mut StreamClient,
-    server: u8,
-    count: u64,
-    packet: Packet,
-    cut: u8,
-) -> Result<Reaction, Fail> {
-    let before = asks(alloc, run, server, packet, cut)?;
-    match answer_from(run, server, before) {
-        None => Ok(Reaction {
-            packet: None,
-            news: None,
-        }),
-        Some(answer) => take(alloc, run, client, server, count, answer),
-    }
-}
-
-/// Goes on with a request until its client is told something, or waits for an answer that does not come.
-fn goes_on(
-    alloc: Global,
-    run: &mut Layer,
-    client: &mut StreamClient,
-    server: u8,
-    packet: Packet,
-    cut: u8,
-) -> Result<Option<News>, Fail> {
-    let mut next = packet;
-    for count in 100..110 {
-        let Reaction { packet, news } = turn(alloc, run, client, server, count, next, cut)?;
-        next = match packet {
-            None => return Ok(news),
-            Some(packet) => packet,
-        };
-    }
-    Ok(None)
-}
-
-/// Goes on with what an answer had the client do.
-fn follows(
-    alloc: Global,
-    run: &mut Layer,
-    client: &mut StreamClient,
-    server: u8,
-    reaction: Reaction,
-) -> Result<Option<News>, Fail> {
-    let Reaction { packet, news } = reaction;
-    match packet {
-        None => Ok(news),
-        Some(packet) => goes_on(alloc, run, client, server, packet, 0),
-    }
-}
-
-fn opened(run: &Layer, load: &mut RangeLoad, number_of: usize) -> bool {
-    match run.sent().get(number_of) {
-        None => false,
-        Some(packet) => load.on_reply(packet) == LoadPhase::Opened,
-    }
-}
-
-fn log_of(alloc: Global, run: &Layer, server: u8, number_of: usize) -> Result<StreamClient, Fail> {
+fn log_of(alloc: Global, server: u8, list: &StreamList) -> Result<StreamClient, AllocError> {
     let log = StreamName {
         range: RangeId::new(1),
         kind: StreamKind::Log,
     };
-    match run.sent().get(number_of) {
-        Some(packet) => match &packet.body {
-            Body::Stream(StreamBody::Opened { streams, .. }) => Ok(StreamClient::new(
-                alloc,
-                ServerNo::new(server),
-                log,
-                Fence::new(server as u64),
-                &streams.log,
-                PLACES,
-            )?),
-            _ => Err(Fail::from("the streams are not told")),
-        },
-        None => Err(Fail::from("no such packet")),
+    StreamClient::new(
+        alloc,
+        ServerNo::new(server),
+        log,
+        Fence::new(server as u64),
+        list,
+        PLACES,
+    )
+}
+
+/// The log that an answer tells, if the streams are opened by it.
+fn opened(
+    alloc: Global,
+    load: &mut RangeLoad,
+    number: u8,
+    answer: &Packet,
+) -> Option<StreamClient> {
+    if load.on_reply(answer) != LoadPhase::Opened {
+        return None;
+    }
+    match &answer.body {
+        Body::Stream(StreamBody::Opened { streams, .. }) => {
+            log_of(alloc, number, &streams.log).ok()
+        }
+        _ => None,
     }
 }
 
-/// A server opens the streams of range 1 for the generation of its own number, and has the log.
-fn opens(alloc: Global, run: &mut Layer, server: u8) -> Result<(RangeLoad, StreamClient), Fail> {
-    let (mut load, packet) = RangeLoad::open_for_load(
+fn opens(alloc: Global, run: &mut Run, server: u8) -> Option<Server> {
+    let (load, packet) = RangeLoad::open_for_load(
         ServerNo::new(server),
         RangeId::new(1),
         Fence::new(server as u64),
         &number(server, 1),
     );
-    let before = asks(alloc, run, server, packet, 0)?;
-    match answer_from(run, server, before) {
-        None => Err(Fail::from("no answer")),
-        Some(answer) => {
-            if !opened(run, &mut load, answer) {
-                return Err(Fail::from("the streams are not opened"));
-            }
-            let log = log_of(alloc, run, server, answer)?;
-            Ok((load, log))
-        }
-    }
-}
-
-fn loads(alloc: Global, run: &mut Layer, server: u8) -> Result<StreamClient, Fail> {
-    let (load, log) = opens(alloc, run, server)?;
-    if confirmed(alloc, run, server, load)? {
-        Ok(log)
-    } else {
-        Err(Fail::from("the load does not count"))
-    }
-}
-
-fn confirmed(alloc: Global, run: &mut Layer, server: u8, load: RangeLoad) -> Result<bool, Fail> {
     let mut load = load;
-    let packet = match load.confirm(&number(server, 2)) {
-        None => return Ok(false),
-        Some(packet) => packet,
-    };
-    let before = asks(alloc, run, server, packet, 0)?;
-    match answer_from(run, server, before) {
-        None => Ok(false),
-        Some(answer) => match run.sent().get(answer) {
-            None => Ok(false),
-            Some(packet) => Ok(load.on_reply(packet) == LoadPhase::Confirmed),
-        },
+    let before = run.next;
+    if !asks(alloc, run, server, packet, &[]) {
+        return None;
     }
-}
-
-fn appends(
-    alloc: Global,
-    run: &mut Layer,
-    log: &mut StreamClient,
-    server: u8,
-    cut: u8,
-) -> Result<Option<News>, Fail> {
-    let mut items = Vec::new(alloc);
-    items.push(Bytes::copy_from_slice(alloc, b"abc")?)?;
-    match log.append(alloc, &number(server, 10), &Blocks::of(items)) {
-        Err(_fault) => Err(Fail::from("the append was refused")),
-        Ok(packet) => goes_on(alloc, run, log, server, packet, cut),
-    }
-}
-
-fn gives_up(
-    alloc: Global,
-    run: &mut Layer,
-    log: &mut StreamClient,
-    server: u8,
-) -> Result<Option<News>, Fail> {
-    match log.give_up(&number(server, 11), &PLACES) {
-        None => Ok(None),
-        Some(packet) => goes_on(alloc, run, log, server, packet, 0),
-    }
-}
-
-/// Once the extent is decided, the answer of the manager is taken, and what follows goes on.
-fn decided(
-    alloc: Global,
-    run: &mut Layer,
-    log: &mut StreamClient,
-    server: u8,
-) -> Result<Option<News>, Fail> {
-    let before = run.sent().len();
-    let _refused = decide(alloc, run, 1)?;
-    let _end = settle(alloc, run, before, 0)?;
-    match answer_from(run, server, before) {
-        None => Ok(None),
-        Some(answer) => {
-            let reaction = take(alloc, run, log, server, 12, answer)?;
-            follows(alloc, run, log, server, reaction)
-        }
-    }
-}
-
-fn checks(
-    alloc: Global,
-    run: &mut Layer,
-    log: &mut StreamClient,
-    server: u8,
-) -> Result<Option<News>, Fail> {
-    match log.check_length(&number(server, 20)) {
-        Err(_fault) => Err(Fail::from("the check was refused")),
-        Ok(packet) => goes_on(alloc, run, log, server, packet, 0),
-    }
-}
-
-fn stands(extent: u64, offset: u32) -> Option<News> {
-    Some(News::Appended {
-        extent: ExtentId::new(extent),
-        offset,
+    let log = opened(
+        alloc,
+        &mut load,
+        server,
+        answer(&run.layer, server, before)?,
+    )?;
+    Some(Server {
+        number: server,
+        load,
+        log,
     })
 }
 
-// These hold no value that is let go, so that a test has few ways out.
-fn goes_across(alloc: Global, run: &mut Layer, log: &mut StreamClient) -> Result<bool, Fail> {
-    let first = appends(alloc, run, log, 1, 0)?;
-    let lost = appends(alloc, run, log, 1, 3)?;
-    let sealing = gives_up(alloc, run, log, 1)?;
-    let again = decided(alloc, run, log, 1)?;
-    let told = first == stands(1, 0) && again == stands(2, 0);
-    Ok(told && lost.is_none() && sealing.is_none() && log.extents().len() == 2)
+/// Whether a load in this phase counts, or is fenced.
+fn is_ruled(phase: LoadPhase, counts: bool) -> bool {
+    match phase {
+        LoadPhase::Confirmed => counts,
+        LoadPhase::Fenced => !counts,
+        _ => false,
+    }
 }
 
-/// The log of a second server, which checked its last extent before its load was confirmed.
-fn loads_after_a_check(
+/// The phase that a load is in once it was asked whether it counts.
+fn confirms(alloc: Global, run: &mut Run, server: &mut Server) -> Option<LoadPhase> {
+    let before = run.next;
+    let packet = server.load.confirm(&number(server.number, 2))?;
+    if !asks(alloc, run, server.number, packet, &[]) {
+        return None;
+    }
+    let answer = answer(&run.layer, server.number, before)?;
+    Some(server.load.on_reply(answer))
+}
+
+/// What an answer from this packet on has a client do: nothing where none comes.
+fn hears(
     alloc: Global,
-    run: &mut Layer,
-    server: u8,
-) -> Result<(StreamClient, Option<News>), Fail> {
-    let (load, mut log) = opens(alloc, run, server)?;
-    let found = checks(alloc, run, &mut log, server)?;
-    if confirmed(alloc, run, server, load)? {
-        Ok((log, found))
+    run: &Run,
+    server: &mut Server,
+    count: u64,
+    from: usize,
+) -> Option<Reaction> {
+    let request = number(server.number, count);
+    match answer(&run.layer, server.number, from) {
+        Some(packet) => server.log.on_reply(alloc, &request, packet).ok(),
+        None => Some(Reaction {
+            packet: None,
+            news: None,
+        }),
+    }
+}
+
+/// One request, and what its answer has the client do.
+fn turn(
+    alloc: Global,
+    run: &mut Run,
+    server: &mut Server,
+    count: u64,
+    packet: Packet,
+    cut: &[u8],
+) -> Option<Reaction> {
+    let before = run.next;
+    if asks(alloc, run, server.number, packet, cut) {
+        hears(alloc, run, server, count, before)
     } else {
-        Err(Fail::from("the load does not count"))
+        None
     }
 }
 
-fn is_fenced(
+fn news_of(told: &Told) -> Option<News> {
+    match told {
+        Nothing => None,
+        Appended(extent, offset) => Some(News::Appended {
+            extent: ExtentId::new(*extent),
+            offset: *offset,
+        }),
+        Checked(extent, length) => Some(News::Checked {
+            extent: ExtentId::new(*extent),
+            length: *length,
+        }),
+        Fenced => Some(News::Fenced),
+    }
+}
+
+/// Goes on with what a client has to do until nothing more follows: whether it is told this then.
+fn goes_on(
     alloc: Global,
-    run: &mut Layer,
-    old: &mut StreamClient,
-    log: &mut StreamClient,
-) -> Result<bool, Fail> {
-    let late = appends(alloc, run, old, 1, 0)?;
-    let next = appends(alloc, run, log, 2, 0)?;
-    Ok(late == Some(News::Fenced) && next == stands(1, 3))
-}
-
-fn fences(alloc: Global, run: &mut Layer, old: &mut StreamClient) -> Result<bool, Fail> {
-    let first = appends(alloc, run, old, 1, 0)?;
-    let (log, found) = loads_after_a_check(alloc, run, 2)?;
-    let mut log = log;
-    let length = News::Checked {
-        extent: ExtentId::new(1),
-        length: 3,
-    };
-    if first != stands(1, 0) || found != Some(length) {
-        return Ok(false);
+    run: &mut Run,
+    server: &mut Server,
+    begun: Option<Reaction>,
+    cut: &[u8],
+    told: &Told,
+) -> bool {
+    let mut next = begun;
+    for count in 100..110 {
+        next = match next {
+            None => return false,
+            Some(Reaction { packet: None, news }) => return news == news_of(told),
+            Some(
+                Reaction {
+                    packet: Some(packet),
+                    ..
+                },
+            ) => turn(alloc, run, server, count, packet, cut),
+        };
     }
-    is_fenced(alloc, run, old, &mut log)
+    false
 }
 
-fn load_of(alloc: Global, run: &mut Layer, server: u8) -> Result<RangeLoad, Fail> {
-    let (load, _log) = opens(alloc, run, server)?;
-    Ok(load)
+fn sends(packet: Option<Packet>) -> Option<Reaction> {
+    match packet {
+        Some(packet) => Some(Reaction {
+            packet: Some(packet),
+            news: None,
+        }),
+        None => None,
+    }
 }
 
-fn last_alone_counts(alloc: Global, run: &mut Layer) -> Result<bool, Fail> {
-    let old = load_of(alloc, run, 1)?;
-    let new = load_of(alloc, run, 2)?;
-    let stale = confirmed(alloc, run, 1, old)?;
-    let counts = confirmed(alloc, run, 2, new)?;
-    Ok(counts && !stale)
+fn begun(sent: Result<Packet, ClientFault>) -> Option<Reaction> {
+    sends(sent.ok())
 }
 
-fn appends_across_a_seal(alloc: Global, run: &mut Layer) -> Result<bool, Fail> {
-    let mut log = loads(alloc, run, 1)?;
-    goes_across(alloc, run, &mut log)
+fn appends(alloc: Global, server: &mut Server) -> Option<Reaction> {
+    match abc(alloc) {
+        Ok(blocks) => {
+            let sent = server
+                .log
+                .append(alloc, &number(server.number, 10), &blocks);
+            drop(blocks);
+            begun(sent)
+        }
+        Err(_full) => None,
+    }
 }
 
-fn fences_the_first(alloc: Global, run: &mut Layer) -> Result<bool, Fail> {
-    let mut old = loads(alloc, run, 1)?;
-    fences(alloc, run, &mut old)
+/// What the answer of the manager has a client do once extent 1 is sealed.
+fn hears_of_seal(alloc: Global, run: &mut Run, server: &mut Server) -> Option<Reaction> {
+    let before = run.next;
+    if decides(alloc, run, 1, None) && settles(alloc, run, &[]) {
+        hears(alloc, run, server, 12, before)
+    } else {
+        None
+    }
+}
+
+fn takes(alloc: Global, run: &mut Run, server: &mut Server, step: &Step) -> bool {
+    match step {
+        Opens(_) => false,
+        Confirms(counts) => match confirms(alloc, run, server) {
+            Some(phase) => is_ruled(phase, *counts),
+            None => false,
+        },
+        Appends(cut, told) => {
+            let begun = appends(alloc, server);
+            goes_on(alloc, run, server, begun, cut, told)
+        }
+        Checks(told) => {
+            let begun = begun(server.log.check_length(&number(server.number, 20)));
+            goes_on(alloc, run, server, begun, &[], told)
+        }
+        GivesUp(told) => {
+            let begun = sends(server.log.give_up(&number(server.number, 11), &PLACES));
+            goes_on(alloc, run, server, begun, &[], told)
+        }
+        HearsOfSeal(told) => {
+            let begun = hears_of_seal(alloc, run, server);
+            goes_on(alloc, run, server, begun, &[], told)
+        }
+        HasExtents(count) => server.log.extents().len() == *count,
+    }
+}
+
+fn opens_as_next(alloc: Global, run: &mut Run, servers: &mut Vec<Server>, number: u8) -> bool {
+    match opens(alloc, run, number) {
+        Some(server) => servers.push(server).is_ok(),
+        None => false,
+    }
+}
+
+fn takes_at(
+    alloc: Global,
+    run: &mut Run,
+    servers: &mut Vec<Server>,
+    position: usize,
+    step: &Step,
+) -> bool {
+    match servers.get_mut(position) {
+        Some(server) => takes(alloc, run, server, step),
+        None => false,
+    }
+}
+
+fn takes_all(
+    alloc: Global,
+    run: &mut Run,
+    servers: &mut Vec<Server>,
+    steps: &[(usize, Step)],
+) -> bool {
+    for (position, step) in steps {
+        let taken = match step {
+            Opens(number) => opens_as_next(alloc, run, servers, *number),
+            _ => takes_at(alloc, run, servers, *position, step),
+        };
+        if !taken {
+            return false;
+        }
+    }
+    true
+}
+
+/// Whether the steps of a case go as it says, over a new stream layer.
+fn holds(alloc: Global, steps: &[(usize, Step)]) -> bool {
+    match started(alloc) {
+        Some(run) => {
+            let mut run = run;
+            let mut servers = Vec::new(alloc);
+            takes_all(alloc, &mut run, &mut servers, steps)
+        }
+        None => false,
+    }
 }
 
 #[test]
-fn a_client_appends_across_a_seal(rt: HostRuntime) -> Result<(), Fail> {
-    let mut run = started(rt.alloc())?;
-    let went = appends_across_a_seal(rt.alloc(), &mut run)?;
-    assert!(rt; went);
-    Ok(())
-}
-
-#[test]
-fn a_second_generation_fences_the_first(rt: HostRuntime) -> Result<(), Fail> {
-    let mut run = started(rt.alloc())?;
-    let fenced = fences_the_first(rt.alloc(), &mut run)?;
-    assert!(rt; fenced);
-    Ok(())
-}
-
-#[test]
-fn an_old_load_never_counts(rt: HostRuntime) -> Result<(), Fail> {
-    let mut run = started(rt.alloc())?;
-    let alone = last_alone_counts(rt.alloc(), &mut run)?;
-    assert!(rt; alone);
-    Ok(())
+fn each_step_goes_as_it_should(rt: HostRuntime) {
+    for (shows, steps) in CASES {
+        assert!(rt; holds(rt.alloc(), steps), "{shows}");
+    }
 }

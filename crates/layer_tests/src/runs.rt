@@ -1,571 +1,348 @@
 //! Runs of the stream layer: what is sent, decided and shown, and that each run is honest.
-use crate::asserted::same;
-use blocks::Nodes;
-use bytes::Bytes;
+use crate::requests::{Ask, body_of};
+use Actor::{Manager, Node};
+use Ask::{Append, Create, Extend, Seal};
+use Step::{
+    Asks, Decides, Delivers, HasLength, HasObserved, HasSent, IsSettled, Puts, Restarts, Settles,
+    Stops,
+};
 use checker::check;
 use disk::MemDisk;
-use enode::Node;
-use layer::{Layer, Setup};
+use layer::{Layer, Setup, WorldFault};
 use model::Event;
 use std::alloc::Global;
-use std::test::Fail;
-use wire::{
-    ActorId, AppendBody, Blocks, Body, ExtentId, Fence, Packet, RangeId, ReadBody, Refusal, ReqNo,
-    SealBody, StreamBody, StreamKind, StreamName,
-};
+use wire::{ActorId, AppendBody, Body, ExtentId, Packet, Refusal};
 
-pub(crate) const PLACES: Nodes = Nodes {
-    primary: 1,
-    second: 2,
-    third: 3,
-};
+/// The manager, or the node of this number.
+#[derive(Clone, Copy)]
+pub(crate) enum Actor {
+    Manager,
+    Node(u8),
+}
 
-fn metadata() -> StreamName {
-    StreamName {
-        range: RangeId::new(0),
-        kind: StreamKind::Metadata,
+/// What happens in a run, or what is seen of it.
+#[derive(Clone, Copy)]
+pub(crate) enum Step {
+    /// A user asks this actor.
+    Asks(Actor, Ask),
+    /// A user asks each of nodes 1, 2 and 3.
+    AsksEach(Ask),
+    /// The packet of this number comes.
+    Delivers(usize),
+    /// Each packet behind the last one that came or was lost comes, but for what is sent to these nodes, which is lost.
+    Settles(&'static [u8]),
+    /// The manager is to seal this extent, and refuses it for this reason, if it does.
+    Decides(u64, Option<Refusal>),
+    /// The manager is to seal extent 1, and may refuse it.
+    MayDecide,
+    /// This actor stops: at once where the number is 0, else in the device call of that number from now, whose bytes are
+    /// kept or not.
+    Stops(Actor, u64, bool),
+    Restarts(Actor),
+    /// So many packets were sent.
+    HasSent(usize),
+    /// So many observations were made.
+    HasObserved(usize),
+    /// No packet was sent behind the last one that came or was lost.
+    IsSettled,
+    /// The packet of this number puts a group at offset 0 of a replica of this node.
+    Puts(usize, Actor),
+    /// The length of the replica of extent 1 of this node, if it has one.
+    HasLength(u8, Option<u32>),
+    /// Nothing that was observed breaks the laws of honest runs.
+    IsHonest,
+}
+
+/// What a case shows, and its parts.
+type Case = (&'static str, &'static [&'static [Step]]);
+
+/// Extent 1 is made on nodes 1, 2 and 3: packets 0 to 6 are sent, and all come but the two answers to the user.
+pub(crate) const EXTENDS: &[Step] = &[
+    Asks(Manager, Create),
+    Delivers(0),
+    Asks(Manager, Extend),
+    Delivers(2),
+    Delivers(3),
+    Delivers(4),
+    Delivers(5),
+];
+
+const PUTS_TO_THE_SECONDARIES: &[Step] = &[
+    HasSent(7),
+    Asks(Node(1), Append),
+    Delivers(7),
+    HasSent(10),
+    Puts(8, Node(2)),
+    Puts(9, Node(3)),
+    HasLength(1, Some(3)),
+    HasLength(2, Some(0)),
+    HasObserved(0),
+];
+
+const DOES_NOT_FIT: &[Step] = &[
+    Delivers(0),
+    Asks(Node(4), Append),
+    Asks(Node(0), Append),
+    Delivers(0),
+    Delivers(1),
+    HasSent(2),
+    HasObserved(0),
+    HasLength(0, None),
+    HasLength(4, None),
+];
+
+const MAKES_AT_THE_FIRST: &[Step] = &[
+    Asks(Manager, Create),
+    Asks(Manager, Extend),
+    Delivers(0),
+    Delivers(1),
+    Delivers(3),
+    HasSent(7),
+    HasLength(1, Some(0)),
+    HasLength(2, None),
+];
+
+const DECIDES_WHAT_IT_WAS_TOLD: &[Step] = &[
+    Decides(1, Some(Refusal::NoReply)),
+    Decides(2, Some(Refusal::NoSuchExtent)),
+    Stops(Manager, 0, false),
+    Decides(2, None),
+    Restarts(Manager),
+    Decides(2, Some(Refusal::NoSuchExtent)),
+    HasObserved(0),
+];
+
+const SEALS: &[Step] = &[Asks(Manager, Seal), Settles(&[])];
+
+const KEEPS_ITS_DECISION: &[Step] = &[
+    Stops(Manager, 3, true),
+    Decides(1, None),
+    HasObserved(1),
+    IsSettled,
+];
+
+const LOSES_ITS_DECISION: &[Step] = &[
+    Stops(Manager, 3, false),
+    Decides(1, None),
+    HasObserved(0),
+    IsSettled,
+];
+
+const CASES: &[Case] = &[
+    (
+        "an append is put to the secondaries",
+        &[EXTENDS, PUTS_TO_THE_SECONDARIES],
+    ),
+    ("nothing comes of what does not fit", &[DOES_NOT_FIT]),
+    ("an extent is made node by node", &[MAKES_AT_THE_FIRST]),
+    (
+        "the manager decides by what it was told",
+        &[EXTENDS, DECIDES_WHAT_IT_WAS_TOLD],
+    ),
+    (
+        "a decision is shown where its record stands",
+        &[EXTENDS, SEALS, KEEPS_ITS_DECISION],
+    ),
+    (
+        "a decision is not shown where its record does not stand",
+        &[EXTENDS, SEALS, LOSES_ITS_DECISION],
+    ),
+];
+
+/// The stream layer of three nodes.
+#[derive(Drop)]
+pub(crate) struct Run {
+    pub(crate) layer: Layer,
+    /// The number behind that of the last packet that came or was lost.
+    pub(crate) next: usize,
+}
+
+fn actor_of(actor: Actor) -> ActorId {
+    match actor {
+        Manager => ActorId::Manager,
+        Node(number) => ActorId::Node(number),
     }
 }
 
-const REQUEST: ReqNo = ReqNo::User { user: 7, ticket: 0 };
-
-fn create(to: ActorId) -> Event {
-    Event::Submit {
-        user: 7,
-        to,
-        body: Body::Stream(StreamBody::CreateStream {
-            stream: metadata(),
-            fence: Fence::new(0),
-            request: REQUEST,
-        }),
+// These calls pass no contract on, so that what calls them is proved from what it reads alone.
+pub(crate) fn started(alloc: Global) -> Option<Run> {
+    match Layer::start(alloc, &Setup::new(3, 1, 4096, 1)?) {
+        Ok(layer) => Some(Run { layer, next: 0 }),
+        Err(_fault) => None,
     }
 }
 
-fn extend() -> Event {
-    Event::Submit {
-        user: 7,
-        to: ActorId::Manager,
-        body: Body::Stream(StreamBody::Extend {
-            stream: metadata(),
-            generation: Fence::new(0),
-            last: None,
-            pick: PLACES,
-            request: REQUEST,
-        }),
+// The event is handed over whole: a local that lives on is dropped at each exit, and each costs the proof.
+fn happens(alloc: Global, run: &mut Run, event: Event) -> Result<Option<Refusal>, WorldFault> {
+    let answer = run.layer.step(alloc, &event);
+    drop(event);
+    answer
+}
+
+/// Whether an event happens, and is refused for this reason, if it is.
+fn answers(alloc: Global, run: &mut Run, event: Event, wanted: Option<Refusal>) -> bool {
+    match happens(alloc, run, event) {
+        Ok(refusal) => refusal == wanted,
+        Err(_fault) => false,
     }
 }
 
-fn append_of(to: ActorId, blocks: Blocks) -> Event {
-    Event::Submit {
-        user: 7,
-        to,
-        body: Body::Append(AppendBody::Append {
-            extent: ExtentId::new(1),
-            generation: Fence::new(0),
-            blocks,
-            request: REQUEST,
-        }),
+fn asks(alloc: Global, run: &mut Run, actor: Actor, ask: Ask) -> bool {
+    let to = actor_of(actor);
+    match body_of(alloc, ask) {
+        Ok(body) => answers(alloc, run, Event::Submit { user: 7, to, body }, None),
+        Err(_full) => false,
     }
 }
 
-fn append(alloc: Global, to: ActorId) -> Result<Event, Fail> {
-    let mut blocks = Vec::new(alloc);
-    blocks.push(Bytes::copy_from_slice(alloc, b"abc")?)?;
-    Ok(append_of(to, Blocks::of(blocks)))
+fn asks_each(alloc: Global, run: &mut Run, ask: Ask) -> bool {
+    for number in 1..4 {
+        if !asks(alloc, run, Node(number), ask) {
+            return false;
+        }
+    }
+    true
 }
 
-// These calls pass no contract on, so that a test is proved from what it reads alone.
-fn step_by(alloc: Global, run: &mut Layer, event: &Event) -> Result<Option<Refusal>, Fail> {
-    match run.step(alloc, event) {
-        Ok(refusal) => Ok(refusal),
-        Err(_fault) => Err(Fail::from("no memory was left")),
+fn delivers(alloc: Global, run: &mut Run, number: usize) -> bool {
+    run.next = number.saturating_add(1);
+    answers(alloc, run, Event::Deliver { number }, None)
+}
+
+pub(crate) fn decides(alloc: Global, run: &mut Run, extent: u64, wanted: Option<Refusal>) -> bool {
+    let extent = ExtentId::new(extent);
+    answers(alloc, run, Event::Decide { extent }, wanted)
+}
+
+fn may_decide(alloc: Global, run: &mut Run) -> bool {
+    let extent = ExtentId::new(1);
+    match happens(alloc, run, Event::Decide { extent }) {
+        Ok(_refusal) => true,
+        Err(_fault) => false,
     }
 }
 
-// Events are handed over whole: a local that lives on is dropped at each exit, and each costs the proof.
-pub(crate) fn step(alloc: Global, run: &mut Layer, event: Event) -> Result<Option<Refusal>, Fail> {
-    step_by(alloc, run, &event)
+fn stops(alloc: Global, run: &mut Run, actor: Actor, call: u64, keep: bool) -> bool {
+    let actor = actor_of(actor);
+    answers(alloc, run, Event::Stop { actor, call, keep }, None)
 }
 
-pub(crate) fn started(alloc: Global) -> Result<Layer, Fail> {
-    let Some(setup) = Setup::new(3, 1, 4096, 1) else {
-        return Err(Fail::from("no setup"));
-    };
-    match Layer::start(alloc, &setup) {
-        Ok(run) => Ok(run),
-        Err(_fault) => Err(Fail::from("no memory was left")),
+fn restarts(alloc: Global, run: &mut Run, actor: Actor) -> bool {
+    let actor = actor_of(actor);
+    answers(alloc, run, Event::Restart { actor }, None)
+}
+
+fn is_cut_off(to: ActorId, cut: &[u8]) -> bool {
+    match to {
+        ActorId::Node(number) => cut.contains(&number),
+        _ => false,
     }
 }
 
-fn step_by_all(alloc: Global, run: &mut Layer, events: &[Event]) -> Result<(), Fail> {
-    for event in events {
-        step_by(alloc, run, event)?;
+/// To whom the packet of this number goes, if it was sent.
+fn addressee(run: &Run, number: usize) -> Option<ActorId> {
+    match run.layer.sent().get(number) {
+        Some(packet) => Some(packet.to),
+        None => None,
     }
-    Ok(())
 }
 
-fn whole(alloc: Global, events: &[Event]) -> Result<Layer, Fail> {
-    let mut run = started(alloc)?;
-    step_by_all(alloc, &mut run, events)?;
-    Ok(run)
+/// Has each packet behind the last one come, but for what is sent to these nodes: whether that comes to an end.
+pub(crate) fn settles(alloc: Global, run: &mut Run, cut: &[u8]) -> bool {
+    for number in run.next..1000 {
+        match addressee(run, number) {
+            None => {
+                run.next = number;
+                return true;
+            }
+            Some(to) => if !is_cut_off(to, cut) && !delivers(alloc, run, number) {
+                return false;
+            },
+        }
+    }
+    false
 }
 
-pub(crate) fn deliver(
-    alloc: Global,
-    run: &mut Layer,
-    number: usize,
-) -> Result<Option<Refusal>, Fail> {
-    step(alloc, run, Event::Deliver { number })
+/// Whether this is a put of offset 0 to this actor.
+fn is_put(packet: &Packet, to: ActorId) -> bool {
+    match &packet.body {
+        Body::Append(AppendBody::Put { offset: 0, .. }) => packet.to == to,
+        _ => false,
+    }
 }
 
-fn submit_append(alloc: Global, run: &mut Layer, to: ActorId) -> Result<Option<Refusal>, Fail> {
-    let event = append(alloc, to)?;
-    step(alloc, run, event)
+fn puts(run: &Run, number: usize, to: ActorId) -> bool {
+    match run.layer.sent().get(number) {
+        Some(packet) => is_put(packet, to),
+        None => false,
+    }
 }
 
-fn count(run: &Layer) -> usize {
-    run.sent().len()
-}
-
-fn observed(run: &Layer) -> usize {
-    run.observations().len()
-}
-
-fn length_at(node: &Node<MemDisk>) -> Option<u32> {
+fn replica_length(node: &enode::Node<MemDisk>) -> Option<u32> {
     match node.replica(ExtentId::new(1)) {
         Some(replica) => Some(replica.len()),
         None => None,
     }
 }
 
-/// The length of a node's replica of extent 1.
-fn length(run: &Layer, number: u8) -> Option<u32> {
-    match run.node(number) {
-        Some(node) => length_at(node),
+fn length(run: &Run, number: u8) -> Option<u32> {
+    match run.layer.node(number) {
+        Some(node) => replica_length(node),
         None => None,
     }
 }
 
-/// To whom a Put of offset 0 goes.
-fn put_to(packet: &Packet) -> Option<ActorId> {
-    match &packet.body {
-        Body::Append(AppendBody::Put { offset: 0, .. }) => Some(packet.to),
-        _ => None,
-    }
-}
-
-fn sent_to(run: &Layer, number: usize) -> Option<ActorId> {
-    match run.sent().get(number) {
-        Some(packet) => put_to(packet),
-        None => None,
-    }
-}
-
-fn create_and_extend(alloc: Global, run: &mut Layer) -> Result<(), Fail> {
-    step(alloc, run, create(ActorId::Manager))?;
-    deliver(alloc, run, 0)?;
-    step(alloc, run, extend())?;
-    deliver(alloc, run, 2)?;
-    for number in 3..6 {
-        deliver(alloc, run, number)?;
-    }
-    Ok(())
-}
-
-/// A run with extent 1 on nodes 1, 2 and 3: packets 0 to 6 are sent.
-fn extended(alloc: Global) -> Result<Layer, Fail> {
-    let mut run = started(alloc)?;
-    create_and_extend(alloc, &mut run)?;
-    Ok(run)
-}
-
-/// How many packets are sent before an append comes to the first place, and after.
-fn append_to_first(alloc: Global, run: &mut Layer) -> Result<(usize, usize), Fail> {
-    let made = count(run);
-    submit_append(alloc, run, ActorId::Node(1))?;
-    deliver(alloc, run, 7)?;
-    Ok((made, count(run)))
-}
-
-#[test]
-fn an_append_is_put_to_the_secondaries(rt: HostRuntime) -> Result<(), Fail> {
-    let mut run = extended(rt.alloc())?;
-    same(&rt, append_to_first(rt.alloc(), &mut run)?, (7, 10));
-    same(&rt, sent_to(&run, 8), Some(ActorId::Node(2)));
-    same(&rt, sent_to(&run, 9), Some(ActorId::Node(3)));
-    let lengths = (length(&run, 1), length(&run, 2));
-    same(&rt, lengths, (Some(3), Some(0)));
-    same(&rt, observed(&run), 0);
-    Ok(())
-}
-
-/// What is answered before a packet is there, and where it comes to no node.
-fn deliver_what_does_not_fit(
-    alloc: Global,
-    run: &mut Layer,
-) -> Result<(Option<Refusal>, Option<Refusal>), Fail> {
-    let never = deliver(alloc, run, 0)?;
-    submit_append(alloc, run, ActorId::Node(4))?;
-    submit_append(alloc, run, ActorId::Node(0))?;
-    let absent = deliver(alloc, run, 0)?;
-    deliver(alloc, run, 1)?;
-    Ok((never, absent))
-}
-
-#[test]
-fn nothing_comes_of_what_does_not_fit(rt: HostRuntime) -> Result<(), Fail> {
-    let mut run = started(rt.alloc())?;
-    let answers = deliver_what_does_not_fit(rt.alloc(), &mut run)?;
-    same(&rt, answers, (None, None));
-    same(&rt, (count(&run), observed(&run)), (2, 0));
-    same(&rt, (length(&run, 0), length(&run, 4)), (None, None));
-    Ok(())
-}
-
-fn add_events(events: &mut Vec<Event>) -> Result<(), Fail> {
-    events.push(create(ActorId::Manager))?;
-    events.push(extend())?;
-    for number in [0, 1, 3] {
-        events.push(Event::Deliver { number })?;
-    }
-    Ok(())
-}
-
-fn some_events(alloc: Global) -> Result<Vec<Event>, Fail> {
-    let mut events = Vec::new(alloc);
-    add_events(&mut events)?;
-    Ok(events)
-}
-
-fn whole_run(alloc: Global) -> Result<Layer, Fail> {
-    let events = some_events(alloc)?;
-    whole(alloc, events.as_slice())
-}
-
-#[test]
-fn a_whole_run(rt: HostRuntime) -> Result<(), Fail> {
-    let run = whole_run(rt.alloc())?;
-    let lengths = (length(&run, 1), length(&run, 2));
-    same(&rt, (count(&run), lengths), (7, (Some(0), None)));
-    Ok(())
-}
-
-/// What is done in a run of which one actor stops.
-#[derive(Clone, Copy, Debug, PartialEq, Eq)]
-enum Act {
-    Append,
-    /// Delivers all, but what is sent to the nodes of this mask, which is lost.
-    Settle(u8),
-    Seal,
-    Decide,
-    /// Asks node by node for the content of this length.
-    Show(u32),
-}
-
-/// The second append is cut off from the third place, and the extent is sealed.
-const SHORT: [Act; 8] = [
-    Act::Append,
-    Act::Settle(0),
-    Act::Append,
-    Act::Settle(0b1000),
-    Act::Seal,
-    Act::Settle(0),
-    Act::Decide,
-    Act::Settle(0),
-];
-
-/// The first place alone is heard, and the others are brought to its length later.
-const FILLED: [Act; 12] = [
-    Act::Append,
-    Act::Settle(0),
-    Act::Append,
-    Act::Settle(0b1000),
-    Act::Seal,
-    Act::Settle(0b1100),
-    Act::Decide,
-    Act::Settle(0b1100),
-    Act::Decide,
-    Act::Settle(0),
-    Act::Show(6),
-    Act::Settle(0),
-];
-
-/// The third place alone is heard, and the others are cut later.
-const LONGER: [Act; 13] = [
-    Act::Append,
-    Act::Append,
-    Act::Settle(0),
-    Act::Append,
-    Act::Settle(0b1000),
-    Act::Seal,
-    Act::Settle(0b0110),
-    Act::Decide,
-    Act::Settle(0b0110),
-    Act::Decide,
-    Act::Settle(0),
-    Act::Show(6),
-    Act::Settle(0),
-];
-
-/// What is done after the restart.
-const AGAIN: [Act; 9] = [
-    Act::Seal,
-    Act::Settle(0),
-    Act::Decide,
-    Act::Settle(0),
-    Act::Show(3),
-    Act::Show(6),
-    Act::Settle(0),
-    Act::Decide,
-    Act::Settle(0),
-];
-
-fn seal() -> Event {
-    Event::Submit {
-        user: 7,
-        to: ActorId::Manager,
-        body: Body::Seal(SealBody::SealExtent {
-            extent: ExtentId::new(1),
-            request: REQUEST,
-        }),
-    }
-}
-
-fn content(node: u8, upto: u32) -> Event {
-    Event::Submit {
-        user: 7,
-        to: ActorId::Node(node),
-        body: Body::Read(ReadBody::ReadGroups {
-            extent: ExtentId::new(1),
-            upto,
-            sealed: true,
-            request: REQUEST,
-        }),
-    }
-}
-
-fn is_cut(to: ActorId, mask: u8) -> bool {
-    match to {
-        ActorId::Node(1) => mask & 0b0010 != 0,
-        ActorId::Node(2) => mask & 0b0100 != 0,
-        ActorId::Node(3) => mask & 0b1000 != 0,
-        _ => false,
-    }
-}
-
-fn is_lost(run: &Layer, number: usize, mask: u8) -> bool {
-    match run.sent().get(number) {
-        Some(packet) => is_cut(packet.to, mask),
-        None => true,
-    }
-}
-
-/// Delivers each packet from this one on, but those that are lost, and answers how many there are.
-fn settle(alloc: Global, run: &mut Layer, from: usize, mask: u8) -> Result<usize, Fail> {
-    let mut number = from;
-    for _ in 0..1000 {
-        if number >= count(run) {
-            break;
-        }
-        if !is_lost(run, number, mask) {
-            deliver(alloc, run, number)?;
-        }
-        number += 1;
-    }
-    Ok(number)
-}
-
-fn show(alloc: Global, run: &mut Layer, upto: u32) -> Result<Option<Refusal>, Fail> {
-    for node in 1..4 {
-        step(alloc, run, content(node, upto))?;
-    }
-    Ok(None)
-}
-
-/// The packets before this one were there before the step.
-fn went_on(step: Result<Option<Refusal>, Fail>, from: usize) -> Result<usize, Fail> {
+pub(crate) fn takes(alloc: Global, run: &mut Run, step: Step) -> bool {
     match step {
-        Ok(_refused) => Ok(from),
-        Err(fail) => Err(fail),
+        Step::Asks(actor, ask) => asks(alloc, run, actor, ask),
+        Step::AsksEach(ask) => asks_each(alloc, run, ask),
+        Step::Delivers(number) => delivers(alloc, run, number),
+        Step::Settles(cut) => settles(alloc, run, cut),
+        Step::Decides(extent, wanted) => decides(alloc, run, extent, wanted),
+        Step::MayDecide => may_decide(alloc, run),
+        Step::Stops(actor, call, keep) => stops(alloc, run, actor, call, keep),
+        Step::Restarts(actor) => restarts(alloc, run, actor),
+        Step::HasSent(count) => run.layer.sent().len() == count,
+        Step::HasObserved(count) => run.layer.observations().len() == count,
+        Step::IsSettled => run.layer.sent().len() == run.next,
+        Step::Puts(number, to) => puts(run, number, actor_of(to)),
+        Step::HasLength(number, wanted) => length(run, number) == wanted,
+        Step::IsHonest => check(alloc, run.layer.observations()).is_none(),
     }
 }
 
-fn perform(alloc: Global, run: &mut Layer, from: usize, one: Act) -> Result<usize, Fail> {
-    match one {
-        Act::Append => went_on(submit_append(alloc, run, ActorId::Node(1)), from),
-        Act::Settle(mask) => settle(alloc, run, from, mask),
-        Act::Seal => went_on(step(alloc, run, seal()), from),
-        Act::Decide => went_on(decide(alloc, run, 1), from),
-        Act::Show(upto) => went_on(show(alloc, run, upto), from),
-    }
-}
-
-fn perform_all(alloc: Global, run: &mut Layer, from: usize, acts: &[Act]) -> Result<usize, Fail> {
-    let mut number = from;
-    for one in acts {
-        number = perform(alloc, run, number, *one)?;
-    }
-    Ok(number)
-}
-
-/// The manager for 0, and else the node of a number.
-fn actor_of(number: u8) -> ActorId {
-    if number == 0 {
-        ActorId::Manager
-    } else {
-        ActorId::Node(number)
-    }
-}
-
-fn stop_of(number: u8, call: u64, keep: bool) -> Event {
-    Event::Stop {
-        actor: actor_of(number),
-        call,
-        keep,
-    }
-}
-
-fn stop(alloc: Global, run: &mut Layer, number: u8, call: u64, keep: bool) -> Result<(), Fail> {
-    step(alloc, run, stop_of(number, call, keep))?;
-    Ok(())
-}
-
-fn restart_of(number: u8) -> Event {
-    Event::Restart {
-        actor: actor_of(number),
-    }
-}
-
-fn restart(alloc: Global, run: &mut Layer, number: u8) -> Result<(), Fail> {
-    step(alloc, run, restart_of(number))?;
-    Ok(())
-}
-
-pub(crate) fn decide(alloc: Global, run: &mut Layer, extent: u64) -> Result<Option<Refusal>, Fail> {
-    let extent = ExtentId::new(extent);
-    step(alloc, run, Event::Decide { extent })
-}
-
-fn is_honest(alloc: Global, run: &Layer) -> bool {
-    check(alloc, run.observations()).is_none()
-}
-
-/// This actor stops, and comes back.
-fn stop_once(
-    alloc: Global,
-    run: &mut Layer,
-    acts: &[Act],
-    actor: u8,
-    call: u64,
-    keep: bool,
-) -> Result<(), Fail> {
-    stop(alloc, run, actor, call, keep)?;
-    let sent = perform_all(alloc, run, 6, acts)?;
-    restart(alloc, run, actor)?;
-    let again = AGAIN;
-    perform_all(alloc, run, sent, again.as_slice())?;
-    Ok(())
-}
-
-/// Whether a run in which this actor stops, and comes back, shows nothing that does not agree.
-fn stays_honest(
-    alloc: Global,
-    acts: &[Act],
-    actor: u8,
-    call: u64,
-    keep: bool,
-) -> Result<bool, Fail> {
-    let mut run = extended(alloc)?;
-    stop_once(alloc, &mut run, acts, actor, call, keep)?;
-    Ok(is_honest(alloc, &run))
-}
-
-/// How many runs are not honest, with a stop of this actor at each of eight device calls.
-fn broken(alloc: Global, acts: &[Act], actor: u8) -> Result<usize, Fail> {
-    let mut broken: usize = 0;
-    for call in 1..9 {
-        if !stays_honest(alloc, acts, actor, call, false)? {
-            broken = broken.saturating_add(1);
-        }
-        if !stays_honest(alloc, acts, actor, call, true)? {
-            broken = broken.saturating_add(1);
+pub(crate) fn takes_part(alloc: Global, run: &mut Run, part: &[Step]) -> bool {
+    for step in part {
+        if !takes(alloc, run, *step) {
+            return false;
         }
     }
-    Ok(broken)
+    true
 }
 
-/// How many runs are not honest, of those of three nodes and the manager.
-fn broken_by_any(alloc: Global, acts: &[Act]) -> Result<usize, Fail> {
-    let mut runs: usize = 0;
-    for actor in 0..4 {
-        runs = runs.saturating_add(broken(alloc, acts, actor)?);
+fn takes_all(alloc: Global, run: &mut Run, parts: &[&[Step]]) -> bool {
+    for part in parts {
+        if !takes_part(alloc, run, part) {
+            return false;
+        }
     }
-    Ok(runs)
+    true
+}
+
+/// Whether the steps of a case, part after part, go as it says.
+fn holds(alloc: Global, parts: &[&[Step]]) -> bool {
+    match started(alloc) {
+        Some(run) => {
+            let mut run = run;
+            takes_all(alloc, &mut run, parts)
+        }
+        None => false,
+    }
 }
 
 #[test]
-fn stops_leave_it_honest(rt: HostRuntime) -> Result<(), Fail> {
-    let (short, filled, longer) = (SHORT, FILLED, LONGER);
-    same(&rt, broken_by_any(rt.alloc(), short.as_slice())?, 0);
-    same(&rt, broken_by_any(rt.alloc(), filled.as_slice())?, 0);
-    same(&rt, broken_by_any(rt.alloc(), longer.as_slice())?, 0);
-    Ok(())
-}
-
-type Refusals = (Option<Refusal>, Option<Refusal>);
-
-fn decide_both(alloc: Global, run: &mut Layer) -> Result<Refusals, Fail> {
-    let untold = decide(alloc, run, 1)?;
-    let unknown = decide(alloc, run, 2)?;
-    Ok((untold, unknown))
-}
-
-/// What is answered while the manager is stopped, and when it has come back.
-fn decide_around_a_stop(alloc: Global, run: &mut Layer) -> Result<Refusals, Fail> {
-    stop(alloc, run, 0, 0, false)?;
-    let stopped = decide(alloc, run, 2)?;
-    restart(alloc, run, 0)?;
-    let again = decide(alloc, run, 2)?;
-    Ok((stopped, again))
-}
-
-/// Both, and how much is observed then.
-fn decisions(alloc: Global, run: &mut Layer) -> Result<(Refusals, Refusals, usize), Fail> {
-    let first = decide_both(alloc, run)?;
-    let around = decide_around_a_stop(alloc, run)?;
-    Ok((first, around, observed(run)))
-}
-
-#[test]
-fn the_manager_decides_by_what_it_was_told(rt: HostRuntime) -> Result<(), Fail> {
-    let mut run = extended(rt.alloc())?;
-    let (first, around, observed) = decisions(rt.alloc(), &mut run)?;
-    let unknown = Some(Refusal::NoSuchExtent);
-    same(&rt, first, (Some(Refusal::NoReply), unknown));
-    same(&rt, around, (None, unknown));
-    same(&rt, observed, 0);
-    Ok(())
-}
-
-/// The manager stops at its third device call of a decision. It answers how many packets were sent before.
-fn decide_in_a_stop(alloc: Global, run: &mut Layer, keep: bool) -> Result<usize, Fail> {
-    step(alloc, run, seal())?;
-    let sent = settle(alloc, run, 6, 0)?;
-    stop(alloc, run, 0, 3, keep)?;
-    decide(alloc, run, 1)?;
-    Ok(sent)
-}
-
-/// A decision that the manager stops in at its third device call: how much is observed, and sent.
-fn decided_in_a_stop(alloc: Global, keep: bool) -> Result<(usize, usize), Fail> {
-    let mut run = extended(alloc)?;
-    let sent = decide_in_a_stop(alloc, &mut run, keep)?;
-    Ok((observed(&run), count(&run).saturating_sub(sent)))
-}
-
-#[test]
-fn a_decision_is_shown_where_its_record_stands(rt: HostRuntime) -> Result<(), Fail> {
-    same(&rt, decided_in_a_stop(rt.alloc(), true)?, (1, 0));
-    same(&rt, decided_in_a_stop(rt.alloc(), false)?, (0, 0));
-    Ok(())
+fn each_step_goes_as_it_should(rt: HostRuntime) {
+    for (shows, parts) in CASES {
+        assert!(rt; holds(rt.alloc(), parts), "{shows}");
+    }
 }
