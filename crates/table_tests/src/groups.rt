@@ -1,32 +1,83 @@
-//! What no clause says: that calls succeed where there is memory, and one group from the push to the answer.
-use blocks::Nodes;
+//! What no clause says: that calls succeed where there is memory, and groups from the push to the answer.
+use crate::cases::{Case, Tested, holds};
+use crate::servers::{desk, puts};
 use bytes::Bytes;
 use cells::Cell;
 use group_commit::{Queue, change_fault};
 use metadata::KeyRange;
-use model_tables::{Desk, TableNote, WaitingTransaction};
+use model_tables::{TableNote, WaitingTransaction};
 use std::alloc::Global;
 use std::test::Fail;
-use wire::{
-    ActorId, Body, Change, Changes, ExtentId, Fence, Packet, RangeId, Refusal, ReqNo, ServerNo,
-    TableBody,
-};
+use wire::{ActorId, Body, ExtentId, Fence, Packet, RangeId, Refusal, ReqNo, TableBody};
 
-/// A server whose groups have two transactions at most.
-fn desk() -> Desk {
-    Desk {
-        server: ServerNo::new(1),
-        session: 1,
-        moment: 5,
-        pick: Nodes {
-            primary: 1,
-            second: 2,
-            third: 3,
-        },
-        batch: 2,
-        count: 1,
-    }
+/// What is done with a queue, or what is known of it.
+pub(crate) enum Step {
+    /// The next transaction has this number.
+    SetsNext(u64),
+    /// A transaction of this ticket is pushed, with a value of 5,000 bytes at `a`.
+    Pushes(u64),
+    TakesBack,
+    /// A group is begun of so many transactions, bytes and blocks, or none is.
+    Begins(Option<(usize, u32, usize)>),
+    /// A group of so many bytes is out, and the next transaction has this number.
+    IsOut(u32, u64),
+    /// So many wait, those that are out counted.
+    Waits(usize),
+    /// So many are answered once the group is acknowledged, the last with this number, which is shown as done.
+    Answers(usize, u64),
+    /// Where the value of the last change stands, if the group stands at offset 100.
+    KeepsAt(u32),
+    Finishes,
+    /// So many are refused.
+    Refuses(usize),
 }
+
+const CASES: &[Case<Step>] = &[
+    (
+        "a group is appended and answered",
+        &[
+            &[Step::Pushes(1), Step::Pushes(2), Step::Pushes(3)],
+            &[
+                Step::Begins(Some((2, 10_034, 3))),
+                Step::IsOut(10_034, 3),
+                Step::Answers(2, 2),
+                Step::KeepsAt(5_134),
+                Step::Finishes,
+                Step::Waits(1),
+                Step::Begins(Some((1, 5_024, 2))),
+                Step::Answers(1, 3),
+            ],
+        ],
+    ),
+    (
+        "a group is out alone",
+        &[
+            &[Step::SetsNext(9), Step::Begins(None)],
+            &[
+                Step::Pushes(1),
+                Step::Begins(Some((1, 5_024, 2))),
+                Step::IsOut(5_024, 10),
+                Step::Pushes(2),
+                Step::Answers(1, 9),
+                Step::Refuses(2),
+                Step::Waits(2),
+            ],
+        ],
+    ),
+    (
+        "the last is taken back",
+        &[&[Step::Pushes(1), Step::TakesBack, Step::Waits(0)]],
+    ),
+];
+
+/// How many changes, the key and the length of each value, and why they are refused.
+const FAULTS: &[(usize, &[u8], usize, Option<Refusal>)] = &[
+    (0, b"", 0, Some(Refusal::TooLarge)),
+    (1, b"", 65_537, Some(Refusal::BadKey)),
+    (1, b"z", 65_537, Some(Refusal::TooLarge)),
+    (1, b"z", 1, Some(Refusal::OutOfRange)),
+    (1, b"a", 65_536, None),
+];
 
 /// The keys below `m`.
 fn keys() -> KeyRange {
@@ -36,25 +87,27 @@ fn keys() -> KeyRange {
     }
 }
 
-/// One change, of a value of so many bytes.
-fn change(alloc: Global, key: &'static [u8], size: usize) -> Result<Changes, Fail> {
-    let value = Bytes::from_vec(vec![in alloc; b'x'; size]?)?;
-    let mut items = Vec::new(alloc);
-    items.push(Change {
-        key: Bytes::from_static(key),
-        value: Some(value),
-    })?;
-    Ok(Changes::of(items))
+fn fault(
+    alloc: Global,
+    count: usize,
+    key: &'static [u8],
+    length: usize,
+) -> Result<Option<Refusal>, Fail> {
+    let changes = puts(alloc, key, length, count)?;
+    Ok(change_fault(changes.as_slice(), &keys()))
 }
 
-fn fault_of(alloc: Global, key: &'static [u8], size: usize) -> Result<Option<Refusal>, Fail> {
-    let changes = change(alloc, key, size)?;
-    Ok(change_fault(changes.as_slice(), &keys()))
+fn sets_next(queue: &mut Queue, next: u64) -> bool {
+    if queue.is_out() || next == 0 {
+        return false;
+    }
+    queue.set_next(next);
+    true
 }
 
 /// Whether there was room for a transaction of user 7.
 fn pushes(alloc: Global, queue: &mut Queue, ticket: u64) -> Result<bool, Fail> {
-    let changes = change(alloc, b"a", 5_000)?;
+    let changes = puts(alloc, b"a", 5_000, 1)?;
     if queue.count() >= 1_024 || change_fault(changes.as_slice(), &keys()).is_some() {
         return Ok(false);
     }
@@ -66,51 +119,6 @@ fn pushes(alloc: Global, queue: &mut Queue, ticket: u64) -> Result<bool, Fail> {
     Ok(true)
 }
 
-/// How many transactions and bytes the group has that is begun, and how many blocks.
-fn begins(alloc: Global, queue: &mut Queue) -> Result<Option<(usize, u32, usize)>, Fail> {
-    if queue.is_out() {
-        return Ok(None);
-    }
-    match queue.plan(alloc, &desk(), RangeId::new(3), Fence::new(2))? {
-        None => Ok(None),
-        Some(plan) => {
-            queue.begin(plan.count, plan.size);
-            Ok(Some((plan.count, plan.size, plan.blocks.count())))
-        }
-    }
-}
-
-fn number_in(packet: &Packet) -> Option<u64> {
-    match &packet.body {
-        Body::Table(TableBody::Committed { number, .. }) => Some(*number),
-        _ => None,
-    }
-}
-
-/// The number of the last that is answered, how many are, and the last that is shown as done.
-fn answers(alloc: Global, queue: &Queue) -> Result<(Option<u64>, usize, Option<u64>), Fail> {
-    let (packets, notes) = queue.acknowledge(alloc, &desk(), RangeId::new(3), Fence::new(2))?;
-    let last = match packets.as_slice() {
-        [.., packet] => number_in(packet),
-        [] => None,
-    };
-    let done = match notes.as_slice() {
-        [.., TableNote::Done { number, .. }] => Some(*number),
-        _ => None,
-    };
-    Ok((last, packets.len(), done))
-}
-
-/// Where the value of the last change stands, if the group stands at offset 100 of extent 7.
-fn last_offset(alloc: Global, queue: &Queue) -> Result<Option<u32>, Fail> {
-    let _size = queue.out_size();
-    let kept = queue.changes(alloc, ExtentId::new(7), 100)?;
-    match kept.as_slice() {
-        [.., (_, Cell::Placed(place))] => Ok(Some(place.offset)),
-        _ => Ok(None),
-    }
-}
-
 fn takes_back(queue: &mut Queue) -> bool {
     if queue.is_out() || queue.count() == 0 {
         return false;
@@ -119,109 +127,93 @@ fn takes_back(queue: &mut Queue) -> bool {
     true
 }
 
+/// How many transactions and bytes the group has that is begun, and how many blocks.
+fn begins(alloc: Global, queue: &mut Queue) -> Result<Option<(usize, u32, usize)>, Fail> {
+    if queue.is_out() {
+        return Ok(None);
+    }
+    match queue.plan(alloc, &desk(1, 5), RangeId::new(3), Fence::new(2))? {
+        None => Ok(None),
+        Some(plan) => {
+            queue.begin(plan.count, plan.size);
+            Ok(Some((plan.count, plan.size, plan.blocks.count())))
+        }
+    }
+}
+
+fn is_out(queue: &Queue, size: u32, next: u64) -> bool {
+    queue.is_out() && queue.out_size() == size && queue.next() == next
+}
+
+fn commits(packet: &Packet, wanted: u64) -> bool {
+    match &packet.body {
+        Body::Table(TableBody::Committed { number, .. }) => *number == wanted,
+        _ => false,
+    }
+}
+
+fn are_answers(packets: &[Packet], notes: &[TableNote], count: usize, wanted: u64) -> bool {
+    match (packets, notes) {
+        ([.., packet], [.., TableNote::Done { number, .. }]) => {
+            packets.len() == count && commits(packet, wanted) && *number == wanted
+        }
+        _ => false,
+    }
+}
+
+fn answers(alloc: Global, queue: &Queue, count: usize, last: u64) -> Result<bool, Fail> {
+    let (packets, notes) = queue.acknowledge(alloc, &desk(1, 5), RangeId::new(3), Fence::new(2))?;
+    Ok(are_answers(packets.as_slice(), notes.as_slice(), count, last))
+}
+
+fn keeps_at(alloc: Global, queue: &Queue, offset: u32) -> Result<bool, Fail> {
+    let _size = queue.out_size();
+    let kept = queue.changes(alloc, ExtentId::new(7), 100)?;
+    match kept.as_slice() {
+        [.., (_, Cell::Placed(place))] => Ok(place.offset == offset),
+        _ => Ok(false),
+    }
+}
+
 fn refusal_count(alloc: Global, queue: &Queue) -> Result<usize, Fail> {
-    Ok(queue.refusals(alloc, &desk())?.len())
+    Ok(queue.refusals(alloc, &desk(1, 5))?.len())
 }
 
-// Each of these says whether every step comes to what it should, and each test lets go of its queue before it says what it saw,
-// so that the queue is let go in one place.
-fn pushes_three(alloc: Global, queue: &mut Queue) -> Result<bool, Fail> {
-    Ok(pushes(alloc, queue, 1)? && pushes(alloc, queue, 2)? && pushes(alloc, queue, 3)?)
-}
+impl Tested for Queue {
+    type Step = Step;
 
-fn begins_two(alloc: Global, queue: &mut Queue) -> Result<bool, Fail> {
-    Ok(
-        begins(alloc, queue)? == Some((2, 10_034, 3))
-            && queue.next() == 3
-            && queue.out_size() == 10_034,
-    )
-}
-
-fn answers_two(alloc: Global, queue: &Queue) -> Result<bool, Fail> {
-    Ok(answers(alloc, queue)? == (Some(2), 2, Some(2)) && last_offset(alloc, queue)? == Some(5_134))
-}
-
-fn answers_the_last(alloc: Global, queue: &mut Queue) -> Result<bool, Fail> {
-    queue.finish();
-    Ok(
-        queue.count() == 1
-            && begins(alloc, queue)? == Some((1, 5_024, 2))
-            && answers(alloc, queue)? == (Some(3), 1, Some(3)),
-    )
-}
-
-fn answers_each(alloc: Global, queue: &mut Queue) -> Result<bool, Fail> {
-    Ok(
-        pushes_three(alloc, queue)?
-            && begins_two(alloc, queue)?
-            && answers_two(alloc, queue)?
-            && answers_the_last(alloc, queue)?,
-    )
+    fn takes(&mut self, alloc: Global, step: &Step) -> Result<bool, Fail> {
+        match step {
+            Step::SetsNext(next) => Ok(sets_next(self, *next)),
+            Step::Pushes(ticket) => pushes(alloc, self, *ticket),
+            Step::TakesBack => Ok(takes_back(self)),
+            Step::Begins(group) => Ok(begins(alloc, self)? == *group),
+            Step::IsOut(size, next) => Ok(is_out(self, *size, *next)),
+            Step::Waits(count) => Ok(self.count() == *count && self.waiting().len() == *count),
+            Step::Answers(count, last) => answers(alloc, self, *count, *last),
+            Step::KeepsAt(offset) => keeps_at(alloc, self, *offset),
+            Step::Finishes => {
+                self.finish();
+                Ok(true)
+            }
+            Step::Refuses(count) => Ok(refusal_count(alloc, self)? == *count),
+        }
+    }
 }
 
 #[test]
-fn a_group_is_appended_and_answered(rt: HostRuntime) -> Result<(), Fail> {
-    let alloc = rt.alloc();
-    let mut queue = Queue::new(alloc);
-    let told = answers_each(alloc, &mut queue);
-    drop(queue);
-    assert!(rt; told?);
-    Ok(())
-}
-
-fn begins_with_one(alloc: Global, queue: &mut Queue) -> Result<bool, Fail> {
-    Ok(
-        begins(alloc, queue)?.is_none()
-            && pushes(alloc, queue, 1)?
-            && begins(alloc, queue)?.is_some()
-            && queue.is_out(),
-    )
-}
-
-fn answers_one(alloc: Global, queue: &Queue) -> Result<bool, Fail> {
-    Ok(
-        answers(alloc, queue)? == (Some(9), 1, Some(9))
-            && refusal_count(alloc, queue)? == 2
-            && queue.waiting().len() == 2,
-    )
-}
-
-fn is_out_alone(alloc: Global, queue: &mut Queue) -> Result<bool, Fail> {
-    Ok(begins_with_one(alloc, queue)? && pushes(alloc, queue, 2)? && answers_one(alloc, queue)?)
-}
-
-#[test]
-fn a_group_is_out_alone(rt: HostRuntime) -> Result<(), Fail> {
-    let alloc = rt.alloc();
-    let mut queue = Queue::new(alloc);
-    queue.set_next(9);
-    let told = is_out_alone(alloc, &mut queue);
-    drop(queue);
-    assert!(rt; told?);
-    Ok(())
-}
-
-fn takes_one_back(alloc: Global, queue: &mut Queue) -> Result<bool, Fail> {
-    Ok(pushes(alloc, queue, 1)? && takes_back(queue) && queue.count() == 0)
-}
-
-#[test]
-fn the_last_is_taken_back(rt: HostRuntime) -> Result<(), Fail> {
-    let alloc = rt.alloc();
-    let mut queue = Queue::new(alloc);
-    let told = takes_one_back(alloc, &mut queue);
-    drop(queue);
-    assert!(rt; told?);
+fn groups_go_as_their_cases_say(rt: HostRuntime) -> Result<(), Fail> {
+    for (name, parts) in CASES {
+        let queue = Queue::new(rt.alloc());
+        assert!(rt; holds(rt.alloc(), queue, *parts)?, "{name}");
+    }
     Ok(())
 }
 
 #[test]
 fn changes_are_refused_by_the_first_test(rt: HostRuntime) -> Result<(), Fail> {
-    let alloc = rt.alloc();
-    assert!(rt; change_fault(&[], &keys()) == Some(Refusal::TooLarge));
-    assert!(rt; fault_of(alloc, b"", 65_537)? == Some(Refusal::BadKey));
-    assert!(rt; fault_of(alloc, b"z", 65_537)? == Some(Refusal::TooLarge));
-    assert!(rt; fault_of(alloc, b"z", 1)? == Some(Refusal::OutOfRange));
-    assert!(rt; fault_of(alloc, b"a", 65_536)?.is_none());
+    for (count, key, length, refusal) in FAULTS {
+        assert!(rt; fault(rt.alloc(), *count, *key, *length)? == *refusal);
+    }
     Ok(())
 }

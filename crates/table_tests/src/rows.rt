@@ -6,19 +6,84 @@ use shown::rows_of;
 use std::alloc::Global;
 use std::collections::BTreeMap;
 use std::test::Fail;
-use wire::{ExtentId, Note, Row};
+use wire::{ExtentId, Note, Row, Rows};
 
-// These calls pass no contract on, so that a test is proved from what it reads alone.
-/// A value of three bytes at offset 2 of the extent 7.
-fn placed() -> Cell {
-    Cell::Placed(Place {
-        extent: ExtentId::new(7),
-        offset: 2,
-        length: 3,
-    })
+/// What the one cell of a table is.
+enum Kept {
+    Deleted,
+    Inline(&'static [u8]),
+    /// A value of three bytes at offset 2 of the extent 7.
+    Placed,
 }
 
-/// A group of two blocks, `abc` and `defg`.
+/// What was observed of the extent 7.
+enum Observed {
+    /// The group `abc`, `defg` stands at this offset.
+    Acked(u32),
+    /// These bytes stand at this offset.
+    Seen(u32, &'static [u8]),
+    /// It has the group `abc`, `defg` alone.
+    Content,
+}
+
+/// What a case shows, the cell, what was observed, and the value of the one row, if there is one.
+const CASES: &[(&str, Kept, &[Observed], Option<&[u8]>)] = &[
+    ("a deleted key has no row", Kept::Deleted, &[], None),
+    (
+        "a small value is its own row",
+        Kept::Inline(b"v"),
+        &[],
+        Some(b"v"),
+    ),
+    (
+        "an acknowledged group shows a value",
+        Kept::Placed,
+        &[Observed::Acked(1)],
+        Some(b"bcd"),
+    ),
+    (
+        "bytes that were seen show a value",
+        Kept::Placed,
+        &[Observed::Seen(2, b"xyz")],
+        Some(b"xyz"),
+    ),
+    (
+        "the content of an extent shows a value",
+        Kept::Placed,
+        &[Observed::Content],
+        Some(b"cde"),
+    ),
+    (
+        "the earliest that covers is taken",
+        Kept::Placed,
+        &[
+            Observed::Seen(3, b"opqr"),
+            Observed::Seen(1, b"wxyz"),
+            Observed::Seen(2, b"stu"),
+        ],
+        Some(b"xyz"),
+    ),
+    (
+        "a value that none covers has no row",
+        Kept::Placed,
+        &[Observed::Seen(3, b"opqr"), Observed::Seen(2, b"st")],
+        None,
+    ),
+];
+
+// These calls pass no contract on, so that a test is proved from what it reads alone.
+fn cell_of(kept: &Kept) -> Cell {
+    match kept {
+        Kept::Deleted => Cell::Deleted,
+        Kept::Inline(value) => Cell::Inline(Bytes::from_static(value)),
+        Kept::Placed => Cell::Placed(Place {
+            extent: ExtentId::new(7),
+            offset: 2,
+            length: 3,
+        }),
+    }
+}
+
 fn group(alloc: Global) -> Result<Group, Fail> {
     let mut texts = Vec::new(alloc);
     texts.push(b"abc".to_vec(alloc)?)?;
@@ -26,105 +91,73 @@ fn group(alloc: Global) -> Result<Group, Fail> {
     Ok(Group::new(alloc, texts)?)
 }
 
-/// That the group stands at offset 1.
-fn acked(alloc: Global) -> Result<Note, Fail> {
-    Ok(Note::Acked {
-        extent: ExtentId::new(7),
-        offset: 1,
-        group: group(alloc)?,
-    })
+fn groups(alloc: Global) -> Result<Groups, Fail> {
+    let mut groups = Vec::new(alloc);
+    groups.push(group(alloc)?)?;
+    Ok(Groups::of(groups))
 }
 
-/// That these bytes stand at an offset.
-fn seen(offset: u32, bytes: &'static [u8]) -> Note {
-    Note::Seen {
-        extent: ExtentId::new(7),
-        node: 1,
-        offset,
-        bytes: Bytes::from_static(bytes),
+fn note_of(alloc: Global, observed: &Observed) -> Result<Note, Fail> {
+    let extent = ExtentId::new(7);
+    match observed {
+        Observed::Acked(offset) => Ok(Note::Acked {
+            extent,
+            offset: *offset,
+            group: group(alloc)?,
+        }),
+        Observed::Seen(offset, bytes) => Ok(Note::Seen {
+            extent,
+            node: 1,
+            offset: *offset,
+            bytes: Bytes::from_static(bytes),
+        }),
+        Observed::Content => Ok(Note::Content {
+            extent,
+            node: 1,
+            groups: groups(alloc)?,
+        }),
     }
 }
 
-/// That the extent has the group alone.
-fn content(alloc: Global) -> Result<Note, Fail> {
-    let mut groups = Vec::new(alloc);
-    groups.push(group(alloc)?)?;
-    Ok(Note::Content {
-        extent: ExtentId::new(7),
-        node: 1,
-        groups: Groups::of(groups),
-    })
+fn notes_of(alloc: Global, observed: &[Observed]) -> Result<Vec<Note>, Fail> {
+    let mut notes = Vec::new(alloc);
+    for one in observed {
+        notes.push(note_of(alloc, one)?)?;
+    }
+    Ok(notes)
 }
 
-fn has_value(rows: &[Row], value: &[u8]) -> bool {
-    match rows {
-        [row] => row.value.as_slice() == value,
+/// The rows of a table with this cell alone.
+fn rows(alloc: Global, kept: &Kept, notes: &[Note]) -> Result<Rows, Fail> {
+    let mut entries = BTreeMap::new(alloc);
+    entries.insert(Bytes::from_static(b"k"), cell_of(kept))?;
+    Ok(rows_of(alloc, notes, &entries)?)
+}
+
+fn has_value(rows: &[Row], value: Option<&[u8]>) -> bool {
+    match (rows, value) {
+        ([], None) => true,
+        ([row], Some(value)) => row.value.as_slice() == value,
         _ => false,
     }
 }
 
-/// Whether a table with this cell alone has no row.
-fn shows_none(alloc: Global, notes: &[Note], cell: Cell) -> Result<bool, Fail> {
-    let mut entries = BTreeMap::new(alloc);
-    entries.insert(Bytes::from_static(b"k"), cell)?;
-    let rows = rows_of(alloc, notes, &entries)?;
-    Ok(rows.as_slice().is_empty())
-}
-
-/// Whether a table with this cell alone has one row, of this value.
-fn shows(alloc: Global, notes: &[Note], cell: Cell, value: &[u8]) -> Result<bool, Fail> {
-    let mut entries = BTreeMap::new(alloc);
-    entries.insert(Bytes::from_static(b"k"), cell)?;
-    let rows = rows_of(alloc, notes, &entries)?;
-    Ok(has_value(rows.as_slice(), value))
+fn shows(
+    alloc: Global,
+    kept: &Kept,
+    observed: &[Observed],
+    value: Option<&[u8]>,
+) -> Result<bool, Fail> {
+    let notes = notes_of(alloc, observed)?;
+    let told = rows(alloc, kept, notes.as_slice());
+    drop(notes);
+    Ok(has_value(told?.as_slice(), value))
 }
 
 #[test]
-fn a_deleted_key_has_no_row(rt: HostRuntime) -> Result<(), Fail> {
-    assert!(rt; shows_none(rt.alloc(), &[], Cell::Deleted)?);
-    Ok(())
-}
-
-#[test]
-fn a_small_value_is_its_own_row(rt: HostRuntime) -> Result<(), Fail> {
-    let cell = Cell::Inline(Bytes::from_static(b"v"));
-    assert!(rt; shows(rt.alloc(), &[], cell, b"v")?);
-    Ok(())
-}
-
-#[test]
-fn an_acknowledged_group_shows_a_value(rt: HostRuntime) -> Result<(), Fail> {
-    let alloc = rt.alloc();
-    let notes = [acked(alloc)?];
-    assert!(rt; shows(alloc, &notes, placed(), b"bcd")?);
-    Ok(())
-}
-
-#[test]
-fn bytes_that_were_seen_show_a_value(rt: HostRuntime) -> Result<(), Fail> {
-    let notes = [seen(2, b"xyz")];
-    assert!(rt; shows(rt.alloc(), &notes, placed(), b"xyz")?);
-    Ok(())
-}
-
-#[test]
-fn the_content_of_an_extent_shows_a_value(rt: HostRuntime) -> Result<(), Fail> {
-    let alloc = rt.alloc();
-    let notes = [content(alloc)?];
-    assert!(rt; shows(alloc, &notes, placed(), b"cde")?);
-    Ok(())
-}
-
-#[test]
-fn the_earliest_that_covers_is_taken(rt: HostRuntime) -> Result<(), Fail> {
-    let notes = [seen(3, b"opqr"), seen(1, b"wxyz"), seen(2, b"stu")];
-    assert!(rt; shows(rt.alloc(), &notes, placed(), b"xyz")?);
-    Ok(())
-}
-
-#[test]
-fn a_value_that_none_covers_has_no_row(rt: HostRuntime) -> Result<(), Fail> {
-    let notes = [seen(3, b"opqr"), seen(2, b"st")];
-    assert!(rt; shows_none(rt.alloc(), &notes, placed())?);
+fn rows_show_what_their_cases_say(rt: HostRuntime) -> Result<(), Fail> {
+    for (name, kept, observed, value) in CASES {
+        assert!(rt; shows(rt.alloc(), kept, *observed, *value)?, "{name}");
+    }
     Ok(())
 }

@@ -1,0 +1,51 @@
+//! The server that a range is of, and the changes that users ask it for.
+ghost use Rattle.std.specs.Prelude.{◌≡◌};
+
+use blocks::Nodes;
+use bytes::Bytes;
+use model_tables::Desk;
+use std::alloc::Global;
+use std::test::Fail;
+use wire::{Change, Changes, ServerNo};
+
+pub(crate) const PLACES: Nodes = Nodes {
+    primary: 1,
+    second: 2,
+    third: 3,
+};
+
+/// The server, whose groups have two transactions at most and whose next request has this number, at a moment.
+pub(crate) fn desk(count: u32, moment: u64) -> Desk
+    ensures { result.count ≡ count }
+{
+    Desk {
+        server: ServerNo::new(1),
+        session: 1,
+        moment,
+        pick: PLACES,
+        batch: 2,
+        count: u64::from(count),
+    }
+}
+
+fn put(alloc: Global, key: &'static [u8], length: usize) -> Result<Change, Fail> {
+    let value = Bytes::from_vec(vec![in alloc; b'x'; length]?)?;
+    Ok(Change {
+        key: Bytes::from_static(key),
+        value: Some(value),
+    })
+}
+
+/// As many changes, each of which puts a value of this length at the key.
+pub(crate) fn puts(
+    alloc: Global,
+    key: &'static [u8],
+    length: usize,
+    count: usize,
+) -> Result<Changes, Fail> {
+    let mut changes = Vec::new(alloc);
+    for _ in 0..count {
+        changes.push(put(alloc, key, length)?)?;
+    }
+    Ok(Changes::of(changes))
+}
