@@ -1,18 +1,96 @@
 //! What no clause says: that calls succeed where there is memory, and one value from the Get to the answer.
-ghost use Rattle.std.specs.Prelude.{◌≡◌};
+ghost use Rattle.std.specs.Prelude.{◌≡◌, ◌+◌, ◌<◌, ◌^◌};
 ghost use Rattle.cells.specs.Cell.{IsCell};
 
-use blocks::Nodes;
+use crate::cases::{Case, Tested, holds};
+use crate::servers::{desk, extent, number};
 use bytes::Bytes;
 use cells::{Cell, Place};
 use lookups::{Asking, Lookups, MAX_GETS, Tried};
 use memtable::MemTable;
-use model_tables::Desk;
-use std::alloc::Global;
+use std::alloc::{AllocError, Global};
 use std::test::Fail;
-use wire::{
-    ActorId, Body, ExtentId, Packet, ReadBody, Refusal, ReqNo, ServerNo, StreamExtent, TableBody,
-};
+use wire::{ActorId, AppendBody, Body, ExtentId, Packet, ReadBody, Refusal, ReqNo, TableBody};
+
+/// What the Gets of a table are called for.
+pub(crate) enum Call {
+    /// A Get of this key comes.
+    Get(&'static [u8]),
+    /// The read of this number brings 5,000 bytes.
+    Bytes(u32),
+    GiveUp,
+}
+
+/// The one packet that a call sends.
+pub(crate) enum Sent {
+    /// A value of this length.
+    Value(usize),
+    /// A read at this node and this offset.
+    Read(u8, u32),
+    Refusal(Refusal),
+}
+
+/// What is done, or what is known then.
+pub(crate) enum Step {
+    /// The lease ends at this moment, and no more at 9.
+    LeaseEnds(u64),
+    /// It is called where the server's next request has the first number, which has the second then, and sends one packet.
+    Does(u32, Call, u64, Sent),
+    /// How many Gets wait.
+    Waits(usize),
+    /// Whether the request of this number is awaited.
+    Awaits(u32, bool),
+    /// So many are refused.
+    Refuses(usize),
+}
+
+/// A Get of `b` reads what stands elsewhere.
+const READS: Step = Step::Does(4, Call::Get(b"b"), 5, Sent::Read(1, 100));
+
+const CASES: &[Case<Step>] = &[
+    (
+        "a small value is answered",
+        &[
+            Step::Does(4, Call::Get(b"a"), 4, Sent::Value(1)),
+            Step::Waits(0),
+        ],
+    ),
+    (
+        "a large value is read once",
+        &[
+            READS,
+            Step::Awaits(4, true),
+            Step::Awaits(5, false),
+            Step::Does(20, Call::Bytes(4), 20, Sent::Value(5_000)),
+            Step::Waits(0),
+            Step::Does(4, Call::Get(b"b"), 4, Sent::Value(5_000)),
+        ],
+    ),
+    (
+        "what was not asked for is not held",
+        &[
+            READS,
+            Step::Does(20, Call::Bytes(6), 21, Sent::Read(1, 100)),
+            Step::Waits(1),
+        ],
+    ),
+    (
+        "the next node is asked",
+        &[
+            READS,
+            Step::Does(30, Call::GiveUp, 30, Sent::Read(2, 100)),
+            Step::Refuses(1),
+        ],
+    ),
+    (
+        "an ended lease refuses",
+        &[
+            Step::LeaseEnds(5),
+            Step::Does(4, Call::Get(b"a"), 4, Sent::Refusal(Refusal::LeaseEnded)),
+            Step::Waits(0),
+        ],
+    ),
+];
 
 /// The place of the value at `b`.
 fn place() -> Place
@@ -25,25 +103,13 @@ fn place() -> Place
     }
 }
 
-fn nodes() -> Nodes {
-    Nodes {
-        primary: 1,
-        second: 2,
-        third: 3,
-    }
-}
-
-fn desk(count: u64) -> Desk
-    ensures { result.count ≡ count }
-{
-    Desk {
-        server: ServerNo::new(1),
-        session: 1,
-        moment: 5,
-        pick: nodes(),
-        batch: 2,
-        count,
-    }
+/// A table under a lease, and the Gets that wait for what is in it.
+#[derive(Drop)]
+struct Getting {
+    table: MemTable,
+    lookups: Lookups,
+    /// The moment when the lease ends.
+    until: u64,
 }
 
 fn put(alloc: Global, table: &mut MemTable, key: &'static [u8; 1], cell: Cell) -> Result<(), Fail>
@@ -55,291 +121,178 @@ fn put(alloc: Global, table: &mut MemTable, key: &'static [u8; 1], cell: Cell) -
     Ok(())
 }
 
-/// A table, and the Gets that wait for what is in it.
-#[derive(Drop)]
-struct Getting {
-    table: MemTable,
-    lookups: Lookups,
-}
-
-/// A table with a small value at `a` and a large one at `b`, for which no Get waits.
-// In a box: a local that owns much is dropped part by part at each exit, and each costs the proof.
-fn filled(alloc: Global) -> Result<Box<Getting>, Fail> {
-    let lookups = Lookups::new(alloc)?;
-    let table = MemTable::new(alloc);
-    let mut getting = Box::new(alloc, Getting { table, lookups })?;
-    fill(alloc, &mut getting.table)?;
-    Ok(getting)
-}
-
 fn fill(alloc: Global, table: &mut MemTable) -> Result<(), Fail> {
     put(alloc, table, b"a", Cell::Inline(Bytes::from_static(b"x")))?;
     put(alloc, table, b"b", Cell::Placed(place()))
 }
 
-fn log() -> [StreamExtent; 1] {
-    [StreamExtent {
-        extent: ExtentId::new(7),
-        places: nodes(),
-        length: None,
-    }]
+/// A table with a small value at `a` and a large one at `b`.
+fn filled(alloc: Global) -> Result<MemTable, Fail> {
+    let mut table = MemTable::new(alloc);
+    let told = fill(alloc, &mut table);
+    match told {
+        Ok(()) => Ok(table),
+        Err(fail) => {
+            drop(table);
+            Err(fail)
+        }
+    }
 }
 
-/// What a Get of the key answers, where the lease ends at this moment.
+/// Such a table, for which no Get waits.
+fn begun(alloc: Global) -> Result<Getting, Fail> {
+    let table = filled(alloc)?;
+    match Lookups::new(alloc) {
+        Ok(lookups) => Ok(Getting {
+            table,
+            lookups,
+            until: 9,
+        }),
+        Err(full) => {
+            drop(table);
+            Err(Fail::from(full))
+        }
+    }
+}
+
 fn gets(
     alloc: Global,
-    getting: &mut Getting,
-    until: u64,
+    lookups: &mut Lookups,
+    asking: &Asking<'_>,
     key: &'static [u8],
-) -> Result<Option<Tried>, Fail> {
-    let desk = desk(4);
-    let log = log();
-    let asking = Asking {
-        desk: &desk,
-        until,
-        table: &getting.table,
-        log: &log,
-        blob: &[],
-        rows: &[],
-    };
-    if getting.lookups.count() >= MAX_GETS {
+) -> Result<Option<Tried>, AllocError>
+    requires { asking.now.desk.now.count + 1024 < 2 ^ 64 }
+{
+    if lookups.count() >= MAX_GETS {
         return Ok(None);
     }
     let number = ReqNo::User { user: 9, ticket: 2 };
-    let tried = getting.lookups.get(
-        alloc,
-        &asking,
-        ActorId::User(9),
-        number,
-        Bytes::from_static(key),
-    )?;
-    Ok(Some(tried))
+    let key = Bytes::from_static(key);
+    Ok(Some(lookups.get(alloc, asking, ActorId::User(9), number, key)?))
 }
 
 /// What 5,000 bytes bring, as the answer of the read of this number.
-fn reads(alloc: Global, getting: &mut Getting, count: u64) -> Result<Tried, Fail> {
-    let desk = desk(20);
-    let log = log();
-    let asking = Asking {
-        desk: &desk,
-        until: 9,
-        table: &getting.table,
-        log: &log,
-        blob: &[],
-        rows: &[],
-    };
+fn brings(
+    alloc: Global,
+    lookups: &mut Lookups,
+    asking: &Asking<'_>,
+    count: u32,
+) -> Result<Option<Tried>, AllocError>
+    requires { asking.now.desk.now.count + 1024 < 2 ^ 64 }
+{
     let value = Bytes::from_vec(vec![in alloc; b'y'; 5_000]?)?;
-    let tried = getting.lookups.bytes(
-        alloc,
-        &asking,
-        &number_of(count),
-        ExtentId::new(7),
-        100,
-        &value,
-    )?;
-    Ok(tried)
+    let extent = ExtentId::new(7);
+    let tried = lookups.bytes(alloc, asking, &number(count), extent, 100, &value);
+    drop(value);
+    Ok(Some(tried?))
 }
 
-fn gives_up(alloc: Global, getting: &mut Getting) -> Result<Vec<Packet>, Fail> {
-    let desk = desk(30);
-    let log = log();
+fn gives_up(
+    alloc: Global,
+    lookups: &mut Lookups,
+    asking: &Asking<'_>,
+) -> Result<Option<Tried>, AllocError> {
+    Ok(Some(Tried {
+        count: asking.desk.count,
+        packets: lookups.give_up(alloc, asking)?,
+    }))
+}
+
+/// What a call leaves where the server's next request has this number; nothing where there is no room for a Get.
+fn called(
+    alloc: Global,
+    getting: &mut Getting,
+    count: u32,
+    call: &Call,
+) -> Result<Option<Tried>, AllocError> {
+    let desk = desk(count);
+    let log = [extent(None)];
     let asking = Asking {
         desk: &desk,
-        until: 9,
+        until: getting.until,
         table: &getting.table,
         log: &log,
         blob: &[],
         rows: &[],
     };
-    Ok(getting.lookups.give_up(alloc, &asking)?)
-}
-
-fn number_of(count: u64) -> ReqNo {
-    ReqNo::Server {
-        server: ServerNo::new(1),
-        session: 1,
-        count,
+    match call {
+        Call::Get(key) => gets(alloc, &mut getting.lookups, &asking, key),
+        Call::Bytes(count) => brings(alloc, &mut getting.lookups, &asking, *count),
+        Call::GiveUp => gives_up(alloc, &mut getting.lookups, &asking),
     }
 }
 
-/// The length of the value that the first packet answers.
-fn length_in(packets: &[Packet]) -> Option<usize> {
-    match packets {
-        [first, ..] => match &first.body {
+fn is_sent(packet: &Packet, sent: &Sent) -> bool {
+    match (&packet.body, sent) {
+        (
             Body::Table(
                 TableBody::Value {
                     value: Some(bytes),
                     ..
                 },
-            ) => Some(bytes.len()),
-            _ => None,
-        },
-        [] => None,
+            ),
+            Sent::Value(length),
+        ) => bytes.len() == *length,
+        (Body::Read(ReadBody::ReadAt { offset: at, .. }), Sent::Read(node, offset)) => {
+            packet.to == ActorId::Node(*node) && *at == *offset
+        }
+        (Body::Append(AppendBody::Refused { refusal, .. }), Sent::Refusal(wanted)) => {
+            *refusal == *wanted
+        }
+        _ => false,
     }
 }
 
-/// The node that the first packet asks, and the offset of what it asks for.
-fn asked_in(packets: &[Packet]) -> Option<(u8, u32)> {
-    match packets {
-        [first, ..] => match (&first.to, &first.body) {
-            (ActorId::Node(node), Body::Read(ReadBody::ReadAt { offset, .. })) => Some((
-                *node, *offset,
-            )),
-            _ => None,
-        },
-        [] => None,
-    }
-}
-
-/// The length of the value that a Get is answered with at once.
-fn length_at(
-    alloc: Global,
-    getting: &mut Getting,
-    key: &'static [u8],
-) -> Result<Option<usize>, Fail> {
-    match gets(alloc, getting, 9, key)? {
-        None => Ok(None),
-        Some(tried) => Ok(length_in(&tried.packets)),
-    }
-}
-
-/// The node that a Get of `b` asks, and the offset.
-fn asked_for(alloc: Global, getting: &mut Getting) -> Result<Option<(u8, u32)>, Fail> {
-    match gets(alloc, getting, 9, b"b")? {
-        None => Ok(None),
-        Some(tried) => Ok(asked_in(&tried.packets)),
-    }
-}
-
-/// The length of the value that a Get is answered with, when the read of this number has brought it.
-fn length_read(alloc: Global, getting: &mut Getting, count: u64) -> Result<Option<usize>, Fail> {
-    Ok(length_in(&reads(alloc, getting, count)?.packets))
-}
-
-/// The number of the next request, and what is asked for, when the read of this number has brought something.
-fn asked_after(
-    alloc: Global,
-    getting: &mut Getting,
-    count: u64,
-) -> Result<(u64, Option<(u8, u32)>), Fail> {
-    let tried = reads(alloc, getting, count)?;
-    Ok((tried.count, asked_in(&tried.packets)))
-}
-
-/// What is asked for where no answer comes.
-fn asked_again(alloc: Global, getting: &mut Getting) -> Result<Option<(u8, u32)>, Fail> {
-    Ok(asked_in(&gives_up(alloc, getting)?))
-}
-
-fn refusal_count(alloc: Global, getting: &Getting) -> Result<usize, Fail> {
-    Ok(getting.lookups.refusals(alloc, &desk(4))?.len())
-}
-
-// Each of these says whether every step comes to what it should, and each test lets go of its table before it says what it
-// saw, so that the table is let go in one place.
-fn answers_small(alloc: Global, getting: &mut Getting) -> Result<bool, Fail> {
-    Ok(length_at(alloc, getting, b"a")? == Some(1) && getting.lookups.count() == 0)
-}
-
-#[test]
-fn a_small_value_is_answered(rt: HostRuntime) -> Result<(), Fail> {
-    let alloc = rt.alloc();
-    let mut getting = filled(alloc)?;
-    let told = answers_small(alloc, &mut getting);
-    drop(getting);
-    assert!(rt; told?);
-    Ok(())
-}
-
-fn asks_once(alloc: Global, getting: &mut Getting) -> Result<bool, Fail> {
-    Ok(
-        asked_for(alloc, getting)? == Some((1, 100))
-            && getting.lookups.awaits(&number_of(4))
-            && !getting.lookups.awaits(&number_of(5)),
-    )
-}
-
-fn reads_once(alloc: Global, getting: &mut Getting) -> Result<bool, Fail> {
-    Ok(
-        asks_once(alloc, getting)?
-            && length_read(alloc, getting, 4)? == Some(5_000)
-            && getting.lookups.count() == 0
-            && length_at(alloc, getting, b"b")? == Some(5_000),
-    )
-}
-
-#[test]
-fn a_large_value_is_read_once(rt: HostRuntime) -> Result<(), Fail> {
-    let alloc = rt.alloc();
-    let mut getting = filled(alloc)?;
-    let told = reads_once(alloc, &mut getting);
-    drop(getting);
-    assert!(rt; told?);
-    Ok(())
-}
-
-fn asks_on(alloc: Global, getting: &mut Getting) -> Result<bool, Fail> {
-    Ok(
-        asked_for(alloc, getting)? == Some((1, 100))
-            && asked_after(alloc, getting, 6)? == (21, Some((1, 100)))
-            && getting.lookups.count() == 1,
-    )
-}
-
-#[test]
-fn what_was_not_asked_for_is_not_held(rt: HostRuntime) -> Result<(), Fail> {
-    let alloc = rt.alloc();
-    let mut getting = filled(alloc)?;
-    let told = asks_on(alloc, &mut getting);
-    drop(getting);
-    assert!(rt; told?);
-    Ok(())
-}
-
-fn asks_the_next(alloc: Global, getting: &mut Getting) -> Result<bool, Fail> {
-    Ok(
-        asked_for(alloc, getting)? == Some((1, 100))
-            && asked_again(alloc, getting)? == Some((2, 100))
-            && refusal_count(alloc, getting)? == 1,
-    )
-}
-
-#[test]
-fn the_next_node_is_asked(rt: HostRuntime) -> Result<(), Fail> {
-    let alloc = rt.alloc();
-    let mut getting = filled(alloc)?;
-    let told = asks_the_next(alloc, &mut getting);
-    drop(getting);
-    assert!(rt; told?);
-    Ok(())
-}
-
-/// Whether a Get of `a` is refused after the lease, and does not wait.
-fn refuses(alloc: Global, getting: &mut Getting) -> Result<bool, Fail> {
-    Ok(is_refused(&gets(alloc, getting, 5, b"a")?) && getting.lookups.count() == 0)
-}
-
-#[test]
-fn an_ended_lease_refuses(rt: HostRuntime) -> Result<(), Fail> {
-    let alloc = rt.alloc();
-    let mut getting = filled(alloc)?;
-    let told = refuses(alloc, &mut getting);
-    drop(getting);
-    assert!(rt; told?);
-    Ok(())
-}
-
-fn is_refused(tried: &Option<Tried>) -> bool {
+fn comes_to(tried: &Option<Tried>, count: u64, sent: &Sent) -> bool {
     match tried {
         Some(tried) => match tried.packets.as_slice() {
-            [first] => match &first.body {
-                Body::Append(wire::AppendBody::Refused { refusal, .. }) => {
-                    *refusal == Refusal::LeaseEnded
-                }
-                _ => false,
-            },
+            [only] => tried.count == count && is_sent(only, sent),
             _ => false,
         },
         None => false,
     }
+}
+
+fn does(
+    alloc: Global,
+    getting: &mut Getting,
+    count: u32,
+    call: &Call,
+    next: u64,
+    sent: &Sent,
+) -> Result<bool, Fail> {
+    let tried = called(alloc, getting, count, call)?;
+    let told = comes_to(&tried, next, sent);
+    drop(tried);
+    Ok(told)
+}
+
+fn refusal_count(alloc: Global, lookups: &Lookups) -> Result<usize, Fail> {
+    Ok(lookups.refusals(alloc, &desk(4))?.len())
+}
+
+impl Tested for Getting {
+    type Step = Step;
+
+    fn takes(&mut self, alloc: Global, step: &Step) -> Result<bool, Fail> {
+        match step {
+            Step::LeaseEnds(until) => {
+                self.until = *until;
+                Ok(true)
+            }
+            Step::Does(count, call, next, sent) => does(alloc, self, *count, call, *next, sent),
+            Step::Waits(count) => Ok(self.lookups.count() == *count),
+            Step::Awaits(count, awaited) => Ok(self.lookups.awaits(&number(*count)) == *awaited),
+            Step::Refuses(count) => Ok(refusal_count(alloc, &self.lookups)? == *count),
+        }
+    }
+}
+
+#[test]
+fn gets_go_as_their_cases_say(rt: HostRuntime) -> Result<(), Fail> {
+    for (name, steps) in CASES {
+        let getting = begun(rt.alloc())?;
+        assert!(rt; holds(rt.alloc(), getting, *steps)?, "{name}");
+    }
+    Ok(())
 }

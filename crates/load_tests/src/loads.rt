@@ -1,381 +1,195 @@
 //! What no clause says: that calls succeed where there is memory, and loads followed by hand.
-use blocks::{Group, Groups, Nodes};
-use bytes::Bytes;
-use loading::{Progress, RangeContent, Service};
+mod answers;
+
+use crate::cases::{Case, Tested, holds};
+use crate::records::{FIRST, GAP, KEYS};
+use crate::servers::{desk, number};
+use answers::{Answer, body_of};
+use loading::{Progress, RangeContent};
 use model_tables::{Desk, Stage};
-use std::alloc::Global;
+use std::alloc::{AllocError, Global};
 use std::test::Fail;
 use streams::Position;
-use wire::{
-    AppendBody, Body, CheckBody, ExtentId, Fence, Packet, RangeId, ReadBody, Refusal, ReqNo,
-    ServerNo, StreamBody, StreamExtent, StreamExtents, StreamKind, StreamList, StreamLists,
-};
+use wire::{Body, Fence, Packet, RangeId, StreamBody, StreamKind};
 
-/// A record of the metadata: the keys below `m`.
-const KEYS: [u8; 15] = [0, 0, 0, 0, 0, 0, 0, 1, 1, 0, 0, 1, 0, 1, b'm'];
+/// The part of a load that an answer is for.
+pub(crate) enum Part {
+    Load,
+    Metadata,
+    Log,
+}
 
-/// A record of the transaction of number 1, which puts `x` at `a`.
-const LOG: [u8; 24] = [
-    0, 0, 0, 24, 0, 0, 0, 0, 0, 0, 0, 1, 0, 1, 1, 0, 1, b'a', 1, 0, 0, 0, 1, b'x',
+/// What comes of an answer.
+pub(crate) enum Outcome {
+    /// Nothing has changed.
+    Rests,
+    Silence,
+    /// A packet that does not ask for confirmation.
+    Request,
+    /// A request for confirmation, under the number of the server's next request.
+    Confirm,
+    Dropped,
+    /// The range is served: the number of its next transaction, and the offset where its log ends.
+    Serves(u64, u32),
+}
+
+/// What is done with a load, or what is known of it.
+pub(crate) enum Step {
+    /// The request of the first number is answered, where the server's next request has the second, and this comes of it.
+    Answered(Part, u32, u32, Answer, Outcome),
+    /// No answer comes, where the server's next request has this number. Whether the opening, the metadata's job and the log's are
+    /// asked for again.
+    GivesUp(u32, (bool, bool, bool)),
+    IsAt(Stage),
+    /// How many keys the table has.
+    Keys(usize),
+    /// The number of the next record of the metadata.
+    NextRecord(u64),
+}
+
+use Outcome::{Confirm, Dropped, Request, Rests, Serves, Silence};
+use Part::{Load, Log, Metadata};
+use Step::{Answered, GivesUp, IsAt, Keys, NextRecord};
+
+const CASES: &[Case<Step>] = &[
+    (
+        "an empty range is served",
+        &[
+            Answered(Load, 1, 2, Answer::Empty, Confirm),
+            Answered(Load, 2, 3, Answer::Confirmed, Serves(1, 0)),
+            IsAt(Stage::Serving),
+            Answered(Load, 2, 4, Answer::Confirmed, Rests),
+        ],
+    ),
+    (
+        "a sealed log is read",
+        &[
+            Answered(Load, 1, 2, Answer::Log(Some(24)), Request),
+            Answered(Log, 2, 3, Answer::Group(FIRST), Confirm),
+            Answered(Load, 3, 4, Answer::Confirmed, Serves(2, 24)),
+            Keys(1),
+        ],
+    ),
+    (
+        "an open log is checked first",
+        &[
+            Answered(Load, 1, 2, Answer::Log(None), Request),
+            IsAt(Stage::Checking {
+                kind: StreamKind::Log,
+            }),
+            Answered(Log, 2, 3, Answer::Checked(24), Request),
+            Answered(Log, 3, 4, Answer::Group(FIRST), Confirm),
+        ],
+    ),
+    (
+        "a gap drops the range",
+        &[
+            Answered(Load, 1, 2, Answer::Log(Some(24)), Request),
+            Answered(Log, 2, 3, Answer::Group(GAP), Dropped),
+        ],
+    ),
+    (
+        "the metadata is read before the log",
+        &[
+            Answered(Load, 1, 2, Answer::Metadata(15), Request),
+            Answered(Metadata, 1, 3, Answer::Group(KEYS), Silence),
+            Answered(Metadata, 2, 4, Answer::Group(KEYS), Confirm),
+            NextRecord(2),
+        ],
+    ),
+    (
+        "an old generation drops the range",
+        &[Answered(Load, 1, 2, Answer::Stale, Dropped)],
+    ),
+    (
+        "what is not answered is asked for again",
+        &[
+            GivesUp(2, (true, false, false)),
+            Answered(Load, 1, 4, Answer::Log(None), Request),
+            GivesUp(5, (false, false, true)),
+        ],
+    ),
 ];
 
-/// A record of the transaction of number 4.
-const GAP: [u8; 24] = [
-    0, 0, 0, 24, 0, 0, 0, 0, 0, 0, 0, 4, 0, 1, 1, 0, 1, b'a', 1, 0, 0, 0, 1, b'y',
-];
-
-// These calls pass no contract on, so that a test is proved from what it reads alone.
-fn places() -> Nodes {
-    Nodes {
-        primary: 1,
-        second: 2,
-        third: 3,
-    }
+/// A load under the generation 2, whose first request has the number 1.
+fn begun(alloc: Global) -> Result<RangeContent, Fail> {
+    let (content, packet) = RangeContent::new(alloc, &desk(1), RangeId::new(5), Fence::new(2))?;
+    drop(packet);
+    Ok(content)
 }
 
-/// The server, whose next request has this number.
-fn desk(count: u64) -> Desk {
-    Desk {
-        server: ServerNo::new(1),
-        session: 1,
-        moment: 0,
-        pick: places(),
-        batch: 16,
-        count,
-    }
+/// What comes of an answer for a part, if its range is not served yet or the part is the load.
+fn reply(
+    content: &mut RangeContent,
+    alloc: Global,
+    desk: &Desk,
+    part: &Part,
+    body: &Body,
+) -> Result<Option<Progress>, AllocError> {
+    let progress = match part {
+        Part::Load => content.load_reply(alloc, desk, body)?,
+        Part::Metadata => content.metadata_reply(alloc, desk, body)?,
+        Part::Log => {
+            if content.stage == Stage::Serving {
+                return Ok(None);
+            }
+            content.log_load_reply(alloc, desk, body)?
+        }
+    };
+    Ok(Some(progress))
 }
 
-fn number(count: u64) -> ReqNo {
-    ReqNo::Server {
-        server: ServerNo::new(1),
-        session: 1,
-        count,
-    }
-}
-
-/// A stream of one extent, of this number and of this length where it is sealed.
-fn one_extent(alloc: Global, extent: u64, length: Option<u32>) -> Result<StreamList, Fail> {
-    let mut extents = Vec::new(alloc);
-    extents.push(StreamExtent {
-        extent: ExtentId::new(extent),
-        places: places(),
-        length,
-    })?;
-    Ok(StreamList {
-        base: 0,
-        extents: StreamExtents::of(extents),
-    })
-}
-
-fn no_extent(alloc: Global) -> StreamList {
-    StreamList {
-        base: 0,
-        extents: StreamExtents::of(Vec::new(alloc)),
-    }
-}
-
-fn opened(alloc: Global, metadata: StreamList, log: StreamList) -> Body {
-    Body::Stream(StreamBody::Opened {
-        request: number(1),
-        streams: StreamLists {
-            metadata,
-            log,
-            row_data: no_extent(alloc),
-            blob_data: no_extent(alloc),
-        },
-    })
-}
-
-/// The groups of the extent 7: one block of this text.
-fn groups(alloc: Global, count: u64, text: &[u8]) -> Result<Body, Fail> {
-    let mut texts = Vec::new(alloc);
-    texts.push(text.to_vec(alloc)?)?;
-    let mut groups = Vec::new(alloc);
-    groups.push(Group::new(alloc, texts)?)?;
-    Ok(Body::Read(ReadBody::Groups {
-        request: number(count),
-        extent: ExtentId::new(7),
-        groups: Groups::of(groups),
-    }))
-}
-
-fn stale(count: u64) -> Body {
-    Body::Append(AppendBody::Refused {
-        request: number(count),
-        refusal: Refusal::Stale,
-    })
-}
-
-fn confirmed(count: u64) -> Body {
-    Body::Stream(StreamBody::Confirmed {
-        request: number(count),
-    })
-}
-
-fn checked(count: u64, length: u32) -> Body {
-    Body::Check(CheckBody::Checked {
-        request: number(count),
-        length: Some(length),
-    })
-}
-
-/// A load under the generation 2, whose first request has the number 1, and the packet that asks.
-// In a box: a local that owns much is dropped part by part at each exit, and each costs the proof.
-fn begun(alloc: Global) -> Result<Box<(RangeContent, Packet)>, Fail> {
-    let begun = RangeContent::new(alloc, &desk(1), RangeId::new(5), Fence::new(2))?;
-    Ok(Box::new(alloc, begun)?)
-}
-
-fn is_confirm(packet: &Packet, count: u64) -> bool {
+fn is_confirm(packet: &Packet, count: u32) -> bool {
     match &packet.body {
         Body::Stream(StreamBody::Confirm { request, .. }) => *request == number(count),
         _ => false,
     }
 }
 
-/// What came of an answer, in short.
-#[derive(Clone, Copy, Debug, PartialEq, Eq)]
-enum Came {
-    Nothing,
-    Silence,
-    Request,
-    Confirm,
-    Drop,
-    Service { next: u64, end: Position },
-}
-
-fn what_came(progress: &Progress, count: u64) -> Came {
-    match progress {
-        Progress::Rests => Came::Nothing,
-        Progress::Goes(None) => Came::Silence,
-        Progress::Goes(Some(packet)) => {
-            if is_confirm(packet, count) {
-                Came::Confirm
-            } else {
-                Came::Request
-            }
+fn is_outcome(progress: &Progress, count: u32, outcome: &Outcome) -> bool {
+    match (progress, outcome) {
+        (Progress::Rests, Rests) | (Progress::Goes(None), Silence) | (Progress::Dropped, Dropped) =>
+            { true }
+        (Progress::Goes(Some(packet)), Request) => !is_confirm(packet, count),
+        (Progress::Goes(Some(packet)), Confirm) => is_confirm(packet, count),
+        (Progress::Serves(service), Serves(next, offset)) => {
+            service.next == *next
+                && service.position
+                    == Position {
+                        index: 0,
+                        offset: *offset,
+                    }
         }
-        Progress::Dropped => Came::Drop,
-        Progress::Serves(Service { next, position, .. }) => Came::Service {
-            next: *next,
-            end: *position,
-        },
+        _ => false,
     }
 }
 
-fn came_of(progress: Progress, count: u64) -> Came {
-    let came = what_came(&progress, count);
-    drop(progress);
-    came
-}
-
-fn load(content: &mut RangeContent, alloc: Global, count: u64, body: Body) -> Result<Came, Fail> {
-    let told = content.load_reply(alloc, &desk(count), &body);
-    drop(body);
-    Ok(came_of(told?, count))
-}
-
-fn metadata(
-    content: &mut RangeContent,
-    alloc: Global,
-    count: u64,
-    body: Body,
-) -> Result<Came, Fail> {
-    let told = content.metadata_reply(alloc, &desk(count), &body);
-    drop(body);
-    Ok(came_of(told?, count))
-}
-
-fn log(content: &mut RangeContent, alloc: Global, count: u64, body: Body) -> Result<Came, Fail> {
-    if content.stage == Stage::Serving {
-        drop(body);
-        return Err(Fail::from("the range is served"));
-    }
-    let told = content.log_load_reply(alloc, &desk(count), &body);
-    drop(body);
-    Ok(came_of(told?, count))
-}
-
-/// What comes of the streams of a range.
-fn opens(
-    content: &mut RangeContent,
-    alloc: Global,
-    count: u64,
-    metadata: StreamList,
-    log: StreamList,
-) -> Result<Came, Fail> {
-    load(content, alloc, count, opened(alloc, metadata, log))
-}
-
-/// What comes of a log with one extent, of this length where it is sealed.
-fn opens_log(
-    content: &mut RangeContent,
-    alloc: Global,
-    count: u64,
-    length: Option<u32>,
-) -> Result<Came, Fail> {
-    let log = one_extent(alloc, 7, length)?;
-    opens(content, alloc, count, no_extent(alloc), log)
-}
-
-/// What comes of a record of the metadata.
-fn says(
-    content: &mut RangeContent,
-    alloc: Global,
-    count: u64,
-    asked: u64,
-    text: &[u8],
-) -> Result<Came, Fail> {
-    metadata(content, alloc, count, groups(alloc, asked, text)?)
-}
-
-/// What comes of a record of the log.
-fn reads(
-    content: &mut RangeContent,
-    alloc: Global,
-    count: u64,
-    asked: u64,
-    text: &[u8],
-) -> Result<Came, Fail> {
-    log(content, alloc, count, groups(alloc, asked, text)?)
-}
-
-fn served(next: u64, offset: u32) -> Came {
-    Came::Service {
-        next,
-        end: Position { index: 0, offset },
-    }
-}
-
-// Each of these says whether every step of a load comes to what it should, and each test lets go of its range before it says
-// what it saw, so that the range is let go in one place.
-fn serves_nothing(content: &mut RangeContent, alloc: Global) -> Result<bool, Fail> {
-    Ok(
-        opens(content, alloc, 2, no_extent(alloc), no_extent(alloc))? == Came::Confirm
-            && load(content, alloc, 3, confirmed(2))? == served(1, 0)
-            && content.stage == Stage::Serving
-            && load(content, alloc, 4, confirmed(2))? == Came::Nothing,
-    )
-}
-
-#[test]
-fn an_empty_range_is_served(rt: HostRuntime) -> Result<(), Fail> {
-    let alloc = rt.alloc();
-    let mut begun = begun(alloc)?;
-    let told = serves_nothing(&mut begun.0, alloc);
-    drop(begun);
-    assert!(rt; told?);
-    Ok(())
-}
-
-fn reads_sealed(content: &mut RangeContent, alloc: Global) -> Result<bool, Fail> {
-    Ok(
-        opens_log(content, alloc, 2, Some(24))? == Came::Request
-            && reads(content, alloc, 3, 2, &LOG)? == Came::Confirm
-            && load(content, alloc, 4, confirmed(3))? == served(2, 24)
-            && content.table.live().len() == 1,
-    )
-}
-
-#[test]
-fn a_sealed_log_is_read(rt: HostRuntime) -> Result<(), Fail> {
-    let alloc = rt.alloc();
-    let mut begun = begun(alloc)?;
-    let told = reads_sealed(&mut begun.0, alloc);
-    drop(begun);
-    assert!(rt; told?);
-    Ok(())
-}
-
-fn is_checking_log(content: &RangeContent) -> bool {
-    let checking = Stage::Checking {
-        kind: StreamKind::Log,
+fn comes_to(progress: Option<Progress>, count: u32, outcome: &Outcome) -> bool {
+    let told = match &progress {
+        Some(progress) => is_outcome(progress, count, outcome),
+        None => false,
     };
-    content.stage == checking
+    drop(progress);
+    told
 }
 
-fn reads_open(content: &mut RangeContent, alloc: Global) -> Result<bool, Fail> {
-    Ok(
-        opens_log(content, alloc, 2, None)? == Came::Request
-            && is_checking_log(content)
-            && log(content, alloc, 3, checked(2, 24))? == Came::Request
-            && reads(content, alloc, 4, 3, &LOG)? == Came::Confirm,
-    )
+fn answered(
+    content: &mut RangeContent,
+    alloc: Global,
+    part: &Part,
+    asked: u32,
+    count: u32,
+    answer: &Answer,
+    outcome: &Outcome,
+) -> Result<bool, Fail> {
+    let body = body_of(alloc, asked, answer)?;
+    let told = reply(content, alloc, &desk(count), part, &body);
+    drop(body);
+    Ok(comes_to(told?, count, outcome))
 }
 
-#[test]
-fn an_open_log_is_checked_first(rt: HostRuntime) -> Result<(), Fail> {
-    let alloc = rt.alloc();
-    let mut begun = begun(alloc)?;
-    let told = reads_open(&mut begun.0, alloc);
-    drop(begun);
-    assert!(rt; told?);
-    Ok(())
-}
-
-fn drops_at_gap(content: &mut RangeContent, alloc: Global) -> Result<bool, Fail> {
-    Ok(
-        opens_log(content, alloc, 2, Some(24))? == Came::Request
-            && reads(content, alloc, 3, 2, &GAP)? == Came::Drop,
-    )
-}
-
-#[test]
-fn a_gap_drops_the_range(rt: HostRuntime) -> Result<(), Fail> {
-    let alloc = rt.alloc();
-    let mut begun = begun(alloc)?;
-    let told = drops_at_gap(&mut begun.0, alloc);
-    drop(begun);
-    assert!(rt; told?);
-    Ok(())
-}
-
-/// What comes of metadata with one extent of 15 bytes.
-fn opens_metadata(content: &mut RangeContent, alloc: Global) -> Result<Came, Fail> {
-    let metadata = one_extent(alloc, 7, Some(15))?;
-    opens(content, alloc, 2, metadata, no_extent(alloc))
-}
-
-fn reads_metadata(content: &mut RangeContent, alloc: Global) -> Result<bool, Fail> {
-    Ok(
-        opens_metadata(content, alloc)? == Came::Request
-            && says(content, alloc, 3, 1, &KEYS)? == Came::Silence
-            && says(content, alloc, 4, 2, &KEYS)? == Came::Confirm
-            && content.said.next_number() == 2,
-    )
-}
-
-#[test]
-fn the_metadata_is_read_before_the_log(rt: HostRuntime) -> Result<(), Fail> {
-    let alloc = rt.alloc();
-    let mut begun = begun(alloc)?;
-    let told = reads_metadata(&mut begun.0, alloc);
-    drop(begun);
-    assert!(rt; told?);
-    Ok(())
-}
-
-fn drops_when_stale(content: &mut RangeContent, alloc: Global) -> Result<bool, Fail> {
-    Ok(load(content, alloc, 2, stale(1))? == Came::Drop)
-}
-
-#[test]
-fn an_old_generation_drops_the_range(rt: HostRuntime) -> Result<(), Fail> {
-    let alloc = rt.alloc();
-    let mut begun = begun(alloc)?;
-    let told = drops_when_stale(&mut begun.0, alloc);
-    drop(begun);
-    assert!(rt; told?);
-    Ok(())
-}
-
-/// Whether the opening, the metadata's job and the log's are asked again.
-fn asks_again(content: &mut RangeContent, count: u64) -> (bool, bool, bool) {
-    let desk = desk(count);
-    if desk.count == u64::MAX {
-        return (false, false, false);
-    }
-    let given = content.give_up(&desk);
+fn gives_up(content: &mut RangeContent, count: u32) -> (bool, bool, bool) {
+    let given = content.give_up(&desk(count));
     let asked = (
         given.load.is_some(),
         given.metadata.is_some(),
@@ -385,20 +199,27 @@ fn asks_again(content: &mut RangeContent, count: u64) -> (bool, bool, bool) {
     asked
 }
 
-fn asks_each_again(content: &mut RangeContent, alloc: Global) -> Result<bool, Fail> {
-    Ok(
-        asks_again(content, 2) == (true, false, false)
-            && opens_log(content, alloc, 4, None)? == Came::Request
-            && asks_again(content, 5) == (false, false, true),
-    )
+impl Tested for RangeContent {
+    type Step = Step;
+
+    fn takes(&mut self, alloc: Global, step: &Step) -> Result<bool, Fail> {
+        match step {
+            Answered(part, asked, count, answer, outcome) => {
+                answered(self, alloc, part, *asked, *count, answer, outcome)
+            }
+            GivesUp(count, asked) => Ok(gives_up(self, *count) == *asked),
+            IsAt(stage) => Ok(self.stage == *stage),
+            Keys(count) => Ok(self.table.live().len() == *count),
+            NextRecord(number) => Ok(self.said.next_number() == *number),
+        }
+    }
 }
 
 #[test]
-fn what_is_not_answered_is_asked_again(rt: HostRuntime) -> Result<(), Fail> {
-    let alloc = rt.alloc();
-    let mut begun = begun(alloc)?;
-    let told = asks_each_again(&mut begun.0, alloc);
-    drop(begun);
-    assert!(rt; told?);
+fn loads_go_as_their_cases_say(rt: HostRuntime) -> Result<(), Fail> {
+    for (name, steps) in CASES {
+        let content = begun(rt.alloc())?;
+        assert!(rt; holds(rt.alloc(), content, *steps)?, "{name}");
+    }
     Ok(())
 }

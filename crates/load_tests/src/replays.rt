@@ -1,5 +1,6 @@
 //! What no clause says: that calls succeed where there is memory, and a log and a record of metadata read by hand.
-use blocks::Group;
+use crate::cases::{Case, Tested, holds};
+use crate::records::{GAP, KEYS, groups};
 use bytes::Bytes;
 use cells::{Cell, Place};
 use memtable::MemTable;
@@ -9,11 +10,8 @@ use std::alloc::Global;
 use std::test::Fail;
 use wire::ExtentId;
 
-/// A record of the metadata: the keys below `m`.
-const KEYS: [u8; 15] = [0, 0, 0, 0, 0, 0, 0, 1, 1, 0, 0, 1, 0, 1, b'm'];
-
 /// A record of two transactions: of number 1, which puts `x` at `a`, and of number 2, which puts a large value at `b`.
-const LOG: [u8; 34] = [
+const LOG: &[u8] = &[
     0, 0, 0, 34, // its length
     0, 0, 0, 0, 0, 0, 0, 1, // the first number
     0, 2, // two transactions
@@ -21,20 +19,61 @@ const LOG: [u8; 34] = [
     1, 0, 1, b'b', 2, 0, 0, 0, 19, 136, // a value of 5,000 bytes in the first block behind
 ];
 
-/// A record of the transaction of number 4.
-const GAP: [u8; 24] = [
-    0, 0, 0, 24, 0, 0, 0, 0, 0, 0, 0, 4, 0, 1, 1, 0, 1, b'a', 1, 0, 0, 0, 1, b'y',
+/// What is done with a log, or what is known of what was read of it.
+pub(crate) enum Step {
+    /// A group with this record, and with a block of each of these sizes behind it, is read as the first of the extent 7.
+    Reads(&'static [u8], &'static [usize]),
+    /// A group with this record alone is damage.
+    Refuses(&'static [u8]),
+    /// The number of the next transaction.
+    Next(u64),
+    /// The offset and the length of the value at `b`.
+    IsPlaced(u32, u32),
+    /// How many keys the table has.
+    Keys(usize),
+}
+
+const CASES: &[Case<Step>] = &[
+    (
+        "a log is read once",
+        &[
+            Step::Reads(LOG, &[5_000]),
+            Step::Next(3),
+            Step::Reads(LOG, &[5_000]),
+            Step::Next(3),
+        ],
+    ),
+    (
+        "a large value is kept by its place",
+        &[
+            Step::Reads(LOG, &[5_000]),
+            Step::IsPlaced(34, 5_000),
+            Step::Keys(2),
+        ],
+    ),
+    ("a gap is damage", &[Step::Refuses(GAP), Step::Next(1)]),
 ];
 
-fn groups_of(alloc: Global, text: &[u8], values: &[usize]) -> Result<Vec<Group>, Fail> {
-    let mut texts = Vec::new(alloc);
-    texts.push(text.to_vec(alloc)?)?;
-    for size in values {
-        texts.push(vec![in alloc; b'z'; *size]?)?;
-    }
-    let mut groups = Vec::new(alloc);
-    groups.push(Group::new(alloc, texts)?)?;
-    Ok(groups)
+/// What a load has read of a log.
+#[derive(Drop)]
+struct Log {
+    regions: Vec<Region>,
+    table: MemTable,
+}
+
+/// The regions of a log of which no group was read, with all keys.
+fn first_regions(alloc: Global) -> Result<Vec<Region>, Fail> {
+    let first = Metadata::first(alloc)?;
+    let regions = copied_regions(alloc, first.regions());
+    drop(first);
+    Ok(regions?)
+}
+
+fn begun(alloc: Global) -> Result<Log, Fail> {
+    Ok(Log {
+        regions: first_regions(alloc)?,
+        table: MemTable::new(alloc),
+    })
 }
 
 fn all_keys() -> KeyRange {
@@ -44,123 +83,85 @@ fn all_keys() -> KeyRange {
     }
 }
 
-/// What a load has read of a log.
-#[derive(Drop)]
-struct Log {
-    regions: Vec<Region>,
-    table: MemTable,
-}
-
-fn first(alloc: Global) -> Result<Box<Metadata>, Fail> {
-    Ok(Box::new(alloc, Metadata::first(alloc)?)?)
-}
-
-/// A log of which no group was read, with all keys.
-// In a box: a local that owns much is dropped part by part at each exit, and each costs the proof.
-fn begun(alloc: Global) -> Result<Box<Log>, Fail> {
-    let said = first(alloc)?;
-    let regions = copied_regions(alloc, said.regions())?;
-    let table = MemTable::new(alloc);
-    Ok(Box::new(alloc, Log { regions, table })?)
-}
-
-/// Whether the group was taken as the first of the extent 7.
-fn reads(alloc: Global, log: &mut Log, text: &[u8], values: &[usize]) -> Result<bool, Fail> {
-    let groups = groups_of(alloc, text, values)?;
-    let keys = all_keys();
-    let extent = ExtentId::new(7);
-    match replayed(alloc, &log.regions, &keys, extent, 0, groups.as_slice()) {
+/// Whether the group was taken.
+fn reads(alloc: Global, log: &mut Log, text: &[u8], sizes: &[usize]) -> Result<bool, Fail> {
+    let groups = groups(alloc, text, sizes)?;
+    let read = replayed(
+        alloc,
+        &log.regions,
+        &all_keys(),
+        ExtentId::new(7),
+        0,
+        groups.as_slice(),
+    );
+    drop(groups);
+    match read {
         Ok((regions, changes)) => {
-            log.table.apply(alloc, changes)?;
             log.regions = regions;
+            log.table.apply(alloc, changes)?;
             Ok(true)
         }
         Err(_fault) => Ok(false),
     }
 }
 
-fn next_of(log: &Log) -> Option<u64> {
+fn has_next(log: &Log, next: u64) -> bool {
     match open_region(&log.regions) {
-        None => None,
-        Some(region) => Some(region.next),
+        None => false,
+        Some(region) => region.next == next,
     }
 }
 
-fn place_at_b(log: &Log) -> Option<Place> {
-    match log.table.get(&Bytes::from_static(b"b")) {
-        Some(Cell::Placed(place)) => Some(*place),
-        _ => None,
-    }
-}
-
-/// The number of the next record of the metadata.
-fn says(alloc: Global, text: &[u8]) -> Result<u64, Fail> {
-    let groups = groups_of(alloc, text, &[])?;
-    let first = first(alloc)?;
-    let said = Box::new(alloc, folded(alloc, &first, groups.as_slice())?)?;
-    Ok(said.next_number())
-}
-
-// Each of these says whether every step comes to what it should, and each test lets go of its log before it says what it saw,
-// so that the log is let go in one place.
-fn is_read_once(alloc: Global, log: &mut Log) -> Result<bool, Fail> {
-    Ok(
-        reads(alloc, log, &LOG, &[5_000])?
-            && next_of(log) == Some(3)
-            && reads(alloc, log, &LOG, &[5_000])?
-            && next_of(log) == Some(3),
-    )
-}
-
-#[test]
-fn a_log_is_read_once(rt: HostRuntime) -> Result<(), Fail> {
-    let alloc = rt.alloc();
-    let mut log = begun(alloc)?;
-    let told = is_read_once(alloc, &mut log);
-    drop(log);
-    assert!(rt; told?);
-    Ok(())
-}
-
-fn keeps_place(alloc: Global, log: &mut Log) -> Result<bool, Fail> {
-    let place = Place {
+fn is_placed(log: &Log, offset: u32, length: u32) -> bool {
+    let wanted = Place {
         extent: ExtentId::new(7),
-        offset: 34,
-        length: 5_000,
+        offset,
+        length,
     };
-    Ok(
-        reads(alloc, log, &LOG, &[5_000])?
-            && place_at_b(log) == Some(place)
-            && log.table.live().len() == 2,
-    )
+    match log.table.get(&Bytes::from_static(b"b")) {
+        Some(Cell::Placed(place)) => *place == wanted,
+        _ => false,
+    }
+}
+
+impl Tested for Log {
+    type Step = Step;
+
+    fn takes(&mut self, alloc: Global, step: &Step) -> Result<bool, Fail> {
+        match step {
+            Step::Reads(text, sizes) => reads(alloc, self, text, sizes),
+            Step::Refuses(text) => Ok(!reads(alloc, self, text, &[])?),
+            Step::Next(next) => Ok(has_next(self, *next)),
+            Step::IsPlaced(offset, length) => Ok(is_placed(self, *offset, *length)),
+            Step::Keys(count) => Ok(self.table.live().len() == *count),
+        }
+    }
 }
 
 #[test]
-fn a_large_value_is_kept_by_its_place(rt: HostRuntime) -> Result<(), Fail> {
-    let alloc = rt.alloc();
-    let mut log = begun(alloc)?;
-    let told = keeps_place(alloc, &mut log);
-    drop(log);
-    assert!(rt; told?);
+fn logs_go_as_their_cases_say(rt: HostRuntime) -> Result<(), Fail> {
+    for (name, steps) in CASES {
+        let log = begun(rt.alloc())?;
+        assert!(rt; holds(rt.alloc(), log, *steps)?, "{name}");
+    }
     Ok(())
 }
 
-fn refuses_gap(alloc: Global, log: &mut Log) -> Result<bool, Fail> {
-    Ok(!reads(alloc, log, &GAP, &[])? && next_of(log) == Some(1))
-}
-
-#[test]
-fn a_gap_is_damage(rt: HostRuntime) -> Result<(), Fail> {
-    let alloc = rt.alloc();
-    let mut log = begun(alloc)?;
-    let told = refuses_gap(alloc, &mut log);
-    drop(log);
-    assert!(rt; told?);
-    Ok(())
+/// The number of the next record of the metadata, once this one is read.
+fn next_record(alloc: Global, text: &[u8]) -> Result<u64, Fail> {
+    let groups = groups(alloc, text, &[])?;
+    let first = Metadata::first(alloc)?;
+    let said = folded(alloc, &first, groups.as_slice());
+    drop(first);
+    drop(groups);
+    let said = said?;
+    let next = said.next_number();
+    drop(said);
+    Ok(next)
 }
 
 #[test]
 fn metadata_is_folded(rt: HostRuntime) -> Result<(), Fail> {
-    assert_eq!(rt; says(rt.alloc(), &KEYS)?, 2);
+    assert!(rt; next_record(rt.alloc(), KEYS)? == 2);
     Ok(())
 }

@@ -1,0 +1,32 @@
+//! How a case is run.
+use std::alloc::Global;
+use std::test::Fail;
+
+/// What a case is about.
+pub(crate) trait Tested: Drop {
+    type Step;
+
+    /// Whether a step comes to what it should.
+    fn takes(&mut self, alloc: Global, step: &Self::Step) -> Result<bool, Fail>;
+}
+
+/// What a case shows, and its steps.
+pub(crate) type Case<S> = (&'static str, &'static [S]);
+
+fn all_hold<T: Tested>(alloc: Global, tested: &mut T, steps: &[T::Step]) -> Result<bool, Fail> {
+    for step in steps {
+        if !tested.takes(alloc, step)? {
+            return Ok(false);
+        }
+    }
+    Ok(true)
+}
+
+/// Whether every step of a case comes to what it should. What is tested is let go of here alone: each exit of a function lets go
+/// of what it owns part by part, and each part costs the proof.
+pub(crate) fn holds<T: Tested>(alloc: Global, start: T, steps: &[T::Step]) -> Result<bool, Fail> {
+    let mut tested = start;
+    let told = all_hold(alloc, &mut tested, steps);
+    drop(tested);
+    told
+}
