@@ -1,12 +1,14 @@
+//! Tables of streams by name.
 ghost use Rattle.std.specs.Prelude.{nat_le, if◌then◌else◌, Some, None};
 
-use crate::asserted::same;
+use crate::cases::{Subject, holds};
+use Event::{Confirms, CreateFour, Creates, Extending, Extends, IsStream, Locates, Opening, Opens};
+use StreamKind::{BlobData, Log, Metadata, RowData};
 use std::alloc::Global;
-use std::test::Fail;
 use streams::{Position, SealedLengths, StreamFault, StreamTable};
 use wire::{ExtentId, Fence, RangeId, StreamKind, StreamName};
 
-/// Extents up to one of this number are sealed, at that many bytes.
+/// Extents up to the one of this number are sealed, at 7 bytes each.
 #[derive(Drop)]
 struct UpTo {
     last: u64,
@@ -24,44 +26,138 @@ impl SealedLengths for UpTo {
     }
 }
 
-fn kind_of(number: u8) -> StreamKind {
-    match number {
-        0 => StreamKind::Metadata,
-        1 => StreamKind::Log,
-        2 => StreamKind::RowData,
-        _ => StreamKind::BlobData,
-    }
+/// What a call answers that changes a table or not.
+pub(crate) type Done = Result<(), StreamFault>;
+
+/// The last extent that a call answers, if it is not the one that it was given.
+pub(crate) type End = Result<Option<u64>, StreamFault>;
+
+/// The base, the fence and the last extent of a stream, and how many extents it has.
+pub(crate) type Shown = (u64, u64, Option<u64>, usize);
+
+/// What happens to a table, or what is seen of it. A range is named first, then a kind, a generation and an extent.
+#[derive(Clone, Copy)]
+pub(crate) enum Event {
+    Creates(u64, StreamKind, u64, Done),
+    /// The four streams of a range are created, the first of the kinds last.
+    CreateFour(u64, u64),
+    Opens(u64, u64, Done),
+    /// Whether it might be opened.
+    Opening(u64, u64, Done),
+    Confirms(u64, u64, Done),
+    /// The log of range 5 is given one more extent for a generation that takes an extent for the last one, where the
+    /// extents up to a third one are sealed.
+    Extends(u64, Option<u64>, u64, u64, End),
+    /// Whether it might be given one more, where no extent is sealed.
+    Extending(u64, Option<u64>, End),
+    /// Where the byte 9 of the extent of an index in the log of a range is.
+    Locates(u64, u64, Option<(u64, u32)>),
+    IsStream(u64, StreamKind, Option<Shown>),
 }
 
-fn name(range: u64, kind: u8) -> StreamName {
-    StreamName {
-        range: RangeId::new(range),
-        kind: kind_of(kind),
-    }
-}
+const DONE: Done = Ok(());
+
+const STALE: Done = Err(StreamFault::Stale);
+
+const NO_SUCH_STREAM: Done = Err(StreamFault::NoSuchStream);
+
+/// The four streams of the ranges 5, 9 and 2.
+const FILLS: &[Event] = &[CreateFour(5, 3), CreateFour(9, 4), CreateFour(2, 0)];
+
+const ONE_OF_EACH_NAME: &[Event] = &[
+    IsStream(5, Metadata, Some((0, 3, None, 0))),
+    IsStream(9, BlobData, Some((0, 4, None, 0))),
+    IsStream(2, Log, Some((0, 0, None, 0))),
+    IsStream(3, Log, None),
+    Creates(9, RowData, 7, Err(StreamFault::NameTaken)),
+    IsStream(9, RowData, Some((0, 4, None, 0))),
+];
+
+const OPENS_ABOVE_ITS_FENCE: &[Event] = &[
+    Opens(5, 3, STALE),
+    Opens(7, 3, NO_SUCH_STREAM),
+    Opening(5, 4, DONE),
+    Opens(5, 4, DONE),
+    IsStream(5, Metadata, Some((0, 4, None, 0))),
+    IsStream(5, BlobData, Some((0, 4, None, 0))),
+    IsStream(2, Metadata, Some((0, 0, None, 0))),
+];
+
+const THREE_ALONE: &[Event] = &[
+    Creates(5, Metadata, 0, DONE),
+    Creates(5, Log, 0, DONE),
+    Creates(5, BlobData, 0, DONE),
+    Opens(5, 1, NO_SUCH_STREAM),
+    Confirms(5, 0, NO_SUCH_STREAM),
+];
+
+const CONFIRMS_ITS_FENCE: &[Event] = &[
+    Confirms(5, 3, DONE),
+    Opens(5, 8, DONE),
+    Confirms(5, 3, STALE),
+    Confirms(5, 8, DONE),
+];
+
+const EXTENDS_BEHIND_A_SEALED_ONE: &[Event] = &[
+    Extending(3, None, Ok(None)),
+    Extends(3, None, 0, 1, Ok(None)),
+    Extends(3, Some(1), 0, 2, Err(StreamFault::LastOpen)),
+    Extends(3, None, 1, 2, Ok(Some(1))),
+    Extending(3, None, Ok(Some(1))),
+    Extends(3, Some(1), 1, 2, Ok(None)),
+    Extends(2, Some(2), 2, 3, Err(StreamFault::Stale)),
+    IsStream(5, Log, Some((0, 3, Some(2), 2))),
+];
+
+const EXTENDS_NO_UNKNOWN: &[Event] = &[Extends(3, None, 0, 1, Err(StreamFault::NoSuchStream))];
+
+const LOCATES_ITS_EXTENTS: &[Event] = &[
+    Extends(3, None, 0, 4, Ok(None)),
+    Extends(3, Some(4), 4, 6, Ok(None)),
+    Locates(5, 0, Some((4, 9))),
+    Locates(5, 1, Some((6, 9))),
+    Locates(5, 2, None),
+    Locates(6, 0, None),
+];
+
+/// What a case shows, and its parts.
+type Case = (&'static str, &'static [&'static [Event]]);
+
+const CASES: &[Case] = &[
+    ("a name is taken once", &[FILLS, ONE_OF_EACH_NAME]),
+    ("a range is opened", &[FILLS, OPENS_ABOVE_ITS_FENCE]),
+    ("the four streams are opened alone", &[THREE_ALONE]),
+    ("a generation is confirmed", &[FILLS, CONFIRMS_ITS_FENCE]),
+    ("a log is extended", &[FILLS, EXTENDS_BEHIND_A_SEALED_ONE]),
+    ("an unknown log is not extended", &[EXTENDS_NO_UNKNOWN]),
+    ("a position is located", &[FILLS, LOCATES_ITS_EXTENTS]),
+];
 
 // These calls pass no contract on, so that a test is proved from what it reads alone.
-fn create(table: &mut StreamTable, range: u64, kind: u8, fence: u64) -> Result<(), StreamFault> {
+fn name(range: u64, kind: StreamKind) -> StreamName {
+    StreamName {
+        range: RangeId::new(range),
+        kind,
+    }
+}
+
+fn create(table: &mut StreamTable, range: u64, kind: StreamKind, fence: u64) -> Done {
     table.create(&name(range, kind), Fence::new(fence))
 }
 
-fn open(table: &mut StreamTable, range: u64, generation: u64) -> Result<(), StreamFault> {
-    table.open(RangeId::new(range), Fence::new(generation))
+fn create_four(table: &mut StreamTable, range: u64, fence: u64) -> bool {
+    for kind in [BlobData, Metadata, RowData, Log] {
+        if create(table, range, kind, fence).is_err() {
+            return false;
+        }
+    }
+    true
 }
 
-fn opening(table: &StreamTable, range: u64, generation: u64) -> Result<(), StreamFault> {
-    table.opening(RangeId::new(range), Fence::new(generation))
-}
-
-fn confirm(table: &StreamTable, range: u64, generation: u64) -> Result<(), StreamFault> {
-    table.confirm(RangeId::new(range), Fence::new(generation))
-}
-
-fn last_of(last: u64) -> Option<ExtentId> {
-    if last == 0 {
-        None
-    } else {
-        Some(ExtentId::new(last))
+fn extent_of(number: Option<u64>) -> Option<ExtentId> {
+    match number {
+        None => None,
+        Some(number) => Some(ExtentId::new(number)),
     }
 }
 
@@ -72,42 +168,42 @@ fn number_of(extent: Option<ExtentId>) -> Option<u64> {
     }
 }
 
-/// One more extent at the end of the log of range 5, where the extents up to `sealed` are sealed.
 fn extend(
     table: &mut StreamTable,
     generation: u64,
-    last: u64,
+    last: Option<u64>,
     sealed: u64,
     extent: u64,
-) -> Result<Option<u64>, StreamFault> {
-    let sealed = UpTo { last: sealed };
-    let extent = ExtentId::new(extent);
+) -> End {
     let end = table.extend(
-        &name(5, 1),
+        &name(5, Log),
         Fence::new(generation),
-        last_of(last),
-        &sealed,
-        extent,
+        extent_of(last),
+        &UpTo { last: sealed },
+        ExtentId::new(extent),
     )?;
     Ok(number_of(end))
 }
 
-fn extending(table: &StreamTable, generation: u64, last: u64) -> Result<Option<u64>, StreamFault> {
-    let sealed = UpTo { last: 0 };
-    let end = table.extending(&name(5, 1), Fence::new(generation), last_of(last), &sealed)?;
+fn extending(table: &StreamTable, generation: u64, last: Option<u64>) -> End {
+    let end = table.extending(
+        &name(5, Log),
+        Fence::new(generation),
+        extent_of(last),
+        &UpTo { last: 0 },
+    )?;
     Ok(number_of(end))
 }
 
 fn locate(table: &StreamTable, range: u64, index: u64) -> Option<(u64, u32)> {
     let offset = 9;
-    match table.locate(&name(range, 1), Position { index, offset }) {
+    match table.locate(&name(range, Log), Position { index, offset }) {
         None => None,
         Some((extent, offset)) => Some((extent.number(), offset)),
     }
 }
 
-/// The base, the fence and the last extent of a stream.
-fn shown(table: &StreamTable, range: u64, kind: u8) -> Option<(u64, u64, Option<u64>, usize)> {
+fn shown(table: &StreamTable, range: u64, kind: StreamKind) -> Option<Shown> {
     match table.stream(&name(range, kind)) {
         None => None,
         Some(listed) => Some((
@@ -119,109 +215,38 @@ fn shown(table: &StreamTable, range: u64, kind: u8) -> Option<(u64, u64, Option<
     }
 }
 
-fn four(table: &mut StreamTable, range: u64, fence: u64) -> Result<(), StreamFault> {
-    create(table, range, 3, fence)?;
-    create(table, range, 0, fence)?;
-    create(table, range, 2, fence)?;
-    create(table, range, 1, fence)
-}
+impl Subject for StreamTable {
+    type Event = Event;
 
-/// A table with the four streams of the ranges 5, 9 and 2.
-fn filled(alloc: Global) -> Result<StreamTable, StreamFault> {
-    let mut table = StreamTable::new(alloc);
-    four(&mut table, 5, 3)?;
-    four(&mut table, 9, 4)?;
-    four(&mut table, 2, 0)?;
-    Ok(table)
-}
-
-#[test]
-fn creates(rt: HostRuntime) -> Result<(), Fail> {
-    let mut table = filled(rt.alloc())?;
-    same(&rt, shown(&table, 5, 0), Some((0, 3, None, 0)));
-    same(&rt, shown(&table, 9, 3), Some((0, 4, None, 0)));
-    same(&rt, shown(&table, 2, 1), Some((0, 0, None, 0)));
-    same(&rt, shown(&table, 3, 1), None);
-    same(
-        &rt,
-        create(&mut table, 9, 2, 7),
-        Err(StreamFault::NameTaken),
-    );
-    same(&rt, shown(&table, 9, 2), Some((0, 4, None, 0)));
-    Ok(())
+    fn takes(&mut self, _alloc: Global, event: Event) -> bool {
+        match event {
+            Creates(range, kind, fence, wanted) => create(self, range, kind, fence) == wanted,
+            CreateFour(range, fence) => create_four(self, range, fence),
+            Opens(range, generation, wanted) => {
+                self.open(RangeId::new(range), Fence::new(generation)) == wanted
+            }
+            Opening(range, generation, wanted) => {
+                self.opening(RangeId::new(range), Fence::new(generation)) == wanted
+            }
+            Confirms(range, generation, wanted) => {
+                self.confirm(RangeId::new(range), Fence::new(generation)) == wanted
+            }
+            Extends(generation, last, sealed, extent, wanted) => {
+                extend(self, generation, last, sealed, extent) == wanted
+            }
+            Extending(generation, last, wanted) => extending(self, generation, last) == wanted,
+            Locates(range, index, wanted) => locate(self, range, index) == wanted,
+            IsStream(range, kind, wanted) => shown(self, range, kind) == wanted,
+        }
+    }
 }
 
 #[test]
-fn opens(rt: HostRuntime) -> Result<(), Fail> {
-    let mut table = filled(rt.alloc())?;
-    same(&rt, open(&mut table, 5, 3), Err(StreamFault::Stale));
-    same(&rt, open(&mut table, 7, 3), Err(StreamFault::NoSuchStream));
-    same(&rt, opening(&table, 5, 4), Ok(()));
-    same(&rt, open(&mut table, 5, 4), Ok(()));
-    same(&rt, shown(&table, 5, 0), Some((0, 4, None, 0)));
-    same(&rt, shown(&table, 5, 3), Some((0, 4, None, 0)));
-    same(&rt, shown(&table, 2, 0), Some((0, 0, None, 0)));
-    Ok(())
-}
-
-#[test]
-fn opens_the_four_alone(rt: HostRuntime) -> Result<(), Fail> {
-    let mut table = StreamTable::new(rt.alloc());
-    same(&rt, create(&mut table, 5, 0, 0), Ok(()));
-    same(&rt, create(&mut table, 5, 1, 0), Ok(()));
-    same(&rt, create(&mut table, 5, 3, 0), Ok(()));
-    same(&rt, open(&mut table, 5, 1), Err(StreamFault::NoSuchStream));
-    same(&rt, confirm(&table, 5, 0), Err(StreamFault::NoSuchStream));
-    Ok(())
-}
-
-#[test]
-fn confirms(rt: HostRuntime) -> Result<(), Fail> {
-    let mut table = filled(rt.alloc())?;
-    same(&rt, confirm(&table, 5, 3), Ok(()));
-    same(&rt, open(&mut table, 5, 8), Ok(()));
-    same(&rt, confirm(&table, 5, 3), Err(StreamFault::Stale));
-    same(&rt, confirm(&table, 5, 8), Ok(()));
-    Ok(())
-}
-
-#[test]
-fn extends(rt: HostRuntime) -> Result<(), Fail> {
-    let mut table = filled(rt.alloc())?;
-    same(&rt, extending(&table, 3, 0), Ok(None));
-    same(&rt, extend(&mut table, 3, 0, 0, 1), Ok(None));
-    same(
-        &rt,
-        extend(&mut table, 3, 1, 0, 2),
-        Err(StreamFault::LastOpen),
-    );
-    same(&rt, extend(&mut table, 3, 0, 1, 2), Ok(Some(1)));
-    same(&rt, extending(&table, 3, 0), Ok(Some(1)));
-    same(&rt, extend(&mut table, 3, 1, 1, 2), Ok(None));
-    same(&rt, extend(&mut table, 2, 2, 2, 3), Err(StreamFault::Stale));
-    same(&rt, shown(&table, 5, 1), Some((0, 3, Some(2), 2)));
-    Ok(())
-}
-
-#[test]
-fn extends_no_unknown(rt: HostRuntime) -> Result<(), Fail> {
-    let mut table = StreamTable::new(rt.alloc());
-    same(
-        &rt,
-        extend(&mut table, 3, 0, 0, 1),
-        Err(StreamFault::NoSuchStream),
-    );
-    Ok(())
-}
-
-#[test]
-fn locates(rt: HostRuntime) -> Result<(), Fail> {
-    let mut table = filled(rt.alloc())?;
-    same(&rt, extend(&mut table, 3, 0, 0, 4), Ok(None));
-    same(&rt, extend(&mut table, 3, 4, 4, 6), Ok(None));
-    same(&rt, locate(&table, 5, 0), Some((4, 9)));
-    same(&rt, locate(&table, 5, 1), Some((6, 9)));
-    same(&rt, locate(&table, 5, 2), None);
-    same(&rt, locate(&table, 6, 0), None);
-    Ok(())
+fn each_event_goes_as_its_case_says(rt: HostRuntime) {
+    for (shows, parts) in CASES {
+        assert!(rt;
+            holds(rt.alloc(), StreamTable::new(rt.alloc()), parts),
+            "{shows}"
+        );
+    }
 }

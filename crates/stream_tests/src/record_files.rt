@@ -1,12 +1,12 @@
+//! Record files on a disk in memory and on a real one.
 ghost use Rattle.std.specs.Prelude.{◌≡◌, false, IfOk};
 ghost use Rattle.blocks.specs.Record.{Fits};
 ghost use Rattle.disk.specs.Appends.{Appends};
 ghost use Rattle.blocks.specs.declared.record.Version.{Version};
 ghost use Rattle.blocks.specs.declared.record.Version.TheVariants.{V1};
 
-use crate::asserted::{gives, holds, same};
-use crate::spellings::pair;
-use blocks::{Group, Nodes, Record, Version};
+use crate::groups::group_of;
+use blocks::{Nodes, Record, Version};
 use disk::{Disk, DiskFault, FileDisk, FileFault, MemDisk, RecordFile};
 use std::alloc::Global;
 use std::fs;
@@ -38,7 +38,8 @@ fn make() -> Record
 fn abc_de(alloc: Global) -> Result<Record, Fail>
     ensures { IfOk result (Fits V1) }
 {
-    let group = Group::new(alloc, pair(alloc)?)?;
+    let group = group_of(alloc, &[b"abc", b"de"])?;
+    let _size = group.size();
     Ok(Record::Append {
         extent: 1,
         offset: 0,
@@ -67,24 +68,21 @@ fn empty(alloc: Global) -> Result<RecordFile<MemDisk>, Fail>
     ensures running { IfOk result (λ file. file.stopped ≡ false) }
     ensures version { IfOk result (λ file. file.version ≡ V1) }
 {
-    let disk = MemDisk::new(alloc);
-    let file = RecordFile::format(Version::V1, disk)
-        .ok()
-        .ok_or("formatted")?;
-    Ok(file)
+    let file = RecordFile::format(Version::V1, MemDisk::new(alloc));
+    Ok(file.ok().ok_or("formatted")?)
 }
 
 fn reopened<D: Disk + Drop>(alloc: Global, disk: D) -> Result<RecordFile<D>, Fail>
     ensures { IfOk result (λ file. file.stopped ≡ false) }
 {
-    let file = RecordFile::open(alloc, disk).ok().ok_or("opened")?;
-    Ok(file)
+    Ok(RecordFile::open(alloc, disk).ok().ok_or("opened")?)
 }
 
-fn count<D: Disk + Drop>(alloc: Global, file: RecordFile<D>) -> Result<usize, Fail> {
+fn count(alloc: Global, file: RecordFile<MemDisk>) -> Result<usize, FileFault> {
     let mut file = file;
-    let records = file.records(alloc)?;
-    Ok(records.len())
+    let records = file.records(alloc);
+    drop(file);
+    Ok(records?.len())
 }
 
 fn two_written(alloc: Global) -> Result<MemDisk, Fail> {
@@ -93,9 +91,8 @@ fn two_written(alloc: Global) -> Result<MemDisk, Fail> {
     Ok(file.into_disk())
 }
 
-fn bytes_of(alloc: Global, disk: MemDisk) -> Result<Vec<u8>, Fail> {
-    let mut disk = disk;
-    Ok(disk.read(alloc)?)
+fn has_bytes(alloc: Global, disk: &mut MemDisk, wanted: &[u8]) -> Result<bool, DiskFault> {
+    Ok(disk.read(alloc)?.as_slice() == wanted)
 }
 
 fn are_the_two(records: &[Record]) -> bool {
@@ -112,38 +109,26 @@ fn are_the_two(records: &[Record]) -> bool {
     )
 }
 
-fn two_reopened(alloc: Global) -> Result<RecordFile<MemDisk>, Fail> {
-    reopened(alloc, two_written(alloc)?)
-}
-
-fn bytes_of_two(alloc: Global) -> Result<Vec<u8>, Fail> {
-    bytes_of(alloc, two_written(alloc)?)
-}
-
-/// How many records there are, and whether they are the two.
-fn read_two(alloc: Global, file: RecordFile<MemDisk>) -> Result<(usize, bool), Fail> {
+/// Whether a file has the two records, and takes none once it is halted.
+fn has_the_two(alloc: Global, file: RecordFile<MemDisk>) -> Result<bool, FileFault> {
     let mut file = file;
-    let records = file.records(alloc)?;
-    Ok((records.len(), are_the_two(records.as_slice())))
-}
-
-fn is_halted(file: RecordFile<MemDisk>) -> bool {
-    let mut file = file;
+    let records = file.records(alloc);
     file.halt();
-    file.is_stopped()
+    let is_stopped = file.is_stopped();
+    drop(file);
+    Ok(are_the_two(records?.as_slice()) && is_stopped)
 }
 
 #[test]
 fn a_file_of_two_records(rt: HostRuntime) -> Result<(), Fail> {
-    let alloc = rt.alloc();
-    holds(&rt, bytes_of_two(alloc), &TWO_RECORDS)?;
-    gives(&rt, read_two(alloc, two_reopened(alloc)?), (2, true))?;
-    assert!(rt; is_halted(two_reopened(alloc)?));
+    let mut disk = two_written(rt.alloc())?;
+    assert!(rt; has_bytes(rt.alloc(), &mut disk, &TWO_RECORDS)?);
+    assert!(rt; has_the_two(rt.alloc(), reopened(rt.alloc(), disk)?)?);
     Ok(())
 }
 
-// A byte that is changed, how many bytes are kept, and how many records are found: none where the file is damaged.
-const CUT_FILES: [(usize, u8, usize, Option<usize>); 10] = [
+/// A byte that is changed, how many bytes are kept, and how many records are found: none where the file is damaged.
+const CUT_FILES: &[(usize, u8, usize, Option<usize>)] = &[
     (0, b'X', 66, Some(2)),
     (33, 0, 50, Some(1)),
     (33, 7, 66, Some(1)),
@@ -156,7 +141,7 @@ const CUT_FILES: [(usize, u8, usize, Option<usize>); 10] = [
     (3, b'3', 66, None),
 ];
 
-fn disk_of(alloc: Global, bytes: &[u8]) -> Result<MemDisk, Fail> {
+fn disk_of(alloc: Global, bytes: &[u8]) -> Result<MemDisk, DiskFault> {
     let mut disk = MemDisk::new(alloc);
     disk.write_at(0, bytes)?;
     disk.sync()?;
@@ -167,38 +152,46 @@ fn found_in(
     alloc: Global,
     opened: Result<RecordFile<MemDisk>, (FileFault, MemDisk)>,
     len: usize,
-) -> Result<Option<usize>, Fail> {
+) -> Result<Option<usize>, FileFault> {
     match opened {
         Ok(file) => Ok(Some(count(alloc, file)?)),
-        Err((FileFault::Damaged, disk)) if disk.len() == len => Ok(None),
-        Err(_) => Err(Fail::new("another fault")),
+        Err((fault, disk)) => {
+            let is_whole = disk.len() == len;
+            drop(disk);
+            if is_whole && fault == FileFault::Damaged {
+                Ok(None)
+            } else {
+                Err(fault)
+            }
+        }
     }
 }
 
-fn found(alloc: Global, bytes: &[u8]) -> Result<Option<usize>, Fail> {
-    let opened = RecordFile::open(alloc, disk_of(alloc, bytes)?);
-    found_in(alloc, opened, bytes.len())
-}
-
-fn found_changed(alloc: Global, at: usize, byte: u8, len: usize) -> Result<Option<usize>, Fail> {
+fn found(alloc: Global, at: usize, byte: u8, len: usize) -> Result<Option<usize>, FileFault> {
     let mut bytes = TWO_RECORDS;
     if let Some(changed) = bytes.get_mut(at) {
         *changed = byte;
     }
-    found(alloc, &bytes[..len.min(66)])
+    let kept = &bytes[..len.min(66)];
+    found_in(
+        alloc,
+        RecordFile::open(alloc, disk_of(alloc, kept)?),
+        kept.len(),
+    )
 }
 
 #[test]
-fn what_is_found_in_other_files(rt: HostRuntime) -> Result<(), Fail> {
-    for (at, byte, len, want) in CUT_FILES {
-        let count = found_changed(rt.alloc(), at, byte, len)?;
-        same(&rt, (at, byte, len, count), (at, byte, len, want));
+fn what_is_found_in_other_files(rt: HostRuntime) {
+    for (at, byte, len, wanted) in CUT_FILES {
+        assert!(rt;
+            found(rt.alloc(), *at, *byte, *len) == Ok(*wanted),
+            "{at} {byte} {len}"
+        );
     }
-    Ok(())
 }
 
-// A stop at each device call, and whether the bytes are kept: how many records stand.
-const STOPS: [(u64, bool, usize); 9] = [
+/// A stop at each device call, and whether the bytes are kept: how many records stand.
+const STOPS: &[(u64, bool, usize)] = &[
     (1, false, 1),
     (1, true, 1),
     (2, false, 1),
@@ -210,49 +203,45 @@ const STOPS: [(u64, bool, usize); 9] = [
     (5, false, 2),
 ];
 
-// Whether the second append failed.
-fn append_in_a_stop(
+/// Whether a second append fails in the stop.
+fn fails_in_a_stop(
     alloc: Global,
     file: &mut RecordFile<MemDisk>,
     calls: u64,
     keep: bool,
-) -> Result<bool, Fail>
+) -> Result<bool, DiskFault>
     requires running { file.old.stopped ≡ false }
     requires version { file.old.version ≡ V1 }
 {
     append(alloc, file, make())?;
     file.stop_at(calls, keep);
-    Ok(matches!(append(alloc, file, make()), Err(DiskFault::Failed)))
+    Ok(append(alloc, file, make()) == Err(DiskFault::Failed))
 }
 
-fn disk_after(file: RecordFile<MemDisk>, failed: bool) -> MemDisk {
-    let mut disk = file.into_disk();
+/// Whether an append failed just where its disk was told to stop in one of the four calls. A stop behind them is put off.
+fn stopped_there(file: &mut RecordFile<MemDisk>, calls: u64, failed: bool) -> bool {
     if !failed {
-        disk.stop_at(9, false);
+        file.stop_at(9, false);
     }
-    disk
-}
-
-fn stopped_disk(alloc: Global, calls: u64, keep: bool) -> Result<MemDisk, Fail> {
-    let mut file = empty(alloc)?;
-    let failed = append_in_a_stop(alloc, &mut file, calls, keep)?;
-    if failed != file.is_stopped() || failed != (calls <= 4) {
-        return Err(Fail::new("stopped at another call"));
-    }
-    Ok(disk_after(file, failed))
+    failed == (calls <= 4) && failed == file.is_stopped()
 }
 
 fn stopped(alloc: Global, calls: u64, keep: bool) -> Result<usize, Fail> {
-    let disk = stopped_disk(alloc, calls, keep)?;
-    let file = reopened(alloc, disk)?;
-    count(alloc, file)
+    let mut file = empty(alloc)?;
+    let failed = fails_in_a_stop(alloc, &mut file, calls, keep)?;
+    if !stopped_there(&mut file, calls, failed) {
+        return Err(Fail::new("stopped at another call"));
+    }
+    Ok(count(alloc, reopened(alloc, file.into_disk())?)?)
 }
 
 #[test]
 fn a_stop_at_each_call(rt: HostRuntime) -> Result<(), Fail> {
-    for (calls, keep, want) in STOPS {
-        let stand = stopped(rt.alloc(), calls, keep)?;
-        same(&rt, (calls, keep, stand), (calls, keep, want));
+    for (calls, keep, wanted) in STOPS {
+        assert!(rt;
+            stopped(rt.alloc(), *calls, *keep)? == *wanted,
+            "{calls} {keep}"
+        );
     }
     Ok(())
 }
@@ -280,117 +269,91 @@ fn one_more_record<D: Disk>(alloc: Global, file: &mut RecordFile<D>) -> Result<u
     Ok(count)
 }
 
-// Opens the file again, and appends a third record to it.
+// Opens the file again, and appends a record to it.
 fn one_more_real_record(rt: &HostRuntime) -> Result<usize, Fail> {
-    let disk = FileDisk::open(rt, PATH)?;
-    let mut file = reopened(rt.alloc(), disk)?;
+    let mut file = reopened(rt.alloc(), FileDisk::open(rt, PATH)?)?;
     one_more_record(rt.alloc(), &mut file)
 }
 
-// How long the file is, and whether it begins with these bytes, and has zeros behind them.
-fn is_spelled(bytes: &[u8], begin: &[u8]) -> (usize, bool) {
-    let rest = begin.len();
-    let zeros = bytes.iter().skip(rest).all(|byte| *byte == 0);
-    (bytes.len(), bytes.starts_with(begin) && zeros)
+/// Whether these parts are the bytes, with zeros behind them.
+fn are_parts(bytes: &[u8], parts: &[&[u8]]) -> bool {
+    let mut rest = bytes;
+    for part in parts {
+        rest = match rest.strip_prefix(*part) {
+            Some(behind) => behind,
+            None => return false,
+        };
+    }
+    for byte in rest {
+        if *byte != 0 {
+            return false;
+        }
+    }
+    true
 }
 
-fn real_file(rt: &HostRuntime, begin: &[u8]) -> Result<(usize, bool), Fail> {
-    let bytes = fs::read(rt, PATH)?;
-    Ok(is_spelled(bytes.as_slice(), begin))
-}
-
-fn three_records(alloc: Global) -> Result<Vec<u8>, Fail> {
-    let mut three = TWO_RECORDS.to_vec(alloc)?;
-    let _ = three.pop();
-    three.extend_from_slice(&TWO_RECORDS[4..33])?;
-    Ok(three)
-}
-
-fn file_of_three(rt: &HostRuntime) -> Result<(usize, bool), Fail> {
-    let three = three_records(rt.alloc())?;
-    real_file(rt, three.as_slice())
+fn is_file(rt: &HostRuntime, path: &str, len: usize, parts: &[&[u8]]) -> Result<bool, Fail> {
+    let bytes = fs::read(rt, path)?;
+    Ok(bytes.len() == len && are_parts(bytes.as_slice(), parts))
 }
 
 #[test]
 fn a_real_file(rt: HostRuntime) -> Result<(), Fail> {
     let _ = fs::remove_file(&rt, PATH);
     two_real_records(&rt)?;
-    gives(&rt, real_file(&rt, &TWO_RECORDS), (65_536, true))?;
-    gives(&rt, one_more_real_record(&rt), 2)?;
-    gives(&rt, file_of_three(&rt), (65_536, true))?;
-    gives(&rt, one_more_real_record(&rt), 3)?;
+    assert!(rt; is_file(&rt, PATH, 65_536, &[&TWO_RECORDS])?);
+    assert!(rt; one_more_real_record(&rt)? == 2);
+    let three_records = [&TWO_RECORDS[..65], &TWO_RECORDS[4..33]];
+    assert!(rt; is_file(&rt, PATH, 65_536, &three_records)?);
+    assert!(rt; one_more_real_record(&rt)? == 3);
     fs::remove_file(&rt, PATH)?;
     Ok(())
 }
 
 const OTHER_PATH: &str = "disk_test.bytes";
 
-// What a write and a sync answer.
-fn written(disk: &mut FileDisk) -> (Result<(), DiskFault>, Result<(), DiskFault>) {
-    let written = disk.write_at(0, b"abc");
-    (written, disk.sync())
+static SEVENS: [u8; 70_000] = [7; 70_000];
+
+// Whether neither a write nor a sync is taken.
+fn takes_nothing(disk: &mut FileDisk) -> bool {
+    let failed = Err(DiskFault::Failed);
+    disk.write_at(0, b"abc") == failed && disk.sync() == failed
 }
 
-fn read_and_closed(alloc: Global, disk: FileDisk) -> Result<Vec<u8>, DiskFault> {
-    let mut disk = disk;
-    let bytes = disk.read(alloc);
-    drop(disk.into_file());
-    bytes
-}
-
-// The bytes of a file that is open for reading alone, once it was not written.
-fn unwritten(rt: &HostRuntime) -> Result<Vec<u8>, Fail> {
+// Whether a file that is open for reading alone takes nothing, and then has these bytes.
+fn is_unwritten(rt: &HostRuntime, wanted: &[u8]) -> Result<bool, Fail> {
     let file = fs::open(rt, OTHER_PATH)?;
     let mut disk = FileDisk::new(rt.alloc(), file)?;
-    if written(&mut disk) != (Err(DiskFault::Failed), Err(DiskFault::Failed)) {
-        return Err(Fail::new("it was written"));
-    }
-    Ok(read_and_closed(rt.alloc(), disk)?)
+    let took_nothing = takes_nothing(&mut disk);
+    let bytes = disk.read(rt.alloc());
+    drop(disk.into_file());
+    Ok(took_nothing && bytes?.as_slice() == wanted)
 }
 
-fn damaged_length(
-    opened: Result<RecordFile<FileDisk>, (FileFault, FileDisk)>,
-) -> Result<usize, Fail> {
-    match opened {
-        Err((FileFault::Damaged, disk)) => Ok(disk.len()),
-        _ => Err(Fail::new("it is damaged")),
+fn is_damaged(rt: &HostRuntime, len: usize) -> Result<bool, Fail> {
+    match RecordFile::open(rt.alloc(), FileDisk::open(rt, OTHER_PATH)?) {
+        Err((FileFault::Damaged, disk)) => Ok(disk.len() == len),
+        _ => Ok(false),
     }
-}
-
-fn damaged(rt: &HostRuntime) -> Result<usize, Fail> {
-    let disk = FileDisk::open(rt, OTHER_PATH)?;
-    damaged_length(RecordFile::open(rt.alloc(), disk))
 }
 
 // It grows over the next multiple of 65,536, from no multiple on.
-fn grown(rt: &HostRuntime) -> Result<usize, Fail> {
+fn grows(disk: &mut FileDisk) -> bool {
+    disk.len() == 3 && disk.write_at(3, &SEVENS).is_ok() && disk.len() == 70_003
+}
+
+fn is_grown(rt: &HostRuntime) -> Result<bool, Fail> {
     let mut disk = FileDisk::open(rt, OTHER_PATH)?;
-    if disk.len() != 3 {
-        return Err(Fail::new("it has grown"));
-    }
-    disk.write_at(3, &[7; 70_000])?;
-    Ok(disk.len())
-}
-
-// How long the file is, how it begins, and whether sevens and then zeros are behind that.
-fn is_grown(bytes: &[u8]) -> (usize, bool, bool, bool) {
-    let sevens = bytes.iter().skip(3).take(70_000).all(|byte| *byte == 7);
-    let zeros = bytes.iter().skip(70_003).all(|byte| *byte == 0);
-    (bytes.len(), bytes.starts_with(b"XRF"), sevens, zeros)
-}
-
-fn grown_file(rt: &HostRuntime) -> Result<(usize, bool, bool, bool), Fail> {
-    let bytes = fs::read(rt, OTHER_PATH)?;
-    Ok(is_grown(bytes.as_slice()))
+    Ok(grows(&mut disk))
 }
 
 #[test]
 fn other_real_files(rt: HostRuntime) -> Result<(), Fail> {
     fs::write(&rt, OTHER_PATH, b"XRF".as_slice())?;
-    holds(&rt, unwritten(&rt), b"XRF")?;
-    gives(&rt, damaged(&rt), 3)?;
-    gives(&rt, grown(&rt), 70_003)?;
-    gives(&rt, grown_file(&rt), (131_072, true, true, true))?;
+    assert!(rt; is_unwritten(&rt, b"XRF")?);
+    assert!(rt; is_damaged(&rt, 3)?);
+    assert!(rt; is_grown(&rt)?);
+    assert!(rt; is_file(&rt, OTHER_PATH, 131_072, &[b"XRF", &SEVENS])?);
     fs::remove_file(&rt, OTHER_PATH)?;
     Ok(())
 }

@@ -1,14 +1,21 @@
+//! Replicas in each state, by steps that hand a replica over and by steps in place.
 ghost use Rattle.std.specs.Prelude.{◌≡◌, ◌≤◌, length, IfOk};
 ghost use Rattle.replica.specs.Groups.{text_length};
 
-use crate::asserted::{gives, same, shows};
-use blocks::{Group, Groups, Nodes};
+use crate::cases::{Subject, holds};
+use crate::groups::{group_of, groups_of};
+use Event::{
+    Adds, EndsAt, FillsInPlace, FillsTail, Freezes, FreezesInPlace, GroupsFrom, GroupsTo, Is, Puts,
+    Raises, RaisesInPlace, Reads, ReadsFour, Seals, SealsInPlace,
+};
+use Phase::{Frozen, Open, Sealed};
+use blocks::{Group, GroupFault, Groups, Nodes};
 use bytes::Bytes;
 use replica::{
     FillFault, FrozenReplica, OpenReplica, PastEnd, Phase, PutFault, Replica, SealedReplica, Stale,
 };
 use std::alloc::{AllocError, Global};
-use std::test::Fail;
+use std::mem;
 
 const PLACES: Nodes = Nodes {
     primary: 1,
@@ -16,470 +23,438 @@ const PLACES: Nodes = Nodes {
     third: 3,
 };
 
-// The length, the fence, the target, the places and the state of a replica.
-type Facts = (u32, u64, u32, Nodes, Phase);
+const TARGET: u32 = 4096;
 
-fn group(alloc: Global, text: &[u8]) -> Result<Group, Fail> {
-    let text = text.to_vec(alloc)?;
-    let mut texts = Vec::new(alloc);
-    texts.push(text)?;
-    Ok(Group::new(alloc, texts).ok().ok_or("a group")?)
+/// How many groups there are, and the bytes of the first two.
+pub(crate) type Sizes = Option<(usize, Option<u32>, Option<u32>)>;
+
+/// What happens to a replica, or what is seen of it. A step that is refused for a fault gives back the replica as it was,
+/// and the groups that were to be taken.
+#[derive(Clone, Copy)]
+pub(crate) enum Event {
+    /// A group of one block is put in an open replica, under a generation and at an offset.
+    Puts(u64, u32, &'static [u8], Option<PutFault>),
+    Raises(u64, Option<Stale>),
+    Freezes,
+    /// It is sealed at a length, from open or frozen.
+    Seals(u32, Option<PastEnd>),
+    /// Groups of one block each fill a frozen one, from a length to another.
+    FillsTail(u32, u32, &'static [&'static [u8]], Option<FillFault>),
+    /// A group of one block is added in place.
+    Adds(&'static [u8]),
+    RaisesInPlace(u64),
+    FreezesInPlace,
+    SealsInPlace(u32),
+    /// One group of one block fills it in place.
+    FillsInPlace(&'static [u8]),
+    /// Its length, its fence and its state, at the target and the places that it was made with.
+    Is(u32, u64, Phase),
+    /// So many bytes from an offset on are these.
+    Reads(u32, u32, &'static [u8]),
+    /// What a read from an offset on into four bytes answers, and what they are then.
+    ReadsFour(u32, Result<(), PastEnd>, [u8; 4]),
+    /// Whether a group ends at a length.
+    EndsAt(u32, bool),
+    GroupsTo(u32, Sizes),
+    GroupsFrom(u32, Sizes),
 }
 
-fn groups(alloc: Global, texts: &[&[u8]]) -> Result<Groups, Fail> {
-    let mut groups = Vec::new(alloc);
-    for text in texts {
-        groups.push(group(alloc, text)?)?;
-    }
-    Ok(Groups::of(groups))
-}
+/// The groups `abc` and `de`.
+const PUTS_TWO: &[Event] = &[Puts(2, 0, b"abc", None), Puts(7, 3, b"de", None)];
 
-// Replicas are handed over whole: a local that lives on is dropped at each exit, and each costs the proof.
-fn taken(put: Result<OpenReplica, (PutFault, OpenReplica, Group)>) -> Result<OpenReplica, Fail> {
-    Ok(put.ok().ok_or("taken")?)
+/// The same in place.
+const ADDS_TWO: &[Event] = &[Adds(b"abc"), Adds(b"de")];
+
+const TAKES_GROUPS: &[Event] = &[Is(5, 2, Open), Reads(2, 2, b"cd")];
+
+const REFUSES_A_GROUP: &[Event] = &[
+    Puts(1, 5, b"f", Some(PutFault::Stale)),
+    Is(5, 2, Open),
+    Puts(2, 3, b"f", Some(PutFault::PastEnd)),
+    Is(5, 2, Open),
+];
+
+const IS_FULL: &[Event] = &[
+    Puts(0, 0, &[b'a'; 4096], None),
+    Puts(0, 4096, b"f", Some(PutFault::ExtentFull)),
+    Is(4096, 0, Open),
+];
+
+const RAISES_ITS_FENCE: &[Event] = &[
+    Raises(4, None),
+    Is(5, 4, Open),
+    Raises(3, Some(Stale)),
+    Is(5, 4, Open),
+];
+
+const SEALED_AT_THREE: &[Event] = &[
+    Seals(4, Some(PastEnd)),
+    Is(5, 2, Open),
+    Seals(3, None),
+    Is(3, 2, Sealed),
+    Reads(0, 9, b"abc"),
+];
+
+const SEALED_FROM_FROZEN: &[Event] = &[
+    Freezes,
+    Seals(6, Some(PastEnd)),
+    Is(5, 2, Frozen),
+    Reads(3, 2, b"de"),
+    Seals(5, None),
+    Is(5, 2, Sealed),
+];
+
+const TAIL: &[&[u8]] = &[b"f", b"gh"];
+
+const TAKES_ITS_TAIL_ALONE: &[Event] = &[
+    Freezes,
+    FillsTail(3, 6, TAIL, Some(FillFault::PastEnd)),
+    Is(5, 2, Frozen),
+    FillsTail(6, 9, TAIL, Some(FillFault::PastEnd)),
+    Is(5, 2, Frozen),
+    FillsTail(5, 20_971_520, TAIL, Some(FillFault::ExtentFull)),
+    Is(5, 2, Frozen),
+    FillsTail(5, 7, TAIL, Some(FillFault::PastEnd)),
+    Is(5, 2, Frozen),
+    FillsTail(5, 9, TAIL, Some(FillFault::PastEnd)),
+    Is(5, 2, Frozen),
+    FillsTail(5, 4, TAIL, Some(FillFault::PastEnd)),
+    Is(5, 2, Frozen),
+    FillsTail(5, 5, &[], Some(FillFault::PastEnd)),
+    Is(5, 2, Frozen),
+    FillsTail(5, 8, TAIL, None),
+    Is(8, 2, Sealed),
+    Reads(0, 9, b"abcdefgh"),
+];
+
+const READS_WHAT_IS_THERE: &[Event] = &[
+    Is(5, 2, Open),
+    Reads(4, 4, b"e"),
+    ReadsFour(2, Err(PastEnd), *b"...."),
+    ReadsFour(1, Ok(()), *b"bcde"),
+];
+
+const ENDS_AT_THREE_AND_FIVE: &[Event] = &[
+    EndsAt(0, true),
+    EndsAt(2, false),
+    EndsAt(3, true),
+    EndsAt(4, false),
+    EndsAt(5, true),
+    EndsAt(6, false),
+];
+
+const GIVES_GROUPS: &[Event] = &[
+    GroupsTo(3, Some((1, Some(3), None))),
+    GroupsTo(4, None),
+    GroupsFrom(0, Some((2, Some(3), Some(2)))),
+    GroupsFrom(3, Some((1, Some(2), None))),
+    GroupsFrom(4, None),
+    GroupsFrom(5, Some((0, None, None))),
+];
+
+const FILLED_IN_PLACE: &[Event] = &[
+    RaisesInPlace(9),
+    FreezesInPlace,
+    FillsInPlace(b"fgh"),
+    Is(8, 9, Sealed),
+    Reads(0, 9, b"abcdefgh"),
+];
+
+const CUT_IN_PLACE: &[Event] = &[SealsInPlace(3), Is(3, 2, Sealed), Reads(0, 9, b"abc")];
+
+/// What a case shows, the fence of its new replica, and its parts.
+type Case = (&'static str, u64, &'static [&'static [Event]]);
+
+const CASES: &[Case] = &[
+    ("groups are taken at the end", 2, &[PUTS_TWO, TAKES_GROUPS]),
+    ("a group is refused", 2, &[PUTS_TWO, REFUSES_A_GROUP]),
+    ("it is full at its target", 0, &[IS_FULL]),
+    ("its fence is raised", 2, &[PUTS_TWO, RAISES_ITS_FENCE]),
+    (
+        "it is sealed where a group ends",
+        2,
+        &[PUTS_TWO, SEALED_AT_THREE],
+    ),
+    (
+        "it is frozen until sealed",
+        2,
+        &[PUTS_TWO, SEALED_FROM_FROZEN],
+    ),
+    (
+        "it takes its tail alone",
+        2,
+        &[PUTS_TWO, TAKES_ITS_TAIL_ALONE],
+    ),
+    (
+        "it reads what is there",
+        2,
+        &[ADDS_TWO, READS_WHAT_IS_THERE],
+    ),
+    (
+        "it knows where groups end",
+        2,
+        &[ADDS_TWO, ENDS_AT_THREE_AND_FIVE],
+    ),
+    ("it gives groups out", 2, &[ADDS_TWO, GIVES_GROUPS]),
+    ("it is filled in place", 2, &[ADDS_TWO, FILLED_IN_PLACE]),
+    ("it is cut in place", 2, &[ADDS_TWO, CUT_IN_PLACE]),
+    (
+        "it is cut in place once frozen",
+        2,
+        &[ADDS_TWO, &[FreezesInPlace], CUT_IN_PLACE],
+    ),
+];
+
+// Most of these calls pass no contract on, so that a test is proved from what it reads alone. Replicas and groups are handed
+// over whole: a local that lives on is dropped at each exit, and each costs the proof.
+
+/// A replica, where a step came to what the case says.
+fn kept_if(kept: Replica, holds: bool) -> Option<Replica> {
+    if holds { Some(kept) } else { None }
 }
 
 fn put(
-    alloc: Global,
-    open: OpenReplica,
-    generation: u64,
-    offset: u32,
-    text: &[u8],
-) -> Result<OpenReplica, Fail> {
-    let group = group(alloc, text)?;
-    taken(open.put(generation, offset, group))
+    taken: Result<OpenReplica, (PutFault, OpenReplica, Group)>,
+    size: usize,
+    wanted: Option<PutFault>,
+) -> Option<Replica> {
+    match taken {
+        Ok(open) => kept_if(Replica::Open(open), wanted.is_none()),
+        Err((fault, open, given)) => {
+            let returned = given.size() as usize;
+            drop(given);
+            kept_if(
+                Replica::Open(open),
+                wanted == Some(fault) && returned == size,
+            )
+        }
+    }
 }
 
-// An open replica with the groups abc and de, whose fence is 2.
-fn opened(alloc: Global) -> Result<OpenReplica, Fail> {
-    let open = OpenReplica::new(alloc, PLACES, 4096, 2);
-    let open = put(alloc, open, 2, 0, b"abc")?;
-    put(alloc, open, 7, 3, b"de")
+fn raised(
+    taken: Result<OpenReplica, (Stale, OpenReplica)>,
+    wanted: Option<Stale>,
+) -> Option<Replica> {
+    match taken {
+        Ok(open) => kept_if(Replica::Open(open), wanted.is_none()),
+        Err((fault, open)) => kept_if(Replica::Open(open), wanted == Some(fault)),
+    }
 }
 
-fn add(alloc: Global, kept: &mut Replica, text: &[u8]) -> Result<(), Fail> {
+fn sealed_from_open(
+    taken: Result<SealedReplica, (PastEnd, OpenReplica)>,
+    wanted: Option<PastEnd>,
+) -> Option<Replica> {
+    match taken {
+        Ok(sealed) => kept_if(Replica::Sealed(sealed), wanted.is_none()),
+        Err((fault, open)) => kept_if(Replica::Open(open), wanted == Some(fault)),
+    }
+}
+
+fn sealed_from_frozen(
+    taken: Result<SealedReplica, (PastEnd, FrozenReplica)>,
+    wanted: Option<PastEnd>,
+) -> Option<Replica> {
+    match taken {
+        Ok(sealed) => kept_if(Replica::Sealed(sealed), wanted.is_none()),
+        Err((fault, frozen)) => kept_if(Replica::Frozen(frozen), wanted == Some(fault)),
+    }
+}
+
+fn filled(
+    taken: Result<SealedReplica, (FillFault, FrozenReplica, Groups)>,
+    count: usize,
+    wanted: Option<FillFault>,
+) -> Option<Replica> {
+    match taken {
+        Ok(sealed) => kept_if(Replica::Sealed(sealed), wanted.is_none()),
+        Err((fault, frozen, given)) => {
+            let returned = given.as_slice().len();
+            drop(given);
+            kept_if(
+                Replica::Frozen(frozen),
+                wanted == Some(fault) && returned == count,
+            )
+        }
+    }
+}
+
+fn open_after(alloc: Global, open: OpenReplica, event: Event) -> Option<Replica> {
+    match event {
+        Puts(generation, offset, text, wanted) => put(
+            open.put(generation, offset, group_of(alloc, &[text]).ok()?),
+            text.len(),
+            wanted,
+        ),
+        Raises(generation, wanted) => raised(open.raise(generation), wanted),
+        Freezes => Some(Replica::Frozen(open.freeze())),
+        Seals(length, wanted) => sealed_from_open(open.seal(length), wanted),
+        _ => None,
+    }
+}
+
+fn frozen_after(alloc: Global, frozen: FrozenReplica, event: Event) -> Option<Replica> {
+    match event {
+        Seals(length, wanted) => sealed_from_frozen(frozen.seal(length), wanted),
+        FillsTail(from, length, texts, wanted) => filled(
+            frozen.fill_tail(from, length, groups_of(alloc, texts).ok()?),
+            texts.len(),
+            wanted,
+        ),
+        _ => None,
+    }
+}
+
+/// What a step makes of a replica that is handed over, where it comes to what the case says.
+fn after(alloc: Global, kept: Replica, event: Event) -> Option<Replica> {
+    match kept {
+        Replica::Open(open) => open_after(alloc, open, event),
+        Replica::Frozen(frozen) => frozen_after(alloc, frozen, event),
+        Replica::Sealed(_sealed) => None,
+    }
+}
+
+fn steps(alloc: Global, kept: &mut Replica, event: Event) -> bool {
+    let before = mem::replace(kept, Replica::new(alloc, PLACES, TARGET, 0));
+    match after(alloc, before, event) {
+        Some(next) => {
+            *kept = next;
+            true
+        }
+        None => false,
+    }
+}
+
+fn add(alloc: Global, kept: &mut Replica, text: &[u8]) -> Result<bool, GroupFault> {
     kept.reserve(2)?;
-    let Phase::Open = kept.state() else {
-        return Err(Fail::from("a new replica was not open"));
+    let Open = kept.state() else {
+        return Ok(false);
     };
     if kept.len() >= kept.target() {
-        return Err(Fail::from("a replica of 3 bytes was full"));
+        return Ok(false);
     }
-    kept.add(group(alloc, text)?);
-    Ok(())
+    kept.add(group_of(alloc, &[text])?);
+    Ok(true)
 }
 
-// The same by steps in place.
-fn kept(alloc: Global) -> Result<Replica, Fail> {
-    let mut kept = Replica::new(alloc, PLACES, 4096, 2);
-    add(alloc, &mut kept, b"abc")?;
-    add(alloc, &mut kept, b"de")?;
-    Ok(kept)
-}
-
-fn frozen(alloc: Global) -> Result<FrozenReplica, Fail> {
-    Ok(opened(alloc)?.freeze())
-}
-
-fn sealed(alloc: Global) -> Result<SealedReplica, Fail> {
-    Ok(opened(alloc)?.seal(3).ok().ok_or("sealed")?)
-}
-
-fn facts_of(kept: Replica) -> Facts {
-    (
-        kept.len(),
-        kept.fence(),
-        kept.target(),
-        kept.places(),
-        kept.state(),
-    )
-}
-
-// The bytes of a replica.
-type Text = Result<Bytes, AllocError>;
-
-fn text_of(alloc: Global, kept: Replica, offset: u32, length: u32) -> Text {
-    kept.bytes(alloc, offset, length)
-}
-
-#[test]
-fn takes_groups_at_its_end(rt: HostRuntime) -> Result<(), Fail> {
-    let alloc = rt.alloc();
-    let facts = facts_of(Replica::Open(opened(alloc)?));
-    same(&rt, facts, (5, 2, 4096, PLACES, Phase::Open));
-    shows(
-        &rt,
-        text_of(alloc, Replica::Open(opened(alloc)?), 2, 2),
-        b"cd",
-    )
-}
-
-// Why a group is refused, and the bytes that come back.
-fn refused(
-    put: Result<OpenReplica, (PutFault, OpenReplica, Group)>,
-) -> Result<(PutFault, u32, u32), Fail> {
-    match put {
-        Ok(_taken) => Err(Fail::from("the group was taken")),
-        Err((fault, open, given)) => Ok((fault, Replica::Open(open).len(), given.size())),
+fn raise(kept: &mut Replica, fence: u64) -> bool {
+    let Open = kept.state() else {
+        return false;
+    };
+    if kept.fence() >= fence {
+        return false;
     }
+    kept.raise(fence);
+    true
 }
 
-fn put_fault(
-    alloc: Global,
-    open: Result<OpenReplica, Fail>,
-    generation: u64,
-    offset: u32,
-) -> Result<(PutFault, u32, u32), Fail> {
-    let open = open?;
-    let group = group(alloc, b"f")?;
-    refused(open.put(generation, offset, group))
+fn freeze(alloc: Global, kept: &mut Replica) -> bool {
+    let Open = kept.state() else {
+        return false;
+    };
+    kept.freeze(alloc);
+    true
 }
 
-#[test]
-fn refuses_a_group(rt: HostRuntime) -> Result<(), Fail> {
-    let alloc = rt.alloc();
-    let below = put_fault(alloc, opened(alloc), 1, 5);
-    gives(&rt, below, (PutFault::Stale, 5, 1))?;
-    let before = put_fault(alloc, opened(alloc), 2, 3);
-    gives(&rt, before, (PutFault::PastEnd, 5, 1))
-}
-
-fn full(alloc: Global) -> Result<OpenReplica, Fail> {
-    let open = OpenReplica::new(alloc, PLACES, 4096, 0);
-    put(alloc, open, 0, 0, [b'a'; 4096].as_slice())
-}
-
-#[test]
-fn is_full_at_its_target(rt: HostRuntime) -> Result<(), Fail> {
-    let alloc = rt.alloc();
-    let behind = put_fault(alloc, full(alloc), 0, 4096);
-    gives(&rt, behind, (PutFault::ExtentFull, 4096, 1))
-}
-
-fn raised(alloc: Global) -> Result<OpenReplica, Fail> {
-    Ok(opened(alloc)?.raise(4).ok().ok_or("raised")?)
-}
-
-fn fence(open: OpenReplica) -> u64 {
-    Replica::Open(open).fence()
-}
-
-fn fence_and_length(kept: Replica) -> (u64, u32) {
-    (kept.fence(), kept.len())
-}
-
-// What stands where a lower fence is refused.
-fn lowered(raised: Result<OpenReplica, (Stale, OpenReplica)>) -> Result<(u64, u32), Fail> {
-    match raised {
-        Ok(_raised) => Err(Fail::from("a lower fence was taken")),
-        Err((_stale, open)) => Ok(fence_and_length(Replica::Open(open))),
+fn seal(alloc: Global, kept: &mut Replica, length: u32) -> bool {
+    match kept.state() {
+        Open | Frozen if kept.is_boundary(length) => {
+            kept.seal(alloc, length);
+            true
+        }
+        _ => false,
     }
-}
-
-fn lower_fence(alloc: Global) -> Result<(u64, u32), Fail> {
-    lowered(raised(alloc)?.raise(3))
-}
-
-#[test]
-fn raises_its_fence(rt: HostRuntime) -> Result<(), Fail> {
-    let alloc = rt.alloc();
-    same(&rt, fence(raised(alloc)?), 4);
-    gives(&rt, lower_fence(alloc), (4, 5))
-}
-
-#[test]
-fn is_sealed_where_a_group_ends(rt: HostRuntime) -> Result<(), Fail> {
-    let alloc = rt.alloc();
-    let facts = facts_of(Replica::Sealed(sealed(alloc)?));
-    same(&rt, facts, (3, 2, 4096, PLACES, Phase::Sealed));
-    shows(
-        &rt,
-        text_of(alloc, Replica::Sealed(sealed(alloc)?), 0, 9),
-        b"abc",
-    )
-}
-
-// The length that stays.
-fn unsealed(sealed: Result<SealedReplica, (PastEnd, OpenReplica)>) -> Result<u32, Fail> {
-    match sealed {
-        Ok(_sealed) => Err(Fail::from("sealed within a group")),
-        Err((_past, open)) => Ok(Replica::Open(open).len()),
-    }
-}
-
-fn sealed_within(alloc: Global) -> Result<u32, Fail> {
-    unsealed(opened(alloc)?.seal(4))
-}
-
-#[test]
-fn is_not_sealed_within_a_group(rt: HostRuntime) -> Result<(), Fail> {
-    gives(&rt, sealed_within(rt.alloc()), 5)
-}
-
-fn sealed_length(sealed: Result<SealedReplica, (PastEnd, FrozenReplica)>) -> Option<u32> {
-    match sealed {
-        Ok(sealed) => Some(Replica::Sealed(sealed).len()),
-        Err(_) => None,
-    }
-}
-
-#[test]
-fn is_sealed_when_frozen(rt: HostRuntime) -> Result<(), Fail> {
-    let length = sealed_length(frozen(rt.alloc())?.seal(5));
-    same(&rt, length, Some(5));
-    Ok(())
-}
-
-fn still_frozen(
-    sealed: Result<SealedReplica, (PastEnd, FrozenReplica)>,
-) -> Result<FrozenReplica, Fail> {
-    match sealed {
-        Ok(_sealed) => Err(Fail::from("sealed past the end")),
-        Err((_past, frozen)) => Ok(frozen),
-    }
-}
-
-fn sealed_past_end(alloc: Global) -> Result<FrozenReplica, Fail> {
-    still_frozen(frozen(alloc)?.seal(6))
-}
-
-#[test]
-fn is_frozen_until_sealed(rt: HostRuntime) -> Result<(), Fail> {
-    let alloc = rt.alloc();
-    let facts = facts_of(Replica::Frozen(sealed_past_end(alloc)?));
-    same(&rt, facts, (5, 2, 4096, PLACES, Phase::Frozen));
-    shows(
-        &rt,
-        text_of(alloc, Replica::Frozen(sealed_past_end(alloc)?), 3, 2),
-        b"de",
-    )
-}
-
-// Why a tail is refused, and how many bytes and groups come back.
-fn no_tail(
-    filled: Result<SealedReplica, (FillFault, FrozenReplica, Groups)>,
-) -> Result<(FillFault, u32, usize), Fail> {
-    match filled {
-        Ok(_sealed) => Err(Fail::from("the tail was taken")),
-        Err((fault, frozen, given)) => Ok((
-            fault,
-            Replica::Frozen(frozen).len(),
-            given.as_slice().len(),
-        )),
-    }
-}
-
-fn tail_fault(
-    alloc: Global,
-    from: u32,
-    length: u32,
-    texts: &[&[u8]],
-) -> Result<(FillFault, u32, usize), Fail> {
-    let tail = groups(alloc, texts)?;
-    let frozen = frozen(alloc)?;
-    no_tail(frozen.fill_tail(from, length, tail))
-}
-
-const TAIL: [&[u8]; 2] = [b"f", b"gh"];
-
-const NO_TAILS: [(u32, u32, FillFault); 6] = [
-    (3, 6, FillFault::PastEnd),
-    (6, 9, FillFault::PastEnd),
-    (5, 20_971_520, FillFault::ExtentFull),
-    (5, 7, FillFault::PastEnd),
-    (5, 9, FillFault::PastEnd),
-    (5, 4, FillFault::PastEnd),
-];
-
-#[test]
-fn refuses_what_is_no_tail(rt: HostRuntime) -> Result<(), Fail> {
-    let alloc = rt.alloc();
-    for (from, length, fault) in NO_TAILS {
-        let found = tail_fault(alloc, from, length, &TAIL);
-        gives(&rt, found, (fault, 5, 2))?;
-    }
-    let nothing = tail_fault(alloc, 5, 5, &[]);
-    gives(&rt, nothing, (FillFault::PastEnd, 5, 0))
-}
-
-fn tailed(alloc: Global) -> Result<SealedReplica, Fail> {
-    let tail = groups(alloc, &TAIL)?;
-    let frozen = frozen(alloc)?;
-    Ok(frozen.fill_tail(5, 8, tail).ok().ok_or("filled")?)
-}
-
-#[test]
-fn takes_its_tail(rt: HostRuntime) -> Result<(), Fail> {
-    let alloc = rt.alloc();
-    shows(
-        &rt,
-        text_of(alloc, Replica::Sealed(tailed(alloc)?), 0, 9),
-        b"abcdefgh",
-    )
-}
-
-#[test]
-fn reads_as_any_state(rt: HostRuntime) -> Result<(), Fail> {
-    let alloc = rt.alloc();
-    let facts = facts_of(kept(alloc)?);
-    same(&rt, facts, (5, 2, 4096, PLACES, Phase::Open));
-    shows(&rt, text_of(alloc, kept(alloc)?, 4, 4), b"e")
-}
-
-fn ends_at(kept: Replica, length: u32) -> bool {
-    kept.is_boundary(length)
-}
-
-const BOUNDARIES: [(u32, bool); 6] = [
-    (0, true),
-    (2, false),
-    (3, true),
-    (4, false),
-    (5, true),
-    (6, false),
-];
-
-#[test]
-fn knows_its_boundaries(rt: HostRuntime) -> Result<(), Fail> {
-    for (length, ends) in BOUNDARIES {
-        same(
-            &rt,
-            (length, ends_at(kept(rt.alloc())?, length)),
-            (length, ends),
-        );
-    }
-    Ok(())
-}
-
-// What a read into four bytes answers, and what they are then.
-fn read_from(kept: Replica, offset: u32) -> (Result<(), PastEnd>, [u8; 4]) {
-    let mut bytes = [b'.'; 4];
-    let read = kept.read_into(offset, &mut bytes);
-    (read, bytes)
-}
-
-#[test]
-fn reads_into_a_slice(rt: HostRuntime) -> Result<(), Fail> {
-    let alloc = rt.alloc();
-    same(&rt, read_from(kept(alloc)?, 2), (Err(PastEnd), *b"...."));
-    same(&rt, read_from(kept(alloc)?, 1), (Ok(()), *b"bcde"));
-    Ok(())
-}
-
-// How many groups there are, and the bytes of the first two.
-type Sizes = Option<(usize, Option<u32>, Option<u32>)>;
-
-fn size_at(groups: &Groups, at: usize) -> Option<u32> {
-    match groups.as_slice().get(at) {
-        None => None,
-        Some(group) => Some(group.size()),
-    }
-}
-
-fn sizes(groups: Result<Option<Groups>, AllocError>) -> Result<Sizes, Fail> {
-    match groups? {
-        None => Ok(None),
-        Some(groups) => Ok(Some((
-            groups.as_slice().len(),
-            size_at(&groups, 0),
-            size_at(&groups, 1),
-        ))),
-    }
-}
-
-fn groups_to(alloc: Global, kept: Replica, upto: u32) -> Result<Option<Groups>, AllocError> {
-    kept.groups_to(alloc, upto)
-}
-
-fn groups_from(alloc: Global, kept: Replica, from: u32) -> Result<Option<Groups>, AllocError> {
-    kept.groups_from(alloc, from)
-}
-
-fn sizes_to(alloc: Global, upto: u32) -> Result<Sizes, Fail> {
-    sizes(groups_to(alloc, kept(alloc)?, upto))
-}
-
-fn sizes_from(alloc: Global, from: u32) -> Result<Sizes, Fail> {
-    sizes(groups_from(alloc, kept(alloc)?, from))
-}
-
-#[test]
-fn gives_groups_out_at_a_boundary(rt: HostRuntime) -> Result<(), Fail> {
-    let alloc = rt.alloc();
-    gives(&rt, sizes_to(alloc, 3), Some((1, Some(3), None)))?;
-    gives(&rt, sizes_to(alloc, 4), None)?;
-    gives(&rt, sizes_from(alloc, 0), Some((2, Some(3), Some(2))))?;
-    gives(&rt, sizes_from(alloc, 3), Some((1, Some(2), None)))?;
-    gives(&rt, sizes_from(alloc, 4), None)?;
-    gives(&rt, sizes_from(alloc, 5), Some((0, None, None)))
 }
 
 // One group.
-fn one(alloc: Global, text: &[u8]) -> Result<Groups, Fail>
+fn one(alloc: Global, text: &[u8]) -> Result<Groups, GroupFault>
     ensures { IfOk result (λ groups. (length groups ≡ 1) × (text_length groups ≤ 4194304)) }
 {
-    let group = group(alloc, text)?;
+    let group = group_of(alloc, &[text])?;
     let _size = group.size();
     let mut groups = Vec::new(alloc);
     groups.push(group)?;
     Ok(Groups::of(groups))
 }
 
-fn fill(alloc: Global, kept: &mut Replica) -> Result<(), Fail> {
-    let Phase::Open = kept.state() else {
-        return Err(Fail::from("a new replica was not open"));
-    };
-    if kept.fence() >= 9 || kept.len() > 5 {
-        return Err(Fail::from("another fence or length"));
-    }
-    kept.raise(9);
-    kept.freeze(alloc);
+fn fill(alloc: Global, kept: &mut Replica, text: &[u8]) -> Result<bool, GroupFault> {
     kept.reserve(1)?;
-    kept.fill(alloc, one(alloc, b"fgh")?);
-    Ok(())
-}
-
-fn filled(alloc: Global) -> Result<Replica, Fail> {
-    let mut kept = kept(alloc)?;
-    fill(alloc, &mut kept)?;
-    Ok(kept)
-}
-
-#[test]
-fn goes_from_state_to_state_in_place(rt: HostRuntime) -> Result<(), Fail> {
-    let alloc = rt.alloc();
-    let facts = facts_of(filled(alloc)?);
-    same(&rt, facts, (8, 9, 4096, PLACES, Phase::Sealed));
-    shows(&rt, text_of(alloc, filled(alloc)?, 0, 9), b"abcdefgh")
-}
-
-fn cut_at_three(alloc: Global, kept: &mut Replica, freezes: bool) -> Result<(), Fail> {
-    let Phase::Open = kept.state() else {
-        return Err(Fail::from("a new replica was not open"));
+    let Frozen = kept.state() else {
+        return Ok(false);
     };
-    if !kept.is_boundary(3) {
-        return Err(Fail::from("no group ends at 3"));
+    if kept.len() > 5 {
+        return Ok(false);
     }
-    if freezes {
-        kept.freeze(alloc);
-    }
-    kept.seal(alloc, 3);
-    Ok(())
+    kept.fill(alloc, one(alloc, text)?);
+    Ok(true)
 }
 
-fn cut(alloc: Global, freezes: bool) -> Result<Replica, Fail> {
-    let mut kept = kept(alloc)?;
-    cut_at_three(alloc, &mut kept, freezes)?;
-    Ok(kept)
+fn is(kept: &Replica, length: u32, fence: u64, phase: Phase) -> bool {
+    kept.len() == length
+        && kept.fence() == fence
+        && kept.target() == TARGET
+        && kept.places() == PLACES
+        && kept.state() == phase
+}
+
+fn reads(found: Result<Bytes, AllocError>, wanted: &[u8]) -> bool {
+    match found {
+        Ok(bytes) => bytes.as_slice() == wanted,
+        Err(_full) => false,
+    }
+}
+
+fn read_four(kept: &Replica, offset: u32) -> (Result<(), PastEnd>, [u8; 4]) {
+    let mut bytes = [b'.'; 4];
+    let read = kept.read_into(offset, &mut bytes);
+    (read, bytes)
+}
+
+fn sizes(groups: &[Group]) -> Sizes {
+    match groups {
+        [] => Some((0, None, None)),
+        [only] => Some((1, Some(only.size()), None)),
+        [first, second, rest @ ..] => {
+            Some((rest.len() + 2, Some(first.size()), Some(second.size())))
+        }
+    }
+}
+
+fn has_sizes(found: Result<Option<Groups>, AllocError>, wanted: Sizes) -> bool {
+    match found {
+        Ok(Some(groups)) => sizes(groups.as_slice()) == wanted,
+        Ok(None) => wanted.is_none(),
+        Err(_full) => false,
+    }
+}
+
+impl Subject for Replica {
+    type Event = Event;
+
+    fn takes(&mut self, alloc: Global, event: Event) -> bool {
+        match event {
+            Puts(..) | Raises(..) | Freezes | Seals(..) | FillsTail(..) => steps(
+                alloc, self, event,
+            ),
+            Adds(text) => add(alloc, self, text) == Ok(true),
+            RaisesInPlace(fence) => raise(self, fence),
+            FreezesInPlace => freeze(alloc, self),
+            SealsInPlace(length) => seal(alloc, self, length),
+            FillsInPlace(text) => fill(alloc, self, text) == Ok(true),
+            Is(length, fence, phase) => is(self, length, fence, phase),
+            Reads(offset, length, wanted) => reads(self.bytes(alloc, offset, length), wanted),
+            ReadsFour(offset, told, wanted) => read_four(self, offset) == (told, wanted),
+            EndsAt(length, ends) => self.is_boundary(length) == ends,
+            GroupsTo(upto, wanted) => has_sizes(self.groups_to(alloc, upto), wanted),
+            GroupsFrom(from, wanted) => has_sizes(self.groups_from(alloc, from), wanted),
+        }
+    }
 }
 
 #[test]
-fn is_cut_in_place(rt: HostRuntime) -> Result<(), Fail> {
-    let alloc = rt.alloc();
-    for freezes in [false, true] {
-        let facts = facts_of(cut(alloc, freezes)?);
-        same(&rt, facts, (3, 2, 4096, PLACES, Phase::Sealed));
-        shows(&rt, text_of(alloc, cut(alloc, freezes)?, 0, 9), b"abc")?;
+fn each_event_goes_as_its_case_says(rt: HostRuntime) {
+    for (shows, fence, parts) in CASES {
+        let kept = Replica::new(rt.alloc(), PLACES, TARGET, *fence);
+        assert!(rt; holds(rt.alloc(), kept, parts), "{shows}");
     }
-    Ok(())
 }
