@@ -11,9 +11,15 @@ use std::marker::Model;
 
 /// The smallest piece that is written or read, from 1 to 65,536 bytes (after Calder et al., SOSP 2011, section 4).
 /// Its value is its bytes.
-#[derive(Drop)]
 pub struct Block {
     bytes: Bytes,
+}
+
+// Written out, so that a crate above that lets one go has no proof of what is in it.
+impl Drop for Block {
+    fn drop(self) {
+        let Block { bytes: _ } = self;
+    }
 }
 
 impl Model for Block {
@@ -66,9 +72,15 @@ impl Block {
 
 /// The blocks of one append, in order, from 1 to 64 of them: all of them are kept, or none (after Calder et al., SOSP
 /// 2011, section 4). Its value is the list of their bytes.
-#[derive(Drop)]
 pub struct Group {
     blocks: Vec<Block>,
+}
+
+// Written out, so that a crate above that lets one go has no proof of what is in it.
+impl Drop for Group {
+    fn drop(self) {
+        let Group { blocks: _ } = self;
+    }
 }
 
 impl Model for Group {
@@ -201,9 +213,15 @@ fn total(blocks: &[Block]) -> u32
 }
 
 /// Groups in order, as an extent has them; there may be none. Its value is the list of their values.
-#[derive(Drop)]
 pub struct Groups {
     groups: Vec<Group>,
+}
+
+// Written out, so that a crate above that lets one go has no proof of what is in it.
+impl Drop for Groups {
+    fn drop(self) {
+        let Groups { groups: _ } = self;
+    }
 }
 
 impl Model for Groups {
@@ -252,6 +270,7 @@ impl Groups {
     pub fn into_vec(self) -> Vec<Group>
         ensures { result.items ≡ self }
     {
-        self.groups
+        let Groups { groups } = self;
+        groups
     }
 }

@@ -17,7 +17,6 @@ pub struct Place {
 /// What a row keeps of a value.
 ///
 /// A value may be out of range: `IsCell` of specs/Cell.antt is what a cell may hold.
-#[derive(Drop)]
 pub enum Cell {
     /// The key has no value.
     Deleted,
@@ -25,6 +24,17 @@ pub enum Cell {
     Inline(Bytes),
     /// Where a value of 4,097 to 65,536 bytes stands.
     Placed(Place),
+}
+
+// Written out, so that a crate above that lets one go has no proof of what is in it.
+impl Drop for Cell {
+    fn drop(self) {
+        match self {
+            Cell::Deleted => {}
+            Cell::Inline(_) => {}
+            Cell::Placed(_) => {}
+        }
+    }
 }
 
 impl Cell {

@@ -17,7 +17,6 @@ use wire::{
 };
 
 /// What a server knows of one of its streams under a generation, and the one request that it has out on it.
-#[derive(Drop)]
 pub struct StreamClient {
     pub(crate) server: ServerNo,
     pub(crate) stream: StreamName,
@@ -28,6 +27,23 @@ pub struct StreamClient {
     pub(crate) pick: Nodes,
     pub(crate) group: Blocks,
     pub(crate) job: Job,
+}
+
+// Written out, so that a crate above that lets one go has no proof of what is in it.
+impl Drop for StreamClient {
+    fn drop(self) {
+        let StreamClient {
+            server: _,
+            stream: _,
+            generation: _,
+            base: _,
+            extents: _,
+            checked: _,
+            pick: _,
+            group: _,
+            job: _,
+        } = self;
+    }
 }
 
 impl Model for StreamClient {

@@ -5,9 +5,15 @@ use std::marker::Model;
 use wire::Changes;
 
 /// Transactions in the order of their numbers. Its value is the list of their changes.
-#[derive(Drop)]
 pub struct Transactions {
     items: Vec<Changes>,
+}
+
+// Written out, so that a crate above that lets one go has no proof of what is in it.
+impl Drop for Transactions {
+    fn drop(self) {
+        let Transactions { items: _ } = self;
+    }
 }
 
 impl Model for Transactions {
@@ -38,9 +44,18 @@ impl Transactions {
 /// What one append to the commit log commits: transactions with consecutive numbers.
 ///
 /// A value may be out of range: `Fits` of specs/Record.antt is what has a spelling.
-#[derive(Drop)]
 pub struct LogRecord {
     /// The number of the first transaction, from 1.
     pub first: u64,
     pub transactions: Transactions,
+}
+
+// Written out, so that a crate above that lets one go has no proof of what is in it.
+impl Drop for LogRecord {
+    fn drop(self) {
+        let LogRecord {
+            first: _,
+            transactions: _,
+        } = self;
+    }
 }

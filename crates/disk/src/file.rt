@@ -20,7 +20,6 @@ use std::marker::Model;
 /// version, the records and whether it is stopped; in memory it holds none of the records. An append makes four device
 /// calls: it writes the record behind the last gate, which is still closed, and a closed gate behind that; syncs; opens
 /// the gate; and syncs. After Calder et al., SOSP 2011, section 4.
-#[derive(Drop)]
 pub struct RecordFile<D: Disk> {
     disk: D,
     version: Version,
@@ -28,6 +27,18 @@ pub struct RecordFile<D: Disk> {
     end: usize,
     // a device call of an append has failed, so that the gate may be open or closed
     stopped: bool,
+}
+
+// Written out, so that a crate above that lets one go has no proof of what is in it.
+impl<D: Disk + Drop> Drop for RecordFile<D> {
+    fn drop(self) {
+        let RecordFile {
+            disk: _,
+            version: _,
+            end: _,
+            stopped: _,
+        } = self;
+    }
 }
 
 impl<D: Disk> Model for RecordFile<D> {
@@ -166,7 +177,13 @@ impl<D: Disk> RecordFile<D> {
         ensures disk { result ≡ self.disk }
         ensures stands { IsFileOf self.version self.records (D.state result).seen }
     {
-        self.disk
+        let RecordFile {
+            disk,
+            version: _,
+            end: _,
+            stopped: _,
+        } = self;
+        disk
     }
 }
 

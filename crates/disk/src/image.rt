@@ -7,12 +7,22 @@ use std::alloc::{AllocError, Global};
 use std::marker::Model;
 use std::mem;
 
-#[derive(Drop)]
 pub struct Image {
     bytes: Vec<u8>,
     synced: Vec<u8>,
     // so many leading bytes are the same in both
     clean: usize,
+}
+
+// Written out, so that a crate above that lets one go has no proof of what is in it.
+impl Drop for Image {
+    fn drop(self) {
+        let Image {
+            bytes: _,
+            synced: _,
+            clean: _,
+        } = self;
+    }
 }
 
 impl Model for Image {

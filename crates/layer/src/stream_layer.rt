@@ -36,12 +36,23 @@ use wire::{ActorId, Body, ExtentId, Note, Packet, RangeId, Refusal, Rows, Server
 
 /// Real extent nodes and the stream manager on disks in memory, all packets that were sent, numbered from 0, and all
 /// observations. The packets stay, since each may be delivered any number of times.
-#[derive(Drop)]
 pub struct Layer {
     nodes: NodeList,
     desk: Desk,
     post: Vec<Packet>,
     notes: Vec<Note>,
+}
+
+// Written out, so that a crate above that lets one go has no proof of what is in it.
+impl Drop for Layer {
+    fn drop(self) {
+        let Layer {
+            nodes: _,
+            desk: _,
+            post: _,
+            notes: _,
+        } = self;
+    }
 }
 
 impl Model for Layer {

@@ -7,7 +7,6 @@ use wire::StreamList;
 
 /// What a server knows of a range beside its transactions and Gets: how far its load is, its streams, what its metadata says,
 /// the regions of its log with the numbers that are to be applied next, and its table.
-#[derive(Drop)]
 pub struct RangeContent {
     pub load: RangeLoad,
     pub stage: Stage,
@@ -18,4 +17,21 @@ pub struct RangeContent {
     pub said: Metadata,
     pub regions: Vec<Region>,
     pub table: MemTable,
+}
+
+// Written out, so that a crate above that lets one go has no proof of what is in it.
+impl Drop for RangeContent {
+    fn drop(self) {
+        let RangeContent {
+            load: _,
+            stage: _,
+            metadata: _,
+            log: _,
+            row_data: _,
+            blob_data: _,
+            said: _,
+            regions: _,
+            table: _,
+        } = self;
+    }
 }

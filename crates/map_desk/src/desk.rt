@@ -12,9 +12,15 @@ use std::marker::Model;
 use wire::{Packet, Packets, RangeId, Refusal, ServerNo, Step};
 
 /// The map, on a disk in memory.
-#[derive(Drop)]
 pub struct MapDesk {
     map: PartitionMap<MemDisk>,
+}
+
+// Written out, so that a crate above that lets one go has no proof of what is in it.
+impl Drop for MapDesk {
+    fn drop(self) {
+        let MapDesk { map: _ } = self;
+    }
 }
 
 impl Model for MapDesk {

@@ -5,9 +5,15 @@ use crate::record::{IndexRange, Region};
 use std::marker::Model;
 
 /// Indexes, the newest first.
-#[derive(Drop)]
 pub struct IndexRanges {
     items: Vec<IndexRange>,
+}
+
+// Written out, so that a crate above that lets one go has no proof of what is in it.
+impl Drop for IndexRanges {
+    fn drop(self) {
+        let IndexRanges { items: _ } = self;
+    }
 }
 
 impl Model for IndexRanges {
@@ -38,14 +44,21 @@ impl IndexRanges {
     pub fn into_vec(self) -> Vec<IndexRange>
         ensures { result.items ≡ self }
     {
-        self.items
+        let IndexRanges { items } = self;
+        items
     }
 }
 
 /// Regions, in the order of the log.
-#[derive(Drop)]
 pub struct Regions {
     items: Vec<Region>,
+}
+
+// Written out, so that a crate above that lets one go has no proof of what is in it.
+impl Drop for Regions {
+    fn drop(self) {
+        let Regions { items: _ } = self;
+    }
 }
 
 impl Model for Regions {
@@ -76,6 +89,7 @@ impl Regions {
     pub fn into_vec(self) -> Vec<Region>
         ensures { result.items ≡ self }
     {
-        self.items
+        let Regions { items } = self;
+        items
     }
 }

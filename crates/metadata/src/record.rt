@@ -9,10 +9,16 @@ use wire::RangeId;
 
 /// The keys from `low` on and below `high`, or all from `low` on where there is no `high`, in byte order. A `low` of no
 /// bytes stands below every key. Keys have at most 256 bytes.
-#[derive(Drop)]
 pub struct KeyRange {
     pub low: Bytes,
     pub high: Option<Bytes>,
+}
+
+// Written out, so that a crate above that lets one go has no proof of what is in it.
+impl Drop for KeyRange {
+    fn drop(self) {
+        let KeyRange { low: _, high: _ } = self;
+    }
 }
 
 impl KeyRange {
@@ -33,20 +39,37 @@ impl KeyRange {
 }
 
 /// The index of some pages, which counts within these keys alone.
-#[derive(Drop)]
 pub struct IndexRange {
     pub place: Place,
     pub keys: KeyRange,
 }
 
+// Written out, so that a crate above that lets one go has no proof of what is in it.
+impl Drop for IndexRange {
+    fn drop(self) {
+        let IndexRange { place: _, keys: _ } = self;
+    }
+}
+
 /// A part of the log that is still to be applied, within these keys: from a place on, below the extent of the index `end` or
 /// without end, its transactions numbered from `next` on.
-#[derive(Drop)]
 pub struct Region {
     pub start: Position,
     pub end: Option<u64>,
     pub next: u64,
     pub keys: KeyRange,
+}
+
+// Written out, so that a crate above that lets one go has no proof of what is in it.
+impl Drop for Region {
+    fn drop(self) {
+        let Region {
+            start: _,
+            end: _,
+            next: _,
+            keys: _,
+        } = self;
+    }
 }
 
 /// What a record of the metadata says (docs/FORMATS.md).

@@ -8,11 +8,21 @@ use std::marker::Model;
 use wire::{ActorId, Changes, ReqNo};
 
 /// A transaction that waits to be appended, or is being appended.
-#[derive(Drop)]
 pub struct WaitingTransaction {
     pub from: ActorId,
     pub request: ReqNo,
     pub changes: Changes,
+}
+
+// Written out, so that a crate above that lets one go has no proof of what is in it.
+impl Drop for WaitingTransaction {
+    fn drop(self) {
+        let WaitingTransaction {
+            from: _,
+            request: _,
+            changes: _,
+        } = self;
+    }
 }
 
 /// A read of a value that a Get asked for: its number, the place, and the replica that was asked last.
@@ -24,9 +34,15 @@ pub struct PlaceRead {
 }
 
 /// Reads, in the order in which they were sent.
-#[derive(Drop)]
 pub struct PlaceReads {
     items: Vec<PlaceRead>,
+}
+
+// Written out, so that a crate above that lets one go has no proof of what is in it.
+impl Drop for PlaceReads {
+    fn drop(self) {
+        let PlaceReads { items: _ } = self;
+    }
 }
 
 impl Model for PlaceReads {

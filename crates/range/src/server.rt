@@ -27,10 +27,16 @@ use wire::{
 };
 
 /// A partition server, from one start to the next stop.
-#[derive(Drop)]
 pub struct RangeServer {
     desk: Desk,
     ranges: BTreeMap<u64, RangeState>,
+}
+
+// Written out, so that a crate above that lets one go has no proof of what is in it.
+impl Drop for RangeServer {
+    fn drop(self) {
+        let RangeServer { desk: _, ranges: _ } = self;
+    }
 }
 
 impl Model for RangeServer {

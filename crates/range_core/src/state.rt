@@ -16,13 +16,25 @@ use wire::{Fence, Packet, RangeId};
 
 /// A range at a server: the end of its lease, in ticks; its streams, its metadata and its table; the transactions that wait;
 /// the end of what was appended to its log; and the Gets that wait.
-#[derive(Drop)]
 pub struct RangeState {
     pub(crate) until: u64,
     pub(crate) content: RangeContent,
     pub(crate) queue: Queue,
     pub(crate) position: Position,
     pub(crate) lookups: Lookups,
+}
+
+// Written out, so that a crate above that lets one go has no proof of what is in it.
+impl Drop for RangeState {
+    fn drop(self) {
+        let RangeState {
+            until: _,
+            content: _,
+            queue: _,
+            position: _,
+            lookups: _,
+        } = self;
+    }
 }
 
 impl Model for RangeState {

@@ -20,9 +20,15 @@ use std::marker::Model;
 const LONGEST: u32 = 20_971_519;
 
 /// A frozen replica: it takes no more groups at its end, but what brings it to the length at which it is sealed.
-#[derive(Drop)]
 pub struct FrozenReplica {
     kept: Kept,
+}
+
+// Written out, so that a crate above that lets one go has no proof of what is in it.
+impl Drop for FrozenReplica {
+    fn drop(self) {
+        let FrozenReplica { kept: _ } = self;
+    }
 }
 
 impl Model for FrozenReplica {
@@ -106,7 +112,7 @@ impl FrozenReplica {
         ensures fault { MatchResult result (λ _. is_boundary (groups_to length self.content.groups) ≡ true)
             (λ _. is_boundary (groups_to length self.content.groups) ≡ false) }
     {
-        let mut kept = self.kept;
+        let FrozenReplica { mut kept } = self;
         if kept.held.cut(length) {
             Ok(SealedReplica::of(kept))
         } else {
@@ -139,7 +145,7 @@ impl FrozenReplica {
         requires bound { text_length self.content.groups + text_length groups ≤ longest }
         ensures { result.content ≡ sealed_with self.content (self.content.groups ++ groups) }
     {
-        let mut kept = self.kept;
+        let FrozenReplica { mut kept } = self;
         kept.held.extend(groups);
         SealedReplica::of(kept)
     }

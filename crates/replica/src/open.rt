@@ -19,9 +19,15 @@ use std::alloc::{AllocError, Global};
 use std::marker::Model;
 
 /// An open replica: it takes groups at its end, while its length is below its target.
-#[derive(Drop)]
 pub struct OpenReplica {
     kept: Kept,
+}
+
+// Written out, so that a crate above that lets one go has no proof of what is in it.
+impl Drop for OpenReplica {
+    fn drop(self) {
+        let OpenReplica { kept: _ } = self;
+    }
 }
 
 impl Model for OpenReplica {
@@ -157,7 +163,8 @@ impl OpenReplica {
     pub fn freeze(self) -> FrozenReplica
         ensures { result.content ≡ frozen self.content }
     {
-        FrozenReplica::of(self.kept)
+        let OpenReplica { kept } = self;
+        FrozenReplica::of(kept)
     }
 
     /// Keeps the groups up to a length, for good. Where no group ends there it is refused (8), which hands the replica
@@ -168,7 +175,7 @@ impl OpenReplica {
         ensures fault { MatchResult result (λ _. is_boundary (groups_to length self.content.groups) ≡ true)
             (λ _. is_boundary (groups_to length self.content.groups) ≡ false) }
     {
-        let mut kept = self.kept;
+        let OpenReplica { mut kept } = self;
         if kept.held.cut(length) {
             Ok(SealedReplica::of(kept))
         } else {

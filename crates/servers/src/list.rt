@@ -15,9 +15,15 @@ use std::marker::Model;
 use wire::{Body, Packet, RangeId, ServerNo};
 
 /// The servers, numbered from 1. What they hold goes with a stop.
-#[derive(Drop)]
 pub struct Servers {
     cells: Vec<ServerCell>,
+}
+
+// Written out, so that a crate above that lets one go has no proof of what is in it.
+impl Drop for Servers {
+    fn drop(self) {
+        let Servers { cells: _ } = self;
+    }
 }
 
 impl Model for Servers {

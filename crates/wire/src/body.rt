@@ -294,7 +294,6 @@ pub enum TableBody {
 }
 
 /// What a packet says.
-#[derive(Drop)]
 pub enum Body {
     Append(AppendBody),
     Check(CheckBody),
@@ -303,4 +302,19 @@ pub enum Body {
     Stream(StreamBody),
     Map(MapBody),
     Table(TableBody),
+}
+
+// Written out, so that a crate above that lets one go has no proof of what is in it.
+impl Drop for Body {
+    fn drop(self) {
+        match self {
+            Body::Append(_) => {}
+            Body::Check(_) => {}
+            Body::Seal(_) => {}
+            Body::Read(_) => {}
+            Body::Stream(_) => {}
+            Body::Map(_) => {}
+            Body::Table(_) => {}
+        }
+    }
 }

@@ -74,9 +74,15 @@ pub enum Note {
 }
 
 /// Observations in order.
-#[derive(Drop)]
 pub struct Notes {
     items: Vec<Note>,
+}
+
+// Written out, so that a crate above that lets one go has no proof of what is in it.
+impl Drop for Notes {
+    fn drop(self) {
+        let Notes { items: _ } = self;
+    }
 }
 
 impl Model for Notes {
@@ -127,6 +133,7 @@ impl Notes {
     pub fn into_vec(self) -> Vec<Note>
         ensures { result.items ≡ self }
     {
-        self.items
+        let Notes { items } = self;
+        items
     }
 }

@@ -16,9 +16,15 @@ pub struct Packet {
 }
 
 /// Packets in the order in which they are sent.
-#[derive(Drop)]
 pub struct Packets {
     items: Vec<Packet>,
+}
+
+// Written out, so that a crate above that lets one go has no proof of what is in it.
+impl Drop for Packets {
+    fn drop(self) {
+        let Packets { items: _ } = self;
+    }
 }
 
 impl Model for Packets {
@@ -69,7 +75,8 @@ impl Packets {
     pub fn into_vec(self) -> Vec<Packet>
         ensures { result.items ≡ self }
     {
-        self.items
+        let Packets { items } = self;
+        items
     }
 }
 

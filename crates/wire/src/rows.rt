@@ -5,16 +5,28 @@ use bytes::Bytes;
 use std::marker::Model;
 
 /// A key and its value.
-#[derive(Drop)]
 pub struct Row {
     pub key: Bytes,
     pub value: Bytes,
 }
 
+// Written out, so that a crate above that lets one go has no proof of what is in it.
+impl Drop for Row {
+    fn drop(self) {
+        let Row { key: _, value: _ } = self;
+    }
+}
+
 /// A table: its rows in order of their keys.
-#[derive(Drop)]
 pub struct Rows {
     items: Vec<Row>,
+}
+
+// Written out, so that a crate above that lets one go has no proof of what is in it.
+impl Drop for Rows {
+    fn drop(self) {
+        let Rows { items: _ } = self;
+    }
 }
 
 impl Model for Rows {

@@ -32,9 +32,15 @@ pub struct StreamExtent {
 }
 
 /// The extents of a stream, in order.
-#[derive(Drop)]
 pub struct StreamExtents {
     items: Vec<StreamExtent>,
+}
+
+// Written out, so that a crate above that lets one go has no proof of what is in it.
+impl Drop for StreamExtents {
+    fn drop(self) {
+        let StreamExtents { items: _ } = self;
+    }
 }
 
 impl Model for StreamExtents {
@@ -63,19 +69,39 @@ impl StreamExtents {
 }
 
 /// A stream: the index of its first extent, and its extents.
-#[derive(Drop)]
 pub struct StreamList {
     pub base: u64,
     pub extents: StreamExtents,
 }
 
+// Written out, so that a crate above that lets one go has no proof of what is in it.
+impl Drop for StreamList {
+    fn drop(self) {
+        let StreamList {
+            base: _,
+            extents: _,
+        } = self;
+    }
+}
+
 /// The four streams of a range.
-#[derive(Drop)]
 pub struct StreamLists {
     pub metadata: StreamList,
     pub log: StreamList,
     pub row_data: StreamList,
     pub blob_data: StreamList,
+}
+
+// Written out, so that a crate above that lets one go has no proof of what is in it.
+impl Drop for StreamLists {
+    fn drop(self) {
+        let StreamLists {
+            metadata: _,
+            log: _,
+            row_data: _,
+            blob_data: _,
+        } = self;
+    }
 }
 
 /// A stream that another is built from, and the generation that its fence is to have.
@@ -86,9 +112,15 @@ pub struct Source {
 }
 
 /// Streams whose lists are joined, in order.
-#[derive(Drop)]
 pub struct Sources {
     items: Vec<Source>,
+}
+
+// Written out, so that a crate above that lets one go has no proof of what is in it.
+impl Drop for Sources {
+    fn drop(self) {
+        let Sources { items: _ } = self;
+    }
 }
 
 impl Model for Sources {
@@ -117,16 +149,31 @@ impl Sources {
 }
 
 /// A stream to be built from the lists of others.
-#[derive(Drop)]
 pub struct Modify {
     pub stream: StreamName,
     pub sources: Sources,
 }
 
+// Written out, so that a crate above that lets one go has no proof of what is in it.
+impl Drop for Modify {
+    fn drop(self) {
+        let Modify {
+            stream: _,
+            sources: _,
+        } = self;
+    }
+}
+
 /// Streams to be built, in order.
-#[derive(Drop)]
 pub struct Modifies {
     items: Vec<Modify>,
+}
+
+// Written out, so that a crate above that lets one go has no proof of what is in it.
+impl Drop for Modifies {
+    fn drop(self) {
+        let Modifies { items: _ } = self;
+    }
 }
 
 impl Model for Modifies {

@@ -18,9 +18,15 @@ use wire::{Note, Packet, Refusal};
 /// A cluster that events made. At each moment it is what the model makes of some list of events, from the start of some
 /// setup, whatever caches of servers hold. So what was observed of extents is honest, and what was observed of tables replays,
 /// at any moment and of any run.
-#[derive(Drop)]
 pub struct Run {
     cluster: Cluster,
+}
+
+// Written out, so that a crate above that lets one go has no proof of what is in it.
+impl Drop for Run {
+    fn drop(self) {
+        let Run { cluster: _ } = self;
+    }
 }
 
 impl Model for Run {
