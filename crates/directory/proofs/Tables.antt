@@ -1,7 +1,6 @@
 -- The table and the model's book say the same, before and after a change.
-use Rattle.std.proofs.Common.{◌≡◌, ◌≢◌, ℕ, zero, suc, ◌≤◌, nat_le, Bool, true, false, ◌&&◌, if◌then◌else◌, arith, ◌==◌, List, [], ◌∷◌, ◌++◌, length, Option, Some, None, slice_get, slice_set, refl, sym, ap, ◌∙◌}
+use Rattle.std.proofs.Common.{◌≡◌, ◌≢◌, ℕ, zero, suc, nat_le, Bool, true, false, ◌&&◌, if◌then◌else◌, arith, ◌==◌, List, [], ◌∷◌, ◌++◌, length, Option, Some, None, slice_get, slice_set, refl, sym, ap, ◌∙◌}
 use Rattle.std.proofs.Math.Path.{fun_ext}
-use Rattle.std.proofs.lemmas.Bool.{eqb-true, eqb-false}
 use Rattle.std.proofs.lemmas.Bool.Decides.{nat_tests}
 use Rattle.blocks.specs.declared.record.Nodes.{Nodes}
 use Rattle.wire.specs.declared.streams.StreamKind.{StreamKind}
@@ -9,14 +8,12 @@ use Rattle.wire.specs.declared.streams.StreamKind.TheVariants.{Metadata, Log, Ro
 use Rattle.wire.specs.declared.streams.StreamName.{StreamName}
 use Rattle.streams.specs.Streams.{Stream, Streams, stream_of, empty_stream, created}
 use Rattle.streams.specs.Table.{no_streams}
+use Rattle.streams.proofs.Tables.{apart}
 use Rattle.model.specs.declared.extent.Extent.{Extent}
-use Rattle.model.specs.Maps.{changed, entry_at}
+use Rattle.model.specs.Maps.{entry_at}
 use Rattle.model.specs.Manager.{Book, first_streams, new_extent, with_extent, extended}
-use Rattle.model.proofs.Tests.{if_elim}
+use Rattle.model.proofs.Tests.{changed_elim}
 use Rattle.directory.specs.Table.{TableState, Lists, with_entry, longer, longer_extents}
-
-pub changed_elim : {A : Type 0} (P : A → Type 0) (e : ℕ) (v : A) (f : ℕ → A) (k : ℕ) → (k ≡ e → P v) → (k ≢ e → P (f k)) → P (changed e v f k)
-changed_elim P e v f k p q = if_elim P (k == e) v (f k) (λ t. p (eqb-true k e t)) (λ u. q (eqb-false k e u))
 
 -- ---- entries by number
 
@@ -116,9 +113,6 @@ four_of b k =
     else if b && (k == 1) then Some (empty_stream 0)
     else if b && (k == 0) then Some (empty_stream 0)
     else None
-
-apart : (k n : ℕ) → n ≤ 3 → (suc (suc (suc (suc k))) == n) ≡ false
-apart k n small = grind (arith, nat_tests)
 
 above : (k : ℕ) → nat_le (suc (suc (suc (suc k)))) 3 ≡ false
 above k = grind (arith, nat_tests)

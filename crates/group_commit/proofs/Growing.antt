@@ -1,7 +1,7 @@
 -- How a group grows.
-use Rattle.std.proofs.Common.{◌≡◌, ℕ, zero, suc, ◌+◌, ◌-◌, ◌<◌, ◌≤◌, ◌⊎◌, Bool, true, false, List, [], ◌∷◌, ◌++◌, length, map, take, get_or, refl, sym, ap, subst, ◌∙◌, inl, inr, arith}
-use Rattle.std.specs.Prelude.{nat_le, ◌&&◌}
-use Rattle.std.proofs.lemmas.Bool.{leb-true, le-leb, lt-leb}
+use Rattle.std.proofs.Common.{◌≡◌, ℕ, zero, suc, ◌+◌, ◌-◌, ◌<◌, ◌≤◌, ◌⊎◌, true, false, List, [], ◌∷◌, ◌++◌, length, map, take, get_or, refl, sym, ap, subst, ◌∙◌, inl, inr, arith}
+use Rattle.std.specs.Prelude.{nat_le}
+use Rattle.std.proofs.lemmas.Bool.{leb-true, le-leb, lt-leb, and_parts}
 use Rattle.std.proofs.lemmas.List.{map_more}
 use Rattle.wire.specs.declared.transaction.Change.{Change}
 use Rattle.commitlog.specs.Record.{spelling}
@@ -61,12 +61,8 @@ grows_end next all n (suc more) le = rw (lt-leb (suc n) (length all) (omega (ari
 abbrev Grew : ℕ → List WaitingTransaction → ℕ → ℕ → Type 0
 Grew next all n m = (m ≡ n) ⊎ ((m ≤ length all) × (length (spelling (record_of next (take m all))) ≤ 64))
 
-both : (a b : Bool) → (a && b) ≡ true → (a ≡ true) × (b ≡ true)
-both true b h = (refl, h)
-both false b h = cc
-
 fitting : (next : ℕ) (all : List WaitingTransaction) (m : ℕ) → fits_a_group next all m ≡ true → (m ≤ length all) × (length (spelling (record_of next (take m all))) ≤ 64)
-fitting next all m is = let tests = both _ _ is in (leb-true _ _ tests.0, leb-true _ _ tests.1)
+fitting next all m is = let tests = and_parts _ _ is in (leb-true _ _ tests.0, leb-true _ _ tests.1)
 
 after_one : (next : ℕ) (all : List WaitingTransaction) (n m : ℕ) → fits_a_group next all (suc n) ≡ true → Grew next all (suc n) m → Grew next all n m
 after_one next all n m is (inl same) = inr (subst (λ (k : ℕ). (k ≤ length all) × (length (spelling (record_of next (take k all))) ≤ 64)) (sym same) (fitting next all (suc n) is))

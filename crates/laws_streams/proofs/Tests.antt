@@ -3,6 +3,7 @@ use Rattle.std.proofs.Common.{◌≡◌, ◌≢◌, ◌⊎◌, ℕ, zero, suc, �
 use Rattle.std.proofs.lemmas.Bool.Decides.{nat_tests}
 use Rattle.model.specs.Maps.{changed, changed_at}
 use Rattle.model.proofs.Tests.{if_elim, both_parts}
+pub use Rattle.model.proofs.Tests.{changed_elim}
 
 pub neither : (a b : Bool) → (a && b) ≡ false → (a ≡ false) ⊎ (b ≡ false)
 neither true b e = inr e
@@ -53,11 +54,6 @@ changed_at_elim P n e v f m k same other =
     if_elim P ((m == n) && (k == e)) v (f m k)
     (λ t. let b = both_parts (m == n) (k == e) t in same (tested m n b.0) (tested k e b.1))
     (λ t. other (elim (neither (m == n) (k == e) t) [ inl x ↦ inl (untested m n x) | inr x ↦ inr (untested k e x) ]))
-
-pub changed_elim : {A : Type 0} (P : A → Type 0) (e : ℕ) (v : A) (f : ℕ → A) (k : ℕ) →
-    (k ≡ e → P v) → (k ≢ e → P (f k)) → P (changed e v f k)
-changed_elim P e v f k same other =
-    if_elim P (k == e) v (f k) (λ t. same (tested k e t)) (λ t. other (untested k e t))
 
 pub changed_at-same : {A : Type 0} (n e : ℕ) (v : A) (f : ℕ → ℕ → A) → changed_at n e v f n e ≡ v
 changed_at-same n e v f = changed_at_elim (λ x. x ≡ v) n e v f n e (λ p q. refl) (λ o. elim o [ inl x ↦ absurd (x refl) | inr x ↦ absurd (x refl) ])

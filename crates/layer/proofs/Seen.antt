@@ -87,17 +87,6 @@ entry_push [] y x (suc (suc n)) e = absurd cc
 entry_push (z ∷ xs) y x (suc zero) e = inl e
 entry_push (z ∷ xs) y x (suc (suc n)) e = elim (entry_push xs y x (suc n) e) [ inl a ↦ inl a | inr b ↦ inr (omega (arith, b.0), b.1) ]
 
-pub entry_last : {A : Type 0} (xs : List A) (y : A) → entry_at (xs ++ y ∷ []) (suc (length xs)) ≡ Some y
-entry_last [] y = refl
-entry_last (x ∷ xs) y = entry_last xs y
-
-pub entry_before : {A : Type 0} (xs : List A) (y : A) (n : ℕ) → n ≢ suc (length xs) → entry_at (xs ++ y ∷ []) n ≡ entry_at xs n
-entry_before xs y zero a = refl
-entry_before [] y (suc zero) a = absurd (a refl)
-entry_before [] y (suc (suc n)) a = refl
-entry_before (x ∷ xs) y (suc zero) a = refl
-entry_before (x ∷ xs) y (suc (suc n)) a = entry_before xs y (suc n) (λ e. a (ap suc e))
-
 pub push_seen : (xs : List (NodeState MemDisk)) (y : NodeState MemDisk) → all_seen (xs ++ y ∷ []) ≡ all_seen xs ++ seen_of y ∷ []
 push_seen [] y = refl
 push_seen (x ∷ xs) y = ap (λ (zs : List NodeSeen). seen_of x ∷ zs) (push_seen xs y)

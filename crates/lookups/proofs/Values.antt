@@ -5,7 +5,7 @@ use Rattle.std.specs.Cmp.{IsEquivalence}
 use Rattle.std.specs.List.{AllByRecursion, IsDistinct}
 use Rattle.std.specs.Map.{keys_of, lookup, lookup_entry, remove_entry}
 use Rattle.std.specs.Option.{option_map_or}
-use Rattle.std.proofs.lemmas.Bool.{eqb-true, eqb-false, eq-eqb, ne_eqb}
+use Rattle.std.proofs.lemmas.Bool.{eqb-true, eqb-false, eq-eqb, ne_eqb, and_parts}
 use Rattle.std.proofs.lemmas.Map.{lookup-remove_entry}
 use Rattle.cells.specs.declared.cell.Place.{Place}
 use Rattle.lru.specs.LruCache.{lru_cache, promoted, put_entries, last_entry}
@@ -28,14 +28,10 @@ put_same before held cap key place bytes held_is cap_is key_is =
 
 -- ---- places
 
-both : (a b : Bool) → (a && b) ≡ true → (a ≡ true) × (b ≡ true)
-both true b h = (refl, h)
-both false b h = cc
-
 pub place_same : (a b : Place) → is_place a b ≡ true → a ≡ b
 place_same a b h =
-    let first = both _ _ h in
-    let rest = both _ _ first.1 in
+    let first = and_parts _ _ h in
+    let rest = and_parts _ _ first.1 in
     let extent : a.extent ≡ b.extent = eqb-true _ _ first.0 in
     let offset : a.offset ≡ b.offset = eqb-true _ _ rest.0 in
     let size : a.length ≡ b.length = eqb-true _ _ rest.1 in

@@ -27,7 +27,7 @@ use Rattle.model.specs.Outcome.{Outcome, packet, first_met, silent, sends, refus
 use Rattle.model.specs.Replay.{is_closed, seal_fits}
 use Rattle.model.specs.Manager as manager
 use Rattle.model.specs.Manager.{Book, extended, is_there, is_pick, is_foreign, sealed_in, answer, create_taken, open_taken, extend_made, extend_picked, extend_answered, reminders, told_sealed, tells_asker, with_report, frozen_to, known_sealed, place_of, first_sealed, least_told, sealed_to, forgotten, forgotten_if, seal_extent_row, frozen_row, is_sealed_row, short_row, decide_row, stream_body_row, seal_body_row, manager_row}
-use Rattle.model.proofs.Tests.{if_elim, both_parts, both_true}
+use Rattle.model.proofs.Tests.{if_elim, both_parts, both_true, both_elim}
 use Rattle.directory.specs.Table.{TableState, Lists, longer, closed_if, sealed_at, may_lengthen, lengthens}
 use Rattle.directory.proofs.Keeping.{lengthens_there}
 use Rattle.directory.proofs.Tables.{book_of, book_shows, is_book, lengthened_shows, replaced_shows}
@@ -43,11 +43,6 @@ pub record Follows (t : TableState) (plan : Plan) (o : Outcome Book) : Type 0 wh
   pub written : o.written ≡ written_by plan.change
   pub can : CanChange t plan.change
   pub few : AreFew plan.step.packets plan.step.notes
-
--- one test for two choices
-both_elim : {A B : Type 0} (P : A → B → Type 0) (b : Bool) (x y : A) (u v : B) → (b ≡ true → P x u) → (b ≡ false → P y v) → P (if b then x else y) (if b then u else v)
-both_elim P true x y u v t f = t refl
-both_elim P false x y u v t f = f refl
 
 -- ---- an end that one more extent may follow
 

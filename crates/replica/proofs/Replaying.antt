@@ -1,5 +1,6 @@
 -- One record more.
 use Rattle.std.proofs.Common.{◌≡◌, ◌≢◌, ℕ, Bool, true, false, ◌==◌, ◌&&◌, List, [], ◌∷◌, ◌++◌, Option, Some, None, refl, ap, sym, ◌∙◌, cond, eq-eqb, eqb-true, append_assoc, append-nil}
+use Rattle.std.proofs.lemmas.Bool.{and_from}
 use Rattle.blocks.specs.declared.record.Record.{Record}
 use Rattle.replica.specs.Content.{Content}
 use Rattle.replica.specs.Replay.{extent_of, is_number, applied, applied_at, replay_from, replay, fits_at, fit_after, fit}
@@ -25,19 +26,15 @@ replay-here e rs r about = replay-push e rs r ∙ ap (λ (o : Option ℕ). cond 
 pub replay-elsewhere : (e f : ℕ) (rs : List Record) (r : Record) → extent_of r ≡ Some f → e ≢ f → replay e (rs ++ r ∷ []) ≡ replay e rs
 replay-elsewhere e f rs r about ne = replay-push e rs r ∙ ap (λ (o : Option ℕ). cond (is_number e o) (applied (replay e rs) r) (replay e rs)) about ∙ ap (λ (b : Bool). cond b (applied (replay e rs) r) (replay e rs)) (apart e f ne)
 
-both_true : (a b : Bool) → a ≡ true → b ≡ true → (a && b) ≡ true
-both_true true b e f = f
-both_true false b e f = absurd cc
-
 first_true : (a b : Bool) → (a && b) ≡ true → (a ≡ true) × (b ≡ true)
 first_true true b e = (refl, e)
 first_true false b e = absurd cc
 
 fit_after-push : (n : ℕ) (before rs : List Record) (r : Record) → fit_after n before rs ≡ true → fits_at n (before ++ rs) r (extent_of r) ≡ true → fit_after n before (rs ++ r ∷ []) ≡ true
-fit_after-push n before [] r a b = both_true _ _ (ap (λ (xs : List Record). fits_at n xs r (extent_of r)) (sym (append-nil before)) ∙ b) refl
+fit_after-push n before [] r a b = and_from _ _ (ap (λ (xs : List Record). fits_at n xs r (extent_of r)) (sym (append-nil before)) ∙ b) refl
 fit_after-push n before (x ∷ rs) r a b =
     let parts = first_true _ _ a in
-    both_true _ _ parts.0 (fit_after-push n (before ++ x ∷ []) rs r parts.1 (ap (λ (xs : List Record). fits_at n xs r (extent_of r)) (append_assoc before (x ∷ []) rs) ∙ b))
+    and_from _ _ parts.0 (fit_after-push n (before ++ x ∷ []) rs r parts.1 (ap (λ (xs : List Record). fits_at n xs r (extent_of r)) (append_assoc before (x ∷ []) rs) ∙ b))
 
 -- a list of records that fit, with one more that fits
 pub fit-push : (n e : ℕ) (rs : List Record) (r : Record) → fit n rs ≡ true → extent_of r ≡ Some e → fits_at n rs r (Some e) ≡ true → fit n (rs ++ r ∷ []) ≡ true

@@ -1,12 +1,12 @@
 -- Names and their order: what a search among names finds.
-use Rattle.std.proofs.Common.{◌≡◌, ◌≢◌, ℕ, zero, suc, ◌+◌, ◌-◌, ◌*◌, ◌<◌, ◌≤◌, Bool, true, false, ◌&&◌, ◌==◌, List, length, get_or, set, Some, None, Option, Result, Ok, Err, IfOk, IfErr, refl, sym, ap, ◌∙◌, subst, arith, eq-eqb}
+use Rattle.std.proofs.Common.{◌≡◌, ◌≢◌, ℕ, zero, suc, ◌+◌, ◌-◌, ◌*◌, ◌<◌, ◌≤◌, Bool, true, false, ◌==◌, List, length, get_or, set, Some, None, Option, Result, Ok, Err, IfOk, IfErr, refl, sym, ap, ◌∙◌, subst, arith, eq-eqb}
 use Rattle.std.specs.List.{insert}
 use Rattle.std.specs.List.Sorted.{IsSearchInRange, IsBinarySearchResult, IsNonDecreasingBy}
 use Rattle.std.specs.Ordering.{nat_cmp, ordering_index}
 use Rattle.std.proofs.lemmas.Cmp.{ranked}
 use Rattle.std.proofs.lemmas.List.Sorted.{IsNonDecreasingBy-from_default}
 use Rattle.std.proofs.lemmas.List.Edits.{length-insert, get_or-insert_below, get_or-insert_at, get_or-insert_above}
-use Rattle.std.proofs.lemmas.Bool.{eqb-true}
+use Rattle.std.proofs.lemmas.Bool.{eqb-true, and_parts}
 use Rattle.std.proofs.lemmas.Bool.Decides.{nat_tests}
 use Rattle.std.proofs.lemmas.Grind.{common_steps}
 use Rattle.wire.specs.declared.streams.StreamKind.{StreamKind}
@@ -40,10 +40,6 @@ same_kind BlobData Log e = absurd cc
 same_kind BlobData RowData e = absurd cc
 same_kind BlobData BlobData e = refl
 
-pub both_parts : (a b : Bool) → (a && b) ≡ true → (a ≡ true) × (b ≡ true)
-both_parts true b e = (refl, e)
-both_parts false b e = absurd cc
-
 -- names with one key are one
 pub same_name : (s u : StreamName) → key_of s ≡ key_of u → s ≡ u
 same_name s u e =
@@ -54,7 +50,7 @@ same_name s u e =
 -- an entry that has a name has its key
 pub named_key : (range kind : ℕ) (x : Entry) → has_name range kind x ≡ true → key_of x.name ≡ range * 4 + kind
 named_key range kind x e =
-    let parts = both_parts (range == x.name.range) _ e in
+    let parts = and_parts (range == x.name.range) _ e in
     let r = eqb-true range x.name.range parts.0 in
     let k = eqb-true kind (kind_number x.name.kind) parts.1 in
     omega (arith, r, k)

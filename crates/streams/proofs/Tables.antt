@@ -2,7 +2,7 @@
 use Rattle.std.proofs.Common.{◌≡◌, ◌≢◌, ℕ, zero, suc, ◌<◌, ◌≤◌, Bool, true, false, ◌&&◌, ◌==◌, List, [], ◌∷◌, length, get_or, set, Some, None, Option, option_map, if◌then◌else◌, refl, sym, ap, ◌∙◌, subst, arith}
 use Rattle.std.proofs.Math.Path.{fun_ext}
 use Rattle.std.specs.List.{insert}
-use Rattle.std.proofs.lemmas.Bool.{eqb-true}
+use Rattle.std.proofs.lemmas.Bool.{eqb-true, and_parts}
 use Rattle.std.proofs.lemmas.Bool.Decides.{nat_tests}
 use Rattle.wire.specs.declared.streams.StreamKind.{StreamKind}
 use Rattle.wire.specs.declared.streams.StreamKind.TheVariants.{Metadata, Log, RowData, BlobData}
@@ -10,7 +10,7 @@ use Rattle.wire.specs.declared.streams.StreamName.{StreamName}
 use Rattle.streams.specs.Streams.{Stream, Streams, kind_number, stream_of, with_stream, is_there, longer, extended, extended_if, fenced_at, opened}
 use Rattle.streams.specs.Table.{Entry, has_name, found, streams_in, room_of, HasRoomIn, fenced, fenced_if, key_of, key_at, IsStrictlySorted, IsAt, IsGapFor}
 use Rattle.streams.proofs.Lists.{first_with, first_absent, first_present, first_set, first_insert}
-use Rattle.streams.proofs.Names.{none_named, has_own, other_key, named_key, same_name, both_parts, kind_small, sorted_set, sorted_insert}
+use Rattle.streams.proofs.Names.{none_named, has_own, other_key, named_key, same_name, kind_small, sorted_set, sorted_insert}
 
 found_first : (l : List Entry) (range kind : ℕ) → found l range kind ≡ first_with (has_name range kind) l
 found_first [] range kind = refl
@@ -34,7 +34,7 @@ with_same streams s x is = fun_ext (λ range. fun_ext (λ kind. by_test range ki
   where
     by_test : (range kind : ℕ) (b : Bool) → ((range == s.range) && (kind == kind_number s.kind)) ≡ b → (if b then Some x else streams range kind) ≡ streams range kind
     by_test range kind true test =
-        let parts = both_parts (range == s.range) _ test in
+        let parts = and_parts (range == s.range) _ test in
         sym (ap (λ (r : ℕ). streams r kind) (eqb-true range s.range parts.0) ∙ ap (λ (k : ℕ). streams s.range k) (eqb-true kind (kind_number s.kind) parts.1) ∙ is)
     by_test range kind false test = refl
 
@@ -133,7 +133,7 @@ fenced_point streams s g range kind = by_stream (stream_of streams s) refl
   where
     here : (b : Bool) → ((range == s.range) && (kind == kind_number s.kind)) ≡ b → b ≡ true → streams range kind ≡ stream_of streams s
     here b is met =
-        let parts = both_parts (range == s.range) _ (is ∙ met) in
+        let parts = and_parts (range == s.range) _ (is ∙ met) in
         ap (λ (r : ℕ). streams r kind) (eqb-true range s.range parts.0) ∙ ap (λ (k : ℕ). streams s.range k) (eqb-true kind (kind_number s.kind) parts.1)
 
     by_test : (x : Stream) → stream_of streams s ≡ Some x → (b : Bool) → (b ≡ true → streams range kind ≡ stream_of streams s) →
@@ -157,7 +157,7 @@ kind_none [] range kind above = refl
 kind_none (x ∷ l) range kind above = by_test (has_name range kind x) refl (kind_none l range kind above)
   where
     by_test : (b : Bool) → has_name range kind x ≡ b → found l range kind ≡ None → (if b then Some x else found l range kind) ≡ None
-    by_test true is none = absurd (omega (arith, eqb-true kind (kind_number x.name.kind) (both_parts (range == x.name.range) _ is).1, kind_small x.name.kind))
+    by_test true is none = absurd (omega (arith, eqb-true kind (kind_number x.name.kind) (and_parts (range == x.name.range) _ is).1, kind_small x.name.kind))
     by_test false is none = none
 
 abbrev pub name_in : ℕ → StreamKind → StreamName
@@ -170,7 +170,7 @@ changed_if g b o = if b then fenced_at g o else o
 abbrev four_times : ℕ → Bool → ℕ → Option Stream → Option Stream
 four_times g b k o = changed_if g (b && (k == 3)) (changed_if g (b && (k == 2)) (changed_if g (b && (k == 1)) (changed_if g (b && (k == 0)) o)))
 
-apart : (k n : ℕ) → n ≤ 3 → (suc (suc (suc (suc k))) == n) ≡ false
+pub apart : (k n : ℕ) → n ≤ 3 → (suc (suc (suc (suc k))) == n) ≡ false
 apart k n small = grind (arith, nat_tests)
 
 four_once : (g : ℕ) (b : Bool) (k : ℕ) (o : Option Stream) → (3 < k → o ≡ None) → four_times g b k o ≡ changed_if g b o
