@@ -14,7 +14,7 @@ use Rattle.commitlog.specs.Places.{kept_cell, kept_changes, kept_transactions}
 abbrev pub IsRow : List ℕ × Cell → Type 0
 IsRow e = IsEntry e.0 e.1
 
-All-append : {A : Type 0} (P : A → Type 0) (xs ys : List A) → AllByRecursion P xs → AllByRecursion P ys → AllByRecursion P (xs ++ ys)
+pub All-append : {A : Type 0} (P : A → Type 0) (xs ys : List A) → AllByRecursion P xs → AllByRecursion P ys → AllByRecursion P (xs ++ ys)
 All-append P [] ys p q = q
 All-append P (x ∷ xs) ys p q = (p.0, All-append P xs ys p.1 q)
 

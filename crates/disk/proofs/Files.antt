@@ -12,10 +12,6 @@ use Rattle.blocks.proofs.Laws.{record_again}
 use Rattle.disk.specs.Disk.{DiskState, Only}
 use Rattle.disk.specs.File.{header, opened, IsFileOf, IsOpen, IsKept, found, records_from, records_in, HasNoRecord}
 
-pub All-push : {A : Type 0} (P : A → Type 0) (xs : List A) (x : A) → AllByRecursion P xs → P x → AllByRecursion P (xs ++ x ∷ [])
-All-push P [] x all p = (p, tt)
-All-push P (y ∷ xs) x all p = (all.0, All-push P xs x all.1 p)
-
 pub opened-push : (v : Version) (rs : List Record) (r : Record) → opened v (rs ++ r ∷ []) ≡ opened v rs ++ (1 ∷ spelling v r)
 opened-push v [] r = ap (λ (l : List ℕ). 1 ∷ l) (append-nil (spelling v r))
 opened-push v (s ∷ rs) r = ap (λ (l : List ℕ). 1 ∷ (spelling v s ++ l)) (opened-push v rs r) ∙ ap (λ (l : List ℕ). 1 ∷ l) (sym (append_assoc (spelling v s) (opened v rs) (1 ∷ spelling v r)))

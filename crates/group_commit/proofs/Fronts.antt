@@ -20,15 +20,6 @@ All-take P zero xs all = tt
 All-take P (suc n) [] all = tt
 All-take P (suc n) (x ∷ xs) all = (all.0, All-take P n xs all.1)
 
-pub All-drop : {A : Type 0} (P : A → Type 0) (n : ℕ) (xs : List A) → AllByRecursion P xs → AllByRecursion P (drop n xs)
-All-drop P zero xs all = all
-All-drop P (suc n) [] all = tt
-All-drop P (suc n) (x ∷ xs) all = All-drop P n xs all.1
-
-pub All-push : {A : Type 0} (P : A → Type 0) (xs : List A) (x : A) → AllByRecursion P xs → P x → AllByRecursion P (xs ++ x ∷ [])
-All-push P [] x all one = (one, tt)
-All-push P (y ∷ xs) x all one = (all.0, All-push P xs x all.1 one)
-
 All-changes : (all : List WaitingTransaction) → AreTransactions all → AllByRecursion IsTransaction (map (λ t. t.changes) all)
 All-changes [] fit = tt
 All-changes (t ∷ all) fit = (fit.0, All-changes all fit.1)

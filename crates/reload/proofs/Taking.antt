@@ -13,6 +13,7 @@ use Rattle.commitlog.specs.declared.log_record.LogRecord.{LogRecord}
 use Rattle.commitlog.specs.Reading.{each_of, record_at}
 use Rattle.commitlog.specs.Running.{running}
 use Rattle.commitlog.specs.Places.{kept}
+use Rattle.commitlog.proofs.Entries.{All-append}
 use Rattle.memtable.specs.Entries.{Entries, put_all, key_cmp}
 use Rattle.std.specs.BTreeMap.{insert_entry}
 use Rattle.metadata.specs.declared.record.KeyRange.{KeyRange}
@@ -28,10 +29,6 @@ not_below a b le =
     ] refl
 
 -- ---- lists
-
-pub All-append : {A : Type 0} (P : A → Type 0) (xs ys : List A) → AllByRecursion P xs → AllByRecursion P ys → AllByRecursion P (xs ++ ys)
-All-append P [] ys p q = q
-All-append P (x ∷ xs) ys p q = (p.0, All-append P xs ys p.1 q)
 
 pub All-filter : {A : Type 0} (P : A → Type 0) (test : A → Bool) (xs : List A) → AllByRecursion P xs → AllByRecursion P (filter test xs)
 All-filter P test [] all = tt

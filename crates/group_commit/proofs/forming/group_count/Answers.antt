@@ -3,7 +3,7 @@ use Rattle.commitlog.specs.Record.{IsTransaction}
 use Rattle.commitlog.specs.Sizes.{filling}
 use Rattle.model_tables.specs.declared.waiting.WaitingTransaction.{WaitingTransaction}
 use Rattle.model_tables.specs.Serving.{grown}
-use Rattle.group_commit.proofs.Fronts.{All-drop}
+use Rattle.commitlog.proofs.Skipped.{All-drop}
 use Rattle.group_commit.proofs.Growing.{one_more, grows_next, grows_full, grows_end}
 use Rattle.group_commit.proofs.forming.group_count.Goals.{then-count-batch-via-then-count-batch, then-count-batch-via-else-count-batch+then-not-add}
 use Rattle.group_commit.proofs.forming.group_count.Goals as goal
