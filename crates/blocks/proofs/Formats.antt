@@ -121,6 +121,16 @@ pub number-one : (x : ℕ) → x < 256 → number 1 x ≡ x ∷ []
 unfolding number
 number-one x lt = ap (λ (y : ℕ). y ∷ []) (mod-eq_of_lt lt)
 
+pub one_again : (x : ℕ) (rest : List ℕ) → x < 2 ^ 8 → number_at 1 (x ∷ rest) ≡ Some (x, rest)
+one_again x rest fits = ap (λ (l : List ℕ). number_at 1 (l ++ rest)) (sym (number-one x fits)) ∙ number1.again x rest fits
+
+-- a number that ends the bytes
+pub last8 : (x : ℕ) → x < 2 ^ 64 → number_at 8 (number 8 x) ≡ Some (x, [])
+last8 x fits = ap (number_at 8) (sym (append-nil (number 8 x))) ∙ number8.again x [] fits
+
+pub last4 : (x : ℕ) → x < 2 ^ 32 → number_at 4 (number 4 x) ≡ Some (x, [])
+last4 x fits = ap (number_at 4) (sym (append-nil (number 4 x))) ∙ number4.again x [] fits
+
 -- tests of a range
 pub within : (low high n : ℕ) → is_within low high n ≡ true → (low ≤ n) × (n ≤ high)
 within low high n e = let p = and_parts (nat_le low n) (nat_le n high) e in (leb-true _ _ p.0, leb-true _ _ p.1)

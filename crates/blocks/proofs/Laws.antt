@@ -174,12 +174,12 @@ body_again v (Manage t) fits = refl
 
 -- ---- sizes
 
-length-digest_bytes : (h : List ℕ) (n : ℕ) → length (digest_bytes h n) ≡ 4 * n
+pub length-digest_bytes : (h : List ℕ) (n : ℕ) → length (digest_bytes h n) ≡ 4 * n
 unfolding digest_bytes
 length-digest_bytes h zero = refl
 length-digest_bytes h (suc n) = omega (arith, length-digest_bytes h n, length-append (digest_bytes h n) (to_be_bytes w32 (slice_index h n)))
 
-length-check : (v : Version) (b : List ℕ) → length (check v b) ≤ 32
+pub length-check : (v : Version) (b : List ℕ) → length (check v b) ≤ 32
 unfolding sha256
 length-check V1 b = omega arith
 length-check V2 b = omega (arith, length-digest_bytes (final_hash initial_hash_256 b) 8)

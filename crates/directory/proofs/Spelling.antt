@@ -1,10 +1,10 @@
 -- The bytes of the manager's records: they are few, and they are read as they were written.
-use Rattle.std.proofs.Common.{◌≡◌, ℕ, ◌^◌, ◌<◌, ◌≤◌, true, List, [], ◌∷◌, ◌++◌, length, Some, refl, ap, sym, ◌∙◌, arith, length-append, append_assoc, append-nil}
+use Rattle.std.proofs.Common.{◌≡◌, ℕ, ◌^◌, ◌<◌, ◌≤◌, true, List, [], ◌∷◌, ◌++◌, length, Some, refl, ap, ◌∙◌, arith, length-append, append_assoc}
 use Rattle.blocks.specs.declared.record.Nodes.{Nodes}
 use Rattle.blocks.specs.Format.{◌>>=◌, number_at}
 use Rattle.blocks.specs.Reading.{are_nodes, nodes_at}
 use Rattle.blocks.specs.Record.{number, nodes}
-use Rattle.blocks.proofs.Formats.{number1, number4, number8, length-number, within_again, number-one}
+use Rattle.blocks.proofs.Formats.{number8, length-number, within_again, one_again, last8, last4}
 use Rattle.wire.specs.declared.streams.StreamKind.{StreamKind}
 use Rattle.wire.specs.declared.streams.StreamKind.TheVariants.{Metadata, Log, RowData, BlobData}
 use Rattle.wire.specs.declared.streams.StreamName.{StreamName}
@@ -38,15 +38,6 @@ stream_again s rest fits =
 nodes_again : (n : Nodes) → are_nodes n ≡ true → nodes_at (nodes n) ≡ Some (n, [])
 unfolding nodes_at
 nodes_again n are = rw are refl
-
-one_again : (x : ℕ) (rest : List ℕ) → x < 2 ^ 8 → number_at 1 (x ∷ rest) ≡ Some (x, rest)
-one_again x rest fits = ap (λ (l : List ℕ). number_at 1 (l ++ rest)) (sym (number-one x fits)) ∙ number1.again x rest fits
-
-last4 : (x : ℕ) → x < 2 ^ 32 → number_at 4 (number 4 x) ≡ Some (x, [])
-last4 x fits = ap (number_at 4) (sym (append-nil (number 4 x))) ∙ number4.again x [] fits
-
-last8 : (x : ℕ) → x < 2 ^ 64 → number_at 8 (number 8 x) ≡ Some (x, [])
-last8 x fits = ap (number_at 8) (sym (append-nil (number 8 x))) ∙ number8.again x [] fits
 
 pub first_again : (count target : ℕ) → CanSpell (First count target) → record_of (spelled (First count target)) ≡ Some (First count target)
 unfolding record_of fields_at first_at

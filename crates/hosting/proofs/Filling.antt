@@ -1,16 +1,13 @@
 -- The room that the record of a tail takes.
-use Rattle.std.proofs.Common.{◌≡◌, ◌≤◌, ◌<◌, ◌+◌, ◌*◌, ◌^◌, ℕ, zero, suc, List, [], ◌∷◌, ◌++◌, length, refl, ap, ◌∙◌, arith, length-append}
+use Rattle.std.proofs.Common.{◌≡◌, ◌≤◌, ◌<◌, ◌+◌, ◌*◌, ◌^◌, ℕ, List, [], ◌∷◌, ◌++◌, length, ap, ◌∙◌, arith, length-append}
 use Rattle.std.specs.List.{AllByRecursion, flat_map, fold}
-use Rattle.std.specs.Int.{w32, to_be_bytes}
-use Rattle.std.specs.Prelude.{slice_index}
 use Rattle.std.proofs.lemmas.List.Concat.{flat_map-cons}
-use Rattle.sha2.specs.Sha256.{sha256, digest_bytes, final_hash, initial_hash_256}
 use Rattle.blocks.specs.Limits.{IsBlock, IsGroup, group_size, groups_size}
 use Rattle.blocks.specs.Record.{number, check, block, group, Fits}
 use Rattle.blocks.specs.declared.record.Version.{Version}
-use Rattle.blocks.specs.declared.record.Version.TheVariants.{V1, V2}
 use Rattle.blocks.specs.declared.record.Record.TheVariants as records
 use Rattle.blocks.proofs.Formats.{length-number}
+use Rattle.blocks.proofs.Laws.{length-check}
 use Rattle.replica.specs.Groups.{Group, joined, size, text, text_length}
 use Rattle.replica.proofs.Lengths.{group_size-size}
 use Rattle.hosting.specs.Fill.{IsFill}
@@ -25,16 +22,6 @@ groups_size-text gs = fold_groups 0 gs ∙ zero_more (text_length gs)
   where
     zero_more : (n : ℕ) → 0 + n ≡ n
     zero_more n = omega arith
-
-length-digest_bytes : (h : List ℕ) (n : ℕ) → length (digest_bytes h n) ≡ 4 * n
-unfolding digest_bytes
-length-digest_bytes h zero = refl
-length-digest_bytes h (suc n) = omega (arith, length-digest_bytes h n, length-append (digest_bytes h n) (to_be_bytes w32 (slice_index h n)))
-
-length-check : (v : Version) (b : List ℕ) → length (check v b) ≤ 32
-unfolding sha256
-length-check V1 b = omega arith
-length-check V2 b = omega (arith, length-digest_bytes (final_hash initial_hash_256 b) 8)
 
 -- the size of a block and its check take 36 bytes beside its own
 length-block : (v : Version) (b : List ℕ) → IsBlock b → length (block v b) ≤ 37 * length b

@@ -1,8 +1,7 @@
 -- The bytes of the map's records: they are few, and they are read as they were written.
-use Rattle.std.proofs.Common.{◌≡◌, ℕ, ◌^◌, ◌<◌, ◌≤◌, List, [], ◌∷◌, ◌++◌, length, Some, refl, ap, sym, ◌∙◌, arith, length-append, append-nil}
-use Rattle.blocks.specs.Format.{number_at}
+use Rattle.std.proofs.Common.{◌≡◌, ℕ, ◌^◌, ◌<◌, ◌≤◌, ◌∷◌, length, Some, refl, arith, length-append}
 use Rattle.blocks.specs.Record.{number}
-use Rattle.blocks.proofs.Formats.{number1, number8, length-number, number-one}
+use Rattle.blocks.proofs.Formats.{number8, length-number, one_again, last8}
 use Rattle.model_map.specs.declared.map_record.MapRecord.{MapRecord}
 use Rattle.model_map.specs.declared.map_record.MapRecord.TheVariants.{Assign, Renew}
 use Rattle.model_map.specs.Ledger.{spelled, assign_at, renew_at, fields_at, record_of}
@@ -10,12 +9,6 @@ use Rattle.model_map.specs.Ledger.{spelled, assign_at, renew_at, fields_at, reco
 pub spelled_few : (r : MapRecord) → length (spelled r) ≤ 32
 spelled_few (Assign range server until) = omega (arith, length-append (number 8 range) (server ∷ number 8 until), length-number 8 range, length-number 8 until)
 spelled_few (Renew range until) = omega (arith, length-append (number 8 range) (number 8 until), length-number 8 range, length-number 8 until)
-
-one_again : (x : ℕ) (rest : List ℕ) → x < 2 ^ 8 → number_at 1 (x ∷ rest) ≡ Some (x, rest)
-one_again x rest fits = ap (λ (l : List ℕ). number_at 1 (l ++ rest)) (sym (number-one x fits)) ∙ number1.again x rest fits
-
-last8 : (x : ℕ) → x < 2 ^ 64 → number_at 8 (number 8 x) ≡ Some (x, [])
-last8 x fits = ap (number_at 8) (sym (append-nil (number 8 x))) ∙ number8.again x [] fits
 
 pub assign_again : (range server until : ℕ) → range < 2 ^ 64 → server < 2 ^ 8 → until < 2 ^ 64 → record_of (spelled (Assign range server until)) ≡ Some (Assign range server until)
 unfolding record_of fields_at assign_at
