@@ -5,10 +5,11 @@ use Rattle.std.proofs.lemmas.Option.{slice_get_within}
 use Rattle.blocks.specs.declared.record.Nodes.{Nodes}
 use Rattle.wire.specs.declared.streams.StreamName.{StreamName}
 use Rattle.replica.specs.Groups.{Group, size, text_length}
+use Rattle.replica.proofs.Lengths.{text_length-append}
 use Rattle.streams.specs.Streams.{Stream}
 use Rattle.model.proofs.Tests.{if_elim}
 use Rattle.laws_streams.specs.Origins.{Origin, Begins}
-use Rattle.laws_streams.proofs.Lists.{text_length-append, text_length-cons, begins_length, stands_index}
+use Rattle.laws_streams.proofs.Lists.{text_length-cons, begins_length, stands_index}
 use Rattle.laws_streams.proofs.Ground.{Ground, Sound}
 use Rattle.laws_streams.proofs.Growing.{Later}
 use Rattle.laws_streams.proofs.Lasting.{sealed_beyond}

@@ -7,12 +7,13 @@ use Rattle.wire.specs.declared.body.Body.TheVariants as bodies
 use Rattle.wire.specs.declared.note.Note.TheVariants.{Acked, SealedAt}
 use Rattle.wire.specs.declared.packet.Packet.{Packet}
 use Rattle.replica.specs.Groups.{Group, text_length}
+use Rattle.replica.proofs.Lengths.{text_length-append}
 use Rattle.model.specs.declared.extent.Extent.{Extent}
 use Rattle.model.specs.Actors.{generation_of}
 use Rattle.model.specs.World.{World, start, Move, run_moves}
 use Rattle.laws_streams.specs.Origins.{Origin, course_of_moves}
 use Rattle.laws_streams.specs.Fences.{Covers, EndsWithin, Answers, Stays, FencesHold}
-use Rattle.laws_streams.proofs.Lists.{text_length-append, text_length-cons, take_past, get_next}
+use Rattle.laws_streams.proofs.Lists.{text_length-cons, take_past, get_next}
 use Rattle.laws_streams.proofs.Tests.{each-get, each-contains}
 use Rattle.laws_streams.proofs.Ground.{Ground, Sound, FineBody, FinePacket, FineAck, FineReplica, FineCover, FineChecked}
 use Rattle.laws_streams.proofs.Growing.{cover_later}

@@ -2,12 +2,9 @@
 use Rattle.std.proofs.Common.{◌≡◌, ℕ, zero, suc, ◌+◌, ◌<◌, ◌≤◌, Some, slice_get, List, [], ◌∷◌, ◌++◌, length, get_or, take, drop, refl, sym, ap, subst, ◌∙◌, append_assoc, append-nil, arith, length-append, length-take, length-drop}
 use Rattle.std.proofs.lemmas.Grind.{common_steps}
 use Rattle.replica.specs.Groups.{Group, joined, text, size, text_length}
-use Rattle.replica.proofs.Lengths.{text-append}
+use Rattle.replica.proofs.Lengths.{text_length-append}
 use Rattle.model.specs.Honest.{Stands}
 use Rattle.laws_streams.specs.Origins.{Begins, Shows}
-
-pub text_length-append : (xs ys : List Group) → text_length (xs ++ ys) ≡ text_length xs + text_length ys
-text_length-append xs ys = rw (text-append xs ys) (length-append (text xs) (text ys))
 
 pub text_length-cons : (x : Group) (xs : List Group) → text_length (x ∷ xs) ≡ size x + text_length xs
 text_length-cons x xs = length-append (joined x) (text xs)

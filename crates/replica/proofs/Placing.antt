@@ -1,6 +1,6 @@
 -- Where groups end.
 use Rattle.std.proofs.Common.{◌≡◌, ◌⊎◌, ℕ, ◌==◌, zero, suc, ◌+◌, ◌-◌, ◌<◌, ◌≤◌, true, false, nat_le, List, [], ◌∷◌, ◌++◌, length, take, drop, get_or, Some, None, refl, sym, ap, ◌∙◌, subst, inl, inr, arith, length-append, length-drop}
-use Rattle.std.proofs.lemmas.Bool.{cases_lt}
+use Rattle.std.proofs.lemmas.Bool.{cases_lt, leb-true, leb-false}
 use Rattle.std.proofs.lemmas.Bool.Decides.{nat_tests}
 use Rattle.std.specs.List.Sorted.{IsPartitionedBy, IsPartitionPoint}
 use Rattle.std.proofs.lemmas.List.{take-append-drop, take_all}
@@ -17,6 +17,10 @@ ends-length s (g ∷ gs) = ap (λ n. suc n) (ends-length (s + size g) gs)
 
 pub length-cons : (g : Group) (gs : List Group) → text_length (g ∷ gs) ≡ size g + text_length gs
 length-cons g gs = length-append (joined g) (text gs)
+
+-- a sum that is less than all is not all
+pub apart : (all sum : ℕ) → sum < all → false ≡ (all == sum)
+apart all sum h = grind (arith, nat_tests)
 
 pub ends-at : (s : ℕ) (gs : List Group) (i d : ℕ) → i < length gs → get_or (ends_from s gs) i d ≡ s + text_length (take (suc i) gs)
 ends-at s [] i d h = absurd (omega (arith, h))
@@ -37,12 +41,6 @@ rises [] (suc i) j h = omega arith
 rises (g ∷ gs) (suc i) zero h = absurd (omega (arith, h))
 rises (g ∷ gs) (suc i) (suc j) h = omega (arith, rises gs i j (omega (arith, h)), length-cons g (take i gs), length-cons g (take j gs))
 
-at_most : (a b : ℕ) → nat_le a b ≡ true → a ≤ b
-at_most a b h = grind (arith, nat_tests)
-
-above : (a b : ℕ) → nat_le a b ≡ false → b < a
-above a b h = grind (arith, nat_tests)
-
 is_at_most : (a b : ℕ) → a ≤ b → nat_le a b ≡ true
 is_at_most a b h = grind (arith, nat_tests)
 
@@ -51,12 +49,12 @@ is_above a b h = grind (arith, nat_tests)
 
 start_at : (gs : List Group) (offset r : ℕ) → r ≤ length gs → ((k d : ℕ) → 0 ≤ k → k < r → nat_le (get_or (ends_from 0 gs) k d) offset ≡ true) → text_length (take r gs) ≤ offset
 start_at gs offset zero h low = omega arith
-start_at gs offset (suc k) h low = omega (arith, at_most _ offset (low k 0 (omega arith) (omega arith)), ends-at 0 gs k 0 (omega (arith, h)))
+start_at gs offset (suc k) h low = omega (arith, leb-true _ offset (low k 0 (omega arith) (omega arith)), ends-at 0 gs k 0 (omega (arith, h)))
 
 next_at : (gs : List Group) (offset r : ℕ) → r ≤ length gs → ((k d : ℕ) → r ≤ k → k < length (ends_from 0 gs) → nat_le (get_or (ends_from 0 gs) k d) offset ≡ false) → (r ≡ length gs) ⊎ (offset < text_length (take (suc r) gs))
 next_at gs offset r h high =
     elim (cases_lt r (length gs)) [
-      | inl under ↦ inr (omega (arith, above _ offset (high r 0 (omega arith) (omega (arith, ends-length 0 gs, under))), ends-at 0 gs r 0 under))
+      | inl under ↦ inr (omega (arith, leb-false _ offset (high r 0 (omega arith) (omega (arith, ends-length 0 gs, under))), ends-at 0 gs r 0 under))
       | inr over ↦ inl (omega (arith, h, over))
     ]
 
@@ -68,7 +66,7 @@ found gs offset r bound split =
 pub parted : (gs : List Group) (offset : ℕ) → IsPartitionedBy (λ e. nat_le e offset) (ends_from 0 gs)
 parted gs offset = λ i j d le lt e.
     let within : j < length gs = omega (arith, lt, ends-length 0 gs) in
-    is_at_most _ offset (omega (arith, at_most _ offset e, ends-at 0 gs j d within, ends-at 0 gs i d (omega (arith, le, within)), rises gs (suc i) (suc j) (omega (arith, le))))
+    is_at_most _ offset (omega (arith, leb-true _ offset e, ends-at 0 gs j d within, ends-at 0 gs i d (omega (arith, le, within)), rises gs (suc i) (suc j) (omega (arith, le))))
 
 some_size : (b : List ℕ) (g : Group) → 1 ≤ length b → 0 < size (b ∷ g)
 some_size b g h = omega (arith, h, length-append b (joined g))

@@ -1,16 +1,12 @@
-use Rattle.std.proofs.Common.{◌≡◌, ℕ, ◌==◌, ◌+◌, ◌∷◌, ◌++◌, [], ◌<◌, false, take, drop, ap, sym, subst, ◌∙◌, arith}
+use Rattle.std.proofs.Common.{◌≡◌, ◌+◌, ◌∷◌, ◌++◌, [], take, drop, ap, sym, subst, ◌∙◌, arith}
 use Rattle.std.specs.List.{AllByRecursion}
-use Rattle.std.proofs.lemmas.Bool.Decides.{nat_tests}
 use Rattle.std.proofs.lemmas.List.{drop_more, take_more}
 use Rattle.blocks.specs.Limits.{IsGroup}
 use Rattle.blocks.proofs.Loop.{All-push}
 use Rattle.replica.specs.Groups.{text_length}
 use Rattle.replica.proofs.Lengths.{group_size-size}
-use Rattle.replica.proofs.Placing.{length-cons}
+use Rattle.replica.proofs.Placing.{length-cons, apart}
 use Rattle.hosting.proofs.tails.add_up.Goals as goal
-
-apart : (all sum : ℕ) → sum < all → false ≡ (all == sum)
-apart all sum h = grind (arith, nat_tests)
 
 pub returns-in_default-clause-value : goal.returns-in_default-clause-value
 returns-in_default-clause-value c =

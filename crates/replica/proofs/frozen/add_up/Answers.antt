@@ -1,13 +1,9 @@
-use Rattle.std.proofs.Common.{◌≡◌, ℕ, ◌==◌, ◌+◌, ◌∷◌, ◌<◌, false, drop, ap, sym, ◌∙◌, arith}
-use Rattle.std.proofs.lemmas.Bool.Decides.{nat_tests}
+use Rattle.std.proofs.Common.{◌≡◌, ◌+◌, ◌∷◌, drop, ap, sym, ◌∙◌, arith}
 use Rattle.std.proofs.lemmas.List.{drop_more}
 use Rattle.replica.specs.Groups.{text_length}
 use Rattle.replica.proofs.Lengths.{group_size-size}
-use Rattle.replica.proofs.Placing.{length-cons}
+use Rattle.replica.proofs.Placing.{length-cons, apart}
 use Rattle.replica.proofs.frozen.add_up.Goals as goal
-
-apart : (all sum : ℕ) → sum < all → false ≡ (all == sum)
-apart all sum h = grind (arith, nat_tests)
 
 pub returns-in_default : goal.returns-in_default
 returns-in_default c =
