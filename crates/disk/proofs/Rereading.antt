@@ -1,5 +1,5 @@
 -- A crash while a file of records is opened and read.
-use Rattle.std.proofs.Common.{ℕ, List, Result, Ok, Err, MatchResult}
+use Rattle.std.proofs.Common.{ℕ, List, Result, Ok, Err, MatchResult, IfOk}
 use Rattle.disk.specs.Disk.{DiskState, CountsNow, IsSame, LeavesOnly}
 use Rattle.disk.proofs.Moments.{goes_on}
 
@@ -12,3 +12,8 @@ pub read_since : {A B : Type 0} (was mid : DiskState) (P : List ℕ → Type 0) 
     MatchResult result (λ made. LeavesOnly was (of made) P) (λ refused. LeavesOnly was (back refused) P)
 read_since was mid P (Ok made) of back counts so_far same = reads_on was mid (of made) P counts so_far same
 read_since was mid P (Err refused) of back counts so_far same = reads_on was mid (back refused) P counts so_far same
+
+-- what follows of an `Ok` from what is known of it
+pub ok_more : {A B : Type 0} {P Q : A → Type 0} (r : Result A B) → ((x : A) → P x → Q x) → IfOk r P → IfOk r Q
+ok_more (Ok x) f h = f x h
+ok_more (Err y) f h = tt

@@ -1,5 +1,5 @@
 -- One record more, when a node is made from its records.
-use Rattle.std.proofs.Common.{◌≡◌, ◌≢◌, ℕ, true, List, [], ◌∷◌, ◌++◌, Option, Some, None, Result, Ok, Err, IfOk, MatchResult, ap, sym, subst, arith, ◌≤◌, length, ◌∙◌, refl, ⊎_elim}
+use Rattle.std.proofs.Common.{◌≡◌, ◌≢◌, ℕ, true, List, [], ◌∷◌, ◌++◌, Option, Some, None, Result, Ok, Err, MatchResult, ap, sym, subst, arith, ◌≤◌, length, ◌∙◌, refl, ⊎_elim}
 use Rattle.std.proofs.lemmas.Bool.Decides.{eqb_tells}
 use Rattle.disk.specs.Disk.{DiskState, CountsNow, IsSame, LeavesOnly}
 use Rattle.disk.proofs.Moments.{goes_on}
@@ -70,11 +70,6 @@ restart_replays n is rs h = record {
   fits = h.fits;
   few = λ e. subst FewWait (sym (h.each e)) (none_wait (replay e rs));
 }
-
--- what follows of an `Ok` from what is known of it
-pub ok_more : {A B : Type 0} {P Q : A → Type 0} (r : Result A B) → ((x : A) → P x → Q x) → IfOk r P → IfOk r Q
-ok_more (Ok x) f h = f x h
-ok_more (Err y) f h = tt
 
 -- a record that one replica takes back is taken back by its node
 pub recovers_kept : (n : ℕ) (old new : List (ℕ × Replica)) (r : Record) (e : ℕ) (was is : Replica) (result : Result Unit FileFault) →

@@ -1,7 +1,6 @@
 use Rattle.std.proofs.Common.{ap, ◌∙◌}
 use Rattle.replica.specs.Replay.{fit}
-use Rattle.disk.proofs.Rereading.{read_since}
-use Rattle.enode.proofs.Recovering.{ok_more}
+use Rattle.disk.proofs.Rereading.{read_since, ok_more}
 use Rattle.enode.proofs.node.Node.restart.Goals as goal
 
 pub returns-in-Ok-clause-damaged : goal.returns-in-Ok-clause-damaged

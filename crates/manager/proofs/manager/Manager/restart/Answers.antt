@@ -1,12 +1,7 @@
-use Rattle.std.proofs.Common.{ap, ◌∙◌, sym, Result, Ok, Err, IfOk}
+use Rattle.std.proofs.Common.{ap, ◌∙◌, sym}
 use Rattle.model.specs.Replay.{book_fits}
-use Rattle.disk.proofs.Rereading.{read_since}
+use Rattle.disk.proofs.Rereading.{read_since, ok_more}
 use Rattle.manager.proofs.manager.Manager.restart.Goals as goal
-
--- what follows of an `Ok` from what is known of it
-ok_more : {A B : Type 0} {P Q : A → Type 0} (r : Result A B) → ((x : A) → P x → Q x) → IfOk r P → IfOk r Q
-ok_more (Ok x) f h = f x h
-ok_more (Err y) f h = tt
 
 pub returns-in-Ok-clause-damaged : goal.returns-in-Ok-clause-damaged
 returns-in-Ok-clause-damaged g c = λ v rs is some fits.
