@@ -331,7 +331,7 @@ takes_plain (name ∷ file ∷ next ∷ more) h = absurd h
 
 -- ---- the matches of a parse
 
-same_in_some : {X : Type 0} (x y : X) → Some x ≡ Some y → x ≡ y
+pub same_in_some : {X : Type 0} (x y : X) → Some x ≡ Some y → x ≡ y
 same_in_some x y e = cc
 
 module _ {Z : Type 0} where

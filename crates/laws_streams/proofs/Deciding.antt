@@ -26,6 +26,7 @@ use Rattle.laws_streams.proofs.Ground.{Ground, Sound, FineSeal, FinePacket}
 use Rattle.laws_streams.proofs.Growing.{no_more, Later}
 use Rattle.laws_streams.proofs.Holding.{places_of, sealed_of, FineReport, FineReports, FineReportsOf, FineBook, reports_later}
 use Rattle.laws_streams.proofs.Keeping.{each_all, Rules, plain_rule, silent_rule, refused_rule}
+use Rattle.laws_streams.proofs.Rising.{not_there}
 
 -- ---- what the places are told
 
@@ -185,10 +186,6 @@ place_third at = or_right (at.third == at.primary) ((at.third == at.second) || (
 -- extent e is sealed at this length
 sealing : Ground → ℕ → ℕ → Ground
 sealing g e l = record g { sealed = changed e (Some l) g.sealed }
-
-not_there : {A : Type 0} (o : Option A) → is_there o ≡ false → o ≡ None
-not_there None f = refl
-not_there (Some x) f = absurd cc
 
 apart_sealed : (e l : ℕ) (x : Note) → Each (Apart x) (SealedAt e l ∷ [])
 apart_sealed e l (Acked f p group) = (tt, tt)

@@ -29,7 +29,7 @@ use Rattle.layer.specs.Desk.{DeskSeen, DeskMirrors, Makes, Served, Tells, desk_o
 use Rattle.layer.specs.Nodes.{nothing, plan_of}
 use Rattle.layer.specs.Stopping.{shown_if, stands_told}
 use Rattle.layer.proofs.Choices.{tested, is_below}
-use Rattle.layer.proofs.Giving.{broken_down, broken_records, broken_stops, burnt_up, no_stop, plan_ok, plan_some, short_same, up_ok}
+use Rattle.layer.proofs.Giving.{broken_down, broken_records, broken_stops, burnt_up, no_stop, plan_ok, plan_some, short_same, up_ok, nil, nil_end}
 use Rattle.layer.proofs.Stopping.{plan_armed}
 
 -- ---- books and tables
@@ -152,12 +152,6 @@ halted_desk y w u s isdown post notes makes replica cell nodes = record {
   cell = cell;
   nodes = nodes;
 }
-
-nil : {A : Type 0} (xs : List A) {ys : List A} → ys ≡ [] → xs ≡ xs ++ ys
-nil xs is = sym (ap (λ l. xs ++ l) is ∙ append-nil xs)
-
-nil_end : {A : Type 0} (xs : List A) {ys : List A} → ys ≡ [] → xs ++ [] ≡ xs ++ ys
-nil_end xs is = ap (λ l. xs ++ l) (sym is)
 
 -- it stops in the row's record; what the row shows is there where the record stands
 pub served_broken : (o : Outcome Book) (x y : ManagerState MemDisk) (w : World) (s : Step) → x.file.stopped ≡ false → DeskMirrors (desk_of x) w → IsLedger x x.file.records →

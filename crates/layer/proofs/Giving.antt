@@ -37,10 +37,10 @@ pub fresh-contents : (s : Option Replica) → fresh_of (contents s) ≡ stopped 
 fresh-contents None = refl
 fresh-contents (Some r) = refl
 
-nil : {A : Type 0} (xs : List A) {ys : List A} → ys ≡ [] → xs ≡ xs ++ ys
+pub nil : {A : Type 0} (xs : List A) {ys : List A} → ys ≡ [] → xs ≡ xs ++ ys
 nil xs is = sym (ap (λ l. xs ++ l) is ∙ append-nil xs)
 
-nil_end : {A : Type 0} (xs : List A) {ys : List A} → ys ≡ [] → xs ++ [] ≡ xs ++ ys
+pub nil_end : {A : Type 0} (xs : List A) {ys : List A} → ys ≡ [] → xs ++ [] ≡ xs ++ ys
 nil_end xs is = ap (λ l. xs ++ l) (sym is)
 
 -- what the records make, with the row's record

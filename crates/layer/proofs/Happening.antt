@@ -20,11 +20,9 @@ use Rattle.layer.specs.Desk.{DeskSeen, DeskMirrors, IsNewDesk, Makes, Served, Te
 use Rattle.layer.specs.Nodes.{NodeSeen, NodesMirror, Went, AreNew, nothing, plan_of}
 use Rattle.layer.specs.Run.{RunState, IsFew, Mirrors, Moved}
 use Rattle.layer.proofs.Seen.{entry_beyond}
+use Rattle.layer.proofs.Giving.{nil}
 use Rattle.layer.proofs.Going.{begun}
 use Rattle.model.specs.Manager.{Book}
-
-nil : {A : Type 0} (xs : List A) {ys : List A} → ys ≡ [] → xs ≡ xs ++ ys
-nil xs is = sym (ap (λ l. xs ++ l) is ∙ append-nil xs)
 
 -- what is said of nodes says nothing of the packets, the observations and the book
 pub nodes_as : (xs : List NodeSeen) (w v : World) → NodesMirror xs w → v.replica ≡ w.replica → v.cell ≡ w.cell → v.nodes ≡ w.nodes → NodesMirror xs v

@@ -6,7 +6,7 @@ use Rattle.clap.specs.Kinds.{HasKind, Kinds}
 use Rattle.clap.specs.declared.error.Error.{Error}
 use Rattle.clap.specs.declared.error.kind.ErrorKind.TheVariants.{OutOfMemory}
 use Rattle.command_words.specs.Words.{texts}
-use Rattle.command_words.proofs.WordLemmas.{no_task, one_task, takes_plain}
+use Rattle.command_words.proofs.WordLemmas.{no_task, one_task, takes_plain, same_in_some}
 use Rattle.command_words.proofs.named.command.Goals as goal
 
 err_as : {T E : Type 0} (r : Result T E) (P Q : E → Type 0) → ((e : E) → P e → Q e) → IsErrAnd r P → IfErr r Q
@@ -47,9 +47,6 @@ unwrap-file-requires c =
     ((c.in_ok-matches.ensures.matches (ap is_simple app)).1 ∙ ap (λ (a : App). subcommand_of a words) app)
     c.in-Some.ensures.name c.in-Some.ensures.rows in
     some_of_map _ c.get_str.result found.1 (c.get_str.ensures ∙ found.2)
-
-same_in_some : {X : Type 0} (x y : X) → Some x ≡ Some y → x ≡ y
-same_in_some x y e = cc
 
 pub returns-clause-named : goal.returns-clause-named
 returns-clause-named c =
