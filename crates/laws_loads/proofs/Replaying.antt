@@ -3,6 +3,7 @@ use Rattle.std.proofs.Common.{◌≡◌, ℕ, suc, ◌+◌, ◌-◌, ◌^◌, Li
 use Rattle.std.specs.Prelude.{◌&&◌, filter}
 use Rattle.std.specs.List.{flat_map}
 use Rattle.std.proofs.lemmas.List.{length-append}
+use Rattle.std.proofs.lemmas.Bool.{ltb-true}
 use Rattle.blocks.specs.Format.{◌>>=◌}
 use Rattle.blocks.specs.Limits.{group_size}
 use Rattle.streams.specs.declared.table.Position.{Position}
@@ -21,7 +22,6 @@ use Rattle.commitlog.specs.Replay.{Numbered, taken}
 use Rattle.commitlog.specs.Replay as line_specs
 use Rattle.commitlog.specs.Places.{kept, kept_transactions}
 use Rattle.commitlog.proofs.Measures.{group_size-append, size-spelling}
-use Rattle.laws_streams.proofs.Tests.{is_below}
 use Rattle.model_tables.specs.Loading.{replayed, region_takes, holds}
 use Rattle.model_tables.specs.Past.{Bytes, Table, Transaction, after_transaction, after_line, empty_table}
 use Rattle.laws_loads.specs.Renaming.{numbered}
@@ -80,7 +80,7 @@ module _ (texts : ℕ → Bytes) where
         where
           by : (b : Bool) → nat_lt n 0 ≡ b → nat_lt n 0 ≡ false
           by false e = e
-          by true e = let l : n < 0 = is_below n 0 e in absurd (omega arith)
+          by true e = let l : n < 0 = ltb-true n 0 e in absurd (omega arith)
 
       off : (b : Bool) → cond (b && false) false true ≡ true
       off true = refl

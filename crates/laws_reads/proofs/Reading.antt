@@ -1,5 +1,6 @@
 -- The log of a range is read extent by extent: what the range has read is kept.
 use Rattle.std.proofs.Common.{◌≡◌, ℕ, suc, ◌+◌, ◌-◌, ◌^◌, ◌<◌, ◌≤◌, List, [], ◌∷◌, length, Bool, true, false, Option, Some, None, nat_lt, slice_get, refl, sym, ap, ◌∙◌, subst, arith, ◌==◌, if◌then◌else◌}
+use Rattle.std.proofs.lemmas.Bool.{ltb-true, ltb-false, eqb-true}
 use Rattle.wire.specs.declared.streams.StreamExtent.{StreamExtent}
 use Rattle.wire.specs.declared.streams.StreamKind.TheVariants as kinds
 use Rattle.client.specs.declared.job.Job.TheVariants as jobs
@@ -14,7 +15,6 @@ use Rattle.model_tables.specs.declared.stage.Stage.TheVariants as stages
 use Rattle.model_tables.specs.Range.{RangeState, RangeOutcome, picking, dropped}
 use Rattle.model_tables.specs.Loading.{Group, read_of, log_goes, confirms, reads_log, replays, replayed, log_read}
 use Rattle.model_tables.specs.Extents as machine
-use Rattle.laws_streams.proofs.Tests.{is_below, not_below, tested}
 use Rattle.laws_loads.proofs.Replaying.{AreRead}
 use Rattle.laws_runs.specs.Ties.{IsAt, Tells}
 use Rattle.laws_serving.specs.Serves.{Side, log_of, is_live, Listed}
@@ -63,7 +63,7 @@ module _ (generation : ℕ → ℕ) (range : ℕ) (w : World) (i : ℕ) (listed 
 
       go : (t : Bool) → nat_lt position (length r.log.extents) ≡ t → Left (if t then log_goes d r (stages.Reading kinds.Log position) o else confirms d r)
       go true e =
-          let inside : position < length r.log.extents = is_below position (length r.log.extents) e in
+          let inside : position < length r.log.extents = ltb-true position (length r.log.extents) e in
           record {
             at = record {
               said = b.said;
@@ -85,7 +85,7 @@ module _ (generation : ℕ → ℕ) (range : ℕ) (w : World) (i : ℕ) (listed 
               said = b.said;
               fixed = b.fixed;
               metadata = b.metadata;
-              log = record { reads = b.reads; all = b.all (not_below position (length r.log.extents) e); table = b.table };
+              log = record { reads = b.reads; all = b.all (ltb-false position (length r.log.extents) e); table = b.table };
             };
           }
 
@@ -98,7 +98,7 @@ module _ (generation : ℕ → ℕ) (range : ℕ) (w : World) (i : ℕ) (listed 
       go : (t : Bool) → (x.extent == e) ≡ t → (x.extent == e) ≡ false
       go false k = k
       go true k =
-          let same : x.extent ≡ e = tested x.extent e k in
+          let same : x.extent ≡ e = eqb-true x.extent e k in
           let place : length older ≡ n = listed.once (length older) n e (subst (λ z. IsAt w (log_of range) (length older) z) same b.0.at) at in
           absurd (omega (arith, place, le))
 

@@ -1,14 +1,14 @@
 -- The stream layer's facts about an extent, as steps of the stream that it belongs to.
 use Rattle.std.proofs.Common.{◌≡◌, ℕ, suc, ◌+◌, ◌<◌, ◌≤◌, List, [], ◌∷◌, ◌++◌, map, Some, None, refl, sym, ap, ◌∙◌, subst, inl, inr, arith, append_assoc, nat_lt}
 use Rattle.std.proofs.lemmas.List.{append-nil, append_cancel_left}
+use Rattle.std.proofs.lemmas.Bool.{ltb-true, ltb-false}
 use Rattle.blocks.specs.declared.record.Nodes.{Nodes}
 use Rattle.replica.specs.Groups.{Group, size, text_length}
+use Rattle.replica.proofs.Placing.{length-cons}
 use Rattle.model.specs.Honest.{Stands}
 use Rattle.model.specs.Node.{greater}
 use Rattle.model.proofs.Tests.{if_elim}
 use Rattle.laws_streams.specs.Origins.{Begins}
-use Rattle.laws_streams.proofs.Tests.{is_below, not_below}
-use Rattle.laws_streams.proofs.Lists.{text_length-cons}
 use Rattle.laws_streams.proofs.Ground.{Ground, EndsAt, Sound}
 use Rattle.laws_streams.proofs.Growing.{Later}
 use Rattle.model_tables.specs.Story.{Copy}
@@ -60,7 +60,7 @@ pub chain_len : (a : ℕ) (xs : List (Copy Group)) (b : ℕ) → Chain a xs b �
 chain_len a [] b e s = omega arith
 chain_len a (x ∷ xs) b (e, lt, more) (is, s) =
     let l : b ≡ x.to + text_length (map group_of xs) = chain_len x.to xs b more s in
-    omega (arith, text_length-cons x.group (map group_of xs))
+    omega (arith, length-cons x.group (map group_of xs))
 
 pub chain_both : (a : ℕ) (xs ys : List (Copy Group)) (m b : ℕ) → Chain a xs m → Chain m ys b → Chain a (xs ++ ys) b
 chain_both a [] ys m b e c = subst (λ z. Chain z ys b) (sym e) c
@@ -123,10 +123,10 @@ floor_low g e low a b = if_elim (λ x. x ≤ low) (nat_lt (g.fence e) (g.born e)
 
 -- it is at least the fence of the last check, and at least that of the extent
 pub floor_above : (g : Ground) (e : ℕ) → g.fence e ≤ floor_of g e
-floor_above g e = if_elim (λ x. g.fence e ≤ x) (nat_lt (g.fence e) (g.born e)) (g.born e) (g.fence e) (λ t. let m = is_below (g.fence e) (g.born e) t in omega (arith, m)) (λ t. omega arith)
+floor_above g e = if_elim (λ x. g.fence e ≤ x) (nat_lt (g.fence e) (g.born e)) (g.born e) (g.fence e) (λ t. let m = ltb-true (g.fence e) (g.born e) t in omega (arith, m)) (λ t. omega arith)
 
 pub floor_born : (g : Ground) (e : ℕ) → g.born e ≤ floor_of g e
-floor_born g e = if_elim (λ x. g.born e ≤ x) (nat_lt (g.fence e) (g.born e)) (g.born e) (g.fence e) (λ t. omega arith) (λ t. let m = not_below (g.fence e) (g.born e) t in omega (arith, m))
+floor_born g e = if_elim (λ x. g.born e ≤ x) (nat_lt (g.fence e) (g.born e)) (g.born e) (g.fence e) (λ t. omega arith) (λ t. let m = ltb-false (g.fence e) (g.born e) t in omega (arith, m))
 
 -- it never falls
 pub floor_rises : (g h : Ground) (e : ℕ) → g.fence e ≤ h.fence e → g.born e ≤ h.born e → floor_of g e ≤ floor_of h e

@@ -6,10 +6,11 @@ use Rattle.blocks.specs.declared.record.Nodes.{Nodes}
 use Rattle.wire.specs.declared.streams.StreamName.{StreamName}
 use Rattle.replica.specs.Groups.{Group, size, text_length}
 use Rattle.replica.proofs.Lengths.{text_length-append}
+use Rattle.replica.proofs.Placing.{length-cons}
 use Rattle.streams.specs.Streams.{Stream}
 use Rattle.model.proofs.Tests.{if_elim}
 use Rattle.laws_streams.specs.Origins.{Origin, Begins}
-use Rattle.laws_streams.proofs.Lists.{text_length-cons, begins_length, stands_index}
+use Rattle.laws_streams.proofs.Lists.{begins_length, stands_index}
 use Rattle.laws_streams.proofs.Ground.{Ground, Sound}
 use Rattle.laws_streams.proofs.Growing.{Later}
 use Rattle.laws_streams.proofs.Lasting.{sealed_beyond}
@@ -40,7 +41,7 @@ copy_at a (x ∷ xs) b zero group (from, filled, chain) (long, sized) is =
     record { copy = x; is = refl; same = same; from = omega (arith, from); to = omega (arith, long, ap size same) }
 copy_at a (x ∷ xs) b (suc k) group (from, filled, chain) (long, sized) is =
     let r = copy_at x.to xs b k group chain sized is in
-    record { copy = r.copy; is = r.is; same = r.same; from = omega (arith, r.from, from, long, text_length-cons x.group (take k (map group_of xs))); to = r.to }
+    record { copy = r.copy; is = r.is; same = r.same; from = omega (arith, r.from, from, long, length-cons x.group (take k (map group_of xs))); to = r.to }
 
 in_got : {A : Type 0} (xs : List A) (k : ℕ) (x : A) → slice_get xs k ≡ Some x → In x xs
 in_got [] k x is = absurd cc
@@ -69,7 +70,7 @@ in_shut (y ∷ shut) index x c is m =
 take_more : (xs ys : List Group) (k : ℕ) → length xs ≤ k → text_length xs ≤ text_length (take k (xs ++ ys))
 take_more [] ys k l = omega arith
 take_more (x ∷ xs) ys zero l = absurd (omega (arith, l))
-take_more (x ∷ xs) ys (suc k) l = let m = take_more xs ys k (omega (arith, l)) in omega (arith, m, text_length-cons x xs, text_length-cons x (take k (xs ++ ys)))
+take_more (x ∷ xs) ys (suc k) l = let m = take_more xs ys k (omega (arith, l)) in omega (arith, m, length-cons x xs, length-cons x (take k (xs ++ ys)))
 
 take_front : (xs ys : List Group) (k : ℕ) → k < length xs → take k (xs ++ ys) ≡ take k xs
 take_front [] ys k l = absurd (omega (arith, l))
@@ -198,7 +199,7 @@ module _ (generation : ℕ → ℕ) (name : StreamName) (sent : List Sent) (o : 
               let stands = stands_index (g.script e) due.place group due.is in
               let front = stands.before ++ group ∷ [] in
               let begins : Begins front (g.script e) = record { rest = stands.after; is = stands.split ∙ sym (append_assoc stands.before (group ∷ []) stands.after) } in
-              let ends : text_length front ≡ l = omega (arith, text_length-append stands.before (group ∷ []), text_length-cons group [], stands.place, due.start) in
+              let ends : text_length front ≡ l = omega (arith, text_length-append stands.before (group ∷ []), length-cons group [], stands.place, due.start) in
               let f : FoundFront generation g e index v front l = find_front generation g e index v front l tied begins ends (omega (arith, lt)) in
               let w : Live Group = record v { kept = v.kept ++ f.more; sure = end_after generation v.sure f.more; loose = f.rest } in
               let had : (at : Nodes) → g.places e ≡ Some at → (l ≤ g.last at.primary e) × (l ≤ g.last at.second e) × (l ≤ g.last at.third e) =

@@ -1,7 +1,7 @@
 -- The rows of the manager's table about streams, as steps of the machine of one stream.
 use Rattle.std.proofs.Common.{◌≡◌, ◌≢◌, ◌⊎◌, ℕ, zero, suc, ◌-◌, ◌<◌, ◌≤◌, Bool, true, false, not, nat_lt, List, [], ◌∷◌, ◌++◌, length, Option, Some, None, Result, Ok, Err, slice_get, Contains, refl, sym, ap, ◌∙◌, subst, inl, inr, arith, if◌then◌else◌, ◌==◌, eq-eqb, length-append}
 use Rattle.std.proofs.lemmas.Bool.Decides.{nat_tests}
-use Rattle.std.proofs.lemmas.Bool.{cases_lt}
+use Rattle.std.proofs.lemmas.Bool.{cases_lt, and_cases, ltb-true, not-false, eqb-true}
 use Rattle.blocks.specs.declared.record.Nodes.{Nodes}
 use Rattle.wire.specs.declared.actor.ActorId.{ActorId}
 use Rattle.wire.specs.declared.actor.ActorId.TheVariants.{Manager, Server}
@@ -28,7 +28,7 @@ use Rattle.model.specs.World.{World, after_ruling, is_server_call}
 use Rattle.model.proofs.Tests.{if_elim, none_met}
 use Rattle.laws_streams.specs.Answers.{MayGrow}
 use Rattle.laws_streams.specs.Listings.{Listed}
-use Rattle.laws_streams.proofs.Tests.{Each, is_below, tested, not_true, neither, changed-same, changed-other}
+use Rattle.laws_streams.proofs.Tests.{Each, changed-same, changed-other}
 use Rattle.laws_streams.proofs.Lists.{get_left, get_next}
 use Rattle.laws_streams.proofs.Ground.{Ground}
 use Rattle.laws_streams.proofs.Holding.{places_of, sealed_of, FineBook}
@@ -270,9 +270,9 @@ module _ (generation : ℕ → ℕ) (name : StreamName) (sent : List Sent) where
         let tests = none_met (open_tests b p range k) none in
         let (server, from) = server_of p.from (called p stood (subst (λ z. is_server_call z ≡ true) (sym is) refl)) tests.0 in
         let a : AsksToOpen generation name w before sent k q = (asked_for server (bodies.Stream (OpenStreams range k q)) from is).here here in
-        let passed : all_pass (λ x. nat_lt x.fence k) b.stream name.range ≡ true = subst (λ z. all_pass (λ x. nat_lt x.fence k) b.stream z ≡ true) here (not_true _ tests.1.1.0) in
+        let passed : all_pass (λ x. nat_lt x.fence k) b.stream name.range ≡ true = subst (λ z. all_pass (λ x. nat_lt x.fence k) b.stream z ≡ true) here (not-false _ tests.1.1.0) in
         let (x, there) = one_there b.stream (λ x. nat_lt x.fence k) passed in
-        let low : x.fence < k = is_below x.fence k (all_passed (λ x. nat_lt x.fence k) b.stream name.range name.kind x passed there) in
+        let low : x.fence < k = ltb-true x.fence k (all_passed (λ x. nat_lt x.fence k) b.stream name.range name.kind x passed there) in
         let now : Shaped (Some x) g s sent = subst (λ z. Shaped z g s sent) there shaped in
         let under : generation a.i ≡ k = a.under in
         let rises : s.core.fence < generation a.i = by_fence x now.settled.fence low a.i under in
@@ -328,9 +328,9 @@ module _ (generation : ℕ → ℕ) (name : StreamName) (sent : List Sent) where
         let tests = none_met (confirm_tests b p range k) none in
         let (server, from) = server_of p.from (called p stood (subst (λ z. is_server_call z ≡ true) (sym is) refl)) tests.0 in
         let a : AsksToConfirm generation name w before sent k q = (asked_for server (bodies.Stream (Confirm range k q)) from is).here here in
-        let passed : all_pass (λ x. x.fence == k) b.stream name.range ≡ true = subst (λ z. all_pass (λ x. x.fence == k) b.stream z ≡ true) here (not_true _ tests.1.1.0) in
+        let passed : all_pass (λ x. x.fence == k) b.stream name.range ≡ true = subst (λ z. all_pass (λ x. x.fence == k) b.stream z ≡ true) here (not-false _ tests.1.1.0) in
         let (x, there) = one_there b.stream (λ x. x.fence == k) passed in
-        let low : x.fence ≡ k = tested x.fence k (all_passed (λ x. x.fence == k) b.stream name.range name.kind x passed there) in
+        let low : x.fence ≡ k = eqb-true x.fence k (all_passed (λ x. x.fence == k) b.stream name.range name.kind x passed there) in
         let now : Shaped (Some x) g s sent = subst (λ z. Shaped z g s sent) there shaped in
         let fact : In (machine.AsksConfirm a.i a.read a.end) before.facts = a.fact in
         let (n, opened) = lawful.confirms a.i a.read a.end fact in
@@ -354,9 +354,9 @@ module _ (generation : ℕ → ℕ) (name : StreamName) (sent : List Sent) where
       -- a user has no stream of a range
       asker_is : is_foreign p.from name.range ≡ false → (server : ℕ) × (p.from ≡ Server server)
       asker_is f =
-          server_of p.from (called p stood (subst (λ z. is_server_call z ≡ true) (sym is) refl)) (elim (neither (is_user p.from) (not (name.range == 0)) f) [
+          server_of p.from (called p stood (subst (λ z. is_server_call z ≡ true) (sym is) refl)) (elim (and_cases (is_user p.from) (not (name.range == 0)) f) [
             | inl x ↦ x
-            | inr x ↦ absurd (let m = tested name.range 0 (not_true _ x) in omega (arith, own, m))
+            | inr x ↦ absurd (let m = eqb-true name.range 0 (not-false _ x) in omega (arith, own, m))
           ])
 
       module _ (server : ℕ) (from : p.from ≡ Server server) (x : Stream) (there : stream_of b.stream name ≡ Some x) (fence : generation_of p.from k ≡ x.fence) where
@@ -592,7 +592,7 @@ module _ (generation : ℕ → ℕ) (name : StreamName) (sent : List Sent) where
     opened_elsewhere range k q (Some refusal) apart = refl
     opened_elsewhere range k q None apart =
         if_elim (λ o. o ≡ stream_of b.stream name) (name.range == range) (fenced_at k (stream_of b.stream name)) (stream_of b.stream name)
-        (λ t. absurd (apart (sym (tested name.range range t)))) (λ t. refl)
+        (λ t. absurd (apart (sym (eqb-true name.range range t)))) (λ t. refl)
 
     confirmed_elsewhere : (q : ReqNo) (x : Option Refusal) → stream_of (or_refused b Manager p q x (answer b p (Confirmed q))).after.stream name ≡ stream_of b.stream name
     confirmed_elsewhere q (Some refusal) = refl
@@ -637,7 +637,7 @@ module _ (generation : ℕ → ℕ) (name : StreamName) (sent : List Sent) where
     stream_walk own (OpenStreams range k q) is tells book = by_range (range == name.range) refl
       where
         by_range : (t : Bool) → (range == name.range) ≡ t → RowWalk (open_row b p range k q)
-        by_range true t = open_walk range k q is (tested range name.range t) (own_fence (open_refusal b p range k) q range k book) (open_refusal b p range k) refl
+        by_range true t = open_walk range k q is (eqb-true range name.range t) (own_fence (open_refusal b p range k) q range k book) (open_refusal b p range k) refl
         by_range false t =
             let apart : range ≡ name.range → ⊥ = λ same. let c : false ≡ true = sym t ∙ eq-eqb range name.range same in cc in
             quiet_walk (record {
@@ -648,7 +648,7 @@ module _ (generation : ℕ → ℕ) (name : StreamName) (sent : List Sent) where
     stream_walk own (Confirm range k q) is tells book = by_range (range == name.range) refl
       where
         by_range : (t : Bool) → (range == name.range) ≡ t → RowWalk (confirm_row b p range k q)
-        by_range true t = confirm_walk range k q is (tested range name.range t) (confirm_refusal b p range k) refl
+        by_range true t = confirm_walk range k q is (eqb-true range name.range t) (confirm_refusal b p range k) refl
         by_range false t =
             let apart : range ≡ name.range → ⊥ = λ same. let c : false ≡ true = sym t ∙ eq-eqb range name.range same in cc in
             quiet_walk (record {

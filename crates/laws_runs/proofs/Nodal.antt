@@ -1,5 +1,6 @@
 -- What nodes do, as steps of the machine of one stream.
 use Rattle.std.proofs.Common.{◌≡◌, ◌⊎◌, ℕ, zero, suc, ◌≤◌, Bool, true, false, List, [], ◌∷◌, length, take, ◌+◌, Option, Some, None, slice_get, Contains, refl, sym, ap, ◌∙◌, subst, inl, inr, arith, append-nil, ◌==◌}
+use Rattle.std.proofs.lemmas.Bool.{eqb-true, eqb-false}
 use Rattle.blocks.specs.declared.record.Nodes.{Nodes}
 use Rattle.wire.specs.declared.actor.ActorId.{ActorId}
 use Rattle.wire.specs.declared.actor.ActorId.TheVariants.{Node, Manager, Map, Server, User}
@@ -26,7 +27,7 @@ use Rattle.model.specs.World.{World, burnt, stops_in, stands_in, unsent, halted,
 use Rattle.model.proofs.Tests.{if_elim}
 use Rattle.laws_streams.specs.Origins.{Begins}
 use Rattle.laws_streams.proofs.Lists.{begins_trans}
-use Rattle.laws_streams.proofs.Tests.{Each, each-get, each-weaker, each-contains, contains_get, contains_left, tested, untested}
+use Rattle.laws_streams.proofs.Tests.{Each, each-get, each-weaker, each-contains, contains_get, contains_left}
 use Rattle.laws_streams.proofs.Ground.{Ground, FineNote, FinePacket, FineAck, FineBody, FineCheck, FineChecking, FineChecked, FineWaiting, FineOne, FineReplica}
 use Rattle.laws_streams.proofs.Growing.{later_refl, waiting_later}
 use Rattle.laws_streams.proofs.Holding.{Moment, FineRow, row_holds, row_unsent, halted_holds}
@@ -55,12 +56,12 @@ is_in_or (x ∷ es) e = by_test (x == e) refl (is_in_or es e)
   where
     by_test : (b : Bool) → (x == e) ≡ b → ((index : ℕ) × (slice_get es index ≡ Some e)) ⊎ ((index : ℕ) → slice_get es index ≡ Some e → ⊥) →
         ((index : ℕ) × (slice_get (x ∷ es) index ≡ Some e)) ⊎ ((index : ℕ) → slice_get (x ∷ es) index ≡ Some e → ⊥)
-    by_test true t more = inl (0, ap Some (tested x e t))
+    by_test true t more = inl (0, ap Some (eqb-true x e t))
     by_test false t (inl m) = inl (suc m.0, m.1)
     by_test false t (inr none) = inr (λ index is. by_index index is)
       where
         by_index : (index : ℕ) → slice_get (x ∷ es) index ≡ Some e → ⊥
-        by_index zero is = let c : x ≡ e = cc in untested x e t c
+        by_index zero is = let c : x ≡ e = cc in eqb-false x e t c
         by_index (suc i) is = none i is
 
 -- ---- the answer to a probe is one packet at most

@@ -3,6 +3,7 @@ use Rattle.std.proofs.Common.{◌≡◌, ◌≢◌, ◌⊎◌, ℕ, zero, suc, �
 use Rattle.std.proofs.lemmas.List.{append_cancel_left}
 use Rattle.std.proofs.lemmas.Bool.Decides.{nat_tests}
 use Rattle.std.proofs.lemmas.Option.{slice_get_within}
+use Rattle.std.proofs.lemmas.Bool.{eqb-true, eqb-false}
 use Rattle.blocks.specs.declared.record.Nodes.{Nodes}
 use Rattle.wire.specs.declared.actor.ReqNo.{ReqNo}
 use Rattle.wire.specs.declared.body.AppendBody.TheVariants.{Append}
@@ -12,7 +13,7 @@ use Rattle.streams.specs.Streams.{Stream}
 use Rattle.model.specs.Actors.{generation_of}
 use Rattle.model.proofs.Tests.{if_elim}
 use Rattle.laws_streams.specs.Origins.{Origin, Begins}
-use Rattle.laws_streams.proofs.Tests.{Each, tested, untested}
+use Rattle.laws_streams.proofs.Tests.{Each}
 use Rattle.laws_streams.proofs.Lists.{begins_trans, get_left, get_next, NoneEmpty}
 use Rattle.laws_streams.proofs.Ground.{Ground, Sound, EndsAt}
 use Rattle.laws_streams.proofs.Growing.{Later}
@@ -268,7 +269,7 @@ module _ (generation : ℕ → ℕ) (o : Option Stream) (g h : Ground) (later : 
                 let r : (z : Shut Group) × (shut_at i (x ∷ s.core.shut) ≡ Some z) × TiedShut h e i z × Sourced h sent e i z.copies =
                 if_elim (λ (y : Option (Shut Group)). ((z : Shut Group) × (y ≡ Some z) × TiedShut h e i z × Sourced h sent e i z.copies)) (i == index) (Some x) (shut_at i s.core.shut)
                 (λ q.
-                let same : i ≡ index = tested i index q in
+                let same : i ≡ index = eqb-true i index q in
                 let which : extent ≡ e = same_got (extents_of o) i extent e (subst (λ z. slice_get (extents_of o) z ≡ Some extent) (sym same) b.at) at in (
                   x,
                   refl,
@@ -276,7 +277,7 @@ module _ (generation : ℕ → ℕ) (o : Option Stream) (g h : Ground) (later : 
                   subst (λ z. Sourced h sent e z x.copies) (sym same) (subst (λ z. Sourced h sent z index x.copies) which sources),
                 ))
                 (λ q.
-                let other = untested i index q in
+                let other = eqb-false i index q in
                 let below : i < index = different i index other lt in
                 let old = k.shut i e at below in
                 (old.shut, old.is, old.tied, old.sources)) in

@@ -1,9 +1,9 @@
 -- Steps of a stream's lower layer, one after another from a state on.
 use Rattle.std.proofs.Common.{◌≡◌, ℕ, suc, ◌<◌, List, [], ◌∷◌, ◌++◌, length, map, true, Option, Some, None, refl, sym, ap, ◌∙◌, subst, arith, append_assoc, ◌==◌}
 use Rattle.std.proofs.lemmas.List.{append-nil}
+use Rattle.std.proofs.lemmas.Bool.{eqb-true}
 use Rattle.replica.specs.Groups.{Group}
 use Rattle.model.proofs.Tests.{if_elim}
-use Rattle.laws_streams.proofs.Tests.{tested}
 use Rattle.model_tables.specs.Story.{Copy}
 use Rattle.model_tables.specs.Extents.{In, Shut, Live, Core, shut_at, Fact, State, Step, TakesOpen, TakesExtend, TakesConfirm, TakesCheck, AnswersCheck, AnswersLate, TakesAppend, Keeps, AnswersAppend, Seals, Opens, Checks, ReadsSealed, ReadsChecked, Begins, Appends, Extends, TakesConfirmed, TakesAppended, May, extended, next}
 use Rattle.model_tables.specs.Turns.{all_next, Below, Move, is_layer, after_all, AreMoves}
@@ -15,12 +15,12 @@ pub shut_within : (e : ℕ) (xs : List (Shut Group)) (x : Shut Group) → shut_a
 shut_within e [] x is = absurd cc
 shut_within e (y ∷ xs) x is =
     if_elim (λ o. o ≡ Some x → e < suc (length xs)) (e == length xs) (Some y) (shut_at e xs)
-    (λ t k. let m = tested e (length xs) t in omega (arith, m)) (λ t k. let m = shut_within e xs x k in omega (arith, m)) is
+    (λ t k. let m = eqb-true e (length xs) t in omega (arith, m)) (λ t k. let m = shut_within e xs x k in omega (arith, m)) is
 
 pub shut_stays : (e : ℕ) (y : Shut Group) (xs : List (Shut Group)) (x : Shut Group) → shut_at e xs ≡ Some x → shut_at e (y ∷ xs) ≡ Some x
 shut_stays e y xs x is =
     if_elim (λ o. o ≡ Some x) (e == length xs) (Some y) (shut_at e xs)
-    (λ t. let m = tested e (length xs) t in let l = shut_within e xs x is in absurd (omega (arith, m, l))) (λ t. is)
+    (λ t. let m = eqb-true e (length xs) t in let l = shut_within e xs x is in absurd (omega (arith, m, l))) (λ t. is)
 
 -- what is known and what is sealed stays
 pub record Onward (s t : State Group) : Type 0 where

@@ -1,9 +1,9 @@
 -- The copies of the first extents of a stream, one extent at a time.
 use Rattle.std.proofs.Common.{◌≡◌, ℕ, zero, suc, ◌<◌, ◌≤◌, List, [], ◌∷◌, ◌++◌, length, Bool, true, false, Some, nat_le, refl, sym, ap, ◌∙◌, arith, ◌==◌, if◌then◌else◌}
 use Rattle.std.proofs.lemmas.Bool.Decides.{nat_tests}
+use Rattle.std.proofs.lemmas.Bool.{leb-true, leb-false, eqb-true}
 use Rattle.replica.specs.Groups.{Group}
 use Rattle.model_tables.specs.Extents.{Shut, shut_at, first, all_shut}
-use Rattle.laws_streams.proofs.Tests.{at_most, above, tested}
 use Rattle.laws_serving.proofs.Steps.{is_within}
 
 -- all of a list is its first so many
@@ -12,7 +12,7 @@ first_all [] n le = refl
 first_all (x ∷ older) n le = go (nat_le n (length older)) refl
   where
     go : (b : Bool) → nat_le n (length older) ≡ b → (if b then first n older else x ∷ older) ≡ x ∷ older
-    go true t = let k : n ≤ length older = at_most n (length older) t in absurd (omega (arith, k, le))
+    go true t = let k : n ≤ length older = leb-true n (length older) t in absurd (omega (arith, k, le))
     go false t = refl
 
 -- the first n, where more than n are there
@@ -21,7 +21,7 @@ first_older x older n le = go (nat_le n (length older)) refl
   where
     go : (b : Bool) → nat_le n (length older) ≡ b → (if b then first n older else x ∷ older) ≡ first n older
     go true t = refl
-    go false t = let k : length older < n = above n (length older) t in absurd (omega (arith, k, le))
+    go false t = let k : length older < n = leb-false n (length older) t in absurd (omega (arith, k, le))
 
 -- none of them
 pub first_none : (xs : List (Shut Group)) → first 0 xs ≡ []
@@ -42,7 +42,7 @@ first_more (x ∷ older) n y e = go (n == length older) refl e (λ k. first_more
     go : (b : Bool) → (n == length older) ≡ b → (if b then Some x else shut_at n older) ≡ Some y →
         (shut_at n older ≡ Some y → all_shut (first (suc n) older) ≡ all_shut (first n older) ++ y.copies) →
         all_shut (first (suc n) (x ∷ older)) ≡ all_shut (first n (x ∷ older)) ++ y.copies
-    go true t k more = newest (tested n (length older) t) (let z : x ≡ y = cc in z)
+    go true t k more = newest (eqb-true n (length older) t) (let z : x ≡ y = cc in z)
     go false t k more =
         let inside : suc n ≤ length older = is_within n older y k in
         ap all_shut (first_older x older (suc n) inside) ∙ more k ∙ ap (λ zs. all_shut zs ++ y.copies) (sym (first_older x older n (omega (arith, inside))))

@@ -1,6 +1,7 @@
 -- What waits at a range can be written: each transaction that is taken, and each group that is formed.
 use Rattle.std.proofs.Common.{◌≡◌, ◌⊎◌, ⊎_elim, ℕ, zero, suc, ◌+◌, ◌<◌, ◌≤◌, ◌^◌, List, [], ◌∷◌, ◌++◌, length, map, take, drop, Bool, true, false, not, ◌&&◌, ◌||◌, ◌==◌, nat_lt, nat_le, Option, Some, None, is_some, refl, sym, ap, ◌∙◌, subst, inl, inr, arith}
 use Rattle.std.specs.List.{AllByRecursion, list_any}
+use Rattle.std.proofs.lemmas.Bool.{or_parts, ltb-true, ltb-false, leb-true, leb-false, not-false, eqb-false}
 use Rattle.wire.specs.declared.actor.ActorId.{ActorId}
 use Rattle.wire.specs.declared.actor.ReqNo.{ReqNo}
 use Rattle.wire.specs.declared.refusal.Refusal.{Refusal}
@@ -15,7 +16,6 @@ use Rattle.model_tables.specs.declared.desk.Desk.{Desk}
 use Rattle.model_tables.specs.declared.waiting.WaitingTransaction.{WaitingTransaction}
 use Rattle.model_tables.specs.Range.{RangeState, RangeOutcome, is_serving}
 use Rattle.model_tables.specs.Serving.{record_of, fits_a_group, grown, group_count, appends, forms, is_key, value_size, lease_ended, waiting_count, is_full, transact_fault, transacts, transact_row}
-use Rattle.laws_streams.proofs.Tests.{is_below, not_below, at_most, above, none_of, untested, not_true}
 use Rattle.laws_loads.proofs.Renaming.{mapped_length}
 use Rattle.laws_serving.proofs.Tells.{more_length}
 use Rattle.laws_serving.specs.Sound.{AreTransactions, IsSound, IsSoundIf}
@@ -58,18 +58,18 @@ parts_count {A} (suc n) (t ∷ ts) = omega (arith, parts_count n ts)
 
 value_fits : (value : Option (List ℕ)) → nat_lt 65536 (value_size value) ≡ false → HasValue value
 value_fits None e = tt
-value_fits (Some v) e = not_below 65536 (length v) e
+value_fits (Some v) e = ltb-false 65536 (length v) e
 
 key_fits : (key : List ℕ) → not (is_key key) ≡ false → (1 ≤ length key) × (length key ≤ 256)
 key_fits key e =
-    let b = both_parts (nat_le 1 (length key)) (nat_le (length key) 256) (not_true (is_key key) e) in
-    (at_most 1 (length key) b.0, at_most (length key) 256 b.1)
+    let b = both_parts (nat_le 1 (length key)) (nat_le (length key) 256) (not-false (is_key key) e) in
+    (leb-true 1 (length key) b.0, leb-true (length key) 256 b.1)
 
 changes_fit : (changes : List Change) → list_any (λ c. not (is_key c.key)) changes ≡ false → list_any (λ c. nat_lt 65536 (value_size c.value)) changes ≡ false → AllByRecursion IsChange changes
 changes_fit [] keys values = tt
 changes_fit (c ∷ changes) keys values =
-    let k = none_of (not (is_key c.key)) (list_any (λ c. not (is_key c.key)) changes) keys in
-    let v = none_of (nat_lt 65536 (value_size c.value)) (list_any (λ c. nat_lt 65536 (value_size c.value)) changes) values in
+    let k = or_parts (not (is_key c.key)) (list_any (λ c. not (is_key c.key)) changes) keys in
+    let v = or_parts (nat_lt 65536 (value_size c.value)) (list_any (λ c. nat_lt 65536 (value_size c.value)) changes) values in
     ((key_fits c.key k.0, value_fits c.value v.0), changes_fit changes k.1 v.1)
 
 -- what a transaction is tested for
@@ -86,16 +86,16 @@ tests d r changes =
 
 -- what is not refused comes to a range that is served
 pub taken_served : (d : Desk) (r : RangeState) (changes : List Change) → transact_fault d r changes ≡ None → is_serving r.stage ≡ true
-taken_served d r changes e = let unmet = none_met (tests d r changes) e in not_true (is_serving r.stage) unmet.0
+taken_served d r changes e = let unmet = none_met (tests d r changes) e in not-false (is_serving r.stage) unmet.0
 
 -- it is a transaction, and has room
 taken_fits : (d : Desk) (r : RangeState) (changes : List Change) → transact_fault d r changes ≡ None → IsTransaction changes × (waiting_count r < 1024)
 taken_fits d r changes e =
     let unmet = none_met (tests d r changes) e in
-    let count = none_of (length changes == 0) (nat_lt 32 (length changes)) unmet.1.1.0 in
-    let full = none_of (nat_le 1024 (waiting_count r)) (nat_le 67108864 (entries_size r.live + size_of r.fixed)) unmet.1.1.1.1.1.1.0 in
-    let some : length changes ≡ 0 → ⊥ = untested (length changes) 0 count.0 in
-    ((((some_more (length changes) some, not_below 32 (length changes) count.1)), changes_fit changes unmet.1.1.1.0 unmet.1.1.1.1.0), above 1024 (waiting_count r) full.0)
+    let count = or_parts (length changes == 0) (nat_lt 32 (length changes)) unmet.1.1.0 in
+    let full = or_parts (nat_le 1024 (waiting_count r)) (nat_le 67108864 (entries_size r.live + size_of r.fixed)) unmet.1.1.1.1.1.1.0 in
+    let some : length changes ≡ 0 → ⊥ = eqb-false (length changes) 0 count.0 in
+    ((((some_more (length changes) some, ltb-false 32 (length changes) count.1)), changes_fit changes unmet.1.1.1.0 unmet.1.1.1.1.0), leb-false 1024 (waiting_count r) full.0)
   where
     some_more : (n : ℕ) → (n ≡ 0 → ⊥) → 1 ≤ n
     some_more zero h = absurd (h refl)
@@ -134,19 +134,19 @@ is_next d r h e =
     let n : ℕ = group_count d r in
     let one = both_parts (not (is_some r.out)) (nat_lt 0 n && nat_lt (r.next + n) (2 ^ 64)) e in
     let two = both_parts (nat_lt 0 n) (nat_lt (r.next + n) (2 ^ 64)) one.1 in
-    let some : 0 < n = is_below 0 n two.0 in
-    let top : r.next + n < 2 ^ 64 = is_below (r.next + n) (2 ^ 64) two.1 in
+    let some : 0 < n = ltb-true 0 n two.0 in
+    let top : r.next + n < 2 ^ 64 = ltb-true (r.next + n) (2 ^ 64) two.1 in
     let group : fits_a_group r.next r.queue n ≡ true =
     ⊎_elim {C = fits_a_group r.next r.queue n ≡ true} (λ z. absurd (omega (arith, z, some))) (λ z. z) (grown_fits r.next r.queue 0 d.batch (inl refl)) in
     let three = both_parts (nat_le n (length r.queue)) (nat_le (length (spelling (record_of r.next (take n r.queue)))) 64) group in
-    let within : n ≤ length r.queue = at_most n (length r.queue) three.0 in
+    let within : n ≤ length r.queue = leb-true n (length r.queue) three.0 in
     let size : length (map (λ t. t.changes) (take n r.queue)) ≡ n = mapped_length (λ t. t.changes) (take n r.queue) ∙ first_count n r.queue within in
     record {
       fits = record {
         numbered = (h.numbered, subst (λ z. r.next + z < 2 ^ 64) (sym size) top);
         count = (omega (arith, size, some), omega (arith, size, within, h.counted));
         transactions = first_sound n r.queue h.queue_fits;
-        blocks = at_most (length (spelling (record_of r.next (take n r.queue)))) 64 three.1;
+        blocks = leb-true (length (spelling (record_of r.next (take n r.queue)))) 64 three.1;
       };
       size = size;
       within = within;

@@ -1,5 +1,6 @@
 -- What the rows of a range leave of what waits at it, and of its stage.
 use Rattle.std.proofs.Common.{◌≡◌, ◌⊎◌, ⊎_elim, ℕ, suc, ◌+◌, ◌-◌, ◌^◌, ◌&&◌, ◌==◌, List, [], length, flat_map, true, false, nat_lt, Option, Some, None, is_some, option_to_list, refl, sym, ap, ◌∙◌, subst, inl, inr, arith}
+use Rattle.std.proofs.lemmas.Bool.{ltb-true}
 use Rattle.wire.specs.declared.actor.ActorId.{ActorId}
 use Rattle.wire.specs.declared.actor.ReqNo.{ReqNo}
 use Rattle.wire.specs.declared.body.AppendBody.{AppendBody}
@@ -38,7 +39,6 @@ use Rattle.model_tables.specs.Loading.{Group, said_after, replayed, reads_log, f
 use Rattle.model_tables.specs.Getting.{get_fault, gets, get_row}
 use Rattle.model_tables.specs.Answering.{load_refused, load_told, load_reply, metadata_reply, serving_news, is_taken, log_reply, bytes_reply, gets_reply, answer_row, give_up_all, groups_of}
 use Rattle.model_tables.specs.Server.{new_range}
-use Rattle.laws_streams.proofs.Tests.{is_below}
 use Rattle.laws_serving.specs.Sound.{AreSound, IsSound, IsSoundIf}
 use Rattle.laws_serving.specs.Still.{StaysIf, Stays, IsUnserved, IsConfirmation}
 use Rattle.laws_serving.proofs.Sound.{forms_sound, taken_served}
@@ -231,7 +231,7 @@ serves_from_sound : (d : Desk) (r : RangeState) (region : Option Region) → IsS
 serves_from_sound d r None = tt
 serves_from_sound d r (Some region) =
     if_elim (λ (o : RangeOutcome). IsSoundIf o.after) (nat_lt 0 region.next) _ _
-    (λ t. record { queue_fits = tt; out_fits = tt; counted = omega arith; numbered = (let z = is_below 0 region.next t in omega (arith, z)) }) (λ f. tt)
+    (λ t. record { queue_fits = tt; out_fits = tt; counted = omega arith; numbered = (let z = ltb-true 0 region.next t in omega (arith, z)) }) (λ f. tt)
 
 pub serves_sound : (d : Desk) (r : RangeState) → IsSoundIf (serves d r).after
 serves_sound d r = if_elim (λ (o : RangeOutcome). IsSoundIf o.after) (are_counted r.log) _ _ (λ t. serves_from_sound d r (open_region r.regions)) (λ f. tt)

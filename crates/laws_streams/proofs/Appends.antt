@@ -1,6 +1,7 @@
 -- The rows of Make, Append and Put keep what is known.
 use Rattle.std.proofs.Common.{◌≡◌, ◌≢◌, ◌⊎◌, ℕ, ◌+◌, ◌*◌, ◌<◌, ◌≤◌, Bool, true, false, not, ◌==◌, nat_lt, nat_le, if◌then◌else◌, List, [], ◌∷◌, ◌++◌, length, Some, None, slice_get, Contains, refl, sym, ◌∙◌, inl, inr, arith, subst, ap, length-append, append_assoc}
 use Rattle.std.specs.List.{list_any}
+use Rattle.std.proofs.lemmas.Bool.{or_parts, ltb-true, ltb-false, leb-true, leb-false, not-false, eqb-true, eqb-false}
 use Rattle.blocks.specs.declared.record.Nodes.{Nodes}
 use Rattle.wire.specs.Blocks.{is_block}
 use Rattle.wire.specs.declared.actor.ActorId.TheVariants.{Node}
@@ -22,7 +23,7 @@ use Rattle.model.specs.Outcome.{all_met, silent, or_refused}
 use Rattle.model.proofs.Tests.{if_elim, both_parts, none_met, all_are}
 use Rattle.laws_streams.specs.Origins.{Begins, Origin}
 use Rattle.laws_streams.proofs.Lists.{begins_refl, begins_push, take_past, get_next, NoneEmpty, none_empty-push, stands_on, stands_last, stands_end, same_beginning}
-use Rattle.laws_streams.proofs.Tests.{none_of, is_below, at_most, above, not_below, not_true, tested, changed_elim, changed_at_elim, changed_at-same, changed_at-other, changed-same, changed-other, untested, Each, each-append, contains_left, contains_last, contains_pushed}
+use Rattle.laws_streams.proofs.Tests.{changed_elim, changed_at_elim, changed_at-same, changed_at-other, changed-same, changed-other, Each, each-append, contains_left, contains_last, contains_pushed}
 use Rattle.laws_streams.proofs.Ground.{Ground, EndsAt, longest, Sound, FineAppend, Chain, FinePhase, FineWaiting, FineOne, FineNone, FineReplica}
 use Rattle.laws_streams.proofs.Growing.{ends_later, check_later, waits_later, no_more, Later, Still}
 use Rattle.laws_streams.proofs.Holding.{Moment, origin_of, Unmoved, Added, FineRow}
@@ -43,7 +44,7 @@ make_keeps now g n p e fence target at sound none made =
       third_has = omega arith;
       waiting = λ i. tt;
       waits = tt;
-      target = (let w = both_parts (nat_le 4096 target) (nat_le target 16777216) (all_are (make_tests n p target at) t).1.1.1.0 in at_most target 16777216 w.1);
+      target = (let w = both_parts (nat_le 4096 target) (nat_le target 16777216) (all_are (make_tests n p target at) t).1.1.1.0 in leb-true target 16777216 w.1);
       born = omega (arith, made.1);
       check = tt;
       fence = λ i. let f = (none.script at made.0 i).1 in omega (arith, f);
@@ -55,16 +56,16 @@ make_keeps now g n p e fence target at sound none made =
 group_sized : (blocks : Group) → (length blocks == 0) ≡ false → list_any (λ b. not (is_block b)) blocks ≡ false → 0 < size blocks
 group_sized [] p q = absurd (cc)
 group_sized (b ∷ bs) p q =
-    let f : is_block b ≡ true = not_true (is_block b) (none_of (not (is_block b)) (list_any (λ x. not (is_block x)) bs) q).0 in
-    let l : 0 < length b = is_below 0 (length b) (both_parts (nat_lt 0 (length b)) (nat_le (length b) 65536) f).0 in
+    let f : is_block b ≡ true = not-false (is_block b) (or_parts (not (is_block b)) (list_any (λ x. not (is_block x)) bs) q).0 in
+    let l : 0 < length b = ltb-true 0 (length b) (both_parts (nat_lt 0 (length b)) (nat_le (length b) 65536) f).0 in
     omega (arith, length-append b (joined bs))
 
 group_small : (blocks : Group) → list_any (λ b. not (is_block b)) blocks ≡ false → size blocks ≤ length blocks * 65536
 group_small [] q = omega arith
 group_small (b ∷ bs) q =
-    let two = none_of (not (is_block b)) (list_any (λ x. not (is_block x)) bs) q in
-    let f : is_block b ≡ true = not_true (is_block b) two.0 in
-    let l : length b ≤ 65536 = at_most (length b) 65536 (both_parts (nat_lt 0 (length b)) (nat_le (length b) 65536) f).1 in
+    let two = or_parts (not (is_block b)) (list_any (λ x. not (is_block x)) bs) q in
+    let f : is_block b ≡ true = not-false (is_block b) two.0 in
+    let l : length b ≤ 65536 = leb-true (length b) 65536 (both_parts (nat_lt 0 (length b)) (nat_le (length b) 65536) f).1 in
     let m = group_small bs two.1 in
     omega (arith, length-append b (joined bs), l, m)
 
@@ -230,8 +231,8 @@ module _ (now : Moment) (g : Ground) (n e : ℕ) (r : Replica) (sound : Sound g)
 
       by_test : (t : Bool) → (k == e) ≡ t → Unmoved g next k
           ⊎ Added now g next k
-      by_test true t = inr (append_added k (tested k e t))
-      by_test false t = inl (changed-other e _ g.script k (untested k e t), changed-other e _ g.origin k (untested k e t))
+      by_test true t = inr (append_added k (eqb-true k e t))
+      by_test false t = inl (changed-other e _ g.script k (eqb-false k e t), changed-other e _ g.origin k (eqb-false k e t))
 
   append_fine : is_open r.content.phase ≡ true →
       FineRow now g next n e (append_taken n r now.packet e blocks request)
@@ -260,12 +261,12 @@ append_keeps now g n e generation r blocks q sound fine to is =
     unless_refused now g n e (Some r) now.packet q (append_refusal n r now.packet generation blocks) (append_taken n r now.packet e blocks q) sound fine
     (λ none.
     let met = none_met (append_tests n r now.packet generation blocks) none in
-    let primary : n ≡ r.content.places.primary = tested n r.content.places.primary (not_true _ met.0) in
-    let live : is_open r.content.phase ≡ true = not_true _ met.1.0 in
-    let some : 0 < size blocks = group_sized blocks (none_of _ _ met.1.1.1.0).0 met.1.1.1.1.0 in
-    let newer : r.content.fence ≤ generation_of now.packet.from generation = not_below (generation_of now.packet.from generation) r.content.fence met.1.1.0 in
-    let room : text_length r.content.groups < r.content.target = above r.content.target (text_length r.content.groups) met.1.1.1.1.1.0 in
-    let few : length blocks ≤ 64 = not_below 64 (length blocks) (none_of (length blocks == 0) (nat_lt 64 (length blocks)) met.1.1.1.0).1 in
+    let primary : n ≡ r.content.places.primary = eqb-true n r.content.places.primary (not-false _ met.0) in
+    let live : is_open r.content.phase ≡ true = not-false _ met.1.0 in
+    let some : 0 < size blocks = group_sized blocks (or_parts _ _ met.1.1.1.0).0 met.1.1.1.1.0 in
+    let newer : r.content.fence ≤ generation_of now.packet.from generation = ltb-false (generation_of now.packet.from generation) r.content.fence met.1.1.0 in
+    let room : text_length r.content.groups < r.content.target = leb-false r.content.target (text_length r.content.groups) met.1.1.1.1.1.0 in
+    let few : length blocks ≤ 64 = ltb-false 64 (length blocks) (or_parts (length blocks == 0) (nat_lt 64 (length blocks)) met.1.1.1.0).1 in
     let small = group_small blocks met.1.1.1.1.0 in
     let short : text_length (r.content.groups ++ blocks ∷ []) ≤ longest =
     omega (arith, text_length-push r.content.groups blocks, room, few, small, fine.target) in (
@@ -347,7 +348,7 @@ module _ (now : Moment) (g : Ground) (n e : ℕ) (r : Replica) (sound : Sound g)
     grown = λ k. inl (refl, refl);
     replica = put_replica_fine t;
     asked = λ p c. inl c;
-    packets = (λ m i. let c : n ≡ m = tested n m i in let s = changed_at-same n e (text_length (r.content.groups ++ group ∷ [])) g.last in rw (← c) (rw s (omega arith)), tt);
+    packets = (λ m i. let c : n ≡ m = eqb-true n m i in let s = changed_at-same n e (text_length (r.content.groups ++ group ∷ [])) g.last in rw (← c) (rw s (omega arith)), tt);
     notes = tt;
     apart = tt;
     cross = told_nothing now.told;
@@ -360,12 +361,12 @@ put_taken_keeps : (now : Moment) (g : Ground) (n e offset : ℕ) (r : Replica) (
 put_taken_keeps now g n e offset r group sound fine phase live stands some =
     if_elim (Keeps now g n e) (put_fits r offset) (put_added n r e offset group) (put_passed n r e)
     (λ fits.
-    let at : offset ≡ text_length r.content.groups = tested offset (text_length r.content.groups) (both_parts _ _ fits).0 in (
+    let at : offset ≡ text_length r.content.groups = eqb-true offset (text_length r.content.groups) (both_parts _ _ fits).0 in (
       lasting g n e (text_length (r.content.groups ++ group ∷ [])),
       put_fine now g n e r sound fine group some (subst (λ x. Stands group x (g.script e)) at stands) phase offset live,
     ))
     (λ no. sent now g n e (Some r) (tells_length n r e (text_length r.content.groups)) sound fine
-    (λ m i. let c : n ≡ m = tested n m i in rw (← c) (omega (arith, phase.1)), tt))
+    (λ m i. let c : n ≡ m = eqb-true n m i in rw (← c) (omega (arith, phase.1)), tt))
 
 pub put_keeps : (now : Moment) (g : Ground) (n e offset : ℕ) (r : Replica) (p : Packet) (group : Group) → Sound g → FineOne g n e r →
     FineAppend g p.from (Put e offset group) → Keeps now g n e (put_row n r p e offset group)
@@ -373,6 +374,6 @@ put_keeps now g n e offset r p group sound fine told =
     if_elim (Keeps now g n e) (is_node r.content.places.primary p.from) (or_refused (Some r) (Node n) p NoRequest (put_refusal r) (put_taken n r e offset group)) (silent (Some r))
     (λ from. unless_refused now g n e (Some r) p NoRequest (put_refusal r) (put_taken n r e offset group) sound fine
     (λ none.
-    let live : is_open r.content.phase ≡ true = not_true _ (none_met (put_tests r) none).0 in
+    let live : is_open r.content.phase ≡ true = not-false _ (none_met (put_tests r) none).0 in
     put_taken_keeps now g n e offset r group sound fine (open_phase g n e r live fine) live told.0 told.1))
     (λ other. kept_silent now g n e (Some r) sound fine)

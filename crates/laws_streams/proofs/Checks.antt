@@ -1,5 +1,6 @@
 -- The rows of Check, Probe and Probed keep what is known: a check is answered once all three places told one length.
 use Rattle.std.proofs.Common.{◌≡◌, ◌≢◌, ◌⊎◌, ℕ, ◌≤◌, true, ◌&&◌, ◌==◌, nat_lt, [], ◌∷◌, ◌++◌, Option, Some, None, Contains, refl, sym, ◌∙◌, inl, inr, arith, ap, subst, append-nil}
+use Rattle.std.proofs.lemmas.Bool.{ltb-true, ltb-false, not-false, eqb-true}
 use Rattle.blocks.specs.declared.record.Nodes.{Nodes}
 use Rattle.wire.specs.declared.actor.ActorId.TheVariants.{Node}
 use Rattle.wire.specs.declared.actor.ReqNo.{ReqNo}
@@ -16,7 +17,7 @@ use Rattle.model.specs.Node.{Replica, is_open, check_tests, check_refusal, raise
 use Rattle.model.specs.Outcome.{silent, or_refused}
 use Rattle.model.proofs.Tests.{if_elim, both_parts, none_met}
 use Rattle.laws_streams.proofs.Lists.{begins_refl}
-use Rattle.laws_streams.proofs.Tests.{is_below, not_below, not_true, tested, changed_elim, changed-same, contains_left, contains_pushed, contains_last}
+use Rattle.laws_streams.proofs.Tests.{changed_elim, changed-same, contains_left, contains_pushed, contains_last}
 use Rattle.laws_streams.proofs.Ground.{Ground, Sound, FineCheckBody, FineCover, AtMost, FineChecking, FineCheck, FineOne}
 use Rattle.laws_streams.proofs.Growing.{no_more, Later, Still, replica_later, waits_later}
 use Rattle.laws_streams.proofs.Holding.{Moment}
@@ -30,7 +31,7 @@ raised_fine : (g : Ground) (n e k : ℕ) (r : Replica) (c : Option Checking) →
     FineOne g n e (record r { content = raised r.content k; check = c })
 raised_fine g n e k r c fine check =
     if_elim (λ x. FineOne g n e (record r { content = x; check = c })) (nat_lt r.content.fence k) (fenced r.content k) r.content
-    (λ t. let l = is_below r.content.fence k t in record {
+    (λ t. let l = ltb-true r.content.fence k t in record {
       places = fine.places;
       begins = fine.begins;
       phase = fine.phase;
@@ -43,7 +44,7 @@ raised_fine g n e k r c fine check =
       born = let f = fine.born in omega (arith, f, l);
       check = check k (omega (arith, l)) (omega arith);
     })
-    (λ f. let l = not_below r.content.fence k f in record {
+    (λ f. let l = ltb-false r.content.fence k f in record {
       places = fine.places;
       begins = fine.begins;
       phase = fine.phase;
@@ -129,9 +130,9 @@ check_keeps now g n e generation r q sound fine to is =
     let k = generation_of now.packet.from generation in
     unless_refused now g n e (Some r) now.packet q (check_refusal n r k) (check_taken n r now.packet e k q) sound fine
     (λ none.
-    let primary = tested n r.content.places.primary (not_true _ (none_met (check_tests n r k) none).0) in
+    let primary = eqb-true n r.content.places.primary (not-false _ (none_met (check_tests n r k) none).0) in
     if_elim (Keeps now g n e) (is_open r.content.phase) (check_begun n r now.packet e k q) _
-    (λ t. check_begun_keeps now g n e generation r q sound fine primary (not_below k r.content.fence (none_met (check_tests n r k) none).1.0) to is)
+    (λ t. check_begun_keeps now g n e generation r q sound fine primary (ltb-false k r.content.fence (none_met (check_tests n r k) none).1.0) to is)
     (λ f. sent now g n e (Some r) (checked_as n now.packet.from q None) sound fine (tt, tt)))
 
 -- ---- Probe
@@ -156,10 +157,10 @@ probe_keeps now g n e k r p sound fine =
     if_elim (Keeps now g n e) (is_node r.content.places.primary p.from) (or_refused (Some r) (Node n) p NoRequest (probe_refusal r k) (probe_taken n r e k)) (silent (Some r))
     (λ t. unless_refused now g n e (Some r) p NoRequest (probe_refusal r k) (probe_taken n r e k) sound fine
     (λ none.
-    let phase = open_phase g n e r (not_true _ (none_met (probe_tests r k) none).0) fine in
+    let phase = open_phase g n e r (not-false _ (none_met (probe_tests r k) none).0) fine in
     plain now g n e (probe_taken n r e k) sound
     (raised_fine g n e k r r.check fine (λ fence low high. higher_check g n e r.content.places r.content.fence fence r.check low fine.check))
-    ((λ m i. let c : n ≡ m = tested n m i in rw (← c) (omega (arith, phase.1))), tt) tt tt (told_nothing now.told)))
+    ((λ m i. let c : n ≡ m = eqb-true n m i in rw (← c) (omega (arith, phase.1))), tt) tt tt (told_nothing now.told)))
     (λ f. kept_silent now g n e (Some r) sound fine)
 
 -- ---- Probed
@@ -239,8 +240,8 @@ module _ (now : Moment) (g : Ground) (n e : ℕ) (r : Replica) (sound : Sound g)
     found_equal a b x y t =
         let u = both_parts (is_open r.content.phase) ((a == text_length r.content.groups) && (b == text_length r.content.groups)) t in
         let v = both_parts (a == text_length r.content.groups) (b == text_length r.content.groups) u.1 in
-        let i = tested a (text_length r.content.groups) v.0 in
-        let j = tested b (text_length r.content.groups) v.1 in
+        let i = eqb-true a (text_length r.content.groups) v.0 in
+        let j = eqb-true b (text_length r.content.groups) v.1 in
         let phase = open_phase g n e r u.0 fine in
         let m = ap (λ z. g.last z e) primary in
         record {

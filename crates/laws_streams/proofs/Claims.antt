@@ -1,5 +1,6 @@
 -- Agree, Kept and Origins follow from what each observation rests on.
 use Rattle.std.proofs.Common.{◌≡◌, ℕ, ◌+◌, ◌<◌, ◌≤◌, List, [], ◌∷◌, Option, Some, Contains, sym, ◌∙◌, inl, inr, arith, ap, subst, ◌==◌, ◌||◌}
+use Rattle.std.proofs.lemmas.Bool.{or_cases, eqb-true}
 use Rattle.wire.specs.declared.note.Note.{Note}
 use Rattle.wire.specs.declared.note.Note.TheVariants.{Acked, SealedAt, Content, Seen}
 use Rattle.replica.specs.Groups.{Group, joined, text, size, text_length}
@@ -8,7 +9,7 @@ use Rattle.model.specs.Honest.{Stands, Apart, Agree, Kept}
 use Rattle.model.specs.World.{World}
 use Rattle.laws_streams.specs.Origins.{Begins, Shows, Origin, Course, Came, Decided, OriginsOf}
 use Rattle.laws_streams.proofs.Lists.{shows_both, shows_within, same_beginning, stands_back}
-use Rattle.laws_streams.proofs.Tests.{each-contains, all_pairs, either, tested}
+use Rattle.laws_streams.proofs.Tests.{each-contains, all_pairs}
 use Rattle.laws_streams.proofs.Ground.{Ground, FineAck, FineContent, FineNote}
 use Rattle.laws_streams.proofs.Holding.{Holds}
 use Rattle.laws_streams.proofs.Dates.{Dated, each_of-get, pair-get}
@@ -62,11 +63,11 @@ module _ (w : World) (g : Ground) (holds : Holds w g) where
       acked_within e o group l a s =
           let (at, n, made, place, closed, last) = holds.sound.noted e l s in
           let had = holds.sound.all_had e at made in
-          elim (either (n == at.primary) ((n == at.second) || (n == at.third)) place) [
-            | inl x ↦ let m : n ≡ at.primary = tested n at.primary x in omega (arith, a.within, had.0, ap (λ k. g.last k e) m)
-            | inr y ↦ elim (either (n == at.second) (n == at.third) y) [
-              | inl x ↦ let m : n ≡ at.second = tested n at.second x in omega (arith, a.within, had.1, ap (λ k. g.last k e) m)
-              | inr x ↦ let m : n ≡ at.third = tested n at.third x in omega (arith, a.within, had.2, ap (λ k. g.last k e) m)
+          elim (or_cases (n == at.primary) ((n == at.second) || (n == at.third)) place) [
+            | inl x ↦ let m : n ≡ at.primary = eqb-true n at.primary x in omega (arith, a.within, had.0, ap (λ k. g.last k e) m)
+            | inr y ↦ elim (or_cases (n == at.second) (n == at.third) y) [
+              | inl x ↦ let m : n ≡ at.second = eqb-true n at.second x in omega (arith, a.within, had.1, ap (λ k. g.last k e) m)
+              | inr x ↦ let m : n ≡ at.third = eqb-true n at.third x in omega (arith, a.within, had.2, ap (λ k. g.last k e) m)
             ]
           ]
 

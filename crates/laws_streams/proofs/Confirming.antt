@@ -1,5 +1,6 @@
 -- Openings of a range rise, and a generation is confirmed between those that are no higher and those that are higher.
 use Rattle.std.proofs.Common.{◌≡◌, ℕ, ◌<◌, ◌≤◌, Bool, true, not, ◌||◌, ◌==◌, nat_lt, List, [], ◌∷◌, ◌++◌, Option, Some, None, refl, sym, ap, ◌∙◌, arith, subst, eq-eqb}
+use Rattle.std.proofs.lemmas.Bool.{ltb-true, not-false, eqb-true}
 use Rattle.blocks.specs.declared.record.Record.{Record}
 use Rattle.wire.specs.declared.streams.StreamKind.TheVariants.{Metadata}
 use Rattle.wire.specs.declared.streams.StreamName.{StreamName}
@@ -10,7 +11,6 @@ use Rattle.model.proofs.Tests.{if_elim, both_parts, none_met}
 use Rattle.laws_streams.specs.Fences.{FencesRise, is_kept, Opens, Confirms, OpensIn, Settles}
 use Rattle.laws_streams.proofs.Law.{run_moves_push}
 use Rattle.laws_streams.proofs.Rising.{all_passed, run_rises, run_more}
-use Rattle.laws_streams.proofs.Tests.{is_below, not_true, tested}
 
 -- a range's first stream stands for the four
 abbrev first_of : ℕ → StreamName
@@ -29,8 +29,8 @@ open_found : (w : World) (move : Move) (range generation : ℕ) → Opens w move
     (x : Stream) × (stream_of w.book.stream (first_of range) ≡ Some x) × (x.fence < generation)
 open_found w move range generation a =
     let met = none_met (open_tests w.book a.packet range generation) a.taken in
-    let (x, is) = has_first w.book.stream range (not_true _ met.1.0) in
-    (x, is, is_below x.fence generation (all_passed (λ y. nat_lt y.fence generation) w.book.stream range Metadata x (not_true _ met.1.1.0) is))
+    let (x, is) = has_first w.book.stream range (not-false _ met.1.0) in
+    (x, is, ltb-true x.fence generation (all_passed (λ y. nat_lt y.fence generation) w.book.stream range Metadata x (not-false _ met.1.1.0) is))
 
 -- the first stream of the range has this fence
 abbrev HasFence : ℕ → ℕ → World → Type 0
@@ -69,8 +69,8 @@ open_leaves w move range generation a =
 confirm_found : (w : World) (move : Move) (range generation : ℕ) → Confirms w move range generation → HasFence range generation w
 confirm_found w move range generation a =
     let met = none_met (confirm_tests w.book a.packet range generation) a.taken in
-    let (x, is) = has_first w.book.stream range (not_true _ met.1.0) in
-    (x, is, tested x.fence generation (all_passed (λ y. y.fence == generation) w.book.stream range Metadata x (not_true _ met.1.1.0) is))
+    let (x, is) = has_first w.book.stream range (not-false _ met.1.0) in
+    (x, is, eqb-true x.fence generation (all_passed (λ y. y.fence == generation) w.book.stream range Metadata x (not-false _ met.1.1.0) is))
 
 -- ---- one after the other
 

@@ -8,12 +8,13 @@ use Rattle.wire.specs.declared.note.Note.TheVariants.{Acked, SealedAt}
 use Rattle.wire.specs.declared.packet.Packet.{Packet}
 use Rattle.replica.specs.Groups.{Group, text_length}
 use Rattle.replica.proofs.Lengths.{text_length-append}
+use Rattle.replica.proofs.Placing.{length-cons}
 use Rattle.model.specs.declared.extent.Extent.{Extent}
 use Rattle.model.specs.Actors.{generation_of}
 use Rattle.model.specs.World.{World, start, Move, run_moves}
 use Rattle.laws_streams.specs.Origins.{Origin, course_of_moves}
 use Rattle.laws_streams.specs.Fences.{Covers, EndsWithin, Answers, Stays, FencesHold}
-use Rattle.laws_streams.proofs.Lists.{text_length-cons, take_past, get_next}
+use Rattle.laws_streams.proofs.Lists.{take_past, get_next}
 use Rattle.laws_streams.proofs.Tests.{each-get, each-contains}
 use Rattle.laws_streams.proofs.Ground.{Ground, Sound, FineBody, FinePacket, FineAck, FineReplica, FineCover, FineChecked}
 use Rattle.laws_streams.proofs.Growing.{cover_later}
@@ -39,10 +40,10 @@ get_there (x ∷ xs) (suc i) l = get_there xs i (omega (arith, l))
 
 take_within : (front back : List Group) (i : ℕ) → i < length front → text_length (take (suc i) (front ++ back)) ≤ text_length front
 take_within [] back i l = absurd (omega arith)
-take_within (x ∷ front) back zero l = omega (arith, text_length-cons x [], text_length-cons x front)
+take_within (x ∷ front) back zero l = omega (arith, length-cons x [], length-cons x front)
 take_within (x ∷ front) back (suc i) l =
     let m = take_within front back i (omega (arith, l)) in
-    omega (arith, m, text_length-cons x (take (suc i) (front ++ back)), text_length-cons x front)
+    omega (arith, m, length-cons x (take (suc i) (front ++ back)), length-cons x front)
 
 take_next : {A : Type 0} (past rest : List A) (x : A) → take (suc (length past)) (past ++ x ∷ rest) ≡ past ++ x ∷ []
 take_next [] rest x = refl
@@ -78,7 +79,7 @@ module _ (g : Ground) (e k l : ℕ) (c : FineCover g e k l) where
             let m = cover_is.older (length s.before) o is low in
             let n : text_length (take (suc (length s.before)) (g.script e)) ≡ text_length (s.before ++ group ∷ []) =
             ap text_length (ap (λ xs. take (suc (length s.before)) xs) s.split ∙ take_next s.before s.after group) in
-            omega (arith, m, n, s.place, text_length-append s.before (group ∷ []), text_length-cons group []);
+            omega (arith, m, n, s.place, text_length-append s.before (group ∷ []), length-cons group []);
       }
 
   all_had : AllHad g e l

@@ -1,5 +1,6 @@
 -- The manager's rows of sealing keep what is known: what is decided is the length of a place that is closed.
 use Rattle.std.proofs.Common.{◌≡◌, ◌⊎◌, ℕ, ◌≤◌, true, false, ◌||◌, ◌==◌, nat_le, if◌then◌else◌, List, [], ◌∷◌, Option, Some, None, refl, sym, ◌∙◌, inl, inr, arith, ap, eq-eqb}
+use Rattle.std.proofs.lemmas.Bool.{or_left, or_right, leb-true, leb-false}
 use Rattle.blocks.specs.declared.record.Nodes.{Nodes}
 use Rattle.wire.specs.declared.actor.ActorId.{ActorId}
 use Rattle.wire.specs.declared.actor.ActorId.TheVariants.{Manager}
@@ -21,7 +22,7 @@ use Rattle.model.specs.Outcome.{silent, sends}
 use Rattle.model.proofs.Tests.{if_elim}
 use Rattle.laws_streams.specs.Origins.{LeastTold}
 use Rattle.laws_streams.proofs.Lists.{begins_refl}
-use Rattle.laws_streams.proofs.Tests.{at_most, above, or_left, or_right, changed_elim, changed-same, Each, each-append}
+use Rattle.laws_streams.proofs.Tests.{changed_elim, changed-same, Each, each-append}
 use Rattle.laws_streams.proofs.Ground.{Ground, Sound, FineSeal, FinePacket}
 use Rattle.laws_streams.proofs.Growing.{no_more, Later}
 use Rattle.laws_streams.proofs.Holding.{places_of, sealed_of, FineReport, FineReports, FineReportsOf, FineBook, reports_later}
@@ -139,11 +140,11 @@ lesser_least (Some a) None l is k (inl c) = let d : l ≡ k = cc in omega (arith
 lesser_least (Some a) None l is k (inr c) = absurd cc
 lesser_least (Some a) (Some b) l is k c =
     if_elim (λ x. Some x ≡ Some l → l ≤ k) (nat_le a b) a b
-    (λ t s. let d : a ≡ l = cc in let m = at_most a b t in elim c [
+    (λ t s. let d : a ≡ l = cc in let m = leb-true a b t in elim c [
       | inl e ↦ let f : a ≡ k = cc in omega (arith, d, f)
       | inr e ↦ let f : b ≡ k = cc in omega (arith, d, f, m)
     ])
-    (λ t s. let d : b ≡ l = cc in let m = above a b t in elim c [
+    (λ t s. let d : b ≡ l = cc in let m = leb-false a b t in elim c [
       | inl e ↦ let f : a ≡ k = cc in omega (arith, d, f, m)
       | inr e ↦ let f : b ≡ k = cc in omega (arith, d, f)
     ]) is

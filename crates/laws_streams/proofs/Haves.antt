@@ -1,5 +1,6 @@
 -- The row of Have keeps what is known: an append is acknowledged once all three places have it.
 use Rattle.std.proofs.Common.{◌≡◌, ◌≢◌, ◌⊎◌, ℕ, zero, suc, ◌+◌, ◌≤◌, ◌&&◌, ◌==◌, nat_lt, nat_le, List, [], ◌∷◌, take, drop, Some, refl, sym, ◌∙◌, inl, inr, arith, subst, ap}
+use Rattle.std.proofs.lemmas.Bool.{leb-true, leb-false, eqb-true}
 use Rattle.blocks.specs.declared.record.Nodes.{Nodes}
 use Rattle.wire.specs.declared.body.AppendBody.TheVariants.{Have}
 use Rattle.wire.specs.declared.note.Note.{Note}
@@ -14,7 +15,7 @@ use Rattle.model.specs.Maps.{changed}
 use Rattle.model.specs.Node.{Replica, is_open, covered, lesser, greater, acked, answers, answered, answered_if, have_row}
 use Rattle.model.proofs.Tests.{if_elim, both_parts}
 use Rattle.laws_streams.proofs.Lists.{begins_refl, stands_end}
-use Rattle.laws_streams.proofs.Tests.{at_most, above, tested, changed_elim, changed-same, Each, each-weaker, EachPair, each-drop}
+use Rattle.laws_streams.proofs.Tests.{changed_elim, changed-same, Each, each-weaker, EachPair, each-drop}
 use Rattle.laws_streams.proofs.Ground.{Ground, Sound, FineAppend, FinePacket, FineNote, Chain, FinePhase, FineWaiting, FineOne}
 use Rattle.laws_streams.proofs.Growing.{check_later, waits_later, no_more, Later, Still}
 use Rattle.laws_streams.proofs.Holding.{Moment, FineRow}
@@ -42,7 +43,7 @@ unfolding acked_to
 to_length length x from [] f h = f
 to_length length x from (w ∷ ws) f h =
     if_elim (λ k. acked_to from (take k (w ∷ ws)) ≤ x) (nat_le (w.offset + size w.group) length) (suc (covered length ws)) 0
-    (λ t. let l = at_most (w.offset + size w.group) length t in to_length length x (w.offset + size w.group) ws (omega arith) h)
+    (λ t. let l = leb-true (w.offset + size w.group) length t in to_length length x (w.offset + size w.group) ws (omega arith) h)
     (λ _. f)
 
 chain_take : (s : List Group) (from k : ℕ) (ws : List Waiting) → Chain s from ws → Chain s from (take k ws)
@@ -89,10 +90,10 @@ answers_fine g n e [] = tt
 answers_fine g n e (w ∷ ws) = (tt, answers_fine g n e ws)
 
 lesser_first : (a b : ℕ) → lesser a b ≤ a
-lesser_first a b = if_elim (λ x. x ≤ a) (nat_le a b) a b (λ t. omega arith) (λ f. let l = above a b f in omega arith)
+lesser_first a b = if_elim (λ x. x ≤ a) (nat_le a b) a b (λ t. omega arith) (λ f. let l = leb-false a b f in omega arith)
 
 lesser_second : (a b : ℕ) → lesser a b ≤ b
-lesser_second a b = if_elim (λ x. x ≤ b) (nat_le a b) a b (λ t. at_most a b t) (λ f. omega arith)
+lesser_second a b = if_elim (λ x. x ≤ b) (nat_le a b) a b (λ t. leb-true a b t) (λ f. omega arith)
 
 -- how many appends, and which, are answered where both secondaries have so much
 abbrev count_of : Replica → ℕ
@@ -225,7 +226,7 @@ have_keeps now g n e l r p sound notes fine told_have =
     if_elim (Keeps now g n e) ((n == r.content.places.primary) && is_open r.content.phase) _ _
     (λ t.
     let b = both_parts (n == r.content.places.primary) (is_open r.content.phase) t in
-    let primary = tested n r.content.places.primary b.0 in
+    let primary = eqb-true n r.content.places.primary b.0 in
     let live = open_phase g n e r b.1 fine in
     if_elim (λ x. Keeps now g n e (answered_if n r e x)) (is_node r.content.places.second p.from) _ _
     (λ i.

@@ -1,12 +1,12 @@
 -- A length that each place of an extent has had is kept: by each replica, and by the seal.
 use Rattle.std.proofs.Common.{◌≡◌, ℕ, true, ◌≤◌, ◌||◌, ◌==◌, Some, inl, inr, arith, ap}
+use Rattle.std.proofs.lemmas.Bool.{or_cases, eqb-true}
 use Rattle.blocks.specs.declared.record.Nodes.{Nodes}
 use Rattle.replica.specs.declared.phase.Phase.{Phase}
 use Rattle.replica.specs.declared.phase.Phase.TheVariants as phases
 use Rattle.replica.specs.Groups.{text_length}
 use Rattle.replica.specs.Replay.{is_place}
 use Rattle.model.specs.Node.{Replica}
-use Rattle.laws_streams.proofs.Tests.{either, tested}
 use Rattle.laws_streams.proofs.Ground.{Ground, Sound, FinePhase, FineOne}
 
 -- each of the three places has had so much
@@ -17,11 +17,11 @@ module _ (g : Ground) (e l : ℕ) (all : AllHad g e l) where
   pub place_had : (n : ℕ) (at : Nodes) → g.places e ≡ Some at → is_place n at ≡ true → l ≤ g.last n e
   place_had n at made place =
       let had = all at made in
-      elim (either (n == at.primary) ((n == at.second) || (n == at.third)) place) [
-        | inl x ↦ let m : n ≡ at.primary = tested n at.primary x in omega (arith, had.0, ap (λ j. g.last j e) m)
-        | inr y ↦ elim (either (n == at.second) (n == at.third) y) [
-          | inl x ↦ let m : n ≡ at.second = tested n at.second x in omega (arith, had.1, ap (λ j. g.last j e) m)
-          | inr x ↦ let m : n ≡ at.third = tested n at.third x in omega (arith, had.2, ap (λ j. g.last j e) m)
+      elim (or_cases (n == at.primary) ((n == at.second) || (n == at.third)) place) [
+        | inl x ↦ let m : n ≡ at.primary = eqb-true n at.primary x in omega (arith, had.0, ap (λ j. g.last j e) m)
+        | inr y ↦ elim (or_cases (n == at.second) (n == at.third) y) [
+          | inl x ↦ let m : n ≡ at.second = eqb-true n at.second x in omega (arith, had.1, ap (λ j. g.last j e) m)
+          | inr x ↦ let m : n ≡ at.third = eqb-true n at.third x in omega (arith, had.2, ap (λ j. g.last j e) m)
         ]
       ]
 

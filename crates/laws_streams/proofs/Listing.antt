@@ -1,5 +1,6 @@
 -- What a row of the manager's table leaves of the lists of extents.
 use Rattle.std.proofs.Common.{◌≡◌, ◌⊎◌, ℕ, suc, ◌≤◌, ◌&&◌, ◌==◌, [], ◌∷◌, ◌++◌, Option, Some, None, Result, Ok, Err, refl, sym, ap, ◌∙◌, inl, inr, arith, subst}
+use Rattle.std.proofs.lemmas.Bool.{eqb-true}
 use Rattle.blocks.specs.declared.record.Nodes.{Nodes}
 use Rattle.wire.specs.declared.actor.ActorId.{ActorId}
 use Rattle.wire.specs.declared.actor.ActorId.TheVariants.{Manager}
@@ -27,7 +28,7 @@ use Rattle.laws_streams.specs.Origins.{Begins}
 use Rattle.laws_streams.specs.Answers.{MayGrow}
 use Rattle.laws_streams.specs.Listings.{Longer}
 use Rattle.laws_streams.proofs.Lists.{begins_refl, begins_push}
-use Rattle.laws_streams.proofs.Tests.{tested, changed_elim, changed-same}
+use Rattle.laws_streams.proofs.Tests.{changed_elim, changed-same}
 use Rattle.laws_streams.proofs.Rising.{not_there, no_fault}
 use Rattle.laws_streams.proofs.StreamAnswers.{found_end, may_grow}
 
@@ -136,7 +137,7 @@ with_stream_elim P streams s y t same other =
     if_elim P ((t.range == s.range) && (kind_number t.kind == kind_number s.kind)) (Some y) (streams t.range (kind_number t.kind))
     (λ k.
     let m = both_parts (t.range == s.range) (kind_number t.kind == kind_number s.kind) k in
-    same (same_name t s (tested t.range s.range m.0) (kind_same t.kind s.kind (tested (kind_number t.kind) (kind_number s.kind) m.1))))
+    same (same_name t s (eqb-true t.range s.range m.0) (kind_same t.kind s.kind (eqb-true (kind_number t.kind) (kind_number s.kind) m.1))))
     (λ k. other)
 
 -- ---- rows about streams

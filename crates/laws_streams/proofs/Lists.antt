@@ -3,11 +3,9 @@ use Rattle.std.proofs.Common.{◌≡◌, ℕ, zero, suc, ◌+◌, ◌<◌, ◌�
 use Rattle.std.proofs.lemmas.Grind.{common_steps}
 use Rattle.replica.specs.Groups.{Group, joined, text, size, text_length}
 use Rattle.replica.proofs.Lengths.{text_length-append}
+use Rattle.replica.proofs.Placing.{length-cons}
 use Rattle.model.specs.Honest.{Stands}
 use Rattle.laws_streams.specs.Origins.{Begins, Shows}
-
-pub text_length-cons : (x : Group) (xs : List Group) → text_length (x ∷ xs) ≡ size x + text_length xs
-text_length-cons x xs = length-append (joined x) (text xs)
 
 pub begins_refl : {A : Type 0} (xs : List A) → Begins xs xs
 begins_refl xs = record { rest = []; is = sym (append-nil xs) }
@@ -57,12 +55,12 @@ pub same_beginning : (xs ys rs ss : List Group) → xs ++ rs ≡ ys ++ ss → No
 same_beginning [] [] rs ss e n l = refl
 same_beginning [] (y ∷ ys) rs ss e n l =
     let m : NoneEmpty (y ∷ (ys ++ ss)) = subst NoneEmpty e n in
-    absurd (omega (arith, m.0, text_length-cons y ys))
-same_beginning (x ∷ xs) [] rs ss e n l = absurd (omega (arith, n.0, text_length-cons x xs))
+    absurd (omega (arith, m.0, length-cons y ys))
+same_beginning (x ∷ xs) [] rs ss e n l = absurd (omega (arith, n.0, length-cons x xs))
 same_beginning (x ∷ xs) (y ∷ ys) rs ss e n l =
     let head : x ≡ y = cc in
     let tail : xs ++ rs ≡ ys ++ ss = cc in
-    let m : text_length xs ≡ text_length ys = omega (arith, text_length-cons x xs, text_length-cons y ys, ap size head) in
+    let m : text_length xs ≡ text_length ys = omega (arith, length-cons x xs, length-cons y ys, ap size head) in
     let same : xs ≡ ys = same_beginning xs ys rs ss tail n.1 m in
     cc
 
@@ -71,11 +69,11 @@ pub stands_in : (before after c rest : List Group) (g : Group) → c ++ rest ≡
     text_length before + size g ≤ text_length c → (y : List Group) × (c ≡ before ++ g ∷ y)
 stands_in [] after [] rest g e p h = absurd (omega arith)
 stands_in [] after (x ∷ c) rest g e p h = let head : x ≡ g = cc in (c, cc)
-stands_in (b ∷ bs) after [] rest g e p h = absurd (omega (arith, text_length-cons b bs))
+stands_in (b ∷ bs) after [] rest g e p h = absurd (omega (arith, length-cons b bs))
 stands_in (b ∷ bs) after (x ∷ c) rest g e p h =
     let head : x ≡ b = cc in
     let tail : c ++ rest ≡ bs ++ g ∷ after = cc in
-    let more = stands_in bs after c rest g tail p (omega (arith, text_length-cons b bs, text_length-cons x c, ap size head)) in
+    let more = stands_in bs after c rest g tail p (omega (arith, length-cons b bs, length-cons x c, ap size head)) in
     (more.0, let same : c ≡ bs ++ g ∷ more.0 = more.1 in cc)
 
 pub stands_back : {g : Group} {o : ℕ} {c s : List Group} → Begins c s → Stands g o s → 0 < size g → o + size g ≤ text_length c → Stands g o c
@@ -93,7 +91,7 @@ stands_last c g = record { before = c; after = []; split = refl; place = refl }
 
 pub stands_end : {g : Group} {o : ℕ} {s : List Group} → Stands g o s → o + size g ≤ text_length s
 stands_end {g} {o} {s} h =
-    omega (arith, ap text_length h.split, text_length-append h.before (g ∷ h.after), text_length-cons g h.after, h.place)
+    omega (arith, ap text_length h.split, text_length-append h.before (g ∷ h.after), length-cons g h.after, h.place)
 
 -- what stands at an index stands where the groups before it end
 pub stands_index : (s : List Group) (i : ℕ) (g : Group) → slice_get s i ≡ Some g → Stands g (text_length (take i s)) s
@@ -105,7 +103,7 @@ stands_index (x ∷ xs) (suc i) g is =
       before = x ∷ r.before;
       after = r.after;
       split = ap (λ ys. x ∷ ys) r.split;
-      place = omega (arith, r.place, text_length-cons x r.before, text_length-cons x (take i xs));
+      place = omega (arith, r.place, length-cons x r.before, length-cons x (take i xs));
     }
 
 -- ---- bytes of a text

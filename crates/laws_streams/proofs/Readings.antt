@@ -1,5 +1,6 @@
 -- The rows of the reads keep what is known: what is shown is of the script.
 use Rattle.std.proofs.Common.{◌≡◌, ℕ, ◌+◌, ◌-◌, ◌≤◌, Bool, true, ◌&&◌, ◌==◌, nat_le, List, [], ◌∷◌, Option, Some, None, refl, sym, ◌∙◌, arith, subst, ap}
+use Rattle.std.proofs.lemmas.Bool.{ltb-false, leb-true, eqb-true}
 use Rattle.blocks.specs.declared.record.Nodes.{Nodes}
 use Rattle.wire.specs.declared.actor.ReqNo.{ReqNo}
 use Rattle.wire.specs.declared.note.Note.{Note}
@@ -10,12 +11,13 @@ use Rattle.replica.specs.declared.phase.Phase.TheVariants as phases
 use Rattle.replica.specs.Groups.{Group, text, size, text_length}
 use Rattle.replica.specs.Reading.{bytes_at, after_group, groups_to}
 use Rattle.replica.proofs.Lengths.{text-append}
+use Rattle.replica.proofs.Placing.{length-cons}
 use Rattle.model.specs.Honest.{Apart}
 use Rattle.model.specs.Node.{Replica, is_sealed, read_tests, read_refusal, read_taken, read_row, groups_note, groups_shown, groups_taken, groups_refusal, groups_row}
 use Rattle.model.proofs.Tests.{if_elim, both_parts, none_met}
 use Rattle.laws_streams.specs.Origins.{Begins, Shows}
-use Rattle.laws_streams.proofs.Lists.{begins_refl, begins_trans, shows_on, shows_part, shows_within, text_length-cons}
-use Rattle.laws_streams.proofs.Tests.{not_below, at_most, tested, Each}
+use Rattle.laws_streams.proofs.Lists.{begins_refl, begins_trans, shows_on, shows_part, shows_within}
+use Rattle.laws_streams.proofs.Tests.{Each}
 use Rattle.laws_streams.proofs.Ground.{Ground, Sound, FineNote, FinePhase, FineOne}
 use Rattle.laws_streams.proofs.Holding.{Moment}
 use Rattle.laws_streams.proofs.Keeping.{Keeps, each_all, plain, sent, unless_refused}
@@ -36,7 +38,7 @@ pub read_keeps : (now : Moment) (g : Ground) (n e offset length : ℕ) (r : Repl
 read_keeps now g n e offset length r p q sound fine =
     unless_refused now g n e (Some r) p q (read_refusal r offset length) (read_taken n r p e offset length q) sound fine
     (λ none.
-    let fits = not_below (text_length r.content.groups) (offset + length) (none_met (read_tests r offset length) none).0 in
+    let fits = ltb-false (text_length r.content.groups) (offset + length) (none_met (read_tests r offset length) none).0 in
     plain now g n e (read_taken n r p e offset length q) sound fine (tt, tt) (shows_script fine.begins (shows_part offset length (text r.content.groups) fits), tt)
     (tt, tt) (each_all _ (λ x. apart_seen e n offset (bytes_at offset length r.content.groups) x) now.told))
 
@@ -52,19 +54,19 @@ prefix_more upto x xs c fits (Some d) each k =
     let f = each d refl in
     let s : x ∷ d ≡ c = cc in
     subst (λ z. FinePrefix upto z (x ∷ xs)) s
-    (record { begins = record { rest = f.begins.rest; is = ap (λ z. x ∷ z) f.begins.is }; length = omega (arith, text_length-cons x d, f.length) })
+    (record { begins = record { rest = f.begins.rest; is = ap (λ z. x ∷ z) f.begins.is }; length = omega (arith, length-cons x d, f.length) })
 
 pub prefix_fine : (upto : ℕ) (groups c : List Group) → groups_to upto groups ≡ Some c → FinePrefix upto c groups
 prefix_fine upto [] c is =
     if_elim (λ x. x ≡ Some c → FinePrefix upto c []) (upto == 0) (Some []) None
-    (λ t k. let s : [] ≡ c = cc in subst (λ x. FinePrefix upto x []) s (record { begins = begins_refl []; length = sym (tested upto 0 t) }))
+    (λ t k. let s : [] ≡ c = cc in subst (λ x. FinePrefix upto x []) s (record { begins = begins_refl []; length = sym (eqb-true upto 0 t) }))
     (λ f k. absurd (cc)) is
 prefix_fine upto (x ∷ xs) c is =
     if_elim (λ y. y ≡ Some c → FinePrefix upto c (x ∷ xs)) (upto == 0) (Some []) _
     (λ t k. let s : [] ≡ c = cc in
-    subst (λ z. FinePrefix upto z (x ∷ xs)) s (record { begins = record { rest = x ∷ xs; is = refl }; length = sym (tested upto 0 t) }))
+    subst (λ z. FinePrefix upto z (x ∷ xs)) s (record { begins = record { rest = x ∷ xs; is = refl }; length = sym (eqb-true upto 0 t) }))
     (λ f. if_elim (λ y. y ≡ Some c → FinePrefix upto c (x ∷ xs)) (nat_le (size x) upto) _ None
-    (λ t k. prefix_more upto x xs c (at_most (size x) upto t) (groups_to (upto - size x) xs) (λ d. prefix_fine (upto - size x) xs d) k)
+    (λ t k. prefix_more upto x xs c (leb-true (size x) upto t) (groups_to (upto - size x) xs) (λ d. prefix_fine (upto - size x) xs d) k)
     (λ _ k. absurd (cc))) is
 
 pub sealed_length : (g : Ground) (n e : ℕ) (at : Nodes) (groups : List Group) (phase : Phase) → is_sealed phase ≡ true → FinePhase g n e at groups phase → g.sealed e ≡ Some (text_length groups)
@@ -78,7 +80,7 @@ note_fine g n e upto r c fine f =
     if_elim (FineNote g) (is_sealed r.content.phase && (upto == text_length r.content.groups)) (Content e n c) (Seen e n 0 (text c))
     (λ t.
     let k = both_parts (is_sealed r.content.phase) (upto == text_length r.content.groups) t in
-    let l : upto ≡ text_length r.content.groups = tested upto (text_length r.content.groups) k.1 in
+    let l : upto ≡ text_length r.content.groups = eqb-true upto (text_length r.content.groups) k.1 in
     record { begins = b; sealed = rw (f.length ∙ l) (sealed_length g n e r.content.places r.content.groups r.content.phase k.0 fine.phase) })
     (λ no. rw (b.is, text-append c b.rest) (shows_within [] (text c) (text b.rest)))
 

@@ -1,5 +1,6 @@
 -- No move lowers the fence of a stream, and each new extent has the fence of its stream.
 use Rattle.std.proofs.Common.{◌≡◌, ℕ, suc, ◌≤◌, Bool, true, false, not, ◌&&◌, ◌||◌, ◌==◌, nat_lt, if◌then◌else◌, List, [], ◌∷◌, ◌++◌, Option, Some, None, Result, Ok, Err, slice_get, refl, sym, ap, ◌∙◌, arith, subst, eq-eqb}
+use Rattle.std.proofs.lemmas.Bool.{ltb-true, not-false, eqb-true}
 use Rattle.blocks.specs.declared.record.Nodes.{Nodes}
 use Rattle.wire.specs.declared.actor.ActorId.{ActorId}
 use Rattle.wire.specs.declared.actor.ActorId.TheVariants.{Node, Manager, Map, Server, User}
@@ -30,7 +31,7 @@ use Rattle.model.specs.World.{World, stops_in, stands_in, halted, node_does, nod
 use Rattle.model.specs.World.Move.{Happens, Asks, Says, Observes}
 use Rattle.model.proofs.Tests.{if_elim, both_parts, none_met}
 use Rattle.laws_streams.specs.Fences.{Risen, FencesRise, MadeWithFences}
-use Rattle.laws_streams.proofs.Tests.{is_below, not_true, tested, changed_elim}
+use Rattle.laws_streams.proofs.Tests.{changed_elim}
 
 -- ---- books
 
@@ -68,8 +69,8 @@ with_rises streams s y low t x is =
     if_elim (Risen x) ((t.range == s.range) && (kind_number t.kind == kind_number s.kind)) (Some y) (streams t.range (kind_number t.kind))
     (λ k.
     let m = both_parts (t.range == s.range) (kind_number t.kind == kind_number s.kind) k in
-    let r = tested t.range s.range m.0 in
-    let n = tested (kind_number t.kind) (kind_number s.kind) m.1 in
+    let r = eqb-true t.range s.range m.0 in
+    let n = eqb-true (kind_number t.kind) (kind_number s.kind) m.1 in
     record { now = y; is = refl; fence = low x (rw (← r, ← n) is) })
     (λ k. same_stream _ x is)
 
@@ -134,12 +135,12 @@ open_onward : (b : Book) (p : Packet) (range generation : ℕ) (q : ReqNo) (x : 
     Onward b (or_refused b Manager p q x (open_taken b p range generation q)).after
 open_onward b p range generation q (Some refusal) is = onward_refl b
 open_onward b p range generation q None is =
-    let above = not_true _ (none_met (open_tests b p range generation) is).1.1.0 in
+    let above = not-false _ (none_met (open_tests b p range generation) is).1.1.0 in
     record {
       rises = λ s x there. if_elim (Risen x) (s.range == range) (fenced_at generation (b.stream s.range (kind_number s.kind))) (b.stream s.range (kind_number s.kind))
           (λ t.
-          let r = tested s.range range t in
-          let low = is_below x.fence generation (all_passed (λ y. nat_lt y.fence generation) b.stream range s.kind x above (rw (← r) there)) in
+          let r = eqb-true s.range range t in
+          let low = ltb-true x.fence generation (all_passed (λ y. nat_lt y.fence generation) b.stream range s.kind x above (rw (← r) there)) in
           fenced_rises generation _ x there (omega (arith, low)))
           (λ t. same_stream _ x there);
       makes = λ e x gone there. absurd cc;
@@ -153,7 +154,7 @@ behind_fence sealed None generation last found is = absurd cc
 behind_fence sealed (Some x) generation last found is =
     if_elim (λ y. y ≡ Ok found → (z : Stream) × (Some x ≡ Some z) × (generation ≡ z.fence)) (generation == x.fence)
     (behind sealed (last_of x.extents) last) (Err Stale)
-    (λ t k. (x, refl, tested generation x.fence t)) (λ t k. absurd cc) is
+    (λ t k. (x, refl, eqb-true generation x.fence t)) (λ t k. absurd cc) is
 
 module _ (b : Book) (s : StreamName) (generation : ℕ) (pick : Nodes) (x : Stream) (there : stream_of b.stream s ≡ Some x) (fence : generation ≡ x.fence) where
   longer_is : extended_streams b.stream s (suc b.count) ≡ with_stream b.stream s (longer (suc b.count) x)

@@ -1,5 +1,6 @@
 -- The rows of Freeze, Seal, SendTail and Tail keep what is known.
 use Rattle.std.proofs.Common.{◌≡◌, ℕ, true, ◌&&◌, not, ◌==◌, nat_lt, nat_le, ◌+◌, List, [], ◌∷◌, ◌++◌, length, drop, Option, Some, None, refl, sym, ◌∙◌, inl, arith, ap, append_assoc}
+use Rattle.std.proofs.lemmas.Bool.{not-false, eqb-true}
 use Rattle.blocks.specs.declared.record.Record.{Record}
 use Rattle.blocks.specs.declared.record.Record.TheVariants as records
 use Rattle.wire.specs.declared.actor.ActorId.TheVariants.{Node, Manager}
@@ -19,7 +20,7 @@ use Rattle.model.specs.Outcome.{packet, silent}
 use Rattle.model.proofs.Tests.{if_elim, both_parts, none_met}
 use Rattle.laws_streams.specs.Origins.{Begins}
 use Rattle.laws_streams.proofs.Lists.{begins_refl, begins_trans, same_beginning}
-use Rattle.laws_streams.proofs.Tests.{not_true, tested, changed_at_elim, changed_at-same, changed_at-other, Each}
+use Rattle.laws_streams.proofs.Tests.{changed_at_elim, changed_at-same, changed_at-other, Each}
 use Rattle.laws_streams.proofs.Ground.{Ground, Sound, FineTail, FinePacket, FinePhase, FineOne, FineReplica}
 use Rattle.laws_streams.proofs.Growing.{no_more, Later}
 use Rattle.laws_streams.proofs.Holding.{Moment, FineRow}
@@ -112,7 +113,7 @@ module _ (g : Ground) (n e : ℕ) (sound : Sound g) where
   -- what a node that froze tells
   frozen_told : (l : ℕ) → g.last n e ≡ l → FinePacket (closing g n e) (packet (Node n) Manager (bodies.Seal (Frozen e l)))
   unfolding closing
-  frozen_told l last = λ m i. let c : n ≡ m = tested n m i in rw (← c) (closed_here, last)
+  frozen_told l last = λ m i. let c : n ≡ m = eqb-true n m i in rw (← c) (closed_here, last)
 
 -- ---- Freeze
 
@@ -128,7 +129,7 @@ freeze_keeps now g n e r p sound fine =
       closes_keep g n e sound now (Some (frozen_at r)) (Some (records.Freeze e)) _ (frozen_fine g n e sound r fine f.1)
           (frozen_told g n e sound _ f.1, tt),
     )
-    by_phase phases.Frozen f = sent now g n e (Some r) _ sound fine ((λ m i. let c : n ≡ m = tested n m i in rw (← c) f), tt)
+    by_phase phases.Frozen f = sent now g n e (Some r) _ sound fine ((λ m i. let c : n ≡ m = eqb-true n m i in rw (← c) f), tt)
     by_phase phases.Sealed f = sent now g n e (Some r) _ sound fine (tt, tt)
 
 -- ---- Seal
@@ -196,7 +197,7 @@ pub send_tail_keeps : (now : Moment) (g : Ground) (n e from to : ℕ) (r : Repli
 send_tail_keeps now g n e from to r p sound fine =
     if_elim (Keeps now g n e) (is_manager p.from) _ (silent (Some r))
     (λ t. unless_refused now g n e (Some r) p NoRequest (send_tail_refusal r) (tail_sent n r p e from to (groups_from from r.content.groups)) sound fine
-    (λ none. tail_kept now g n e from to r p sound fine (not_true _ (none_met (send_tail_tests r) none).0) (groups_to from r.content.groups) refl))
+    (λ none. tail_kept now g n e from to r p sound fine (not-false _ (none_met (send_tail_tests r) none).0) (groups_to from r.content.groups) refl))
     (λ f. kept_silent now g n e (Some r) sound fine)
 
 -- ---- Tail
@@ -204,7 +205,7 @@ send_tail_keeps now g n e from to r p sound fine =
 -- groups from the end of this replica on
 is_at_end : (r : Replica) (from l : ℕ) (groups : List Group) → is_tail r.content from l groups ≡ true → from ≡ text_length r.content.groups
 is_at_end r from l groups t =
-    tested from (text_length r.content.groups)
+    eqb-true from (text_length r.content.groups)
     (both_parts (from == text_length r.content.groups) (nat_le l longest && (text_length r.content.groups + text_length groups == l))
     (both_parts (not (length groups == 0)) _ t).1).0
 

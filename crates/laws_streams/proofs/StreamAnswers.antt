@@ -1,5 +1,6 @@
 -- What the manager's answers about streams say: each was made by the move that brought the packet that asked.
 use Rattle.std.proofs.Common.{◌≡◌, ◌≢◌, ◌⊎◌, ℕ, suc, ◌<◌, true, false, not, ◌||◌, ◌==◌, List, ◌∷◌, ◌++◌, Option, Some, None, Result, Ok, Err, Contains, refl, sym, ap, ◌∙◌, inl, inr, arith, subst, eq-eqb}
+use Rattle.std.proofs.lemmas.Bool.{eqb-true}
 use Rattle.blocks.specs.declared.record.Nodes.{Nodes}
 use Rattle.blocks.specs.declared.record.Record.{Record}
 use Rattle.wire.specs.declared.actor.ActorId.{ActorId}
@@ -25,7 +26,7 @@ use Rattle.model.specs.World.{Cell, World, Move, moved, run_moves, start, stops_
 use Rattle.model.proofs.Tests.{if_elim}
 use Rattle.laws_streams.specs.Fences.{Reaches, is_kept}
 use Rattle.laws_streams.specs.Answers.{OpenedBy, OpeningsAnswered, ConfirmedBy, ConfirmationsAnswered, MayGrow, Grows, Corrects, ExtendedBy, ExtensionsAnswered}
-use Rattle.laws_streams.proofs.Tests.{tested, changed-same, each-contains, contains_get}
+use Rattle.laws_streams.proofs.Tests.{changed-same, each-contains, contains_get}
 use Rattle.laws_streams.proofs.Law.{run_good}
 use Rattle.laws_streams.proofs.Rising.{run_more, with_here}
 use Rattle.laws_streams.proofs.ManagerAnswers as manager
@@ -78,7 +79,7 @@ may_grow b x last (Some e) end is =
   where
     named : (last : Option ℕ) → is_number e last ≡ true → last ≡ Some e
     named None t = absurd cc
-    named (Some f) t = ap Some (tested f e t)
+    named (Some f) t = ap Some (eqb-true f e t)
 
     there : (o : Option ℕ) → sealed_lengths b e ≡ o → is_there o ≡ true → (length : ℕ) × (sealed_lengths b e ≡ Some length)
     there None k t = absurd cc
@@ -103,7 +104,7 @@ found_end sealed None generation last found is = absurd cc
 found_end sealed (Some x) generation last found is =
     if_elim (λ y. y ≡ Ok found → (z : Stream) × (Some x ≡ Some z) × (generation ≡ z.fence) × (behind sealed (last_of z.extents) last ≡ Ok found))
     (generation == x.fence) (behind sealed (last_of x.extents) last) (Err Stale)
-    (λ t k. (x, refl, tested generation x.fence t, k)) (λ t k. absurd cc) is
+    (λ t k. (x, refl, eqb-true generation x.fence t, k)) (λ t k. absurd cc) is
 
 -- the row, where the extent is made or named
 extend_after : (b : Book) (p : Packet) (s : StreamName) (generation : ℕ) (last : Option ℕ) (pick : Nodes) (q : ReqNo) (x : Result (Option ℕ) Refusal) →

@@ -1,59 +1,17 @@
 -- Choices by a test, and functions that are changed at one place.
-use Rattle.std.proofs.Common.{◌≡◌, ◌≢◌, ◌⊎◌, ℕ, zero, suc, ◌<◌, Bool, true, false, not, ◌&&◌, ◌||◌, ◌==◌, ◌≤◌, nat_lt, nat_le, List, [], ◌∷◌, ◌++◌, Some, slice_get, Contains, AllPairs, length, drop, slice_index_or, refl, sym, inl, inr, arith, eqb-true, subst}
-use Rattle.std.proofs.lemmas.Bool.Decides.{nat_tests}
+use Rattle.std.proofs.Common.{◌≡◌, ◌≢◌, ◌⊎◌, ℕ, zero, suc, ◌<◌, ◌&&◌, ◌==◌, List, [], ◌∷◌, ◌++◌, Some, slice_get, Contains, AllPairs, length, drop, slice_index_or, refl, sym, inl, inr, arith, eqb-true, subst}
+use Rattle.std.proofs.lemmas.Bool.{eqb-false, and_cases, and_parts}
 use Rattle.model.specs.Maps.{changed, changed_at}
-use Rattle.model.proofs.Tests.{if_elim, both_parts}
+use Rattle.model.proofs.Tests.{if_elim}
 pub use Rattle.model.proofs.Tests.{changed_elim}
-
-pub neither : (a b : Bool) → (a && b) ≡ false → (a ≡ false) ⊎ (b ≡ false)
-neither true b e = inr e
-neither false b e = inl refl
-
-pub either : (a b : Bool) → (a || b) ≡ true → (a ≡ true) ⊎ (b ≡ true)
-either true b e = inl refl
-either false b e = inr e
-
-pub or_left : (a b : Bool) → a ≡ true → (a || b) ≡ true
-or_left true b e = refl
-or_left false b e = cc
-
-pub or_right : (a b : Bool) → b ≡ true → (a || b) ≡ true
-or_right true b e = refl
-or_right false b e = e
-
-pub none_of : (a b : Bool) → (a || b) ≡ false → (a ≡ false) × (b ≡ false)
-none_of true b e = absurd (cc)
-none_of false b e = (refl, e)
-
-pub is_below : (a b : ℕ) → nat_lt a b ≡ true → a < b
-is_below a b e = grind (arith, nat_tests)
-
-pub not_below : (a b : ℕ) → nat_lt a b ≡ false → b ≤ a
-not_below a b e = grind (arith, nat_tests)
-
-pub at_most : (a b : ℕ) → nat_le a b ≡ true → a ≤ b
-at_most a b e = grind (arith, nat_tests)
-
-pub above : (a b : ℕ) → nat_le a b ≡ false → b < a
-above a b e = grind (arith, nat_tests)
-
-pub not_true : (a : Bool) → not a ≡ false → a ≡ true
-not_true true e = refl
-not_true false e = cc
-
-pub tested : (m n : ℕ) → ((m == n) ≡ true) → m ≡ n
-tested m n e = eqb-true m n e
-
-pub untested : (m n : ℕ) → ((m == n) ≡ false) → m ≢ n
-untested m n e = grind (arith, nat_tests)
 
 -- a function that is changed at (n, e) has a property at (m, k), if the new value has it where they are the same
 pub changed_at_elim : {A : Type 0} (P : A → Type 0) (n e : ℕ) (v : A) (f : ℕ → ℕ → A) (m k : ℕ) →
     (m ≡ n → k ≡ e → P v) → ((m ≢ n) ⊎ (k ≢ e) → P (f m k)) → P (changed_at n e v f m k)
 changed_at_elim P n e v f m k same other =
     if_elim P ((m == n) && (k == e)) v (f m k)
-    (λ t. let b = both_parts (m == n) (k == e) t in same (tested m n b.0) (tested k e b.1))
-    (λ t. other (elim (neither (m == n) (k == e) t) [ inl x ↦ inl (untested m n x) | inr x ↦ inr (untested k e x) ]))
+    (λ t. let b = and_parts (m == n) (k == e) t in same (eqb-true m n b.0) (eqb-true k e b.1))
+    (λ t. other (elim (and_cases (m == n) (k == e) t) [ inl x ↦ inl (eqb-false m n x) | inr x ↦ inr (eqb-false k e x) ]))
 
 pub changed_at-same : {A : Type 0} (n e : ℕ) (v : A) (f : ℕ → ℕ → A) → changed_at n e v f n e ≡ v
 changed_at-same n e v f = changed_at_elim (λ x. x ≡ v) n e v f n e (λ p q. refl) (λ o. elim o [ inl x ↦ absurd (x refl) | inr x ↦ absurd (x refl) ])

@@ -1,7 +1,7 @@
 -- A run of which what is known is kept of each world on the way.
 use Rattle.std.proofs.Common.{◌≡◌, ℕ, zero, suc, ◌≤◌, true, false, nat_le, List, [], ◌∷◌, ◌++◌, length, take, refl, sym, ap, ◌∙◌, arith, subst, append_assoc, append-nil, length-append}
+use Rattle.std.proofs.lemmas.Bool.{leb-true, leb-false}
 use Rattle.model.specs.World.{World, start, Move}
-use Rattle.laws_streams.proofs.Tests.{at_most, above}
 use Rattle.laws_streams.proofs.Lists.{take_past}
 use Rattle.laws_streams.proofs.Growing.{Later, later_refl, later_trans}
 use Rattle.laws_streams.proofs.Steps.{good_next}
@@ -33,11 +33,11 @@ module _ (w : World) (moves : List Move) where
         now = good_next next;
         earlier = λ k l. elim (nat_le k (length past)) as (λ b. nat_le k (length past) ≡ b → (before : After w moves (take k all)) × Later before.ground next.ground) [
           | true ↦ λ t_is.
-              let (before, later) = t.earlier k (at_most k (length past) t_is) in
-              subst (λ xs. (b : After w moves xs) × Later b.ground next.ground) (sym (take_fewer k past (move ∷ []) (at_most k (length past) t_is)))
+              let (before, later) = t.earlier k (leb-true k (length past) t_is) in
+              subst (λ xs. (b : After w moves xs) × Later b.ground next.ground) (sym (take_fewer k past (move ∷ []) (leb-true k (length past) t_is)))
               (before, later_trans before.ground t.now.ground next.ground later next.later)
           | false ↦ λ f_is.
-              let above_is = above k (length past) f_is in
+              let above_is = leb-false k (length past) f_is in
               subst (λ xs. (b : After w moves xs) × Later b.ground next.ground) (sym (take_all k all (omega (arith, above_is, count)))) (good_next next, later_refl next.ground)
         ] refl;
       }

@@ -2,6 +2,7 @@
 use Rattle.std.proofs.Common.{◌≡◌, ◌≢◌, ◌⊎◌, ℕ, zero, suc, ◌<◌, Bool, true, false, not, ◌==◌, ◌&&◌, ◌||◌, nat_lt, nat_le, if◌then◌else◌, List, [], ◌∷◌, ◌++◌, length, map, Option, Some, None, option_map, Result, Ok, Err, refl, sym, ap, ◌∙◌, inl, inr, ⊎_elim, arith, subst, append-nil}
 use Rattle.std.proofs.lemmas.List.{length-map}
 use Rattle.std.proofs.lemmas.Option.{same_Some}
+use Rattle.std.proofs.lemmas.Bool.{ltb-true, eqb-true}
 use Rattle.disk.specs.declared.device.DiskFault.{DiskFault}
 use Rattle.disk.specs.declared.device.DiskFault.TheVariants.{Failed, Memory}
 use Rattle.disk.specs.declared.memory.MemDisk.{MemDisk}
@@ -28,7 +29,6 @@ use Rattle.manager.specs.Ruled.{Ruled}
 use Rattle.layer.specs.Desk.{DeskSeen, DeskMirrors, Makes, Served, Tells, desk_of}
 use Rattle.layer.specs.Nodes.{nothing, plan_of}
 use Rattle.layer.specs.Stopping.{shown_if, stands_told}
-use Rattle.layer.proofs.Choices.{tested, is_below}
 use Rattle.layer.proofs.Giving.{broken_down, broken_records, broken_stops, burnt_up, no_stop, plan_ok, plan_some, short_same, up_ok, nil, nil_end}
 use Rattle.layer.proofs.Stopping.{plan_armed}
 
@@ -216,7 +216,7 @@ pub told_stands : (told : Option Stop) (c : Cell) (k : Option Record) → option
 told_stands told c None is t = absurd cc
 told_stands told c (Some r) is t =
     let b = both_parts (nat_lt 0 c.fuse) (nat_le c.fuse 4) t in
-    told_as told c (is ∙ plan_some c (is_below 0 c.fuse b.0))
+    told_as told c (is ∙ plan_some c (ltb-true 0 c.fuse b.0))
 
 -- ---- stops and restarts
 
@@ -237,7 +237,7 @@ pub desk_stop_later : (call : ℕ) (keep : Bool) (x y : ManagerState MemDisk) (w
 desk_stop_later call keep x y w up later m kept records same told =
     served_up (desk_of x) (desk_of y) w (manager_stops w call keep) nothing up m
     (if_elim (λ v. Served (desk_of y) w v nothing) (call == 0) (desk_halted w) _
-    (λ z. absurd (later (tested call 0 z)))
+    (λ z. absurd (later (eqb-true call 0 z)))
     (λ z. record {
       post = sym (append-nil w.post);
       notes = sym (append-nil w.notes);

@@ -1,5 +1,6 @@
 -- A step of a real node is the step of the world's node.
 use Rattle.std.proofs.Common.{◌≡◌, ◌≢◌, ◌⊎◌, ℕ, zero, suc, ◌<◌, Bool, true, false, not, ◌==◌, ◌&&◌, nat_lt, nat_le, if◌then◌else◌, List, [], ◌∷◌, ◌++◌, Option, Some, None, Result, Ok, Err, refl, sym, ap, ◌∙◌, inl, inr, ⊎_elim, arith, subst, append-nil}
+use Rattle.std.proofs.lemmas.Bool.{and_cases, ltb-true, ltb-false, leb-true, leb-false, eqb-true, eqb-false}
 use Rattle.disk.specs.declared.device.DiskFault.{DiskFault}
 use Rattle.disk.specs.declared.device.DiskFault.TheVariants.{Failed, Memory}
 use Rattle.disk.specs.declared.memory.MemDisk.{MemDisk}
@@ -22,15 +23,15 @@ use Rattle.enode.specs.Node.{NodeState, IsReplay, find, fresh_of}
 use Rattle.disk.specs.Appends.{listed}
 use Rattle.enode.specs.Took.{Took}
 use Rattle.layer.specs.Nodes.{NodeSeen, seen_of, plan_of, NodeMirrors, Gave}
-use Rattle.layer.proofs.Choices.{neither, is_below, not_below, at_most, above, tested, untested, changed_at_elim, changed_at-other, changed-same, changed-other}
+use Rattle.laws_streams.proofs.Tests.{changed_at_elim, changed_at-other, changed-same, changed-other}
 use Rattle.layer.proofs.Seen.{sorted_same, shown_up, shown_down}
 pub use Rattle.stopping.proofs.Breaking.{plan_some, burnt_up, up_ok, plan_ok, no_stop, broken_stops, broken_down, broken_records, short_same}
 
 pub stopped_here : (n : ℕ) (g : ℕ → ℕ → Option Replica) (f : ℕ) → stopped_at n g n f ≡ stopped (g n f)
-stopped_here n g f = if_elim (λ z. z ≡ stopped (g n f)) (n == n) (stopped (g n f)) (g n f) (λ t. refl) (λ u. absurd (untested n n u refl))
+stopped_here n g f = if_elim (λ z. z ≡ stopped (g n f)) (n == n) (stopped (g n f)) (g n f) (λ t. refl) (λ u. absurd (eqb-false n n u refl))
 
 pub stopped_there : (n m : ℕ) (g : ℕ → ℕ → Option Replica) (f : ℕ) → m ≢ n → stopped_at n g m f ≡ g m f
-stopped_there n m g f apart = if_elim (λ z. z ≡ g m f) (m == n) (stopped (g m f)) (g m f) (λ t. absurd (apart (tested m n t))) (λ u. refl)
+stopped_there n m g f apart = if_elim (λ z. z ≡ g m f) (m == n) (stopped (g m f)) (g m f) (λ t. absurd (apart (eqb-true m n t))) (λ u. refl)
 
 -- what a stop leaves is what its records make
 pub fresh-contents : (s : Option Replica) → fresh_of (contents s) ≡ stopped s

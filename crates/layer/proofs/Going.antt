@@ -1,6 +1,7 @@
 -- The list of nodes, when one of them goes on.
 use Rattle.std.proofs.Common.{◌≡◌, ℕ, zero, suc, ◌<◌, ◌≤◌, ◌+◌, ◌-◌, false, ◌&&◌, nat_lt, nat_le, not, List, [], ◌∷◌, ◌++◌, Some, None, refl, sym, ap, ◌∙◌, inl, inr, ⊎_elim, arith, subst, slice_index_or, slice_set, length, append-nil}
 use Rattle.std.proofs.lemmas.Bool.Decides.{eqb_tells}
+use Rattle.std.proofs.lemmas.Bool.{and_cases, ltb-true, ltb-false, leb-true, leb-false}
 use Rattle.disk.specs.declared.memory.MemDisk.{MemDisk}
 use Rattle.wire.specs.declared.packet.Packet.{Packet}
 use Rattle.wire.specs.declared.packet.Step.{Step}
@@ -11,7 +12,6 @@ use Rattle.model.proofs.Tests.{if_elim, both_parts}
 use Rattle.enode.specs.Node.{NodeState, fresh_of, IsRestart}
 use Rattle.model.specs.Maps.{entry_at}
 use Rattle.layer.specs.Nodes.{NodeSeen, seen_of, all_seen, plan_of, NodeMirrors, NodesMirror, Gave, Went, IsNew, AreNew}
-use Rattle.layer.proofs.Choices.{is_below, not_below, at_most, above, neither}
 use Rattle.layer.proofs.Seen.{shown_up, entry-set_same, entry-set_other, entry-set_there, entry_here, entry_below, entry_none, entry_push, entry_beyond, push_seen, length-seen, length-set}
 
 pub went : (n : ℕ) (xs : List (NodeState MemDisk)) (y : NodeState MemDisk) (w v : World) (s : Step) → n < length xs →
@@ -92,14 +92,14 @@ begun xs target h = record {
   };
   absent = λ n e. if_elim (λ c. c.up ≡ false) (nat_lt 0 n && nat_le n (length xs)) running down
       (λ t. absurd (let b = both_parts (nat_lt 0 n) (nat_le n (length xs)) t in
-      let l = entry_none xs n e (is_below 0 n b.0) in let k = at_most n (length xs) b.1 in omega (arith, l, k)))
+      let l = entry_none xs n e (ltb-true 0 n b.0) in let k = leb-true n (length xs) b.1 in omega (arith, l, k)))
       (λ f. refl);
   count = refl;
 }
   where
     is_running : (n : ℕ) → 0 < n → n ≤ length xs → cell_at (length xs) n ≡ running
     is_running n a b = if_elim (λ c. c ≡ running) (nat_lt 0 n && nat_le n (length xs)) running down (λ t. refl)
-        (λ f. absurd (⊎_elim (λ g. let k = not_below 0 n g in omega (arith, a, k)) (λ g. let k = above n (length xs) g in omega (arith, b, k)) (neither (nat_lt 0 n) (nat_le n (length xs)) f)))
+        (λ f. absurd (⊎_elim (λ g. let k = ltb-false 0 n g in omega (arith, a, k)) (λ g. let k = leb-false n (length xs) g in omega (arith, b, k)) (and_cases (nat_lt 0 n) (nat_le n (length xs)) f)))
 
 pub before_number : (n m : ℕ) → (n ≡ 0 → ⊥) → m ≡ n → n ≡ suc (m - 1)
 before_number zero m some is = absurd (some refl)

@@ -1,4 +1,3 @@
-pub mod Choices
 pub mod Seen
 pub mod Giving
 pub mod Going

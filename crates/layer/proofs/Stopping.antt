@@ -1,6 +1,7 @@
 -- A node that stops or comes back is the world's node that does.
 use Rattle.std.proofs.Common.{◌≡◌, ◌≢◌, ◌⊎◌, ℕ, zero, suc, ◌<◌, ◌≤◌, Bool, true, false, not, ◌==◌, ◌&&◌, ◌||◌, nat_lt, nat_le, if◌then◌else◌, List, [], ◌∷◌, ◌++◌, Option, Some, None, refl, sym, ap, ◌∙◌, inl, inr, ⊎_elim, arith, subst, slice_index_or, slice_set, length, append-nil}
 use Rattle.std.proofs.lemmas.Bool.Decides.{nat_tests}
+use Rattle.std.proofs.lemmas.Bool.{or_cases, or_parts, ltb-true, leb-true, not-false, eqb-true}
 use Rattle.disk.specs.declared.memory.MemDisk.{MemDisk}
 use Rattle.disk.specs.Memory.{memory_state}
 use Rattle.blocks.specs.declared.record.Record.{Record}
@@ -14,7 +15,7 @@ use Rattle.model.proofs.Tests.{if_elim, both_parts, both_true}
 use Rattle.enode.specs.Node.{NodeState, IsReplay, IsRestart, find, fresh_of}
 use Rattle.layer.specs.Nodes.{NodeSeen, seen_of, all_seen, plan_of, NodeMirrors, NodesMirror, Gave, Went, nothing}
 pub use Rattle.stopping.proofs.Breaking.{plan_armed}
-use Rattle.layer.proofs.Choices.{either, none_of, not_true, changed-same, changed-other, is_below, at_most, tested}
+use Rattle.laws_streams.proofs.Tests.{changed-same, changed-other}
 use Rattle.layer.proofs.Giving.{fresh-contents, stopped_here, stopped_there}
 use Rattle.layer.proofs.Seen.{shown_up, shown_down, entry_below, entry_here, entry_none}
 use Rattle.layer.proofs.Going.{went}
@@ -72,7 +73,7 @@ pub stop_later : (n call : ℕ) (keep : Bool) (x y : NodeState MemDisk) (w : Wor
 stop_later n call keep x y w up later m num kept same told =
     if_elim (λ v. Gave n (seen_of y) w v nothing) (w.cell n).up (node_stops w n call keep) w
     (λ t. if_elim (λ v. Gave n (seen_of y) w v nothing) (call == 0) (halted w n) _
-    (λ z. absurd (later (tested call 0 z)))
+    (λ z. absurd (later (eqb-true call 0 z)))
     (λ z. record {
       post = sym (append-nil w.post);
       notes = sym (append-nil w.notes);
@@ -94,7 +95,7 @@ pub restart_up : (n : ℕ) (x : NodeSeen) (w : World) → x.stopped ≡ false �
 restart_up n x w isup m =
     if_elim (λ v. Gave n x w v nothing) ((w.cell n).up || not (is_present w n)) w (record w { cell = changed n running w.cell })
     (λ t. gave_nothing n x w m)
-    (λ f. absurd (let a = m.up ∙ ap not isup in let b = (none_of (w.cell n).up (not (is_present w n)) f).0 in cc))
+    (λ f. absurd (let a = m.up ∙ ap not isup in let b = (or_parts (w.cell n).up (not (is_present w n)) f).0 in cc))
 
 -- it comes back with what its records make
 pub restarts : (n : ℕ) (x y : NodeState MemDisk) (w : World) → x.file.stopped ≡ true → is_present w n ≡ true → NodeMirrors n (seen_of x) w →
@@ -102,7 +103,7 @@ pub restarts : (n : ℕ) (x y : NodeState MemDisk) (w : World) → x.file.stoppe
     Gave n (seen_of y) w (restart w (Node n)) nothing
 restarts n x y w isdown there m num yup same untold h =
     if_elim (λ v. Gave n (seen_of y) w v nothing) ((w.cell n).up || not (is_present w n)) w (record w { cell = changed n running w.cell })
-    (λ t. absurd (⊎_elim (λ a. let b = m.up ∙ ap not isdown in cc) (λ a. let b = ap not there in cc) (either (w.cell n).up (not (is_present w n)) t)))
+    (λ t. absurd (⊎_elim (λ a. let b = m.up ∙ ap not isdown in cc) (λ a. let b = ap not there in cc) (or_cases (w.cell n).up (not (is_present w n)) t)))
     (λ f. record {
       post = sym (append-nil w.post);
       notes = sym (append-nil w.notes);
@@ -133,12 +134,12 @@ pub restart_nobody : (n : ℕ) (xs : List NodeSeen) → entry_at xs n ≡ None �
 restart_nobody n xs none w m =
     if_elim (λ v. Went xs w v nothing) ((w.cell n).up || not (is_present w n)) w (record w { cell = changed n running w.cell })
     (λ t. went_still xs w m)
-    (λ f. absurd (is_nobody (not_true (is_present w n) (none_of (w.cell n).up (not (is_present w n)) f).1)))
+    (λ f. absurd (is_nobody (not-false (is_present w n) (or_parts (w.cell n).up (not (is_present w n)) f).1)))
   where
     is_nobody : is_present w n ≡ true → ⊥
     is_nobody t = let k = both_parts (nat_lt 0 n) (nat_le n w.nodes) t in
-        let far = entry_none xs n none (is_below 0 n k.0) in
-        let near = at_most n w.nodes k.1 in
+        let far = entry_none xs n none (ltb-true 0 n k.0) in
+        let near = leb-true n w.nodes k.1 in
         omega (arith, far, near, m.count)
 
 below_is : (n : ℕ) → 0 < n → nat_lt 0 n ≡ true

@@ -1,5 +1,6 @@
 -- What the real map does is what the cluster's map does.
 use Rattle.std.proofs.Common.{◌≡◌, ◌≢◌, ℕ, Bool, true, false, not, ◌==◌, if◌then◌else◌, List, [], ◌++◌, Option, Some, None, Result, Ok, Err, refl, sym, ap, ◌∙◌, subst, append-nil}
+use Rattle.std.proofs.lemmas.Bool.{eqb-true}
 use Rattle.disk.specs.declared.device.DiskFault.{DiskFault}
 use Rattle.disk.specs.declared.device.DiskFault.TheVariants.{Failed, Memory}
 use Rattle.disk.specs.declared.memory.MemDisk.{MemDisk}
@@ -13,7 +14,6 @@ use Rattle.wire.specs.declared.refusal.Refusal.{Refusal}
 use Rattle.model.specs.Outcome.{Outcome}
 use Rattle.model.specs.World.{World, armed, down, running, sent_more, stands_in, stops_in}
 use Rattle.model.proofs.Tests.{if_elim}
-use Rattle.laws_streams.proofs.Tests.{tested}
 use Rattle.model_map.specs.Map.{MapState}
 use Rattle.model_map.specs.Replay.{map_replay}
 use Rattle.model_clusters.specs.Cluster.{Cluster, map_does, map_does_if, map_halted, map_stops, map_starts}
@@ -138,7 +138,7 @@ pub stop_later : (call : ℕ) (keep : Bool) (x y : MapHeld MemDisk) (c : Cluster
 stop_later call keep x y c up later m kept same told =
     goes_up (seen_of x) (seen_of y) c _ [] up m
     (if_elim (λ d. WentOn (seen_of y) c d []) (call == 0) (map_halted c) _
-    (λ z. absurd (later (tested call 0 z)))
+    (λ z. absurd (later (eqb-true call 0 z)))
     (λ z. record {
       world = nothing_sent c.world;
       servers = refl;

@@ -1,5 +1,6 @@
 -- What a row's record leaves of a file whose actor may stop in it.
 use Rattle.std.proofs.Common.{◌≡◌, ◌≢◌, ◌⊎◌, ℕ, zero, suc, ◌<◌, Bool, true, false, ◌==◌, ◌&&◌, nat_lt, nat_le, if◌then◌else◌, List, [], ◌∷◌, ◌++◌, Option, Some, None, Result, Ok, Err, refl, sym, ap, ◌∙◌, inl, inr, ⊎_elim, arith}
+use Rattle.std.proofs.lemmas.Bool.{and_cases, ltb-true, ltb-false, leb-true, leb-false, eqb-true}
 use Rattle.disk.specs.declared.device.DiskFault.{DiskFault}
 use Rattle.disk.specs.declared.device.DiskFault.TheVariants.{Failed, Memory}
 use Rattle.disk.specs.declared.memory.MemDisk.{MemDisk}
@@ -10,7 +11,6 @@ use Rattle.blocks.specs.declared.record.Record.{Record}
 use Rattle.wire.specs.declared.packet.Step.{Step}
 use Rattle.model.specs.World.{Cell, armed, burnt, stops_in, stands_in}
 use Rattle.model.proofs.Tests.{if_elim, both_parts}
-use Rattle.laws_streams.proofs.Tests.{neither, is_below, not_below, at_most, above, tested}
 use Rattle.stopping.specs.Plan.{plan_of}
 
 zero_or : (k : ℕ) → (k ≡ 0) ⊎ (0 < k)
@@ -21,7 +21,7 @@ plan_zero : (c : Cell) → c.fuse ≡ 0 → plan_of c ≡ None
 plan_zero c z = ap (λ (k : ℕ). if k == 0 then None else Some (k, c.keep)) z
 
 pub plan_some : (c : Cell) → 0 < c.fuse → plan_of c ≡ Some (c.fuse, c.keep)
-plan_some c l = if_elim (λ z. z ≡ Some (c.fuse, c.keep)) (c.fuse == 0) None (Some (c.fuse, c.keep)) (λ t. absurd (let z = tested c.fuse 0 t in omega arith)) (λ f. refl)
+plan_some c l = if_elim (λ z. z ≡ Some (c.fuse, c.keep)) (c.fuse == 0) None (Some (c.fuse, c.keep)) (λ t. absurd (let z = eqb-true c.fuse 0 t in omega arith)) (λ f. refl)
 
 pub burnt_up : (c : Cell) (k : Option Record) → (burnt c k).up ≡ c.up
 burnt_up c None = refl
@@ -39,7 +39,7 @@ plan_ok old new None s c h told f = ap (λ (x : Filed MemDisk). (memory_state x.
 plan_ok old new (Some r) s c h told f =
     ⊎_elim
     (λ z. (h.steady (refl, told ∙ plan_zero c z)).1.1 ∙ sym (plan_zero (burnt c (Some r)) (omega (arith, z))))
-    (λ l. let far : 4 < c.fuse = ⊎_elim (λ a. absurd (let b = not_below 0 c.fuse a in omega arith)) (λ b. above c.fuse 4 b) (neither (nat_lt 0 c.fuse) (nat_le c.fuse 4) f) in
+    (λ l. let far : 4 < c.fuse = ⊎_elim (λ a. absurd (let b = ltb-false 0 c.fuse a in omega arith)) (λ b. leb-false c.fuse 4 b) (and_cases (nat_lt 0 c.fuse) (nat_le c.fuse 4) f) in
     (h.later c.fuse c.keep (told ∙ plan_some c l) far).1 ∙ sym (plan_some (burnt c (Some r)) (omega arith)))
     (zero_or c.fuse)
 
@@ -47,15 +47,15 @@ pub no_stop : (old new : Filed MemDisk) (k : Option Record) (s : Step) (c : Cell
 no_stop old new None s c h told t = absurd cc
 no_stop old new (Some r) s c h told t =
     let b = both_parts (nat_lt 0 c.fuse) (nat_le c.fuse 4) t in
-    let l = is_below 0 c.fuse b.0 in
-    (h.stop c.fuse c.keep (told ∙ plan_some c l) (omega arith) (at_most c.fuse 4 b.1)).0 refl
+    let l = ltb-true 0 c.fuse b.0 in
+    (h.stop c.fuse c.keep (told ∙ plan_some c l) (omega arith) (leb-true c.fuse 4 b.1)).0 refl
 
 pub broken_stops : (old new : Filed MemDisk) (k : Option Record) (c : Cell) → Records {T = Step} memory_state old new (listed k) (Err Failed) → (memory_state old.disk).stop ≡ plan_of c → stops_in c k ≡ false → ⊥
 broken_stops old new None c h told f = h.1 refl
 broken_stops old new (Some r) c h told f =
     ⊎_elim
     (λ z. (h.steady (refl, told ∙ plan_zero c z)).0 refl)
-    (λ l. let far : 4 < c.fuse = ⊎_elim (λ a. absurd (let b = not_below 0 c.fuse a in omega arith)) (λ b. above c.fuse 4 b) (neither (nat_lt 0 c.fuse) (nat_le c.fuse 4) f) in
+    (λ l. let far : 4 < c.fuse = ⊎_elim (λ a. absurd (let b = ltb-false 0 c.fuse a in omega arith)) (λ b. leb-false c.fuse 4 b) (and_cases (nat_lt 0 c.fuse) (nat_le c.fuse 4) f) in
     (h.later c.fuse c.keep (told ∙ plan_some c l) far).0 refl)
     (zero_or c.fuse)
 
@@ -74,8 +74,8 @@ pub broken_records : (old new : Filed MemDisk) (k : Option Record) (c : Cell) �
 broken_records old new None c h told t = absurd (h.1 refl)
 broken_records old new (Some r) c h told t =
     let b = both_parts (nat_lt 0 c.fuse) (nat_le c.fuse 4) t in
-    let l = is_below 0 c.fuse b.0 in
-    ((h.stop c.fuse c.keep (told ∙ plan_some c l) (omega arith) (at_most c.fuse 4 b.1)).1 refl).1
+    let l = ltb-true 0 c.fuse b.0 in
+    ((h.stop c.fuse c.keep (told ∙ plan_some c l) (omega arith) (leb-true c.fuse 4 b.1)).1 refl).1
     ∙ swapped c.keep (nat_le 3 c.fuse) (old.records ++ r ∷ []) old.records
 
 -- nothing of the file has changed where no memory was left
@@ -85,4 +85,4 @@ short_same old new None h = (ap (λ (f : Filed MemDisk). f.records) h.0, ap (λ 
 short_same old new (Some r) h = ((h.memory refl).records, (h.memory refl).stopped, (h.memory refl).disk.stop)
 
 pub plan_armed : (call : ℕ) (keep : Bool) → call ≢ 0 → plan_of (armed call keep) ≡ Some (call, keep)
-plan_armed call keep some = if_elim (λ z. z ≡ Some (call, keep)) (call == 0) None (Some (call, keep)) (λ t. absurd (some (tested call 0 t))) (λ f. refl)
+plan_armed call keep some = if_elim (λ z. z ≡ Some (call, keep)) (call == 0) None (Some (call, keep)) (λ t. absurd (some (eqb-true call 0 t))) (λ f. refl)
