@@ -6,3 +6,4 @@ pub mod Appending
 pub mod Scanning
 pub mod Rereading
 pub mod Steps
+pub mod Beginning

@@ -1,5 +1,5 @@
 -- What a file's records are after a step that may append one, whatever the step gives.
-use Rattle.std.proofs.Common.{◌≡◌, false, List, ◌++◌, Option, Some, None, Result, Ok, Err, ap, append-nil, refl, sym, ◌∙◌}
+use Rattle.std.proofs.Common.{◌≡◌, false, ◌++◌, Option, Some, None, Result, Ok, Err, ap, append-nil, refl, sym, ◌∙◌}
 use Rattle.blocks.specs.declared.record.Record.{Record}
 use Rattle.disk.specs.Appends.{Appends, Records, listed}
 use Rattle.disk.specs.Disk.{DiskState}

@@ -59,6 +59,10 @@ IsBeforeOrAfter v rs r file = IsFileOf v rs file ⊎ IsFileOf v (rs ++ r ∷ [])
 abbrev pub HasNoRecord : List ℕ → Type 0
 HasNoRecord file = (v : Version) (rs : List Record) → IsFileOf v rs file → rs ≡ []
 
+-- as a file of records, it has none, or this one alone
+abbrev pub HoldsAtMost : Version → Record → List ℕ → Type 0
+HoldsAtMost v r file = HasNoRecord file ⊎ IsBeforeOrAfter v [] r file
+
 -- the records after a stop in the n-th device call of an append
 abbrev pub stopped_records : ℕ → Bool → List Record → Record → List Record
 stopped_records n keep rs r = if keep && nat_le 3 n then rs ++ r ∷ [] else rs

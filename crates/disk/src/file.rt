@@ -94,7 +94,9 @@ impl<D: Disk> RecordFile<D> {
             (λ file. LeavesOnly (D.state disk) (D.state file.disk) HasNoRecord)
             (λ e. LeavesOnly (D.state disk) (D.state e.1) HasNoRecord) }
         ensures memory { IfErr result (λ e. e.0 ≡ DiskFault.Memory → IsUntouched (D.state disk) (D.state e.1)) }
-        ensures failed { IfErr result (λ e. e.0 ≡ DiskFault.Failed → (D.state disk).failures < (D.state e.1).failures) }
+        ensures failed { MatchResult result
+            (λ file. (D.state disk).failures ≤ (D.state file.disk).failures)
+            (λ e. e.0 ≡ DiskFault.Failed → (D.state disk).failures < (D.state e.1).failures) }
     {
         let mut disk = disk;
         match write_header(version, &mut disk) {

@@ -35,6 +35,7 @@ pub(crate) fn write_header<D: Disk>(version: Version, disk: &mut D) -> Result<()
     ensures any_moment { LeavesOnly (D.state disk.old) (D.state disk.new) HasNoRecord }
     ensures memory { IsErrOf result DiskFault.Memory → IsUntouched (D.state disk.old) (D.state disk.new) }
     ensures failed { IsErrOf result DiskFault.Failed → (D.state disk.old).failures < (D.state disk.new).failures }
+    ensures later { (D.state disk.old).failures ≤ (D.state disk.new).failures }
 {
     let bytes = empty_file(version);
     disk.reserve(5)?;

@@ -84,7 +84,7 @@ fn recovered<D: Disk>(
 impl<D: Disk> Node<D> {
     /// The node that the records on a disk make, with nothing of what a stop drops. The file is synced, and then read.
     /// A refusal hands the disk back: 20 (a device call failed), 21 (the bytes are no file of records, or a record does
-    /// not fit what those before it leave), 22 (nothing has changed).
+    /// not fit what those before it leave), 22 (no memory).
     pub fn restart(alloc: Global, number: u8, disk: D) -> Result<Node<D>, (FileFault, D)>
         ensures number { IfOk result (λ node. node.number ≡ number) }
         ensures running { IfOk result (λ node. node.file.stopped ≡ false) }

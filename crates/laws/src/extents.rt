@@ -29,7 +29,8 @@ pub fn honest()
 /// of a range is for a higher generation than those before it, so that none opens a range twice; and what opens a range
 /// before a generation is confirmed is no higher than it, what opens it afterwards is. The length that answers a check
 /// covers, for good, all that is ever acknowledged in the extent under a lower generation: each place has so much, the
-/// extent is never sealed at less, and no lower generation adds a group after the answer.
+/// extent is never sealed at less, and no group that is acknowledged, shown or read comes of an append of a lower generation
+/// that is delivered after the answer.
 pub fn fences()
     ensures streams { (nodes target : ℕ) (moves more : List Move) →
         FencesRise (run_moves moves (start nodes target)) (run_moves (moves ++ more) (start nodes target)) }
@@ -47,7 +48,8 @@ pub fn fences()
 /// a generation that this request confirmed, the extent that was last then or was added for this request, and the length at
 /// which an extent is sealed for good. Groups that were read begin what was appended to the extent, up to where it was asked.
 /// Blocks that were appended stand at the answered offset, as the ones of this request and its generation, and are
-/// acknowledged there: each place has them from then on, and no seal cuts them off.
+/// acknowledged there: from then on no place ends before them, and no seal cuts them off. Nothing is said of a check that is
+/// answered with no length, nor of bytes and refusals.
 pub fn answers()
     ensures opened { (nodes target : ℕ) (moves : List Move) → OpeningsAnswered moves (start nodes target) }
     ensures confirmed { (nodes target : ℕ) (moves : List Move) → ConfirmationsAnswered moves (start nodes target) }

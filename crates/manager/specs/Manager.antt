@@ -1,9 +1,12 @@
 -- The manager's state, and what its records make of it.
 use Rattle.std.specs.Prelude.{◌≡◌, ℕ, true, List, map, Some}
 use Rattle.blocks.specs.declared.record.Record.{Record}
+use Rattle.blocks.specs.declared.record.Record.TheVariants.{Manage}
 use Rattle.disk.specs.Filed.{Filed}
 use Rattle.streams.specs.Table.{StreamTableState, streams_of}
 use Rattle.model.specs.declared.extent.Extent.{Extent}
+use Rattle.model.specs.declared.manager_record.ManagerRecord.TheVariants.{First}
+use Rattle.model.specs.Ledger.{spelled}
 use Rattle.model.specs.Manager.{Book, forgotten, book_stopped}
 use Rattle.model.specs.Replay.{book_replay, book_fits}
 use Rattle.directory.specs.Replay.{Ledgered}
@@ -26,6 +29,10 @@ table_of s = record { nodes = s.nodes; target = s.target; streams = streams_of s
 -- the model's book says what the manager's state says
 abbrev pub Shows : {D : Type 0} → ManagerState D → Book → Type 0
 Shows s b = Lists (table_of s) b
+
+-- the first record of a manager's file
+abbrev pub first_record : ℕ → ℕ → Record
+first_record nodes target = Manage (spelled (First nodes target))
 
 -- without what a stop drops
 abbrev pub forgotten_state : {D : Type 0} → ManagerState D → ManagerState D

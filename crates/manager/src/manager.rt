@@ -1,21 +1,18 @@
 //! The manager.
-ghost use Rattle.std.specs.Prelude.{◌≡◌, ◌≢◌, ◌<◌, ◌≤◌, List, [], ◌∷◌, Ok, Err, Some, None, false, true, IfOk, IfErr, MatchResult, option_map};
+ghost use Rattle.std.specs.Prelude.{◌≡◌, ◌≢◌, ◌<◌, ◌≤◌, ◌⊎◌, List, [], ◌∷◌, Ok, Err, Some, None, false, true, IfOk, IfErr, MatchResult, option_map};
 ghost use Rattle.blocks.specs.Limits.{IsTarget};
 ghost use Rattle.blocks.specs.declared.record.Record.{Record};
-ghost use Rattle.blocks.specs.declared.record.Record.TheVariants as records;
 ghost use Rattle.blocks.specs.declared.record.Version.{Version};
 ghost use Rattle.disk.specs.Disk.{IsSame, IsSteady, LeavesOnly, Only};
-ghost use Rattle.disk.specs.File.{IsFileOf};
+ghost use Rattle.disk.specs.File.{IsFileOf, IsBeforeOrAfter, HoldsAtMost};
 ghost use Rattle.disk.specs.Memory.{memory_state};
 ghost use Rattle.wire.specs.declared.refusal.Refusal.{Refusal};
 ghost use Rattle.model.specs.Bounds.{AreFew};
-ghost use Rattle.model.specs.Ledger.{spelled};
 ghost use Rattle.model.specs.Maps.{entry_at};
 ghost use Rattle.model.specs.Manager.{Book, first_book, manager_row, decide_row, decide_refusal};
 ghost use Rattle.model.specs.Replay.{book_fits};
-ghost use Rattle.model.specs.declared.manager_record.ManagerRecord.TheVariants as ledger;
 ghost use Rattle.directory.specs.Table.{plain, first_table};
-ghost use Rattle.manager.specs.Manager.{Shows, IsLedger, forgotten_state};
+ghost use Rattle.manager.specs.Manager.{Shows, IsLedger, first_record, forgotten_state};
 ghost use Rattle.manager.specs.Ruled.{Ruled, as_row, fault_of, sealing_at};
 
 use crate::fault::ManagerFault;
@@ -73,10 +70,15 @@ fn begin<D: Disk>(
     requires empty { file.records ≡ [] }
     ensures running { IfOk result (λ m. m.file.stopped ≡ false) }
     ensures shows { IfOk result (λ m. Shows m (first_book nodes target)) }
-    ensures records { IfOk result (λ m. m.file.records ≡ records.Manage (spelled (ledger.First nodes target)) ∷ []) }
+    ensures records { IfOk result (λ m. m.file.records ≡ first_record nodes target ∷ []) }
     ensures version { IfOk result (λ m. m.file.version ≡ file.version) }
     ensures replays { IfOk result (λ m. IsLedger m m.file.records) }
     ensures failed { IfErr result (λ e. e.0 ≡ DiskFault.Failed → (D.state file.disk).failures < (D.state e.1).failures) }
+    ensures any_moment { MatchResult result
+        (λ m. LeavesOnly (D.state file.disk) (D.state m.file.disk)
+            (λ c. (D.state file.disk).may_leave c ⊎ IsBeforeOrAfter file.version file.records (first_record nodes target) c))
+        (λ e. LeavesOnly (D.state file.disk) (D.state e.1)
+            (λ c. (D.state file.disk).may_leave c ⊎ IsBeforeOrAfter file.version file.records (first_record nodes target) c)) }
     ensures steady { IsSteady (D.state file.disk) → MatchResult result
         (λ m. IsSteady (D.state m.file.disk))
         (λ e. (e.0 ≢ DiskFault.Failed) × IsSteady (D.state e.1)) }
@@ -113,7 +115,8 @@ fn recovered<D: Disk>(alloc: Global, file: RecordFile<D>) -> Result<Manager<D>, 
 impl<D: Disk> Manager<D> {
     /// A manager on an empty disk, with no extent, and with the four streams of range 1. It knows the nodes from 1 to
     /// `nodes`, 3 to 12 of them, and makes extents with this target, from 4,096 to 16,777,216 bytes. Both are in its first
-    /// record. A refusal hands the disk back: 20 (a device call failed), 22 (no memory).
+    /// record. A refusal hands the disk back: 20 (a device call failed; it comes only where the disk's count of failures rose),
+    /// 22 (no memory).
     pub fn create(
         alloc: Global,
         nodes: u8,
@@ -126,12 +129,18 @@ impl<D: Disk> Manager<D> {
         requires durable { Only (D.state disk).seen (D.state disk).may_leave }
         ensures running { IfOk result (λ m. m.file.stopped ≡ false) }
         ensures shows { IfOk result (λ m. Shows m (first_book nodes target)) }
-        ensures records { IfOk result (λ m. m.file.records ≡ records.Manage (spelled (ledger.First nodes target)) ∷ []) }
+        ensures records { IfOk result (λ m. m.file.records ≡ first_record nodes target ∷ []) }
         ensures version { IfOk result (λ m. m.file.version ≡ Version.V1) }
         ensures replays { IfOk result (λ m. IsLedger m m.file.records) }
+        ensures failed { IfErr result (λ e. e.0 ≡ DiskFault.Failed → (D.state disk).failures < (D.state e.1).failures) }
         ensures steady { IsSteady (D.state disk) → MatchResult result
             (λ m. IsSteady (D.state m.file.disk))
             (λ e. (e.0 ≢ DiskFault.Failed) × IsSteady (D.state e.1)) }
+
+        // A crash at any moment leaves a file with no record, or with the first alone, also where it is refused.
+        ensures any_moment { MatchResult result
+            (λ m. LeavesOnly (D.state disk) (D.state m.file.disk) (HoldsAtMost Version.V1 (first_record nodes target)))
+            (λ e. LeavesOnly (D.state disk) (D.state e.1) (HoldsAtMost Version.V1 (first_record nodes target))) }
     {
         let Ok(table) = Table::new(alloc, nodes, target) else {
             return Err((DiskFault::Memory, disk));
@@ -144,7 +153,7 @@ impl<D: Disk> Manager<D> {
 
     /// The manager that the records on a disk make, with nothing of what a stop drops. The file is synced, and then read.
     /// A refusal hands the disk back: 20 (a device call failed), 21 (the bytes are no file of records, there is no first
-    /// record, or a record does not fit what those before it make), 22 (nothing has changed).
+    /// record, or a record does not fit what those before it make), 22 (no memory).
     pub fn restart(alloc: Global, disk: D) -> Result<Manager<D>, (FileFault, D)>
         ensures running { IfOk result (λ m. m.file.stopped ≡ false) }
         ensures file { IfOk result (λ m. IsFileOf m.file.version m.file.records (D.state disk).seen) }

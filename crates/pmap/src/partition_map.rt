@@ -79,7 +79,7 @@ fn recovered<D: Disk>(alloc: Global, file: RecordFile<D>) -> Result<PartitionMap
 impl<D: Disk> PartitionMap<D> {
     /// The map that the records on a disk make; of no record the first map, in which range 1 has all keys and nobody holds
     /// it. The file is synced, and then read. A refusal hands the disk back: 20 (a device call failed), 21 (the bytes are
-    /// no file of records, or a record does not fit what those before it make), 22 (nothing has changed).
+    /// no file of records, or a record does not fit what those before it make), 22 (no memory).
     pub fn restart(alloc: Global, disk: D) -> Result<PartitionMap<D>, (FileFault, D)>
         ensures running { IfOk result (λ m. m.file.stopped ≡ false) }
         ensures file { IfOk result (λ m. IsFileOf m.file.version m.file.records (D.state disk).seen) }
