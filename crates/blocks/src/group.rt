@@ -61,12 +61,12 @@ impl Block {
         self.bytes.as_slice()
     }
 
-    /// The bytes as a buffer, whose `clone` shares them.
-    pub fn bytes(&self) -> &Bytes
-        ensures value { result.now ≡ self.now }
+    /// The bytes as a buffer, which shares them. An error is want of memory (22).
+    pub fn share(&self) -> Result<Bytes, AllocError>
+        ensures value { IfOk result (λ bytes. bytes ≡ self.now) }
         ensures fits { IsBlock self.now }
     {
-        &self.bytes
+        self.bytes.clone()
     }
 }
 
@@ -195,7 +195,7 @@ fn copies(alloc: Global, blocks: &[Block]) -> Result<Vec<Block>, AllocError>
 {
     let mut made = Vec::with_capacity(alloc, blocks.len())?;
     for block in blocks {
-        made.push(Block::of(block.bytes().clone()?))?;
+        made.push(Block::of(block.share()?))?;
     }
     Ok(made)
 }

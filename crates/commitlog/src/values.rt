@@ -21,9 +21,9 @@ fn large_of(
     match blocks {
         [] => Err(BlockFault::Damaged),
         [first, rest @ ..] => {
-            let value = first.bytes();
-            if number as usize + blocks.len() == total && value.len() == size as usize {
-                Ok((Some(value.clone()?), rest))
+            let length = first.as_slice().len();
+            if number as usize + blocks.len() == total && length == size as usize {
+                Ok((Some(first.share()?), rest))
             } else {
                 Err(BlockFault::Damaged)
             }

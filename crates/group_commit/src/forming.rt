@@ -92,7 +92,7 @@ fn blocks_of(alloc: Global, group: &Group) -> Result<Blocks, AllocError>
 {
     let mut blocks = Vec::with_capacity(alloc, group.blocks().len())?;
     for block in group.blocks() {
-        blocks.push(block.bytes().clone()?)?;
+        blocks.push(block.share()?)?;
     }
     Ok(Blocks::of(blocks))
 }

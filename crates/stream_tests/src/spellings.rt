@@ -209,17 +209,16 @@ fn groups_are_made_or_refused(rt: HostRuntime) {
 
 /// Another block with the bytes of this one.
 fn other(block: &Block) -> Result<Block, AllocError> {
-    Ok(Block::of(block.bytes().clone()?))
+    Ok(Block::of(block.share()?))
 }
 
 /// A group that shares the bytes of a block.
 fn shared(alloc: Global, block: &Block) -> Result<Group, AllocError> {
-    let bytes = other(block)?.bytes().clone()?;
+    let bytes = other(block)?.share()?;
     Group::shared(alloc, &[bytes])
 }
 
 fn only(alloc: Global, block: Block) -> Result<Group, AllocError> {
-    let _bytes = block.bytes();
     let mut blocks = Vec::new(alloc);
     blocks.push(block)?;
     Ok(Group::of(blocks))
