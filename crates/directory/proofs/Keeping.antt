@@ -1,5 +1,6 @@
 -- A record does of the table what it does of the book, and a table that records make stays so with one record more.
 use Rattle.std.proofs.Common.{◌≡◌, ℕ, zero, suc, Bool, true, ◌&&◌, ◌==◌, List, [], ◌∷◌, ◌++◌, length, map, Option, Some, None, slice_get, slice_set, refl, sym, ap, ◌∙◌, subst}
+use Rattle.std.proofs.lemmas.Bool.{and_from, and_parts}
 use Rattle.blocks.specs.declared.record.Nodes.{Nodes}
 use Rattle.blocks.specs.declared.record.Record.{Record}
 use Rattle.streams.specs.Streams.{Stream, stream_of, created, opened, extended as extended_streams, last_of}
@@ -9,7 +10,6 @@ use Rattle.model.specs.declared.manager_record.ManagerRecord.TheVariants.{First,
 use Rattle.model.specs.Maps.{entry_at}
 use Rattle.model.specs.Manager.{Book, forgotten, forgotten_if, new_extent, sealed_to, is_pick}
 use Rattle.model.specs.Replay.{after_record, sealed_if, extended_if, book_after, ruling_of, replay_from, is_closed, may_extend, extend_fits, seal_fits, ruling_fits, fit_from}
-use Rattle.model.proofs.Tests.{both_parts, both_true}
 use Rattle.directory.specs.Table.{TableState, Lists, with_entry, longer, longer_extents, closed_if, forgotten_table, table_after, table_fits, may_lengthen, lengthens}
 use Rattle.directory.specs.Replay.{Ledgered}
 use Rattle.directory.proofs.Tables.{book_of, book_shows, is_book, lengthened_shows, replaced_shows}
@@ -49,7 +49,7 @@ after_book t (First nodes target) fits = book_shows t
 after_book t (CreateStream s fence) fits = book_shows (record t { streams = created t.streams s fence })
 after_book t (OpenStreams range g) fits = book_shows (record t { streams = opened t.streams range g })
 after_book t (Extend s g pick) fits =
-    let x = lengthens_there t.extents g (stream_of t.streams s) (both_parts (is_pick t.nodes pick) _ fits).1 in
+    let x = lengthens_there t.extents g (stream_of t.streams s) (and_parts (is_pick t.nodes pick) _ fits).1 in
     subst (λ (o : Option Stream). Lists (longer t s pick) (extended_if (book_of t) s o pick)) (sym x.1) (lengthened_shows t s x.0 pick x.1)
 after_book t (Seal e l) fits =
     let x = seals_there (entry_at t.extents e) fits in
@@ -146,14 +146,14 @@ replay-push b [] r = refl
 replay-push b (x ∷ rs) r = replay-push (book_after b (ruling_of x)) rs r
 
 fit-push : (b : Option Book) (rs : List Record) (r : Record) → fit_from b rs ≡ true → ruling_fits (replay_from b rs) (ruling_of r) ≡ true → fit_from b (rs ++ r ∷ []) ≡ true
-fit-push b [] r e f = both_true _ _ f refl
+fit-push b [] r e f = and_from _ _ f refl
 fit-push b (x ∷ rs) r e f =
-    let parts = both_parts (ruling_fits b (ruling_of x)) _ e in
-    both_true _ _ parts.0 (fit-push (book_after b (ruling_of x)) rs r parts.1 f)
+    let parts = and_parts (ruling_fits b (ruling_of x)) _ e in
+    and_from _ _ parts.0 (fit-push (book_after b (ruling_of x)) rs r parts.1 f)
 
 pub fit-at : (b : Option Book) (rs more : List Record) (r : Record) → fit_from b (rs ++ r ∷ more) ≡ true → ruling_fits (replay_from b rs) (ruling_of r) ≡ true
-fit-at b [] more r e = (both_parts (ruling_fits b (ruling_of r)) _ e).0
-fit-at b (x ∷ rs) more r e = fit-at (book_after b (ruling_of x)) rs more r (both_parts (ruling_fits b (ruling_of x)) _ e).1
+fit-at b [] more r e = (and_parts (ruling_fits b (ruling_of r)) _ e).0
+fit-at b (x ∷ rs) more r e = fit-at (book_after b (ruling_of x)) rs more r (and_parts (ruling_fits b (ruling_of x)) _ e).1
 
 -- one more record that spells a fitting one
 pub ledger-push : (t : TableState) (rs : List Record) → Ledgered t rs → (x : Record) (r : ManagerRecord) → ruling_of x ≡ Some r → table_fits t r ≡ true → Ledgered (table_after t r) (rs ++ x ∷ [])

@@ -1,6 +1,6 @@
 -- What servers do on a stream, which the lower layer takes no part in: turns, and numbers for new requests.
 use Rattle.std.proofs.Common.{◌≡◌, ◌⊎◌, ℕ, zero, suc, ◌<◌, Bool, true, false, ◌&&◌, List, [], ◌∷◌, ◌++◌, length, Option, Some, None, slice_get, Contains, refl, sym, ap, ◌∙◌, subst, inl, inr, if◌then◌else◌, ◌==◌}
-use Rattle.std.proofs.lemmas.Bool.{eqb-true}
+use Rattle.std.proofs.lemmas.Bool.{eqb-true, and_parts}
 use Rattle.wire.specs.declared.actor.ActorId.TheVariants.{Server}
 use Rattle.wire.specs.declared.actor.ReqNo.{ReqNo}
 use Rattle.wire.specs.declared.actor.ReqNo.TheVariants as requests
@@ -22,7 +22,6 @@ use Rattle.streams.specs.Streams.{Stream, stream_of}
 use Rattle.client.specs.Requests.{is_same}
 use Rattle.model.specs.Outcome.{packet}
 use Rattle.model.specs.World.{World}
-use Rattle.model.proofs.Tests.{both_parts}
 use Rattle.laws_streams.proofs.Ground.{Ground}
 use Rattle.model_tables.specs.Story.{Copy}
 use Rattle.model_tables.specs.Answering.{stream_number}
@@ -155,11 +154,11 @@ upper_follows generation name w s t sent u a =
 -- only one request has a number
 pub same_request : (a b : ReqNo) → is_same a b ≡ true → a ≡ b
 same_request (requests.Server s session count) (requests.Server t other number) is =
-    let k = both_parts (s == t) ((session == other) && (count == number)) is in
-    let m = both_parts (session == other) (count == number) k.1 in
+    let k = and_parts (s == t) ((session == other) && (count == number)) is in
+    let m = and_parts (session == other) (count == number) k.1 in
     rw (eqb-true s t k.0, eqb-true session other m.0, eqb-true count number m.1) refl
 same_request (requests.User u ticket) (requests.User v number) is =
-    let k = both_parts (u == v) (ticket == number) is in
+    let k = and_parts (u == v) (ticket == number) is in
     rw (eqb-true u v k.0, eqb-true ticket number k.1) refl
 same_request requests.NoRequest requests.NoRequest is = refl
 same_request a b is = absurd cc

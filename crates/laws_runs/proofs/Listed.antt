@@ -1,6 +1,6 @@
 -- What the manager tells of a stream, and what it leaves of its streams.
 use Rattle.std.proofs.Common.{◌≡◌, ◌⊎◌, ℕ, zero, suc, ◌+◌, ◌≤◌, Bool, true, false, ◌&&◌, List, [], ◌∷◌, length, Option, Some, None, slice_get, refl, sym, ap, ◌∙◌, subst, inl, inr, arith, ◌==◌, eq-eqb}
-use Rattle.std.proofs.lemmas.Bool.{cases_lt, eqb-true}
+use Rattle.std.proofs.lemmas.Bool.{cases_lt, eqb-true, and_from, and_parts}
 use Rattle.std.proofs.lemmas.Option.{slice_get_within}
 use Rattle.wire.specs.declared.actor.ActorId.{ActorId}
 use Rattle.wire.specs.declared.actor.ActorId.TheVariants.{Node, Manager, Map, Server, User}
@@ -17,7 +17,7 @@ use Rattle.model.specs.declared.extent.PlaceReport.{PlaceReport}
 use Rattle.model.specs.Actors.{is_node, is_user}
 use Rattle.model.specs.Manager.{Book, told_of, told_before, told_extents, seal_asked, seal_extent_row, with_report, noted, frozen_to, frozen_row, known_sealed, is_sealed_row, place_of, first_sealed, asks_tail, short_row, decided_if, least_told, decide_row, seal_body_row, reminders}
 use Rattle.model.specs.Outcome.{Outcome, silent, sends}
-use Rattle.model.proofs.Tests.{if_elim, both_parts, both_true}
+use Rattle.model.proofs.Tests.{if_elim}
 use Rattle.laws_streams.proofs.Ground.{Ground}
 use Rattle.laws_streams.proofs.Listing.{same_name, kind_same}
 use Rattle.model_tables.specs.Extents.{Live, Shut, base, one_if_live, shut_at, State}
@@ -41,11 +41,11 @@ is_name_or name other = by_test ((name.range == other.range) && (kind_number nam
   where
     by_test : (b : Bool) → ((name.range == other.range) && (kind_number name.kind == kind_number other.kind)) ≡ b → (other ≡ name) ⊎ (other ≡ name → ⊥)
     by_test true t =
-        let k = both_parts (name.range == other.range) (kind_number name.kind == kind_number other.kind) t in
+        let k = and_parts (name.range == other.range) (kind_number name.kind == kind_number other.kind) t in
         inl (sym (same_name name other (eqb-true name.range other.range k.0) (kind_same name.kind other.kind (eqb-true (kind_number name.kind) (kind_number other.kind) k.1))))
     by_test false t = inr (λ is.
         let u : ((name.range == other.range) && (kind_number name.kind == kind_number other.kind)) ≡ true =
-        both_true (name.range == other.range) (kind_number name.kind == kind_number other.kind)
+        and_from (name.range == other.range) (kind_number name.kind == kind_number other.kind)
         (eq-eqb name.range other.range (ap (λ (x : StreamName). x.range) (sym is))) (eq-eqb (kind_number name.kind) (kind_number other.kind) (ap (λ (x : StreamName). kind_number x.kind) (sym is))) in
         let c : false ≡ true = sym t ∙ u in cc)
 
@@ -53,7 +53,7 @@ pub with_other : (streams : Streams) (other name : StreamName) (y : Stream) → 
 with_other streams other name y apart =
     if_elim (λ o. o ≡ stream_of streams name) ((name.range == other.range) && (kind_number name.kind == kind_number other.kind)) (Some y) (stream_of streams name)
     (λ t.
-    let k = both_parts (name.range == other.range) (kind_number name.kind == kind_number other.kind) t in
+    let k = and_parts (name.range == other.range) (kind_number name.kind == kind_number other.kind) t in
     absurd (apart (sym (same_name name other (eqb-true name.range other.range k.0) (kind_same name.kind other.kind (eqb-true (kind_number name.kind) (kind_number other.kind) k.1))))))
     (λ t. refl)
 

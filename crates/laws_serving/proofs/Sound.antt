@@ -1,7 +1,7 @@
 -- What waits at a range can be written: each transaction that is taken, and each group that is formed.
 use Rattle.std.proofs.Common.{◌≡◌, ◌⊎◌, ⊎_elim, ℕ, zero, suc, ◌+◌, ◌<◌, ◌≤◌, ◌^◌, List, [], ◌∷◌, ◌++◌, length, map, take, drop, Bool, true, false, not, ◌&&◌, ◌||◌, ◌==◌, nat_lt, nat_le, Option, Some, None, is_some, refl, sym, ap, ◌∙◌, subst, inl, inr, arith}
 use Rattle.std.specs.List.{AllByRecursion, list_any}
-use Rattle.std.proofs.lemmas.Bool.{or_parts, ltb-true, ltb-false, leb-true, leb-false, not-false, eqb-false}
+use Rattle.std.proofs.lemmas.Bool.{or_parts, ltb-true, ltb-false, leb-true, leb-false, not-false, eqb-false, and_parts}
 use Rattle.wire.specs.declared.actor.ActorId.{ActorId}
 use Rattle.wire.specs.declared.actor.ReqNo.{ReqNo}
 use Rattle.wire.specs.declared.refusal.Refusal.{Refusal}
@@ -11,7 +11,7 @@ use Rattle.commitlog.specs.Record.{HasValue, IsChange, IsTransaction, Fits, spel
 use Rattle.memtable.specs.Entries.{entries_size}
 use Rattle.memtable.specs.Layers.{size_of}
 use Rattle.metadata.specs.Keys.{within}
-use Rattle.model.proofs.Tests.{if_elim, both_parts, none_met}
+use Rattle.model.proofs.Tests.{if_elim, none_met}
 use Rattle.model_tables.specs.declared.desk.Desk.{Desk}
 use Rattle.model_tables.specs.declared.waiting.WaitingTransaction.{WaitingTransaction}
 use Rattle.model_tables.specs.Range.{RangeState, RangeOutcome, is_serving}
@@ -62,7 +62,7 @@ value_fits (Some v) e = ltb-false 65536 (length v) e
 
 key_fits : (key : List ℕ) → not (is_key key) ≡ false → (1 ≤ length key) × (length key ≤ 256)
 key_fits key e =
-    let b = both_parts (nat_le 1 (length key)) (nat_le (length key) 256) (not-false (is_key key) e) in
+    let b = and_parts (nat_le 1 (length key)) (nat_le (length key) 256) (not-false (is_key key) e) in
     (leb-true 1 (length key) b.0, leb-true (length key) 256 b.1)
 
 changes_fit : (changes : List Change) → list_any (λ c. not (is_key c.key)) changes ≡ false → list_any (λ c. nat_lt 65536 (value_size c.value)) changes ≡ false → AllByRecursion IsChange changes
@@ -132,13 +132,13 @@ pub record IsNext (r : RangeState) (n : ℕ) : Type 0 where
 pub is_next : (d : Desk) (r : RangeState) → IsSound r → (not (is_some r.out) && (nat_lt 0 (group_count d r) && nat_lt (r.next + group_count d r) (2 ^ 64))) ≡ true → IsNext r (group_count d r)
 is_next d r h e =
     let n : ℕ = group_count d r in
-    let one = both_parts (not (is_some r.out)) (nat_lt 0 n && nat_lt (r.next + n) (2 ^ 64)) e in
-    let two = both_parts (nat_lt 0 n) (nat_lt (r.next + n) (2 ^ 64)) one.1 in
+    let one = and_parts (not (is_some r.out)) (nat_lt 0 n && nat_lt (r.next + n) (2 ^ 64)) e in
+    let two = and_parts (nat_lt 0 n) (nat_lt (r.next + n) (2 ^ 64)) one.1 in
     let some : 0 < n = ltb-true 0 n two.0 in
     let top : r.next + n < 2 ^ 64 = ltb-true (r.next + n) (2 ^ 64) two.1 in
     let group : fits_a_group r.next r.queue n ≡ true =
     ⊎_elim {C = fits_a_group r.next r.queue n ≡ true} (λ z. absurd (omega (arith, z, some))) (λ z. z) (grown_fits r.next r.queue 0 d.batch (inl refl)) in
-    let three = both_parts (nat_le n (length r.queue)) (nat_le (length (spelling (record_of r.next (take n r.queue)))) 64) group in
+    let three = and_parts (nat_le n (length r.queue)) (nat_le (length (spelling (record_of r.next (take n r.queue)))) 64) group in
     let within : n ≤ length r.queue = leb-true n (length r.queue) three.0 in
     let size : length (map (λ t. t.changes) (take n r.queue)) ≡ n = mapped_length (λ t. t.changes) (take n r.queue) ∙ first_count n r.queue within in
     record {

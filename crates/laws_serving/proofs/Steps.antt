@@ -1,13 +1,13 @@
 -- Each step of a stream's machine takes nothing back.
 use Rattle.std.proofs.Common.{◌≡◌, ℕ, suc, ◌≤◌, List, [], ◌∷◌, length, Bool, true, false, Option, Some, None, refl, subst, arith, if◌then◌else◌, ◌==◌}
 use Rattle.std.proofs.lemmas.Bool.Decides.{nat_tests}
+use Rattle.std.proofs.lemmas.Bool.{and_from}
 use Rattle.wire.specs.declared.actor.ReqNo.{ReqNo}
 use Rattle.wire.specs.declared.actor.ReqNo.TheVariants as requests
 use Rattle.wire.specs.declared.streams.StreamName.{StreamName}
 use Rattle.replica.specs.Groups.{Group}
 use Rattle.client.specs.Requests.{is_same}
 use Rattle.model.specs.World.{World}
-use Rattle.model.proofs.Tests.{both_true}
 use Rattle.model_tables.specs.Extents.{Shut, shut_at}
 use Rattle.model_tables.specs.Turns.{Turn, Whole, Move, Above, moved}
 use Rattle.model_tables.specs.Turns as turns
@@ -22,8 +22,8 @@ number_same : (a : ℕ) → (a == a) ≡ true
 number_same a = grind (arith, nat_tests)
 
 pub request_same : (q : ReqNo) → is_same q q ≡ true
-request_same (requests.Server s a n) = both_true (s == s) _ (number_same s) (both_true (a == a) _ (number_same a) (number_same n))
-request_same (requests.User u n) = both_true (u == u) _ (number_same u) (number_same n)
+request_same (requests.Server s a n) = and_from (s == s) _ (number_same s) (and_from (a == a) _ (number_same a) (number_same n))
+request_same (requests.User u n) = and_from (u == u) _ (number_same u) (number_same n)
 request_same requests.NoRequest = refl
 
 -- the newest purpose is that of its number

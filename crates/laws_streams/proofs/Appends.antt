@@ -1,7 +1,7 @@
 -- The rows of Make, Append and Put keep what is known.
 use Rattle.std.proofs.Common.{◌≡◌, ◌≢◌, ◌⊎◌, ℕ, ◌+◌, ◌*◌, ◌<◌, ◌≤◌, Bool, true, false, not, ◌==◌, nat_lt, nat_le, if◌then◌else◌, List, [], ◌∷◌, ◌++◌, length, Some, None, slice_get, Contains, refl, sym, ◌∙◌, inl, inr, arith, subst, ap, length-append, append_assoc}
 use Rattle.std.specs.List.{list_any}
-use Rattle.std.proofs.lemmas.Bool.{or_parts, ltb-true, ltb-false, leb-true, leb-false, not-false, eqb-true, eqb-false}
+use Rattle.std.proofs.lemmas.Bool.{or_parts, ltb-true, ltb-false, leb-true, leb-false, not-false, eqb-true, eqb-false, and_parts}
 use Rattle.blocks.specs.declared.record.Nodes.{Nodes}
 use Rattle.wire.specs.Blocks.{is_block}
 use Rattle.wire.specs.declared.actor.ActorId.TheVariants.{Node}
@@ -20,7 +20,7 @@ use Rattle.model.specs.Honest.{Stands}
 use Rattle.model.specs.Maps.{changed, changed_at}
 use Rattle.model.specs.Node.{Replica, is_open, make_tests, make_taken, make_row, append_tests, append_refusal, append_taken, append_row, tells_length, put_fits, put_added, put_passed, put_taken, put_tests, put_refusal, put_row}
 use Rattle.model.specs.Outcome.{all_met, silent, or_refused}
-use Rattle.model.proofs.Tests.{if_elim, both_parts, none_met, all_are}
+use Rattle.model.proofs.Tests.{if_elim, none_met, all_are}
 use Rattle.laws_streams.specs.Origins.{Begins, Origin}
 use Rattle.laws_streams.proofs.Lists.{begins_refl, begins_push, take_past, get_next, NoneEmpty, none_empty-push, stands_on, stands_last, stands_end, same_beginning}
 use Rattle.laws_streams.proofs.Tests.{changed_elim, changed_at_elim, changed_at-same, changed_at-other, changed-same, changed-other, Each, each-append, contains_left, contains_last, contains_pushed}
@@ -44,7 +44,7 @@ make_keeps now g n p e fence target at sound none made =
       third_has = omega arith;
       waiting = λ i. tt;
       waits = tt;
-      target = (let w = both_parts (nat_le 4096 target) (nat_le target 16777216) (all_are (make_tests n p target at) t).1.1.1.0 in leb-true target 16777216 w.1);
+      target = (let w = and_parts (nat_le 4096 target) (nat_le target 16777216) (all_are (make_tests n p target at) t).1.1.1.0 in leb-true target 16777216 w.1);
       born = omega (arith, made.1);
       check = tt;
       fence = λ i. let f = (none.script at made.0 i).1 in omega (arith, f);
@@ -57,7 +57,7 @@ group_sized : (blocks : Group) → (length blocks == 0) ≡ false → list_any (
 group_sized [] p q = absurd (cc)
 group_sized (b ∷ bs) p q =
     let f : is_block b ≡ true = not-false (is_block b) (or_parts (not (is_block b)) (list_any (λ x. not (is_block x)) bs) q).0 in
-    let l : 0 < length b = ltb-true 0 (length b) (both_parts (nat_lt 0 (length b)) (nat_le (length b) 65536) f).0 in
+    let l : 0 < length b = ltb-true 0 (length b) (and_parts (nat_lt 0 (length b)) (nat_le (length b) 65536) f).0 in
     omega (arith, length-append b (joined bs))
 
 group_small : (blocks : Group) → list_any (λ b. not (is_block b)) blocks ≡ false → size blocks ≤ length blocks * 65536
@@ -65,7 +65,7 @@ group_small [] q = omega arith
 group_small (b ∷ bs) q =
     let two = or_parts (not (is_block b)) (list_any (λ x. not (is_block x)) bs) q in
     let f : is_block b ≡ true = not-false (is_block b) two.0 in
-    let l : length b ≤ 65536 = leb-true (length b) 65536 (both_parts (nat_lt 0 (length b)) (nat_le (length b) 65536) f).1 in
+    let l : length b ≤ 65536 = leb-true (length b) 65536 (and_parts (nat_lt 0 (length b)) (nat_le (length b) 65536) f).1 in
     let m = group_small bs two.1 in
     omega (arith, length-append b (joined bs), l, m)
 
@@ -361,7 +361,7 @@ put_taken_keeps : (now : Moment) (g : Ground) (n e offset : ℕ) (r : Replica) (
 put_taken_keeps now g n e offset r group sound fine phase live stands some =
     if_elim (Keeps now g n e) (put_fits r offset) (put_added n r e offset group) (put_passed n r e)
     (λ fits.
-    let at : offset ≡ text_length r.content.groups = eqb-true offset (text_length r.content.groups) (both_parts _ _ fits).0 in (
+    let at : offset ≡ text_length r.content.groups = eqb-true offset (text_length r.content.groups) (and_parts _ _ fits).0 in (
       lasting g n e (text_length (r.content.groups ++ group ∷ [])),
       put_fine now g n e r sound fine group some (subst (λ x. Stands group x (g.script e)) at stands) phase offset live,
     ))

@@ -1,6 +1,6 @@
 -- The rows of Check, Probe and Probed keep what is known: a check is answered once all three places told one length.
 use Rattle.std.proofs.Common.{◌≡◌, ◌≢◌, ◌⊎◌, ℕ, ◌≤◌, true, ◌&&◌, ◌==◌, nat_lt, [], ◌∷◌, ◌++◌, Option, Some, None, Contains, refl, sym, ◌∙◌, inl, inr, arith, ap, subst, append-nil}
-use Rattle.std.proofs.lemmas.Bool.{ltb-true, ltb-false, not-false, eqb-true}
+use Rattle.std.proofs.lemmas.Bool.{ltb-true, ltb-false, not-false, eqb-true, and_parts}
 use Rattle.blocks.specs.declared.record.Nodes.{Nodes}
 use Rattle.wire.specs.declared.actor.ActorId.TheVariants.{Node}
 use Rattle.wire.specs.declared.actor.ReqNo.{ReqNo}
@@ -15,7 +15,7 @@ use Rattle.model.specs.Actors.{is_node, generation_of}
 use Rattle.model.specs.Maps.{changed}
 use Rattle.model.specs.Node.{Replica, is_open, check_tests, check_refusal, raised, check_begun, checked_as, check_taken, check_row, probe_tests, probe_refusal, probe_taken, probe_row, with_probed, common_length, settled, probed_by, probed_for, probed_row}
 use Rattle.model.specs.Outcome.{silent, or_refused}
-use Rattle.model.proofs.Tests.{if_elim, both_parts, none_met}
+use Rattle.model.proofs.Tests.{if_elim, none_met}
 use Rattle.laws_streams.proofs.Lists.{begins_refl}
 use Rattle.laws_streams.proofs.Tests.{changed_elim, changed-same, contains_left, contains_pushed, contains_last}
 use Rattle.laws_streams.proofs.Ground.{Ground, Sound, FineCheckBody, FineCover, AtMost, FineChecking, FineCheck, FineOne}
@@ -238,8 +238,8 @@ module _ (now : Moment) (g : Ground) (n e : ℕ) (r : Replica) (sound : Sound g)
         FineCover (fencing g e c.generation) e c.generation (text_length r.content.groups)
     unfolding fencing
     found_equal a b x y t =
-        let u = both_parts (is_open r.content.phase) ((a == text_length r.content.groups) && (b == text_length r.content.groups)) t in
-        let v = both_parts (a == text_length r.content.groups) (b == text_length r.content.groups) u.1 in
+        let u = and_parts (is_open r.content.phase) ((a == text_length r.content.groups) && (b == text_length r.content.groups)) t in
+        let v = and_parts (a == text_length r.content.groups) (b == text_length r.content.groups) u.1 in
         let i = eqb-true a (text_length r.content.groups) v.0 in
         let j = eqb-true b (text_length r.content.groups) v.1 in
         let phase = open_phase g n e r u.0 fine in

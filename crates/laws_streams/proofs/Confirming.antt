@@ -1,13 +1,13 @@
 -- Openings of a range rise, and a generation is confirmed between those that are no higher and those that are higher.
 use Rattle.std.proofs.Common.{◌≡◌, ℕ, ◌<◌, ◌≤◌, Bool, true, not, ◌||◌, ◌==◌, nat_lt, List, [], ◌∷◌, ◌++◌, Option, Some, None, refl, sym, ap, ◌∙◌, arith, subst, eq-eqb}
-use Rattle.std.proofs.lemmas.Bool.{ltb-true, not-false, eqb-true}
+use Rattle.std.proofs.lemmas.Bool.{ltb-true, not-false, eqb-true, and_parts}
 use Rattle.blocks.specs.declared.record.Record.{Record}
 use Rattle.wire.specs.declared.streams.StreamKind.TheVariants.{Metadata}
 use Rattle.wire.specs.declared.streams.StreamName.{StreamName}
 use Rattle.streams.specs.Streams.{Stream, Streams, stream_of, has_four, passes, fenced_at, opened}
 use Rattle.model.specs.Manager.{open_tests, open_taken, confirm_tests}
 use Rattle.model.specs.World.{Cell, World, stops_in, stands_in, manager_does, Move, moved, run_moves}
-use Rattle.model.proofs.Tests.{if_elim, both_parts, none_met}
+use Rattle.model.proofs.Tests.{if_elim, none_met}
 use Rattle.laws_streams.specs.Fences.{FencesRise, is_kept, Opens, Confirms, OpensIn, Settles}
 use Rattle.laws_streams.proofs.Law.{run_moves_push}
 use Rattle.laws_streams.proofs.Rising.{all_passed, run_rises, run_more}
@@ -21,7 +21,7 @@ there_is test None t = absurd cc
 there_is test (Some x) t = (x, refl)
 
 has_first : (streams : Streams) (range : ℕ) → has_four streams range ≡ true → (x : Stream) × (streams range 0 ≡ Some x)
-has_first streams range t = there_is (λ x. true) (streams range 0) (both_parts (passes (λ x. true) (streams range 0)) _ t).0
+has_first streams range t = there_is (λ x. true) (streams range 0) (and_parts (passes (λ x. true) (streams range 0)) _ t).0
 
 -- ---- before an opening, and after it
 

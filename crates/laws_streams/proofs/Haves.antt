@@ -1,6 +1,6 @@
 -- The row of Have keeps what is known: an append is acknowledged once all three places have it.
 use Rattle.std.proofs.Common.{◌≡◌, ◌≢◌, ◌⊎◌, ℕ, zero, suc, ◌+◌, ◌≤◌, ◌&&◌, ◌==◌, nat_lt, nat_le, List, [], ◌∷◌, take, drop, Some, refl, sym, ◌∙◌, inl, inr, arith, subst, ap}
-use Rattle.std.proofs.lemmas.Bool.{leb-true, leb-false, eqb-true}
+use Rattle.std.proofs.lemmas.Bool.{leb-true, leb-false, eqb-true, and_parts}
 use Rattle.blocks.specs.declared.record.Nodes.{Nodes}
 use Rattle.wire.specs.declared.body.AppendBody.TheVariants.{Have}
 use Rattle.wire.specs.declared.note.Note.{Note}
@@ -13,7 +13,7 @@ use Rattle.model.specs.Actors.{is_node}
 use Rattle.model.specs.Honest.{Apart}
 use Rattle.model.specs.Maps.{changed}
 use Rattle.model.specs.Node.{Replica, is_open, covered, lesser, greater, acked, answers, answered, answered_if, have_row}
-use Rattle.model.proofs.Tests.{if_elim, both_parts}
+use Rattle.model.proofs.Tests.{if_elim}
 use Rattle.laws_streams.proofs.Lists.{begins_refl, stands_end}
 use Rattle.laws_streams.proofs.Tests.{changed_elim, changed-same, Each, each-weaker, EachPair, each-drop}
 use Rattle.laws_streams.proofs.Ground.{Ground, Sound, FineAppend, FinePacket, FineNote, Chain, FinePhase, FineWaiting, FineOne}
@@ -225,7 +225,7 @@ pub have_keeps : (now : Moment) (g : Ground) (n e l : ℕ) (r : Replica) (p : Pa
 have_keeps now g n e l r p sound notes fine told_have =
     if_elim (Keeps now g n e) ((n == r.content.places.primary) && is_open r.content.phase) _ _
     (λ t.
-    let b = both_parts (n == r.content.places.primary) (is_open r.content.phase) t in
+    let b = and_parts (n == r.content.places.primary) (is_open r.content.phase) t in
     let primary = eqb-true n r.content.places.primary b.0 in
     let live = open_phase g n e r b.1 fine in
     if_elim (λ x. Keeps now g n e (answered_if n r e x)) (is_node r.content.places.second p.from) _ _

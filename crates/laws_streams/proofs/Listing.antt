@@ -1,6 +1,6 @@
 -- What a row of the manager's table leaves of the lists of extents.
 use Rattle.std.proofs.Common.{◌≡◌, ◌⊎◌, ℕ, suc, ◌≤◌, ◌&&◌, ◌==◌, [], ◌∷◌, ◌++◌, Option, Some, None, Result, Ok, Err, refl, sym, ap, ◌∙◌, inl, inr, arith, subst}
-use Rattle.std.proofs.lemmas.Bool.{eqb-true}
+use Rattle.std.proofs.lemmas.Bool.{eqb-true, and_parts}
 use Rattle.blocks.specs.declared.record.Nodes.{Nodes}
 use Rattle.wire.specs.declared.actor.ActorId.{ActorId}
 use Rattle.wire.specs.declared.actor.ActorId.TheVariants.{Manager}
@@ -23,7 +23,7 @@ use Rattle.model.specs.declared.extent.PlaceReport.{PlaceReport}
 use Rattle.model.specs.Actors.{is_node, is_user, generation_of}
 use Rattle.model.specs.Manager.{Book, is_there, new_extent, with_extent, extended, create_tests, create_refusal, create_taken, open_refusal, open_taken, confirm_refusal, answer, is_foreign, is_pick, sealed_lengths, extend_made, last_told, extend_answered, extend_row, no_users, seal_asked, seal_extent_row, with_report, noted, frozen_to, frozen_row, known_sealed, is_sealed_row, place_of, first_sealed, asks_tail, short_row, sealed_to, decided_if, least_told, decide_row, stream_body_row, seal_body_row, manager_row, reminders}
 use Rattle.model.specs.Outcome.{Outcome, silent, sends, refused, or_refused}
-use Rattle.model.proofs.Tests.{if_elim, both_parts, none_met}
+use Rattle.model.proofs.Tests.{if_elim, none_met}
 use Rattle.laws_streams.specs.Origins.{Begins}
 use Rattle.laws_streams.specs.Answers.{MayGrow}
 use Rattle.laws_streams.specs.Listings.{Longer}
@@ -136,7 +136,7 @@ pub with_stream_elim : (P : Option Stream → Type 0) (streams : Streams) (s : S
 with_stream_elim P streams s y t same other =
     if_elim P ((t.range == s.range) && (kind_number t.kind == kind_number s.kind)) (Some y) (streams t.range (kind_number t.kind))
     (λ k.
-    let m = both_parts (t.range == s.range) (kind_number t.kind == kind_number s.kind) k in
+    let m = and_parts (t.range == s.range) (kind_number t.kind == kind_number s.kind) k in
     same (same_name t s (eqb-true t.range s.range m.0) (kind_same t.kind s.kind (eqb-true (kind_number t.kind) (kind_number s.kind) m.1))))
     (λ k. other)
 

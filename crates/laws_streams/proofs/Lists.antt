@@ -1,7 +1,7 @@
 -- Lists of groups that begin one another, and what is shown of a text.
 use Rattle.std.proofs.Common.{◌≡◌, ℕ, zero, suc, ◌+◌, ◌<◌, ◌≤◌, Some, slice_get, List, [], ◌∷◌, ◌++◌, length, get_or, take, drop, refl, sym, ap, subst, ◌∙◌, append_assoc, append-nil, arith, length-append, length-take, length-drop}
 use Rattle.std.proofs.lemmas.Grind.{common_steps}
-use Rattle.replica.specs.Groups.{Group, joined, text, size, text_length}
+use Rattle.replica.specs.Groups.{Group, size, text_length}
 use Rattle.replica.proofs.Lengths.{text_length-append}
 use Rattle.replica.proofs.Placing.{length-cons}
 use Rattle.model.specs.Honest.{Stands}

@@ -1,5 +1,6 @@
 -- What each row of a node's table sends: an answer to the packet that asked, or to those whose appends wait.
 use Rattle.std.proofs.Common.{◌≡◌, ℕ, suc, zero, Bool, true, false, not, ◌&&◌, ◌==◌, nat_lt, List, [], ◌∷◌, take, Option, Some, None, Contains, refl, sym, ap, arith, subst}
+use Rattle.std.proofs.lemmas.Bool.{and_parts}
 use Rattle.blocks.specs.declared.record.Nodes.{Nodes}
 use Rattle.wire.specs.declared.actor.ActorId.{ActorId}
 use Rattle.wire.specs.declared.actor.ActorId.TheVariants.{Node}
@@ -29,7 +30,7 @@ use Rattle.model.specs.Actors.{is_node, is_manager, generation_of}
 use Rattle.model.specs.Node as table
 use Rattle.model.specs.Node.{Replica, is_open, is_sealed}
 use Rattle.model.specs.Outcome.{Outcome, all_met, silent, or_refused}
-use Rattle.model.proofs.Tests.{if_elim, both_parts, none_met}
+use Rattle.model.proofs.Tests.{if_elim, none_met}
 use Rattle.laws_streams.proofs.Tests.{Each}
 
 -- ---- what an answer comes from
@@ -200,7 +201,7 @@ module _ (n k : ℕ) (p : Packet) (r : Replica) where
           checks = checks;
           asker = refl;
           request = refl;
-          opened = (both_parts (is_open r.content.phase) _ t).0;
+          opened = (and_parts (is_open r.content.phase) _ t).0;
           length = refl;
           generation = generation;
           told = l;

@@ -1,6 +1,6 @@
 -- The rows of the reads keep what is known: what is shown is of the script.
 use Rattle.std.proofs.Common.{◌≡◌, ℕ, ◌+◌, ◌-◌, ◌≤◌, Bool, true, ◌&&◌, ◌==◌, nat_le, List, [], ◌∷◌, Option, Some, None, refl, sym, ◌∙◌, arith, subst, ap}
-use Rattle.std.proofs.lemmas.Bool.{ltb-false, leb-true, eqb-true}
+use Rattle.std.proofs.lemmas.Bool.{ltb-false, leb-true, eqb-true, and_parts}
 use Rattle.blocks.specs.declared.record.Nodes.{Nodes}
 use Rattle.wire.specs.declared.actor.ReqNo.{ReqNo}
 use Rattle.wire.specs.declared.note.Note.{Note}
@@ -14,7 +14,7 @@ use Rattle.replica.proofs.Lengths.{text-append}
 use Rattle.replica.proofs.Placing.{length-cons}
 use Rattle.model.specs.Honest.{Apart}
 use Rattle.model.specs.Node.{Replica, is_sealed, read_tests, read_refusal, read_taken, read_row, groups_note, groups_shown, groups_taken, groups_refusal, groups_row}
-use Rattle.model.proofs.Tests.{if_elim, both_parts, none_met}
+use Rattle.model.proofs.Tests.{if_elim, none_met}
 use Rattle.laws_streams.specs.Origins.{Begins, Shows}
 use Rattle.laws_streams.proofs.Lists.{begins_refl, begins_trans, shows_on, shows_part, shows_within}
 use Rattle.laws_streams.proofs.Tests.{Each}
@@ -79,7 +79,7 @@ note_fine g n e upto r c fine f =
     let b : Begins c (g.script e) = begins_trans f.begins fine.begins in
     if_elim (FineNote g) (is_sealed r.content.phase && (upto == text_length r.content.groups)) (Content e n c) (Seen e n 0 (text c))
     (λ t.
-    let k = both_parts (is_sealed r.content.phase) (upto == text_length r.content.groups) t in
+    let k = and_parts (is_sealed r.content.phase) (upto == text_length r.content.groups) t in
     let l : upto ≡ text_length r.content.groups = eqb-true upto (text_length r.content.groups) k.1 in
     record { begins = b; sealed = rw (f.length ∙ l) (sealed_length g n e r.content.places r.content.groups r.content.phase k.0 fine.phase) })
     (λ no. rw (b.is, text-append c b.rest) (shows_within [] (text c) (text b.rest)))

@@ -1,6 +1,6 @@
 -- No move lowers the fence of a stream, and each new extent has the fence of its stream.
 use Rattle.std.proofs.Common.{◌≡◌, ℕ, suc, ◌≤◌, Bool, true, false, not, ◌&&◌, ◌||◌, ◌==◌, nat_lt, if◌then◌else◌, List, [], ◌∷◌, ◌++◌, Option, Some, None, Result, Ok, Err, slice_get, refl, sym, ap, ◌∙◌, arith, subst, eq-eqb}
-use Rattle.std.proofs.lemmas.Bool.{ltb-true, not-false, eqb-true}
+use Rattle.std.proofs.lemmas.Bool.{ltb-true, not-false, eqb-true, and_parts}
 use Rattle.blocks.specs.declared.record.Nodes.{Nodes}
 use Rattle.wire.specs.declared.actor.ActorId.{ActorId}
 use Rattle.wire.specs.declared.actor.ActorId.TheVariants.{Node, Manager, Map, Server, User}
@@ -29,7 +29,7 @@ use Rattle.model.specs.Node.{extent_of, node_row}
 use Rattle.model.specs.Outcome.{Outcome, silent, sends, refused, or_refused}
 use Rattle.model.specs.World.{World, stops_in, stands_in, halted, node_does, node_takes, desk_halted, manager_does, delivered, delivered_if, is_request, node_stops, manager_stops, stop, is_present, restart, happens, is_server_call, is_told, is_table_note, Move, moved, run_moves}
 use Rattle.model.specs.World.Move.{Happens, Asks, Says, Observes}
-use Rattle.model.proofs.Tests.{if_elim, both_parts, none_met}
+use Rattle.model.proofs.Tests.{if_elim, none_met}
 use Rattle.laws_streams.specs.Fences.{Risen, FencesRise, MadeWithFences}
 use Rattle.laws_streams.proofs.Tests.{changed_elim}
 
@@ -68,7 +68,7 @@ with_rises : (streams : Streams) (s : StreamName) (y : Stream) → ((x : Stream)
 with_rises streams s y low t x is =
     if_elim (Risen x) ((t.range == s.range) && (kind_number t.kind == kind_number s.kind)) (Some y) (streams t.range (kind_number t.kind))
     (λ k.
-    let m = both_parts (t.range == s.range) (kind_number t.kind == kind_number s.kind) k in
+    let m = and_parts (t.range == s.range) (kind_number t.kind == kind_number s.kind) k in
     let r = eqb-true t.range s.range m.0 in
     let n = eqb-true (kind_number t.kind) (kind_number s.kind) m.1 in
     record { now = y; is = refl; fence = low x (rw (← r, ← n) is) })
@@ -107,9 +107,9 @@ passed_by test (Some y) x t is = let c : y ≡ x = cc in subst (λ z. test z ≡
 
 pub four_pass : (a b c d : Bool) → (a && (b && (c && d))) ≡ true → (a ≡ true) × (b ≡ true) × (c ≡ true) × (d ≡ true)
 four_pass a b c d t =
-    let k = both_parts a (b && (c && d)) t in
-    let m = both_parts b (c && d) k.1 in
-    let n = both_parts c d m.1 in
+    let k = and_parts a (b && (c && d)) t in
+    let m = and_parts b (c && d) k.1 in
+    let n = and_parts c d m.1 in
     (k.0, m.0, n.0, n.1)
 
 -- what each of the four streams of a range passes, the stream of each kind does

@@ -1,6 +1,6 @@
 -- The rows of Freeze, Seal, SendTail and Tail keep what is known.
 use Rattle.std.proofs.Common.{◌≡◌, ℕ, true, ◌&&◌, not, ◌==◌, nat_lt, nat_le, ◌+◌, List, [], ◌∷◌, ◌++◌, length, drop, Option, Some, None, refl, sym, ◌∙◌, inl, arith, ap, append_assoc}
-use Rattle.std.proofs.lemmas.Bool.{not-false, eqb-true}
+use Rattle.std.proofs.lemmas.Bool.{not-false, eqb-true, and_parts}
 use Rattle.blocks.specs.declared.record.Record.{Record}
 use Rattle.blocks.specs.declared.record.Record.TheVariants as records
 use Rattle.wire.specs.declared.actor.ActorId.TheVariants.{Node, Manager}
@@ -17,7 +17,7 @@ use Rattle.model.specs.Actors.{is_manager, is_one_of}
 use Rattle.model.specs.Maps.{changed_at}
 use Rattle.model.specs.Node.{Replica, is_frozen, is_sealed, frozen_at, freezes, freeze_row, shorts, sealed_at, cuts, seals_again, seals, seal_row, tail_sent, send_tail_tests, send_tail_refusal, send_tail_row, tail_fits, tail_taken, tail_row}
 use Rattle.model.specs.Outcome.{packet, silent}
-use Rattle.model.proofs.Tests.{if_elim, both_parts, none_met}
+use Rattle.model.proofs.Tests.{if_elim, none_met}
 use Rattle.laws_streams.specs.Origins.{Begins}
 use Rattle.laws_streams.proofs.Lists.{begins_refl, begins_trans, same_beginning}
 use Rattle.laws_streams.proofs.Tests.{changed_at_elim, changed_at-same, changed_at-other, Each}
@@ -206,16 +206,16 @@ send_tail_keeps now g n e from to r p sound fine =
 is_at_end : (r : Replica) (from l : ℕ) (groups : List Group) → is_tail r.content from l groups ≡ true → from ≡ text_length r.content.groups
 is_at_end r from l groups t =
     eqb-true from (text_length r.content.groups)
-    (both_parts (from == text_length r.content.groups) (nat_le l longest && (text_length r.content.groups + text_length groups == l))
-    (both_parts (not (length groups == 0)) _ t).1).0
+    (and_parts (from == text_length r.content.groups) (nat_le l longest && (text_length r.content.groups + text_length groups == l))
+    (and_parts (not (length groups == 0)) _ t).1).0
 
 pub tail_keeps : (now : Moment) (g : Ground) (n e from l : ℕ) (groups : List Group) (r : Replica) (p : Packet) → Sound g → FineOne g n e r →
     FineTail g e from l groups → Keeps now g n e (tail_row n r p e from l groups)
 tail_keeps now g n e from l groups r p sound fine tail =
     if_elim (Keeps now g n e) (tail_fits r p.from from l groups) (tail_taken n r e from l groups) (silent (Some r))
     (λ t.
-    let fits = both_parts (is_one_of r.content.places p.from) (is_frozen r.content.phase && is_tail r.content from l groups) t in
-    let here = is_at_end r from l groups (both_parts (is_frozen r.content.phase) (is_tail r.content from l groups) fits.1).1 in
+    let fits = and_parts (is_one_of r.content.places p.from) (is_frozen r.content.phase && is_tail r.content from l groups) t in
+    let here = is_at_end r from l groups (and_parts (is_frozen r.content.phase) (is_tail r.content from l groups) fits.1).1 in
     let same : r.content.groups ≡ tail.before =
     same_beginning r.content.groups tail.before fine.begins.rest (groups ++ tail.begins.rest)
     (sym fine.begins.is ∙ (tail.begins.is ∙ append_assoc tail.before groups tail.begins.rest))

@@ -2,7 +2,7 @@
 use Rattle.std.proofs.Common.{◌≡◌, ◌≢◌, ◌⊎◌, ℕ, zero, suc, ◌<◌, Bool, true, false, not, ◌==◌, ◌&&◌, ◌||◌, nat_lt, nat_le, if◌then◌else◌, List, [], ◌∷◌, ◌++◌, length, map, Option, Some, None, option_map, Result, Ok, Err, refl, sym, ap, ◌∙◌, inl, inr, ⊎_elim, arith, subst, append-nil}
 use Rattle.std.proofs.lemmas.List.{length-map}
 use Rattle.std.proofs.lemmas.Option.{same_Some}
-use Rattle.std.proofs.lemmas.Bool.{ltb-true, eqb-true}
+use Rattle.std.proofs.lemmas.Bool.{ltb-true, eqb-true, and_parts}
 use Rattle.disk.specs.declared.device.DiskFault.{DiskFault}
 use Rattle.disk.specs.declared.device.DiskFault.TheVariants.{Failed, Memory}
 use Rattle.disk.specs.declared.memory.MemDisk.{MemDisk}
@@ -21,7 +21,7 @@ use Rattle.model.specs.Outcome.{Outcome}
 use Rattle.model.specs.Manager.{Book, book_stopped, forgotten, forgotten_if, manager_row}
 use Rattle.model.specs.Replay.{book_replay}
 use Rattle.model.specs.World.{World, Cell, after_ruling, armed, burnt, desk_halted, down, manager_does, manager_stops, manager_takes, restart, running, stands_in, stop, stops_in, unsent}
-use Rattle.model.proofs.Tests.{if_elim, both_parts}
+use Rattle.model.proofs.Tests.{if_elim}
 use Rattle.directory.specs.Table.{TableState, Lists, forgotten_table}
 use Rattle.directory.specs.Replay.{Ledgered}
 use Rattle.manager.specs.Manager.{ManagerState, IsLedger, MakesBook, Shows, table_of}
@@ -215,7 +215,7 @@ told_as (Some s) c is =
 pub told_stands : (told : Option Stop) (c : Cell) (k : Option Record) → option_map {U = ℕ × Bool} (λ (s : Stop). (s.calls, s.keep)) told ≡ plan_of c → stops_in c k ≡ true → stands_told told ≡ stands_in c
 told_stands told c None is t = absurd cc
 told_stands told c (Some r) is t =
-    let b = both_parts (nat_lt 0 c.fuse) (nat_le c.fuse 4) t in
+    let b = and_parts (nat_lt 0 c.fuse) (nat_le c.fuse 4) t in
     told_as told c (is ∙ plan_some c (ltb-true 0 c.fuse b.0))
 
 -- ---- stops and restarts

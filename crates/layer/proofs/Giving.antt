@@ -17,7 +17,7 @@ use Rattle.model.specs.Maps.{changed_at}
 use Rattle.model.specs.Outcome.{Outcome}
 use Rattle.model.specs.Node.{Replica, contents, stopped, node_row, extent_of}
 use Rattle.model.specs.World.{World, Cell, burnt, stops_in, stands_in, stopped_at, halted, unsent, after_row, node_does, node_takes, down}
-use Rattle.model.proofs.Tests.{if_elim, both_parts}
+use Rattle.model.proofs.Tests.{if_elim}
 use Rattle.model.proofs.Replay.{Replays, IsWritten, applied_if, row_replays}
 use Rattle.enode.specs.Node.{NodeState, IsReplay, find, fresh_of}
 use Rattle.disk.specs.Appends.{listed}

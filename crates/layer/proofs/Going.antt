@@ -1,14 +1,14 @@
 -- The list of nodes, when one of them goes on.
 use Rattle.std.proofs.Common.{◌≡◌, ℕ, zero, suc, ◌<◌, ◌≤◌, ◌+◌, ◌-◌, false, ◌&&◌, nat_lt, nat_le, not, List, [], ◌∷◌, ◌++◌, Some, None, refl, sym, ap, ◌∙◌, inl, inr, ⊎_elim, arith, subst, slice_index_or, slice_set, length, append-nil}
 use Rattle.std.proofs.lemmas.Bool.Decides.{eqb_tells}
-use Rattle.std.proofs.lemmas.Bool.{and_cases, ltb-true, ltb-false, leb-true, leb-false}
+use Rattle.std.proofs.lemmas.Bool.{and_cases, ltb-true, ltb-false, leb-true, leb-false, and_parts}
 use Rattle.disk.specs.declared.memory.MemDisk.{MemDisk}
 use Rattle.wire.specs.declared.packet.Packet.{Packet}
 use Rattle.wire.specs.declared.packet.Step.{Step}
 use Rattle.blocks.specs.declared.record.Record.{Record}
 use Rattle.replica.specs.Replay.{replay}
 use Rattle.model.specs.World.{World, Cell, node_takes, start, cell_at, running, down}
-use Rattle.model.proofs.Tests.{if_elim, both_parts}
+use Rattle.model.proofs.Tests.{if_elim}
 use Rattle.enode.specs.Node.{NodeState, fresh_of, IsRestart}
 use Rattle.model.specs.Maps.{entry_at}
 use Rattle.layer.specs.Nodes.{NodeSeen, seen_of, all_seen, plan_of, NodeMirrors, NodesMirror, Gave, Went, IsNew, AreNew}
@@ -91,7 +91,7 @@ begun xs target h = record {
     plan = λ _. k.untold ∙ sym (ap plan_of (is_running n l.0 l.1));
   };
   absent = λ n e. if_elim (λ c. c.up ≡ false) (nat_lt 0 n && nat_le n (length xs)) running down
-      (λ t. absurd (let b = both_parts (nat_lt 0 n) (nat_le n (length xs)) t in
+      (λ t. absurd (let b = and_parts (nat_lt 0 n) (nat_le n (length xs)) t in
       let l = entry_none xs n e (ltb-true 0 n b.0) in let k = leb-true n (length xs) b.1 in omega (arith, l, k)))
       (λ f. refl);
   count = refl;

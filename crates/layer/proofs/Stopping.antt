@@ -1,7 +1,7 @@
 -- A node that stops or comes back is the world's node that does.
 use Rattle.std.proofs.Common.{◌≡◌, ◌≢◌, ◌⊎◌, ℕ, zero, suc, ◌<◌, ◌≤◌, Bool, true, false, not, ◌==◌, ◌&&◌, ◌||◌, nat_lt, nat_le, if◌then◌else◌, List, [], ◌∷◌, ◌++◌, Option, Some, None, refl, sym, ap, ◌∙◌, inl, inr, ⊎_elim, arith, subst, slice_index_or, slice_set, length, append-nil}
 use Rattle.std.proofs.lemmas.Bool.Decides.{nat_tests}
-use Rattle.std.proofs.lemmas.Bool.{or_cases, or_parts, ltb-true, leb-true, not-false, eqb-true}
+use Rattle.std.proofs.lemmas.Bool.{or_cases, or_parts, ltb-true, leb-true, not-false, eqb-true, and_from, and_parts}
 use Rattle.disk.specs.declared.memory.MemDisk.{MemDisk}
 use Rattle.disk.specs.Memory.{memory_state}
 use Rattle.blocks.specs.declared.record.Record.{Record}
@@ -11,7 +11,7 @@ use Rattle.replica.specs.Replay.{replay}
 use Rattle.model.specs.Maps.{changed, entry_at}
 use Rattle.model.specs.Node.{Replica, stopped}
 use Rattle.model.specs.World.{World, Cell, armed, down, halted, is_present, node_stops, restart, running, stop}
-use Rattle.model.proofs.Tests.{if_elim, both_parts, both_true}
+use Rattle.model.proofs.Tests.{if_elim}
 use Rattle.enode.specs.Node.{NodeState, IsReplay, IsRestart, find, fresh_of}
 use Rattle.layer.specs.Nodes.{NodeSeen, seen_of, all_seen, plan_of, NodeMirrors, NodesMirror, Gave, Went, nothing}
 pub use Rattle.stopping.proofs.Breaking.{plan_armed}
@@ -137,7 +137,7 @@ restart_nobody n xs none w m =
     (λ f. absurd (is_nobody (not-false (is_present w n) (or_parts (w.cell n).up (not (is_present w n)) f).1)))
   where
     is_nobody : is_present w n ≡ true → ⊥
-    is_nobody t = let k = both_parts (nat_lt 0 n) (nat_le n w.nodes) t in
+    is_nobody t = let k = and_parts (nat_lt 0 n) (nat_le n w.nodes) t in
         let far = entry_none xs n none (ltb-true 0 n k.0) in
         let near = leb-true n w.nodes k.1 in
         omega (arith, far, near, m.count)
@@ -150,7 +150,7 @@ reaches n many count l is = grind (arith, nat_tests)
 
 -- a node of the list is there
 pub is_there : (xs : List NodeSeen) (n : ℕ) (x : NodeSeen) (w : World) → NodesMirror xs w → entry_at xs n ≡ Some x → is_present w n ≡ true
-is_there xs n x w m e = let l = entry_below xs n x e in both_true (nat_lt 0 n) (nat_le n w.nodes) (below_is n l.0) (reaches n (length xs) w.nodes l.1 m.count)
+is_there xs n x w m e = let l = entry_below xs n x e in and_from (nat_lt 0 n) (nat_le n w.nodes) (below_is n l.0) (reaches n (length xs) w.nodes l.1 m.count)
 
 pub restarted_from : (n : ℕ) (xs : List (NodeState MemDisk)) (d y : NodeState MemDisk) → n < length xs → d ≡ slice_index_or xs n d →
     ((k : ℕ) (w : World) → is_present w k ≡ true → NodeMirrors k (seen_of d) w → Gave k (seen_of y) w (restart w (Node k)) nothing) →

@@ -28,7 +28,7 @@ use Rattle.model.specs.declared.checking.Checking.{Checking}
 use Rattle.model.specs.declared.waiting.Waiting.{Waiting}
 use Rattle.model.specs.Actors.{is_node, is_manager}
 use Rattle.model.specs.Outcome.{Outcome, all_met, silent, sends, or_refused}
-use Rattle.model.specs.Node.{Replica, fresh, is_open, node_row, append_body_row, seal_body_row, read_body_row, append_taken, append_refusal, append_tests, make_row, make_taken, make_tests, put_fits, put_added, put_passed, put_taken, put_refusal, put_row, answered, answered_if, covered, lesser, with_length, have_row, read_taken, groups_taken, is_sealed, freezes, freeze_row, shorts, cuts, seals_again, seals, seal_row, tail_sent, send_tail_refusal, send_tail_row, tail_fits, tail_taken, tail_row, missing, check_body_row, check_refusal, check_begun, check_taken, check_row, probe_refusal, probe_taken, probe_row, with_probed, common_length, settled, probed_by, probed_for, probed_row}
+use Rattle.model.specs.Node.{Replica, fresh, is_open, node_row, append_body_row, seal_body_row, read_body_row, append_taken, append_refusal, append_tests, make_row, make_taken, make_tests, put_fits, put_added, put_passed, put_taken, put_refusal, put_row, answered, answered_if, covered, lesser, with_length, have_row, read_taken, groups_taken, is_sealed, freezes, freeze_row, shorts, cuts, seals_again, seals, seal_row, tail_sent, send_tail_refusal, send_tail_row, tail_fits, tail_taken, tail_row, missing, check_body_row, check_begun, check_taken, probe_refusal, probe_taken, probe_row, with_probed, settled, probed_by, probed_for}
 use Rattle.model.specs.Bounds.{FewWait, AreFew}
 use Rattle.model.proofs.Tests.{if_elim, none_met}
 

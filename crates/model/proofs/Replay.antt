@@ -8,7 +8,7 @@ use Rattle.wire.specs.declared.actor.ReqNo.{ReqNo}
 use Rattle.wire.specs.declared.body.AppendBody.{AppendBody}
 use Rattle.wire.specs.declared.body.AppendBody.TheVariants.{Append, Put, Have}
 use Rattle.wire.specs.declared.body.SealBody.{SealBody}
-use Rattle.wire.specs.declared.body.SealBody.TheVariants.{Make, Freeze, Frozen, Seal, IsSealed, Short, SendTail, Tail}
+use Rattle.wire.specs.declared.body.SealBody.TheVariants.{Make, Freeze, Seal, SendTail, Tail}
 use Rattle.wire.specs.declared.body.CheckBody.{CheckBody}
 use Rattle.wire.specs.declared.body.CheckBody.TheVariants.{Check, Probe, Probed}
 use Rattle.wire.specs.declared.body.ReadBody.{ReadBody}
@@ -28,10 +28,11 @@ use Rattle.replica.specs.Replay.{applied, fits, is_place, is_tail, is_boundary}
 use Rattle.model.specs.declared.checking.Checking.{Checking}
 use Rattle.model.specs.Actors.{is_node, is_manager, is_one_of}
 use Rattle.model.specs.Outcome.{Outcome, all_met, silent, or_refused}
-use Rattle.model.specs.Node.{Replica, contents, node_row, append_body_row, seal_body_row, append_taken, append_refusal, append_tests, make_row, make_taken, make_tests, put_fits, put_added, put_passed, put_taken, put_tests, put_refusal, put_row, answered_if, with_length, have_row, read_taken, groups_taken, read_body_row, extent_of, append_extent, seal_extent, read_extent, is_open, is_frozen, is_sealed, freezes, freeze_row, shorts, sealed_at, cuts, seals_again, seals, seal_row, tail_sent, send_tail_refusal, send_tail_row, tail_fits, tail_taken, tail_row, missing, check_body_row, check_extent, check_refusal, check_begun, check_taken, check_row, raised, raise_written, probe_refusal, probe_tests, probe_taken, probe_row, with_probed, settled, probed_by, probed_for, probed_row}
+use Rattle.model.specs.Node.{Replica, contents, node_row, append_body_row, seal_body_row, append_taken, append_refusal, append_tests, make_row, make_taken, make_tests, put_fits, put_added, put_passed, put_taken, put_tests, put_refusal, put_row, answered_if, with_length, have_row, read_taken, groups_taken, read_body_row, extent_of, append_extent, seal_extent, read_extent, is_open, is_sealed, freezes, freeze_row, shorts, cuts, seals_again, seals, seal_row, tail_sent, send_tail_refusal, send_tail_row, tail_fits, tail_taken, tail_row, missing, check_body_row, check_extent, check_begun, check_taken, raised, raise_written, probe_refusal, probe_tests, probe_taken, probe_row, with_probed, settled, probed_by, probed_for}
 use Rattle.std.proofs.lemmas.Bool.Decides.{nat_tests}
+use Rattle.std.proofs.lemmas.Bool.{and_from, and_parts}
 use Rattle.wire.specs.declared.actor.ActorId.TheVariants.{Node}
-use Rattle.model.proofs.Tests.{if_elim, both_parts, both_true, none_met, all_are, AllMet}
+use Rattle.model.proofs.Tests.{if_elim, none_met, all_are, AllMet}
 
 abbrev pub applied_if : Option Content → Option Record → Option Content
 applied_if content None = content
@@ -59,14 +60,14 @@ unmet_not false e = absurd cc
 append_fits : (n : ℕ) (r : Replica) (p : Packet) (e generation : ℕ) (blocks : Group) → append_refusal n r p generation blocks ≡ None → fits n (Some r.content) (records.Append e (text_length r.content.groups) blocks) ≡ true
 append_fits n r p e generation blocks none =
     let unmet = none_met (append_tests n r p generation blocks) none in
-    both_true _ _ (unmet_not _ unmet.1.0) (both_true _ _ (eq_self (text_length r.content.groups)) (below (text_length r.content.groups) r.content.target unmet.1.1.1.1.1.0))
+    and_from _ _ (unmet_not _ unmet.1.0) (and_from _ _ (eq_self (text_length r.content.groups)) (below (text_length r.content.groups) r.content.target unmet.1.1.1.1.1.0))
 
 append_replays : (n : ℕ) (r : Replica) (p : Packet) (e generation : ℕ) (blocks : Group) (q : ReqNo) (x : Option Refusal) → append_refusal n r p generation blocks ≡ x → Replays n e (Some r) (or_refused (Some r) (Node n) p q x (append_taken n r p e blocks q))
 append_replays n r p e generation blocks q (Some refusal) is = record { is = refl; written = tt }
 append_replays n r p e generation blocks q None is = record { is = refl; written = (refl, append_fits n r p e generation blocks is) }
 
 made_fits : (n : ℕ) (p : Packet) (target : ℕ) (places : Nodes) → AllMet (make_tests n p target places) → (is_place n places && (are_nodes places && is_within 4096 16777216 target)) ≡ true
-made_fits n p target places met = both_true _ _ met.1.0 (both_true _ _ met.1.1.0 met.1.1.1.0)
+made_fits n p target places met = and_from _ _ met.1.0 (and_from _ _ met.1.1.0 met.1.1.1.0)
 
 make_replays : (n : ℕ) (p : Packet) (e fence target : ℕ) (places : Nodes) → Replays n e None (make_row n p e fence target places)
 make_replays n p e fence target places =
@@ -81,7 +82,7 @@ kept_replays n e s o same none = record { is = rw none same; written = rw none (
 put_taken_replays : (n : ℕ) (r : Replica) (e offset : ℕ) (group : Group) → is_open r.content.phase ≡ true → Replays n e (Some r) (put_taken n r e offset group)
 put_taken_replays n r e offset group live =
     if_elim (Replays n e (Some r)) (put_fits r offset) (put_added n r e offset group) (put_passed n r e)
-    (λ t. record { is = refl; written = (refl, both_true _ _ live t) })
+    (λ t. record { is = refl; written = (refl, and_from _ _ live t) })
     (λ f. record { is = refl; written = tt {0} })
 
 put_refused_replays : (n : ℕ) (r : Replica) (p : Packet) (e offset : ℕ) (group : Group) (x : Option Refusal) → put_refusal r ≡ x → Replays n e (Some r) (or_refused (Some r) (Node n) p NoRequest x (put_taken n r e offset group))
@@ -144,7 +145,7 @@ cuts_replays n r p e length None unsealed is = record { is = refl; written = tt 
 cuts_replays n r p e length (Some groups) unsealed is =
     record {
       is = ap (λ (y : Option (List Group)). Some (replays.cut_to r.content y)) (sym is);
-      written = (refl, both_true _ _ (ap not unsealed) (ap is_boundary is));
+      written = (refl, and_from _ _ (ap not unsealed) (ap is_boundary is));
     }
 
 seals_again_replays : (n : ℕ) (r : Replica) (p : Packet) (e length : ℕ) → Replays n e (Some r) (seals_again n r p e length)
@@ -181,7 +182,7 @@ send_tail_replays n r p e from to =
 tail_replays : (n : ℕ) (r : Replica) (p : Packet) (e from length : ℕ) (groups : List Group) → Replays n e (Some r) (tail_row n r p e from length groups)
 tail_replays n r p e from length groups =
     if_elim (Replays n e (Some r)) (tail_fits r p.from from length groups) (tail_taken n r e from length groups) (silent (Some r))
-    (λ t. record { is = refl; written = (refl, (both_parts (is_one_of r.content.places p.from) _ t).1) })
+    (λ t. record { is = refl; written = (refl, (and_parts (is_one_of r.content.places p.from) _ t).1) })
     (λ f. record { is = refl; written = tt {0} })
 
 missing_replays : (n : ℕ) (p : Packet) (e : ℕ) → Replays n e None (missing n p)
@@ -195,7 +196,7 @@ raise_cases : (n e : ℕ) (r : Replica) (generation : ℕ) (o : Outcome (Option 
 raise_cases n e r generation o live true higher made written =
     let w : o.written ≡ Some (records.Fence e generation) = written ∙ rw higher refl in
     let m : contents o.after ≡ Some (fenced r.content generation) = made ∙ rw higher refl in
-    record { is = rw (m, w) refl; written = rw w (refl, both_true _ _ live higher) }
+    record { is = rw (m, w) refl; written = rw w (refl, and_from _ _ live higher) }
 raise_cases n e r generation o live false higher made written =
     let w : o.written ≡ None = written ∙ rw higher refl in
     let m : contents o.after ≡ Some r.content = made ∙ rw higher refl in

@@ -1,7 +1,7 @@
 -- Choices by a test, and functions that are changed at one place.
-use Rattle.std.proofs.Common.{◌≡◌, ◌≢◌, ℕ, Bool, true, false, ◌&&◌, ◌==◌, List, [], ◌∷◌, None, refl}
+use Rattle.std.proofs.Common.{◌≡◌, ◌≢◌, ℕ, Bool, true, false, ◌==◌, List, [], ◌∷◌, None, refl}
 use Rattle.std.specs.Prelude.{if◌then◌else◌}
-use Rattle.std.proofs.lemmas.Bool.{eqb-true, eqb-false}
+use Rattle.std.proofs.lemmas.Bool.{eqb-true, eqb-false, and_parts}
 use Rattle.wire.specs.declared.refusal.Refusal.{Refusal}
 use Rattle.model.specs.Maps.{changed}
 use Rattle.model.specs.Outcome.{first_met, all_met}
@@ -14,14 +14,6 @@ if_elim P false x y t f = f refl
 pub both_elim : {A B : Type 0} (P : A → B → Type 0) (b : Bool) (x y : A) (u v : B) → (b ≡ true → P x u) → (b ≡ false → P y v) → P (if b then x else y) (if b then u else v)
 both_elim P true x y u v t f = t refl
 both_elim P false x y u v t f = f refl
-
-pub both_parts : (a b : Bool) → (a && b) ≡ true → (a ≡ true) × (b ≡ true)
-both_parts true b e = (refl, e)
-both_parts false b e = absurd cc
-
-pub both_true : (a b : Bool) → a ≡ true → b ≡ true → (a && b) ≡ true
-both_true true b e f = f
-both_true false b e f = absurd cc
 
 -- no test is met
 abbrev pub NoneMet : List (Refusal × Bool) → Type 0
@@ -43,7 +35,7 @@ AllMet (test ∷ tests) = (test ≡ true) × AllMet tests
 
 pub all_are : (tests : List Bool) → all_met tests ≡ true → AllMet tests
 all_are [] e = tt
-all_are (test ∷ tests) e = let m = both_parts test (all_met tests) e in (m.0, all_are tests m.1)
+all_are (test ∷ tests) e = let m = and_parts test (all_met tests) e in (m.0, all_are tests m.1)
 
 -- a function that is changed at e has a property at k, if the new value has it where they are the same
 pub changed_elim : {A : Type 0} (P : A → Type 0) (e : ℕ) (v : A) (f : ℕ → A) (k : ℕ) → (k ≡ e → P v) → (k ≢ e → P (f k)) → P (changed e v f k)

@@ -1,6 +1,5 @@
 -- The records of the stream manager, as bytes.
 use Rattle.std.specs.Prelude.{ℕ, zero, suc, List, [], ◌∷◌, ◌++◌, Option, Some, None}
-use Rattle.blocks.specs.declared.record.Nodes.{Nodes}
 use Rattle.blocks.specs.Format.{◌>>=◌, number_at, pair_at, only_at, whole}
 use Rattle.blocks.specs.Reading.{nodes_at, is_within}
 use Rattle.blocks.specs.Record.{number, nodes}

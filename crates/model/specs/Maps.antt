@@ -1,5 +1,5 @@
 -- Total maps, as functions that are changed at one place, and lists that are numbered from 1.
-use Rattle.std.specs.Prelude.{ℕ, zero, suc, ◌&&◌, ◌==◌, List, Option, Some, None, slice_get, if◌then◌else◌}
+use Rattle.std.specs.Prelude.{ℕ, zero, suc, ◌&&◌, ◌==◌, List, Option, None, slice_get, if◌then◌else◌}
 
 -- with one value at one key
 abbrev pub changed : {A : Type 0} → ℕ → A → (ℕ → A) → ℕ → A

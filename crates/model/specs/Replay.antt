@@ -1,5 +1,5 @@
 -- The book that the manager's records make.
-use Rattle.std.specs.Prelude.{◌≡◌, ℕ, suc, Bool, true, false, not, ◌&&◌, List, [], ◌∷◌, Option, Some, None, ◌==◌}
+use Rattle.std.specs.Prelude.{◌≡◌, ℕ, Bool, true, false, not, ◌&&◌, List, [], ◌∷◌, Option, Some, None, ◌==◌}
 use Rattle.blocks.specs.declared.record.Nodes.{Nodes}
 use Rattle.blocks.specs.declared.record.Record.{Record}
 use Rattle.blocks.specs.declared.record.Record.TheVariants.{Manage}
@@ -7,7 +7,7 @@ use Rattle.wire.specs.declared.streams.StreamName.{StreamName}
 use Rattle.model.specs.declared.extent.Extent.{Extent}
 use Rattle.model.specs.declared.manager_record.ManagerRecord.{ManagerRecord}
 use Rattle.model.specs.declared.manager_record.ManagerRecord.TheVariants.{First, CreateStream, OpenStreams, Extend, Seal}
-use Rattle.streams.specs.Streams.{Stream, Streams, stream_of, create_fault, open_fault, created, opened, last_of}
+use Rattle.streams.specs.Streams.{Stream, stream_of, create_fault, open_fault, created, opened, last_of}
 use Rattle.model.specs.Ledger.{record_of}
 use Rattle.model.specs.Manager.{Book, first_book, with_streams, with_extent, extended, sealed_to, is_there, is_pick}
 

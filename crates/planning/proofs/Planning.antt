@@ -1,6 +1,6 @@
 -- What the manager is about to do is what the row of its table does.
 use Rattle.std.proofs.Common.{◌≡◌, ℕ, ◌≤◌, Bool, true, false, not, ◌&&◌, ◌==◌, if◌then◌else◌, List, [], ◌∷◌, ◌++◌, length, Option, Some, None, Result, Ok, Err, nat_lt, refl, sym, ap, ◌∙◌, subst, arith}
-use Rattle.std.proofs.lemmas.Bool.{eqb-true}
+use Rattle.std.proofs.lemmas.Bool.{eqb-true, and_from, and_parts}
 use Rattle.blocks.specs.declared.record.Nodes.{Nodes}
 use Rattle.blocks.specs.Reading.{are_nodes}
 use Rattle.wire.specs.declared.actor.ActorId.{ActorId}
@@ -27,7 +27,7 @@ use Rattle.model.specs.Outcome.{Outcome, packet, first_met, silent, sends, refus
 use Rattle.model.specs.Replay.{is_closed, seal_fits}
 use Rattle.model.specs.Manager as manager
 use Rattle.model.specs.Manager.{Book, extended, is_there, is_pick, is_foreign, sealed_in, answer, create_taken, open_taken, extend_made, extend_picked, extend_answered, reminders, told_sealed, tells_asker, with_report, frozen_to, known_sealed, place_of, first_sealed, least_told, sealed_to, forgotten, forgotten_if, seal_extent_row, frozen_row, is_sealed_row, short_row, decide_row, stream_body_row, seal_body_row, manager_row}
-use Rattle.model.proofs.Tests.{if_elim, both_parts, both_true, both_elim}
+use Rattle.model.proofs.Tests.{if_elim, both_elim}
 use Rattle.directory.specs.Table.{TableState, Lists, longer, closed_if, sealed_at, may_lengthen, lengthens}
 use Rattle.directory.proofs.Keeping.{lengthens_there}
 use Rattle.directory.proofs.Tables.{book_of, book_shows, is_book, lengthened_shows, replaced_shows}
@@ -130,12 +130,12 @@ module _ (t : TableState) where
     made_row : is_pick t.nodes pick ≡ true → (x : Stream) → stream_of t.streams s ≡ Some x → lengthens t.extents g (stream_of t.streams s) ≡ true → Follows t (plans.made t p s g pick q) (extend_made (book_of t) p s g pick q)
     made_row picks x is fits = record {
       after =
-          let fence : g ≡ x.fence = eqb-true g x.fence (both_parts (g == x.fence) _ (ap (lengthens t.extents g) (sym is) ∙ fits)).0 in
+          let fence : g ≡ x.fence = eqb-true g x.fence (and_parts (g == x.fence) _ (ap (lengthens t.extents g) (sym is) ∙ fits)).0 in
           subst (λ (n : ℕ). Lists (longer t s pick) (extended (book_of t) s n pick)) (sym fence) (lengthened_shows t s x pick is);
       packets = refl;
       notes = refl;
       written = refl;
-      can = ((both_parts (are_nodes pick) _ picks).0, both_true (is_pick t.nodes pick) _ picks fits);
+      can = ((and_parts (are_nodes pick) _ picks).0, and_from (is_pick t.nodes pick) _ picks fits);
       few = (omega arith, omega arith);
     }
 

@@ -2,12 +2,12 @@
 use Rattle.std.proofs.Common.{◌≡◌, ℕ, suc, ◌+◌, ◌<◌, ◌^◌, Bool, true, false, not, List, [], ◌∷◌, ◌++◌, length, get_or, take, drop, drop-cons, Option, Some, None, refl, ap, sym, ◌∙◌, subst, append-nil}
 use Rattle.std.specs.Prelude.{nat_lt, is_some, option_map}
 use Rattle.std.proofs.lemmas.List.{take_more, take-append-drop}
+use Rattle.std.proofs.lemmas.Bool.{and_from, and_parts}
 use Rattle.blocks.specs.declared.record.Record.{Record}
 use Rattle.blocks.specs.declared.record.Record.TheVariants.{Manage}
 use Rattle.disk.specs.Appends.{listed}
 use Rattle.wire.specs.declared.refusal.Refusal.TheVariants.{NotOwner}
 use Rattle.model.specs.Outcome.{Outcome, first_met}
-use Rattle.model.proofs.Tests.{both_parts, both_true}
 use Rattle.model_map.specs.declared.map_record.MapRecord.{MapRecord}
 use Rattle.model_map.specs.declared.map_record.MapRecord.TheVariants.{Assign, Renew}
 use Rattle.model_map.specs.declared.range_entry.RangeEntry.{RangeEntry}
@@ -21,14 +21,14 @@ use Rattle.pmap.specs.Held.{MakesMap}
 makes_push : (rs : List Record) (m : MapState) (r : Record) → MakesMap rs m → ruling_fits m (ruling_of r) ≡ true → MakesMap (rs ++ r ∷ []) (map_after m (ruling_of r))
 makes_push rs m r made fits = record {
   replays = replay_push rs r ∙ ap (λ (x : MapState). map_after x (ruling_of r)) made.replays;
-  fits = fits_push rs r ∙ both_true _ _ made.fits (ap (λ (x : MapState). ruling_fits x (ruling_of r)) made.replays ∙ fits);
+  fits = fits_push rs r ∙ and_from _ _ made.fits (ap (λ (x : MapState). ruling_fits x (ruling_of r)) made.replays ∙ fits);
 }
 
 -- ---- a record that does not fit
 
 fit_there : (m : MapState) (rs others : List Record) (r : Record) → fit_from m (rs ++ r ∷ others) ≡ true → ruling_fits (replay_from m rs) (ruling_of r) ≡ true
-fit_there m [] others r fits = (both_parts _ _ fits).0
-fit_there m (x ∷ rs) others r fits = fit_there (map_after m (ruling_of x)) rs others r (both_parts _ _ fits).1
+fit_there m [] others r fits = (and_parts _ _ fits).0
+fit_there m (x ∷ rs) others r fits = fit_there (map_after m (ruling_of x)) rs others r (and_parts _ _ fits).1
 
 -- the record behind those that have made a map fits it, where all of them fit
 fits_next : (rs others : List Record) (r : Record) (m : MapState) → MakesMap rs m → map_fits (rs ++ r ∷ others) ≡ true → ruling_fits m (ruling_of r) ≡ true

@@ -1,6 +1,6 @@
 -- One record more.
 use Rattle.std.proofs.Common.{◌≡◌, ◌≢◌, ℕ, Bool, true, false, ◌==◌, ◌&&◌, List, [], ◌∷◌, ◌++◌, Option, Some, None, refl, ap, sym, ◌∙◌, cond, eq-eqb, eqb-true, append_assoc, append-nil}
-use Rattle.std.proofs.lemmas.Bool.{and_from}
+use Rattle.std.proofs.lemmas.Bool.{and_from, and_parts}
 use Rattle.blocks.specs.declared.record.Record.{Record}
 use Rattle.replica.specs.Content.{Content}
 use Rattle.replica.specs.Replay.{extent_of, is_number, applied, applied_at, replay_from, replay, fits_at, fit_after, fit}
@@ -26,14 +26,10 @@ replay-here e rs r about = replay-push e rs r ∙ ap (λ (o : Option ℕ). cond 
 pub replay-elsewhere : (e f : ℕ) (rs : List Record) (r : Record) → extent_of r ≡ Some f → e ≢ f → replay e (rs ++ r ∷ []) ≡ replay e rs
 replay-elsewhere e f rs r about ne = replay-push e rs r ∙ ap (λ (o : Option ℕ). cond (is_number e o) (applied (replay e rs) r) (replay e rs)) about ∙ ap (λ (b : Bool). cond b (applied (replay e rs) r) (replay e rs)) (apart e f ne)
 
-first_true : (a b : Bool) → (a && b) ≡ true → (a ≡ true) × (b ≡ true)
-first_true true b e = (refl, e)
-first_true false b e = absurd cc
-
 fit_after-push : (n : ℕ) (before rs : List Record) (r : Record) → fit_after n before rs ≡ true → fits_at n (before ++ rs) r (extent_of r) ≡ true → fit_after n before (rs ++ r ∷ []) ≡ true
 fit_after-push n before [] r a b = and_from _ _ (ap (λ (xs : List Record). fits_at n xs r (extent_of r)) (sym (append-nil before)) ∙ b) refl
 fit_after-push n before (x ∷ rs) r a b =
-    let parts = first_true _ _ a in
+    let parts = and_parts _ _ a in
     and_from _ _ parts.0 (fit_after-push n (before ++ x ∷ []) rs r parts.1 (ap (λ (xs : List Record). fits_at n xs r (extent_of r)) (append_assoc before (x ∷ []) rs) ∙ b))
 
 -- a list of records that fit, with one more that fits
@@ -42,5 +38,5 @@ fit-push n e rs r a about b = fit_after-push n [] rs r a (ap (λ (o : Option ℕ
 
 -- in a list of records that fit, each fits those before it
 pub fit-at : (n : ℕ) (before xs ys : List Record) (r : Record) → fit_after n before (xs ++ r ∷ ys) ≡ true → fits_at n (before ++ xs) r (extent_of r) ≡ true
-fit-at n before [] ys r a = ap (λ (xs : List Record). fits_at n xs r (extent_of r)) (append-nil before) ∙ (first_true _ _ a).0
-fit-at n before (x ∷ xs) ys r a = ap (λ (zs : List Record). fits_at n zs r (extent_of r)) (sym (append_assoc before (x ∷ []) xs)) ∙ fit-at n (before ++ x ∷ []) xs ys r (first_true _ _ a).1
+fit-at n before [] ys r a = ap (λ (xs : List Record). fits_at n xs r (extent_of r)) (append-nil before) ∙ (and_parts _ _ a).0
+fit-at n before (x ∷ xs) ys r a = ap (λ (zs : List Record). fits_at n zs r (extent_of r)) (sym (append_assoc before (x ∷ []) xs)) ∙ fit-at n (before ++ x ∷ []) xs ys r (and_parts _ _ a).1

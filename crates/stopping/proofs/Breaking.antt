@@ -1,7 +1,6 @@
 -- What a row's record leaves of a file whose actor may stop in it.
-use Rattle.std.proofs.Common.{◌≡◌, ◌≢◌, ◌⊎◌, ℕ, zero, suc, ◌<◌, Bool, true, false, ◌==◌, ◌&&◌, nat_lt, nat_le, if◌then◌else◌, List, [], ◌∷◌, ◌++◌, Option, Some, None, Result, Ok, Err, refl, sym, ap, ◌∙◌, inl, inr, ⊎_elim, arith}
-use Rattle.std.proofs.lemmas.Bool.{and_cases, ltb-true, ltb-false, leb-true, leb-false, eqb-true}
-use Rattle.disk.specs.declared.device.DiskFault.{DiskFault}
+use Rattle.std.proofs.Common.{◌≡◌, ◌≢◌, ◌⊎◌, ℕ, zero, suc, ◌<◌, Bool, true, false, ◌==◌, ◌&&◌, nat_lt, nat_le, if◌then◌else◌, [], ◌∷◌, ◌++◌, Option, Some, None, Ok, Err, refl, sym, ap, ◌∙◌, inl, inr, ⊎_elim, arith}
+use Rattle.std.proofs.lemmas.Bool.{and_cases, ltb-true, ltb-false, leb-true, leb-false, eqb-true, and_parts}
 use Rattle.disk.specs.declared.device.DiskFault.TheVariants.{Failed, Memory}
 use Rattle.disk.specs.declared.memory.MemDisk.{MemDisk}
 use Rattle.disk.specs.Memory.{memory_state}
@@ -10,7 +9,7 @@ use Rattle.disk.specs.Appends.{Records, listed}
 use Rattle.blocks.specs.declared.record.Record.{Record}
 use Rattle.wire.specs.declared.packet.Step.{Step}
 use Rattle.model.specs.World.{Cell, armed, burnt, stops_in, stands_in}
-use Rattle.model.proofs.Tests.{if_elim, both_parts}
+use Rattle.model.proofs.Tests.{if_elim}
 use Rattle.stopping.specs.Plan.{plan_of}
 
 zero_or : (k : ℕ) → (k ≡ 0) ⊎ (0 < k)
@@ -46,7 +45,7 @@ plan_ok old new (Some r) s c h told f =
 pub no_stop : (old new : Filed MemDisk) (k : Option Record) (s : Step) (c : Cell) → Records memory_state old new (listed k) (Ok s) → (memory_state old.disk).stop ≡ plan_of c → stops_in c k ≡ true → ⊥
 no_stop old new None s c h told t = absurd cc
 no_stop old new (Some r) s c h told t =
-    let b = both_parts (nat_lt 0 c.fuse) (nat_le c.fuse 4) t in
+    let b = and_parts (nat_lt 0 c.fuse) (nat_le c.fuse 4) t in
     let l = ltb-true 0 c.fuse b.0 in
     (h.stop c.fuse c.keep (told ∙ plan_some c l) (omega arith) (leb-true c.fuse 4 b.1)).0 refl
 
@@ -73,7 +72,7 @@ pub broken_records : (old new : Filed MemDisk) (k : Option Record) (c : Cell) �
     new.records ≡ (if stands_in c then old.records ++ listed k else old.records)
 broken_records old new None c h told t = absurd (h.1 refl)
 broken_records old new (Some r) c h told t =
-    let b = both_parts (nat_lt 0 c.fuse) (nat_le c.fuse 4) t in
+    let b = and_parts (nat_lt 0 c.fuse) (nat_le c.fuse 4) t in
     let l = ltb-true 0 c.fuse b.0 in
     ((h.stop c.fuse c.keep (told ∙ plan_some c l) (omega arith) (leb-true c.fuse 4 b.1)).1 refl).1
     ∙ swapped c.keep (nat_le 3 c.fuse) (old.records ++ r ∷ []) old.records
