@@ -1,5 +1,6 @@
-//! What no clause says of a node and of the stream manager: that their calls succeed where there is memory, and their tables
-//! followed by hand. The tests of `enode` and `manager` stand here, so that neither is proved a second time for its tests.
+//! What no clause says of a node, of the stream manager and of the partition map: that their calls succeed where there is memory,
+//! and their tables followed by hand. The tests of `enode`, `manager` and `pmap` stand here, so that none is proved a second time
+//! for its tests.
 //!
 //! A test goes through cases, each a list of events in their order. An event is a packet with the answer that is wanted, or what is seen
 //! of the actor then. Cases are tables, so that a test costs the proof no more than the few functions that run them.
@@ -11,6 +12,8 @@ mod answers;
 mod cases;
 #[cfg(test)]
 mod managers;
+#[cfg(test)]
+mod maps;
 #[cfg(test)]
 mod nodes;
 #[cfg(test)]
