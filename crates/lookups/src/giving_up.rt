@@ -6,6 +6,7 @@ ghost use Rattle.lookups.specs.Moving.{last_asked, last_moved};
 ghost use Rattle.model_tables.specs.Getting.{gives_up_get, moved_on as moved_read};
 ghost use Rattle.model_tables.specs.Range.{RangeState};
 
+use crate::adding::push_some;
 use crate::asking::{Asking, places_of};
 use crate::requests::next_place;
 use crate::trying::reads_place;
@@ -93,6 +94,17 @@ fn move_on(alloc: Global, asking: &Asking<'_>, get: &WaitingGet) -> Result<Moved
     Ok(Moved { get, packet })
 }
 
+/// No Get yet, with room for so many.
+fn none_moved(alloc: Global, most: usize) -> Result<MovedGets, AllocError>
+    ensures gets { IfOk result (λ moved. moved.gets.items ≡ []) }
+    ensures packets { IfOk result (λ moved. moved.packets.items ≡ []) }
+{
+    Ok(MovedGets {
+        gets: Vec::with_capacity(alloc, most)?,
+        packets: Vec::with_capacity(alloc, most)?,
+    })
+}
+
 /// The last read of each Get goes to the next place of its extent, with its number.
 pub(crate) fn move_each(
     alloc: Global,
@@ -106,10 +118,7 @@ pub(crate) fn move_each(
     ensures count { IfOk result (λ moved. length moved.gets.items ≤ length gets.now) }
     ensures bound { IfOk result (λ moved. length moved.packets.items ≤ length gets.now) }
 {
-    let mut all = MovedGets {
-        gets: Vec::with_capacity(alloc, gets.len())?,
-        packets: Vec::with_capacity(alloc, gets.len())?,
-    };
+    let mut all = none_moved(alloc, gets.len())?;
     for get in gets {
         let moved = move_on(alloc, asking, get)?;
         add(&mut all, moved)?;
@@ -123,8 +132,6 @@ fn add(all: &mut MovedGets, moved: Moved) -> Result<(), AllocError>
 {
     let Moved { get, packet } = moved;
     all.gets.push(get)?;
-    if let Some(sent) = packet {
-        all.packets.push(sent)?;
-    }
+    push_some(&mut all.packets, packet)?;
     Ok(())
 }

@@ -11,6 +11,7 @@
 //! Want of memory is the one error that no clause limits.
 #![tactic(auto)]
 
+mod adding;
 mod asking;
 mod awaited;
 mod giving_up;

@@ -9,6 +9,7 @@ ghost use Rattle.model_tables.specs.Getting.{bytes_row, gets as gets_of, gives_u
 ghost use Rattle.model_tables.specs.Range.{RangeState, refuses as refuses_of};
 ghost use Rattle.wire.specs.declared.refusal.Refusal.TheVariants as refusals;
 
+use crate::adding::push_some;
 use crate::asking::Asking;
 use crate::awaited::{fresh_of, refusals_of, some_awaits};
 use crate::giving_up::{MovedGets, move_each};
@@ -67,23 +68,8 @@ fn packets_of(alloc: Global, packet: Option<Packet>) -> Result<Vec<Packet>, Allo
     ensures { IfOk result (λ packets. packets.items ≡ option_to_list packet) }
 {
     let mut packets = Vec::new(alloc);
-    if let Some(sent) = packet {
-        packets.push(sent)?;
-    }
+    push_some(&mut packets, packet)?;
     Ok(packets)
-}
-
-fn push_some(gets: &mut Vec<WaitingGet>, waiting: Option<WaitingGet>) -> Result<(), AllocError>
-    ensures ok { OnOk result (gets.new.items ≡ gets.old.items ++ option_to_list waiting) }
-    ensures err { OnErr result (gets.new.items ≡ gets.old.items) }
-{
-    match waiting {
-        None => Ok(()),
-        Some(get) => {
-            gets.push(get)?;
-            Ok(())
-        }
-    }
 }
 
 fn promote_some(held: &mut Held, place: &Option<Place>)
@@ -197,12 +183,12 @@ impl Lookups {
     {
         let fresh = fresh_of(&self.gets, number, extent, offset, bytes)?;
         let tries = try_each(alloc, asking, &self.held, &fresh, number, &self.gets)?;
+        hold_some(&mut self.held, fresh)?;
         let Tries {
             waiting,
             count,
             packets,
         } = tries;
-        hold_some(&mut self.held, fresh)?;
         self.gets = waiting;
         Ok(Tried { count, packets })
     }

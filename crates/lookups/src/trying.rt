@@ -7,6 +7,7 @@ ghost use Rattle.lookups.specs.Looking.{answer_of, lookup_of};
 ghost use Rattle.model_tables.specs.Getting.{look as looks, try as tries, try_all, places_in as nodes_in, asks_place as asks_of, without as without_read, reads_place as reads_of};
 ghost use Rattle.model_tables.specs.Range.{RangeState, refuses as refuses_of};
 
+use crate::adding::push_some;
 use crate::asking::{Asking, places_of};
 use crate::held::{Fresh, Held};
 use crate::requests::{is_same, node_at};
@@ -50,9 +51,10 @@ fn look(held: &Held, fresh: &Option<Fresh>, cell: Option<&Cell>) -> Result<Found
         None => Ok(Found::Is(None)),
         Some(Cell::Deleted) => Ok(Found::Is(None)),
         Some(Cell::Inline(value)) => Ok(Found::Is(Some(value.clone()?))),
-        Some(Cell::Placed(place)) => match held.value_with(fresh, place)? {
-            None => Ok(Found::Needs(*place)),
-            Some(value) => Ok(Found::Is(Some(value))),
+        Some(Cell::Placed(place)) => match held.value_with(fresh, place) {
+            Ok(None) => Ok(Found::Needs(*place)),
+            Ok(Some(value)) => Ok(Found::Is(Some(value))),
+            Err(full) => Err(full),
         },
     }
 }
@@ -110,13 +112,14 @@ fn asks_place(
                 place,
                 replica: Replica::First,
             };
-            let reads = with_read(alloc, &get.reads, read)?;
-            let waiting = WaitingGet { reads, ..get };
-            Ok(OneTry {
-                waiting: Some(waiting),
-                count: count + 1,
-                packet: Some(reads_place(asking.desk, &places, &read)),
-            })
+            match with_read(alloc, &get.reads, read) {
+                Ok(reads) => Ok(OneTry {
+                    waiting: Some(WaitingGet { reads, ..get }),
+                    count: count + 1,
+                    packet: Some(reads_place(asking.desk, &places, &read)),
+                }),
+                Err(full) => Err(full),
+            }
         }
     }
 }
@@ -172,16 +175,14 @@ pub(crate) fn one_try(
             packet: Some(packet),
         });
     }
-    match look(held, fresh, asking.table.get(&get.key))? {
-        Found::Is(value) => Ok(OneTry {
+    match look(held, fresh, asking.table.get(&get.key)) {
+        Ok(Found::Is(value)) => Ok(OneTry {
             waiting: None,
             count,
             packet: Some(answers(asking.desk, &get, value)),
         }),
-        Found::Needs(place) => match asks_place(alloc, asking, count, get, place) {
-            Ok(one) => Ok(one),
-            Err(full) => Err(full),
-        },
+        Ok(Found::Needs(place)) => asks_place(alloc, asking, count, get, place),
+        Err(full) => Err(full),
     }
 }
 
@@ -215,6 +216,19 @@ fn without(alloc: Global, answered: &ReqNo, get: &WaitingGet) -> Result<WaitingG
     })
 }
 
+/// No try yet, with room for what so many leave.
+fn no_tries(alloc: Global, count: u64, most: usize) -> Result<Tries, AllocError>
+    ensures waiting { IfOk result (λ tries. tries.waiting.items ≡ []) }
+    ensures count { IfOk result (λ tries. tries.count ≡ count) }
+    ensures packets { IfOk result (λ tries. tries.packets.items ≡ []) }
+{
+    Ok(Tries {
+        waiting: Vec::with_capacity(alloc, most)?,
+        count,
+        packets: Vec::with_capacity(alloc, most)?,
+    })
+}
+
 /// Each Get in turn is tried without the read that was answered.
 pub(crate) fn try_each(
     alloc: Global,
@@ -232,11 +246,7 @@ pub(crate) fn try_each(
     ensures waiting { IfOk result (λ tries. length tries.waiting.items ≤ length gets.now) }
     ensures packets { IfOk result (λ tries. length tries.packets.items ≤ length gets.now) }
 {
-    let mut tries = Tries {
-        waiting: Vec::with_capacity(alloc, gets.len())?,
-        count: asking.desk.count,
-        packets: Vec::with_capacity(alloc, gets.len())?,
-    };
+    let mut tries = no_tries(alloc, asking.desk.count, gets.len())?;
     for get in gets {
         let left = without(alloc, answered, get)?;
         let one = one_try(alloc, asking, held, fresh, tries.count, left)?;
@@ -255,12 +265,8 @@ fn take_in(tries: &mut Tries, one: OneTry) -> Result<(), AllocError>
         count,
         packet,
     } = one;
-    if let Some(get) = waiting {
-        tries.waiting.push(get)?;
-    }
-    if let Some(sent) = packet {
-        tries.packets.push(sent)?;
-    }
+    push_some(&mut tries.waiting, waiting)?;
+    push_some(&mut tries.packets, packet)?;
     tries.count = count;
     Ok(())
 }

@@ -11,7 +11,7 @@ returns-clause-ok c = λ r sees own.
     let inside = c.self.inside in
     let reads : c.of.result ≡ [] = c.of.ensures ∙ c.new.ensures.items in
     let tried = c.in_ok-one.ensures.value r ∙ ap (λ (l : List PlaceRead). try c.args.asking.now.desk.now (seen c.args.asking.now c.self.inside.held r) (record { from = c.args.from; request = c.args.number; key = c.args.key; reads = l })) reads in
-    get_taken c.args.asking.now.desk.now r c.args.asking.now (record { gets = inside.gets.items; held = inside.held }) (record { from = c.args.from; request = c.args.number; key = c.args.key; reads = [] }) c.in_ok-one.one c.promote_some.new.held c.push_some.new.gets.items c.in_ok-packets.packets.items
+    get_taken c.args.asking.now.desk.now r c.args.asking.now (record { gets = inside.gets.items; held = inside.held }) (record { from = c.args.from; request = c.args.number; key = c.args.key; reads = [] }) c.in_ok-one.one c.promote_some.new.held c.push_some.new.items.items c.in_ok-packets.packets.items
     sees (subst (IsOf r) (sym c.self.view_is) own) tried c.in_ok-push_some.ensures.ok c.in_ok-packets.ensures
 
 pub returns-clause-held : goal.returns-clause-held
