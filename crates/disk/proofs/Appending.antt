@@ -1,5 +1,5 @@
 -- What an append leaves where one of its device calls fails, and where none does.
-use Rattle.std.proofs.Common.{◌≡◌, inl, inr, ℕ, ◌+◌, ◌-◌, ◌<◌, ◌≤◌, Bool, true, false, Some, None, refl, List, [], ◌∷◌, ◌++◌, length, Result, Ok, Err, sym, ap, subst, ◌∙◌, arith}
+use Rattle.std.proofs.Common.{◌≡◌, inl, inr, ℕ, ◌+◌, ◌-◌, ◌<◌, ◌≤◌, Bool, true, false, Some, None, refl, List, [], ◌∷◌, ◌++◌, length, Result, Ok, Err, sym, ap, subst, ◌∙◌, arith, length-append}
 use Rattle.std.specs.Prelude.{IsErrOf, ◌⊎◌}
 use Rattle.blocks.specs.declared.record.Version.{Version}
 use Rattle.blocks.specs.declared.record.Record.{Record}
@@ -7,10 +7,11 @@ use Rattle.blocks.specs.Record.{spelling, Fits}
 use Rattle.disk.specs.declared.device.DiskFault.{DiskFault}
 use Rattle.disk.specs.declared.device.DiskFault.TheVariants.{Failed, Memory}
 use Rattle.disk.specs.Disk.{DiskState, IsUntouched, Writes, Syncs, OnlyNow, CountsNow, SeenIsThere, SyncedIsThere, IsSteady, LeavesOnly}
-use Rattle.disk.specs.File.{IsFileOf, IsOpen, IsKept, IsBeforeOrAfter, records_in, stopped_records}
+use Rattle.disk.specs.File.{header, opened, IsFileOf, IsOpen, IsKept, IsBeforeOrAfter, records_in, stopped_records}
 use Rattle.disk.specs.Filed.{Filed}
 use Rattle.disk.specs.Appends.{Appends}
 use Rattle.disk.proofs.Files.{records_in-file, renamed}
+use Rattle.disk.proofs.Moments.{started, goes_on}
 use Rattle.disk.proofs.Crash.{at1, at2, at3, at4, stands, stop1, stop2, stop3, stop4, after4}
 
 -- before the first device call
@@ -43,6 +44,30 @@ ready state disk v end stopped old r s empty spelled closed bytes count view_is 
   fitting = omega (arith, room.0, is_count, ap length is_bytes);
   roomy = room.1;
 }
+
+-- what a running file is
+module _ {D : Type 0} (state : D → DiskState) (disk : D) (v : Version) (end : ℕ) (stopped : Bool) (old : Filed D) (view_is : shown state disk v stopped ≡ old) (kept : IsKept (state disk) v end stopped (records_in v (state disk).seen)) (running : old.stopped ≡ false) where
+  is_open : IsOpen (state disk) v end (records_in v (state disk).seen)
+  is_open = kept.running (ap (λ (f : Filed _). f.stopped) view_is ∙ running)
+
+  pub gate_within : end < length (state disk).seen
+  gate_within = omega (arith, is_open.place, ap length is_open.file.bytes, length-append (header v ++ opened v (records_in v (state disk).seen)) (is_open.file.gate ∷ is_open.file.rest))
+
+  module _ (r : Record) (only_now : OnlyNow (state disk)) where
+    abbrev Old : List ℕ → Type 0
+    Old = IsBeforeOrAfter v (records_in v (state disk).seen) r
+
+    as_before : (c : List ℕ) → (state disk).may_leave c → Old c
+    as_before c left = inl (subst (IsFileOf v (records_in v (state disk).seen)) (sym (is_open.durable c left)) is_open.file)
+
+    begun : LeavesOnly (state disk) (state disk) Old
+    begun = started (state disk) Old (λ c left. as_before c (only_now c left))
+
+    pub unchanged : LeavesOnly (state old.disk) (state old.disk) (IsBeforeOrAfter old.version old.records r)
+    unchanged = subst (λ (f : Filed _). LeavesOnly (state f.disk) (state f.disk) (IsBeforeOrAfter f.version f.records r)) view_is begun
+
+    pub untouched : (now : DiskState) → IsUntouched (state disk) now → LeavesOnly (state old.disk) now (IsBeforeOrAfter old.version old.records r)
+    untouched now same = subst (λ (f : Filed _). LeavesOnly (state f.disk) now (IsBeforeOrAfter f.version f.records r)) view_is (goes_on (state disk) (state disk) now Old begun same.time (λ c left. as_before c (same.may_leave c left)))
 
 -- after a device call that failed
 pub record Fails (v : Version) (rs : List Record) (r : Record) (s0 s : DiskState) (e : DiskFault) : Type 0 where

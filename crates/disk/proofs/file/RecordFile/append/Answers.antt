@@ -1,7 +1,42 @@
 use Rattle.std.proofs.Common.{◌≡◌, ◌+◌, ap, ◌∙◌, arith, length, Err}
 use Rattle.std.proofs.lemmas.Result.{err_from_is_err_and}
-use Rattle.disk.proofs.Appending.{ready, fail1, fail2, fail3, fail4, succeed, appends_failed, appends_ok, stands_stopped, stands_running}
+use Rattle.disk.proofs.Appending.{ready, gate_within, unchanged, untouched, fail1, fail2, fail3, fail4, succeed, appends_failed, appends_ok, stands_stopped, stands_running}
 use Rattle.disk.proofs.file.RecordFile.append.Goals as goal
+
+pub returns-in_err-encode_as-clause-any_moment : goal.returns-in_err-encode_as-clause-any_moment
+returns-in_err-encode_as-clause-any_moment g c =
+    let it = c.self.inside in
+    unchanged g.D.Disk.state it.disk it.version it.end it.stopped _ c.self.view_is c.self.invariant c.requires.running c.args.added.now (g.met.D.Disk.only_now it.disk)
+
+pub returns-in_err-push-clause-any_moment : goal.returns-in_err-push-clause-any_moment
+returns-in_err-push-clause-any_moment g c =
+    let it = c.self.inside in
+    unchanged g.D.Disk.state it.disk it.version it.end it.stopped _ c.self.view_is c.self.invariant c.requires.running c.args.added.now (g.met.D.Disk.only_now it.disk)
+
+pub overflow_add-next : goal.overflow_add-next
+overflow_add-next g c =
+    let it = c.self.inside in
+    omega (arith, gate_within g.D.Disk.state it.disk it.version it.end it.stopped _ c.self.view_is c.self.invariant c.requires.running, c.len-size.ensures.bound, c.len-size.ensures.value)
+
+pub overflow_add-next-2 : goal.overflow_add-next-2
+overflow_add-next-2 g c =
+    let it = c.self.inside in
+    omega (arith, gate_within g.D.Disk.state it.disk it.version it.end it.stopped _ c.self.view_is c.self.invariant c.requires.running, c.len-size.ensures.bound, c.len-size.ensures.value)
+
+pub returns-in_err-reserve-clause-any_moment : goal.returns-in_err-reserve-clause-any_moment
+returns-in_err-reserve-clause-any_moment g c =
+    let it = c.self.inside in
+    untouched g.D.Disk.state it.disk it.version it.end it.stopped _ c.self.view_is c.self.invariant c.requires.running c.args.added.now (g.met.D.Disk.only_now it.disk) (g.D.Disk.state c.reserve.new.self) c.reserve.ensures.same
+
+pub overflow_add-self-inside : goal.overflow_add-self-inside
+overflow_add-self-inside g c =
+    let it = c.self.inside in
+    omega (arith, gate_within g.D.Disk.state it.disk it.version it.end it.stopped _ c.self.view_is c.self.invariant c.requires.running, c.len-size.ensures.bound, c.len-size.ensures.value)
+
+pub write_at-requires : goal.write_at-requires
+write_at-requires g c =
+    let it = c.self.inside in
+    omega (arith, gate_within g.D.Disk.state it.disk it.version it.end it.stopped _ c.self.view_is c.self.invariant c.requires.running, ap length c.reserve.ensures.same.seen)
 
 pub invariant_of-self-in_err-write_at : goal.invariant_of-self-in_err-write_at
 invariant_of-self-in_err-write_at g c =
