@@ -34,9 +34,8 @@ impl Tickets {
     pub fn take(&mut self, user: u64) -> Result<u64, AllocError>
         ensures { IfOk result (λ ticket. Takes self.old user ticket self.new) }
     {
-        let taken = self.taken.entry(user)?.or_insert(0);
-        let ticket = *taken;
-        *taken = ticket.saturating_add(1);
+        let ticket = self.taken.get(&user).copied().unwrap_or(0);
+        self.taken.insert(user, ticket.saturating_add(1))?;
         Ok(ticket)
     }
 }
