@@ -13,7 +13,7 @@ use Rattle.model_tables.specs.Servers.{ArePlain, IsLoad, ShowsLoad, ServerCell, 
 use Rattle.layer.specs.Run.{RunState, Mirrors}
 use Rattle.range.specs.Handled.{Sent}
 use Rattle.servers.specs.Servers.{ServersGave, outcome}
-use Rattle.layer.specs.Told.{IsLoadOf, ShowsRows, Took, TookPacket, told_with, with_sent}
+use Rattle.layer.specs.Told.{IsLoadOf, Ordered, ShowsRows, Took, TookPacket, told_with, with_sent}
 use Rattle.layer.proofs.Happening.{get_at, nodes_as, desk_as}
 
 -- ---- one observation more
@@ -99,3 +99,14 @@ pub took_packet : (r x : RunState) (before after : List ServerCell) (s k : ℕ) 
 took_packet r x before after s k d sent there is gave nodes desk post notes p found =
     subst (TookPacket r x before after s) (same_Some d p (ap Some is ∙ sym (get_at r.post k d there) ∙ found))
     (record { held = gave.held; took = took r x after (server_takes before s d gave.held) sent gave.is nodes desk post notes })
+
+-- ---- steps of the map
+
+-- the map took the packet of the number, and what it sends is behind all that was sent
+pub routed : (r x : RunState) (k : ℕ) (d : Packet) (sent : List Packet) (steps : Packet → List Packet → Type 0) → k < length r.post → d ≡ slice_index_or r.post k d →
+    steps d sent → x ≡ record r { post = r.post ++ sent } → (p : Packet) → slice_get r.post k ≡ Some p → Ordered r x (steps p)
+routed r x k d sent steps there is holds layer p found = record {
+  packets = sent;
+  layer = layer;
+  steps_are = subst (λ (q : Packet). steps q sent) (same_Some d p (ap Some is ∙ sym (get_at r.post k d there) ∙ found)) holds;
+}
