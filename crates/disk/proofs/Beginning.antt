@@ -20,7 +20,7 @@ goes_over : (was mid new : DiskState) (P Q : List ℕ → Type 0) → CountsNow 
     LeavesOnly mid new (λ c. mid.may_leave c ⊎ Q c) → LeavesOnly was new (λ c. P c ⊎ Q c)
 goes_over was mid new P Q counts first second =
     let before : (c : List ℕ) → mid.may_leave c ⊎ Q c → P c ⊎ Q c =
-        λ c. ⊎_elim (λ left. inl (first.each c (counts was.moment c first.later left))) (λ is. inr is) in
+    λ c. ⊎_elim (λ left. inl (first.each c (counts was.moment c first.later left))) (λ is. inr is) in
     record {
       later = omega (arith, first.later, second.later);
       each = λ c left. ⊎_elim (λ earlier. inl (first.each c earlier)) (before c) (second.before was.moment c first.later left);
@@ -37,10 +37,10 @@ pub begins : {A B : Type 0} (was mid : DiskState) (v w : Version) (rs : List Rec
     MatchResult result (λ made. LeavesOnly was (of made) (HoldsAtMost w r)) (λ refused. LeavesOnly was (back refused) (HoldsAtMost w r))
 begins was mid v w rs r result of back counts first version none second =
     let holds : (c : List ℕ) → HasNoRecord c ⊎ IsBeforeOrAfter v rs r c → HoldsAtMost w r c =
-        λ c is. subst (λ u. HoldsAtMost u r c) version (subst (λ l. HasNoRecord c ⊎ IsBeforeOrAfter v l r c) none is) in
+    λ c is. subst (λ u. HoldsAtMost u r c) version (subst (λ l. HasNoRecord c ⊎ IsBeforeOrAfter v l r c) none is) in
     matched result second
-      (λ made leaves. widened was (of made) _ _ holds (goes_over was mid (of made) HasNoRecord (IsBeforeOrAfter v rs r) counts first leaves))
-      (λ refused leaves. widened was (back refused) _ _ holds (goes_over was mid (back refused) HasNoRecord (IsBeforeOrAfter v rs r) counts first leaves))
+    (λ made leaves. widened was (of made) _ _ holds (goes_over was mid (of made) HasNoRecord (IsBeforeOrAfter v rs r) counts first leaves))
+    (λ refused leaves. widened was (back refused) _ _ holds (goes_over was mid (back refused) HasNoRecord (IsBeforeOrAfter v rs r) counts first leaves))
 
 -- where no file was made
 pub unmade : (old new : DiskState) (v : Version) (r : Record) → LeavesOnly old new HasNoRecord → LeavesOnly old new (HoldsAtMost v r)

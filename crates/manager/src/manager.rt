@@ -76,9 +76,9 @@ fn begin<D: Disk>(
     ensures failed { IfErr result (λ e. e.0 ≡ DiskFault.Failed → (D.state file.disk).failures < (D.state e.1).failures) }
     ensures any_moment { MatchResult result
         (λ m. LeavesOnly (D.state file.disk) (D.state m.file.disk)
-            (λ c. (D.state file.disk).may_leave c ⊎ IsBeforeOrAfter file.version file.records (first_record nodes target) c))
+        (λ c. (D.state file.disk).may_leave c ⊎ IsBeforeOrAfter file.version file.records (first_record nodes target) c))
         (λ e. LeavesOnly (D.state file.disk) (D.state e.1)
-            (λ c. (D.state file.disk).may_leave c ⊎ IsBeforeOrAfter file.version file.records (first_record nodes target) c)) }
+        (λ c. (D.state file.disk).may_leave c ⊎ IsBeforeOrAfter file.version file.records (first_record nodes target) c)) }
     ensures steady { IsSteady (D.state file.disk) → MatchResult result
         (λ m. IsSteady (D.state m.file.disk))
         (λ e. (e.0 ≢ DiskFault.Failed) × IsSteady (D.state e.1)) }

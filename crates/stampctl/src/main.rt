@@ -9,7 +9,7 @@
 use command_words::{CommandError, Task, command};
 use scripts::{Failure, script};
 use std::alloc::Global;
-use std::io::{self, BufWriter, ErrorKind, Print, Write};
+use std::io::{self, ErrorKind, Print, Read, Write};
 use std::process::ExitCode;
 use std::rt::{Env, Files};
 use std::{env, fs};
@@ -44,38 +44,45 @@ fn tell<R: Eprint + Print>(rt: &R, error: &clap::Error) -> ExitCode {
     }
 }
 
-/// Tells how a task ended, and brings what was printed to the system. After a fault of the writer nothing more is printed.
-fn finish<W: Write + Drop>(ended: Result<(), Failure>, mut writer: BufWriter<W>) -> ExitCode {
-    let (told, status) = match ended {
-        Ok(()) => (Ok(()), ExitCode::SUCCESS),
-        Err(Failure::Refused(refusal)) => {
-            (writeln!(writer, "refused {refusal}"), ExitCode::FAILURE)
-        }
-        Err(Failure::Output(error)) => (Err(error), ExitCode::FAILURE),
+/// The whole script: of the file, or of the standard input.
+fn text_of<R: Files + Input>(
+    rt: &R,
+    alloc: Global,
+    path: Option<&str>,
+) -> Result<Vec<u8>, io::Error> {
+    let mut text = Vec::new(alloc);
+    match path {
+        None => rt.reader().read_to_end(&mut text)?,
+        Some(path) => fs::open(rt, path)?.read_to_end(&mut text)?,
     };
-    match told.and_then(|()| writer.flush()) {
-        Ok(()) => status,
-        Err(_) => {
-            // Dropping the writer would print again what it could not print.
-            let _unprinted = writer.into_parts();
-            ExitCode::FAILURE
-        }
+    Ok(text)
+}
+
+/// Prints what a script wrote, and how it ended. A script that could write no more ended for want of memory.
+fn finish<R: Print>(rt: &R, ended: Result<(), Failure>, written: &[u8]) -> ExitCode {
+    let mut writer = io::writer(rt);
+    if writer
+        .write_all(written)
+        .and_then(|()| writer.flush())
+        .is_err()
+    {
+        return ExitCode::FAILURE;
+    }
+    match ended {
+        Ok(()) => ExitCode::SUCCESS,
+        Err(Failure::Refused(refusal)) => refused(rt, refusal),
+        Err(Failure::Output(_)) => refused(rt, Refusal::Memory),
     }
 }
 
+/// Runs the script over bytes in memory, so that what `script` promises is said of this very call.
 fn run<R: Files + Input + Print>(rt: &R, alloc: Global, path: Option<&str>) -> ExitCode {
-    let mut writer = match BufWriter::new(alloc, io::writer(rt)) {
-        Ok(writer) => writer,
-        Err(_) => return refused(rt, Refusal::Memory),
+    let mut written = Vec::new(alloc);
+    let ended = match text_of(rt, alloc, path) {
+        Ok(text) => script(alloc, text.as_slice(), &mut written),
+        Err(error) => Err(Failure::of_input(&error)),
     };
-    let ended = match path {
-        None => script(alloc, rt.reader(), &mut writer),
-        Some(path) => match fs::open(rt, path) {
-            Ok(file) => script(alloc, file, &mut writer),
-            Err(error) => Err(Failure::of_input(&error)),
-        },
-    };
-    finish(ended, writer)
+    finish(rt, ended, &written)
 }
 
 fn main(rt: HostRuntime) -> ExitCode {
