@@ -1,5 +1,6 @@
 -- Reading one after the other, as a loop does, where each step leaves a state for the next.
-use Rattle.std.proofs.Common.{◌≡◌, ℕ, suc, ◌-◌, ◌+◌, ◌<◌, List, [], ◌∷◌, ◌++◌, length, get_or, drop, drop-cons, add-one, Option, Some, None, refl, sym, ap, ◌∙◌, append_assoc, arith}
+use Rattle.std.proofs.Common.{◌≡◌, ℕ, suc, ◌-◌, ◌+◌, ◌<◌, List, [], ◌∷◌, ◌++◌, length, get_or, drop, Option, Some, None, refl, sym, ap, ◌∙◌, append_assoc, arith}
+use Rattle.std.proofs.lemmas.List.{drop_more}
 use Rattle.blocks.specs.declared.fault.BlockFault.{BlockFault}
 use Rattle.blocks.specs.declared.fault.BlockFault.TheVariants as faults
 use Rattle.blocks.specs.Format.{◌>>=◌, Fails}
@@ -11,7 +12,7 @@ with_done front read = read >>= λ x. Some (front ++ x.0, x.1)
 
 -- what is left at an index
 pub left_at : {A : Type 0} (xs : List A) (i : ℕ) (x : A) → i < length xs → x ≡ get_or xs i x → drop i xs ≡ x ∷ drop (i + 1) xs
-left_at {A = A} xs i x lt is = rw (add-one, drop-cons xs i x lt) (ap (λ (y : A). y ∷ drop (suc i) xs) (sym is))
+left_at {A = A} xs i x lt is = drop_more xs i x lt ∙ ap (λ (y : A). y ∷ drop (i + 1) xs) (sym is)
 
 regroup : {A S : Type 0} (front : List A) (a : A) (read : Option (List A × S)) → with_done front (read >>= λ x. Some (a ∷ x.0, x.1)) ≡ with_done (front ++ a ∷ []) read
 regroup {A = A} front a (Some x) = ap (λ (l : List A). Some (l, x.1)) (simp append_assoc)

@@ -1,7 +1,8 @@
 -- A loop that writes one element after the other.
-use Rattle.std.proofs.Common.{◌≡◌, ℕ, zero, suc, ◌+◌, ◌<◌, List, [], ◌∷◌, ◌++◌, length, get_or, take, sym, ap, subst, ◌∙◌, append_assoc, arith}
+use Rattle.std.proofs.Common.{◌≡◌, ℕ, ◌+◌, ◌<◌, List, [], ◌∷◌, ◌++◌, length, get_or, take, sym, ap, subst, ◌∙◌, append_assoc}
 use Rattle.std.specs.List.{flat_map, AllByRecursion}
 use Rattle.std.proofs.lemmas.List.{take_more, flat_map_more}
+use Rattle.std.proofs.lemmas.List.Elements.{All-get_or, All-from_recursion}
 
 -- one element more is written behind the count
 pub one_more : {A : Type 0} (f : A → List ℕ) (old count out new : List ℕ) (xs : List A) (i : ℕ) (x : A) → i < length xs → x ≡ get_or xs i x → new ≡ out ++ f x
@@ -13,6 +14,4 @@ one_more {A = A} f old count out new xs i x lt is step so_far =
 
 -- what holds of all holds of the one at an index
 pub All-at : {A : Type 0} (P : A → Type 0) (xs : List A) (i : ℕ) (x : A) → i < length xs → x ≡ get_or xs i x → AllByRecursion P xs → P x
-All-at P [] i x lt is all = absurd (omega arith)
-All-at P (y ∷ ys) zero x lt is all = subst P (sym is) all.0
-All-at P (y ∷ ys) (suc i) x lt is all = All-at P ys i x (omega arith) is all.1
+All-at P xs i x lt is all = subst P (sym is) (All-get_or P xs i x lt (All-from_recursion P xs all))
