@@ -1,12 +1,15 @@
 //! The requests of users, as events.
 ghost use Rattle.std.specs.Prelude.{◌≡◌};
 ghost use Rattle.script_lines.specs.Asking.{ask_by, asked, call_by, read_by, stream_of};
+ghost use Rattle.script_lines.specs.declared.line.Request.TheVariants as requests;
 
 use crate::line::Request;
+use blocks::Nodes;
+use bytes::Bytes;
 use model::Event;
 use wire::{
-    ActorId, AppendBody, Blocks, Body, Changes, ExtentId, Fence, MapBody, RangeId, ReadBody, ReqNo,
-    SealBody, ServerNo, StreamBody, StreamKind, StreamName, TableBody,
+    ActorId, AppendBody, Blocks, Body, Change, Changes, ExtentId, Fence, MapBody, RangeId,
+    ReadBody, ReqNo, SealBody, ServerNo, StreamBody, StreamKind, StreamName, TableBody,
 };
 
 /// A stream that users work on.
@@ -62,104 +65,167 @@ fn extent_of(number: Option<u64>) -> Option<ExtentId>
     }
 }
 
+/// The making of a stream.
+fn create(user: u64, number: ReqNo, kind: StreamKind) -> Event
+    ensures { result ≡ asked user number (requests.Create kind) }
+{
+    call(
+        user,
+        Body::Stream(StreamBody::CreateStream {
+            stream: stream_of(kind),
+            fence: Fence::new(0),
+            request: number,
+        }),
+    )
+}
+
+/// One more extent of a stream.
+fn extend(user: u64, number: ReqNo, kind: StreamKind, last: Option<u64>, pick: Nodes) -> Event
+    ensures { result ≡ asked user number (requests.Extend kind last pick) }
+{
+    call(
+        user,
+        Body::Stream(StreamBody::Extend {
+            stream: stream_of(kind),
+            generation: Fence::new(0),
+            last: extent_of(last),
+            pick,
+            request: number,
+        }),
+    )
+}
+
+/// The seal of an extent.
+fn seal(user: u64, number: ReqNo, extent: u64) -> Event
+    ensures { result ≡ asked user number (requests.Seal extent) }
+{
+    call(
+        user,
+        Body::Seal(SealBody::SealExtent {
+            extent: ExtentId::new(extent),
+            request: number,
+        }),
+    )
+}
+
+/// An append at a primary.
+fn append(user: u64, number: ReqNo, node: u8, extent: u64, blocks: Vec<Bytes>) -> Event
+    ensures { result ≡ asked user number (requests.Append node extent blocks) }
+{
+    Event::Submit {
+        user,
+        to: ActorId::Node(node),
+        body: Body::Append(AppendBody::Append {
+            extent: ExtentId::new(extent),
+            generation: Fence::new(0),
+            blocks: Blocks::of(blocks),
+            request: number,
+        }),
+    }
+}
+
+/// A read of bytes of a replica.
+fn bytes_at(user: u64, number: ReqNo, node: u8, extent: u64, offset: u32, length: u32) -> Event
+    ensures { result ≡ asked user number (requests.Read node extent offset length) }
+{
+    read(
+        user,
+        node,
+        ReadBody::ReadAt {
+            extent: ExtentId::new(extent),
+            offset,
+            length,
+            request: number,
+        },
+    )
+}
+
+/// A read of the content of a sealed replica.
+fn content(user: u64, number: ReqNo, node: u8, extent: u64, upto: u32) -> Event
+    ensures { result ≡ asked user number (requests.Content node extent upto) }
+{
+    read(
+        user,
+        node,
+        ReadBody::ReadGroups {
+            extent: ExtentId::new(extent),
+            upto,
+            sealed: true,
+            request: number,
+        },
+    )
+}
+
+/// A transaction.
+fn transact(user: u64, number: ReqNo, server: ServerNo, range: u64, changes: Vec<Change>) -> Event
+    ensures { result ≡ asked user number (requests.Transact server range changes) }
+{
+    ask(
+        user,
+        server,
+        TableBody::Transact {
+            range: RangeId::new(range),
+            changes: Changes::of(changes),
+            request: number,
+        },
+    )
+}
+
+/// A look at a key.
+fn get(user: u64, number: ReqNo, server: ServerNo, range: u64, key: Bytes) -> Event
+    ensures { result ≡ asked user number (requests.Get server range key) }
+{
+    ask(
+        user,
+        server,
+        TableBody::Get {
+            range: RangeId::new(range),
+            key,
+            request: number,
+        },
+    )
+}
+
+/// The question of which range has a key.
+fn route(user: u64, number: ReqNo, key: Bytes) -> Event
+    ensures { result ≡ asked user number (requests.Route key) }
+{
+    Event::Submit {
+        user,
+        to: ActorId::Map,
+        body: Body::Map(MapBody::Route {
+            key,
+            request: number,
+        }),
+    }
+}
+
 /// The event of a user's request, which has this number: who is asked what.
 pub fn event_of(user: u64, number: ReqNo, task: Request) -> Event
     ensures { result ≡ asked user number task }
 {
     match task {
-        Request::Create { kind } => call(
-            user,
-            Body::Stream(StreamBody::CreateStream {
-                stream: stream_of(kind),
-                fence: Fence::new(0),
-                request: number,
-            }),
-        ),
-        Request::Extend { kind, last, pick } => call(
-            user,
-            Body::Stream(StreamBody::Extend {
-                stream: stream_of(kind),
-                generation: Fence::new(0),
-                last: extent_of(last),
-                pick,
-                request: number,
-            }),
-        ),
+        Request::Create { kind } => create(user, number, kind),
+        Request::Extend { kind, last, pick } => extend(user, number, kind, last, pick),
         Request::Append {
             node,
             extent,
             blocks,
-        } => Event::Submit {
-            user,
-            to: ActorId::Node(node),
-            body: Body::Append(AppendBody::Append {
-                extent: ExtentId::new(extent),
-                generation: Fence::new(0),
-                blocks: Blocks::of(blocks),
-                request: number,
-            }),
-        },
+        } => append(user, number, node, extent, blocks),
         Request::Read {
             node,
             extent,
             offset,
             length,
-        } => read(
-            user,
-            node,
-            ReadBody::ReadAt {
-                extent: ExtentId::new(extent),
-                offset,
-                length,
-                request: number,
-            },
-        ),
-        Request::Content { node, extent, upto } => read(
-            user,
-            node,
-            ReadBody::ReadGroups {
-                extent: ExtentId::new(extent),
-                upto,
-                sealed: true,
-                request: number,
-            },
-        ),
+        } => bytes_at(user, number, node, extent, offset, length),
+        Request::Content { node, extent, upto } => content(user, number, node, extent, upto),
         Request::Transact {
             server,
             range,
             changes,
-        } => ask(
-            user,
-            server,
-            TableBody::Transact {
-                range: RangeId::new(range),
-                changes: Changes::of(changes),
-                request: number,
-            },
-        ),
-        Request::Get { server, range, key } => ask(
-            user,
-            server,
-            TableBody::Get {
-                range: RangeId::new(range),
-                key,
-                request: number,
-            },
-        ),
-        Request::Route { key } => Event::Submit {
-            user,
-            to: ActorId::Map,
-            body: Body::Map(MapBody::Route {
-                key,
-                request: number,
-            }),
-        },
-        Request::Seal { extent } => call(
-            user,
-            Body::Seal(SealBody::SealExtent {
-                extent: ExtentId::new(extent),
-                request: number,
-            }),
-        ),
+        } => transact(user, number, server, range, changes),
+        Request::Get { server, range, key } => get(user, number, server, range, key),
+        Request::Route { key } => route(user, number, key),
+        Request::Seal { extent } => seal(user, number, extent),
     }
 }
