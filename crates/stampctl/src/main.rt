@@ -6,6 +6,11 @@
 //! words.
 #![tactic(auto)]
 
+ghost use Rattle.std.specs.Prelude.{◌≡◌, ◌≢◌, ◌<◌, IfErr};
+ghost use Rattle.std.specs.Process.{exit_status};
+ghost use Rattle.clap.specs.Words.{kind_of};
+ghost use Rattle.clap.specs.declared.error.kind.ErrorKind.TheVariants.{DisplayHelp, DisplayVersion};
+
 use command_words::{CommandError, Task, command};
 use scripts::{Failure, script};
 use std::alloc::Global;
@@ -30,13 +35,18 @@ fn words<R: AllocGlobal + Env>(rt: &R, alloc: Global) -> Result<Vec<String>, NoW
 }
 
 /// Tells why a task ended early, where there is no buffered writer to tell it.
-fn refused<R: Print>(rt: &R, refusal: Refusal) -> ExitCode {
+fn refused<R: Print>(rt: &R, refusal: Refusal) -> ExitCode
+    ensures { exit_status result ≡ 1 }
+{
     let _ = rt.println(format_args!("refused {refusal}"));
     ExitCode::FAILURE
 }
 
 /// Tells the help that was asked for, or how the words are wrong.
-fn tell<R: Eprint + Print>(rt: &R, error: &clap::Error) -> ExitCode {
+fn tell<R: Eprint + Print>(rt: &R, error: &clap::Error) -> ExitCode
+    ensures mistake { (kind_of error.now ≢ DisplayHelp)
+        → (kind_of error.now ≢ DisplayVersion) → exit_status result ≡ 2 }
+{
     let status = ExitCode::from(error.exit_code() as u8);
     match error.print(rt) {
         Err(_) if !error.use_stderr() => ExitCode::FAILURE,
@@ -59,7 +69,10 @@ fn text_of<R: Files + Input>(
 }
 
 /// Prints what a script wrote, and how it ended. A script that could write no more ended for want of memory.
-fn finish<R: Print>(rt: &R, ended: Result<(), Failure>, written: &[u8]) -> ExitCode {
+fn finish<R: Print>(rt: &R, ended: Result<(), Failure>, written: &[u8]) -> ExitCode
+    ensures refused { IfErr ended (λ _. exit_status result ≡ 1) }
+    ensures told { exit_status result < 2 }
+{
     let mut writer = io::writer(rt);
     if writer
         .write_all(written)
@@ -76,7 +89,9 @@ fn finish<R: Print>(rt: &R, ended: Result<(), Failure>, written: &[u8]) -> ExitC
 }
 
 /// Runs the script over bytes in memory, so that what `script` promises is said of this very call.
-fn run<R: Files + Input + Print>(rt: &R, alloc: Global, path: Option<&str>) -> ExitCode {
+fn run<R: Files + Input + Print>(rt: &R, alloc: Global, path: Option<&str>) -> ExitCode
+    ensures { exit_status result < 2 }
+{
     let mut written = Vec::new(alloc);
     let ended = match text_of(rt, alloc, path) {
         Ok(text) => script(alloc, text.as_slice(), &mut written),
