@@ -27,3 +27,9 @@ returns-clause-writes g c =
       stops = search rules;
       memory = search rules;
     }
+
+pub returns-then-not-put-clause-writes : goal.returns-then-not-put-clause-writes
+returns-then-not-put-clause-writes g c = search rules
+
+pub returns-then-not-put-clause-broken : goal.returns-then-not-put-clause-broken
+returns-then-not-put-clause-broken g c = search rules

@@ -1,4 +1,4 @@
-use Rattle.std.proofs.Common.{ap, ◌∙◌}
+use Rattle.std.proofs.Common.{ap, ◌∙◌, rules}
 use Rattle.replica.specs.Replay.{fit}
 use Rattle.disk.proofs.Rereading.{read_since, ok_more}
 use Rattle.enode.proofs.node.Node.restart.Goals as goal
@@ -15,3 +15,6 @@ returns-in-Ok-clause-only g c = λ v rs is. ok_more c.recovered.result (λ node 
 pub returns-in-Ok-clause-any_moment : goal.returns-in-Ok-clause-any_moment
 returns-in-Ok-clause-any_moment g c = read_since _ _ _ c.recovered.result (λ node. g.D.Disk.state node.file.disk) (λ refused. g.D.Disk.state refused.1) (g.met.D.Disk.counts_now _)
     c.in-Ok.ensures.any_moment c.recovered.ensures.disk
+
+pub returns-in-Err-clause-any_moment : goal.returns-in-Err-clause-any_moment
+returns-in-Err-clause-any_moment g c = search rules

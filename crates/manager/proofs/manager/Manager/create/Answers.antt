@@ -1,3 +1,4 @@
+use Rattle.std.proofs.Common.{rules}
 use Rattle.disk.proofs.Beginning.{begins, unmade}
 use Rattle.manager.proofs.manager.Manager.create.Goals as goal
 
@@ -7,3 +8,9 @@ returns-in-Ok-format-clause-any_moment g c = begins _ _ _ _ _ _ c.begin.result (
 
 pub returns-in-Err-clause-any_moment : goal.returns-in-Err-clause-any_moment
 returns-in-Err-clause-any_moment g c = unmade _ _ _ _ c.in-Err.ensures.any_moment
+
+pub returns-in_default-clause-failed : goal.returns-in_default-clause-failed
+returns-in_default-clause-failed g c = search rules
+
+pub returns-in_default-clause-steady : goal.returns-in_default-clause-steady
+returns-in_default-clause-steady g c = search rules

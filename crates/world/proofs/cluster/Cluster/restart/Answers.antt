@@ -1,4 +1,4 @@
-use Rattle.std.proofs.Common.{sym, subst, OnOk}
+use Rattle.std.proofs.Common.{sym, subst, OnOk, rules}
 use Rattle.wire.specs.declared.actor.ActorId.{ActorId}
 use Rattle.world.specs.Cluster.{ClusterState, Came, IsBelow}
 use Rattle.model.specs.declared.event.Event.TheVariants.{Restart}
@@ -23,3 +23,6 @@ returns-in-Map-clause-ok c =
     subst (λ (x : ClusterState). OnOk c.restart_map.result (Came x (record was { map = c.restart_map.new.map }) (Restart c.args.actor))) c.self.view_is
     (subst (λ (a : ActorId). OnOk c.restart_map.result (Came was (record was { map = c.restart_map.new.map }) (Restart a))) (sym c.in-Map.is)
     (if_ok c.restart_map.result (restart_map_came was c.restart_map.new.map) c.restart_map.ensures.ok))
+
+pub returns-in-Server-clause-ok : goal.returns-in-Server-clause-ok
+returns-in-Server-clause-ok c = search rules

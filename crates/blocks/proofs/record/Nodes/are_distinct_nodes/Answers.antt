@@ -1,0 +1,11 @@
+use Rattle.std.proofs.Common.{rules}
+use Rattle.blocks.specs.Reading.{are_nodes}
+use Rattle.blocks.proofs.record.Nodes.are_distinct_nodes.Goals as goal
+
+pub returns-then-self-2-clause-value : goal.returns-then-self-2-clause-value
+unfolding are_nodes
+returns-then-self-2-clause-value c = search rules
+
+pub returns-then-self-2-clause-nodes : goal.returns-then-self-2-clause-nodes
+unfolding are_nodes
+returns-then-self-2-clause-nodes c = search rules
