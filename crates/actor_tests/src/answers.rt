@@ -56,8 +56,7 @@ fn append_says(body: &AppendBody, wanted: Answer) -> bool {
 
 fn check_says(body: &CheckBody, wanted: Answer) -> bool {
     match (body, wanted) {
-        (CheckBody::Probe { generation, .. }, Answer::Probes(wanted)) => generation.number()
-            == wanted,
+        (CheckBody::Probe { generation, .. }, Answer::Probes(wanted)) => generation.0 == wanted,
         (
             CheckBody::Probed {
                 generation,
@@ -65,7 +64,7 @@ fn check_says(body: &CheckBody, wanted: Answer) -> bool {
                 ..
             },
             Answer::Finds(number, wanted),
-        ) => { generation.number() == number && *length == wanted }
+        ) => { generation.0 == number && *length == wanted }
         (CheckBody::Checked { length, .. }, Answer::Checks(wanted)) => *length == wanted,
         _ => false,
     }
@@ -88,7 +87,7 @@ fn read_says(body: &ReadBody, wanted: Answer) -> bool {
     match (body, wanted) {
         (ReadBody::Bytes { bytes, .. }, Answer::Gives(wanted)) => bytes.as_slice() == wanted,
         (ReadBody::Groups { groups, .. }, Answer::GivesGroups(wanted)) => {
-            groups.as_slice().len() == wanted
+            groups.items.len() == wanted
         }
         _ => false,
     }
@@ -96,7 +95,7 @@ fn read_says(body: &ReadBody, wanted: Answer) -> bool {
 
 /// How many extents a list tells, and the length of the first of them.
 fn told_of(list: &StreamList) -> (usize, Option<u32>) {
-    match list.extents.as_slice() {
+    match list.extents.items.as_slice() {
         [] => (0, None),
         [first, rest @ ..] => (rest.len() + 1, first.length),
     }
@@ -108,8 +107,7 @@ fn stream_says(body: &StreamBody, wanted: Answer) -> bool {
             told_of(&streams.row_data) == (extents, first) && told_of(&streams.log) == (0, None)
         }
         (StreamBody::Confirmed { .. }, Answer::Confirms) => true,
-        (StreamBody::Extended { extent, .. }, Answer::Names(_, wanted)) => extent.number()
-            == wanted,
+        (StreamBody::Extended { extent, .. }, Answer::Names(_, wanted)) => extent.0 == wanted,
         _ => false,
     }
 }
@@ -152,11 +150,11 @@ fn only_says(packets: &[Packet], wanted: Answer) -> bool {
 
 /// How many packets a step sends, and how many notes it shows.
 pub fn counts(step: &Step) -> (usize, usize) {
-    (step.packets.as_slice().len(), step.notes.as_slice().len())
+    (step.packets.items.len(), step.notes.items.len())
 }
 
 pub fn is_answer(step: &Step, wanted: Answer) -> bool {
-    let packets = step.packets.as_slice();
+    let packets = &step.packets.items;
     match wanted {
         Answer::Taken => true,
         Answer::Sends(sent, shown) => counts(step) == (sent, shown),

@@ -96,7 +96,7 @@ fn packet_of(alloc: Global, from: Sender, ask: Ask) -> Packet {
 
 /// Why a decision is refused, if it is.
 fn undecided(alloc: Global, manager: &mut Manager<MemDisk>, extent: u64) -> Option<ManagerFault> {
-    match manager.decide(alloc, ExtentId::new(extent)) {
+    match manager.decide(alloc, ExtentId(extent)) {
         Ok(_step) => None,
         Err(fault) => Some(fault),
     }
@@ -104,14 +104,14 @@ fn undecided(alloc: Global, manager: &mut Manager<MemDisk>, extent: u64) -> Opti
 
 /// Whether a decision is taken, and tells who asked this length.
 fn decides_at(alloc: Global, manager: &mut Manager<MemDisk>, length: u32) -> bool {
-    match manager.decide(alloc, ExtentId::new(1)) {
+    match manager.decide(alloc, ExtentId(1)) {
         Ok(step) => counts(&step) == (7, 1) && is_answer(&step, Answer::Tells(length)),
         Err(_fault) => false,
     }
 }
 
 fn sealed_at(manager: &Manager<MemDisk>, extent: u64) -> Option<Option<u32>> {
-    match manager.extent(ExtentId::new(extent)) {
+    match manager.extent(ExtentId(extent)) {
         Some(entry) => Some(entry.sealed),
         None => None,
     }
@@ -142,7 +142,7 @@ fn fits(alloc: Global, manager: &mut Manager<MemDisk>, event: Event) -> bool {
         Event::Decides(extent, wanted) => undecided(alloc, manager, extent) == wanted,
         Event::DecidesAt(length) => decides_at(alloc, manager, length),
         Event::HasExtent(extent, wanted) => sealed_at(manager, extent) == wanted,
-        Event::WouldSealAt(wanted) => manager.sealing(ExtentId::new(1)) == wanted,
+        Event::WouldSealAt(wanted) => manager.sealing(ExtentId(1)) == wanted,
         Event::Runs => runs(manager),
         Event::IsToldToStop(keep) => is_told_to_stop(manager, keep),
         Event::StopsNow => stops_now(manager),

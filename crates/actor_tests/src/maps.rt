@@ -60,7 +60,7 @@ fn copied(alloc: Global, map: &Held) -> Result<Held, Fail> {
 type Told = Option<(u8, u64, u64)>;
 
 fn told(step: &Step) -> Told {
-    match step.packets.as_slice() {
+    match step.packets.items.as_slice() {
         [only] => match (&only.to, &only.body) {
             (
                 ActorId::Server(server),
@@ -76,7 +76,7 @@ fn told(step: &Step) -> Told {
                         ..
                     },
                 ),
-            ) => Some((server.number(), generation.number(), *until)),
+            ) => Some((server.0, generation.0, *until)),
             _ => None,
         },
         _ => None,
@@ -84,7 +84,7 @@ fn told(step: &Step) -> Told {
 }
 
 fn counts(step: &Step) -> (usize, usize) {
-    (step.packets.as_slice().len(), step.notes.as_slice().len())
+    (step.packets.items.len(), step.notes.items.len())
 }
 
 fn assign(
@@ -94,47 +94,42 @@ fn assign(
     now: u64,
     until: u64,
 ) -> Result<Told, MapFault> {
-    let step = map.assign(alloc, RangeId::new(1), ServerNo::new(server), now, until)?;
+    let step = map.assign(alloc, RangeId(1), ServerNo(server), now, until)?;
     Ok(told(&step))
 }
 
 fn renew(alloc: Global, map: &mut Held, server: u8, until: u64) -> Result<Told, MapFault> {
-    let step = map.renew(alloc, RangeId::new(1), ServerNo::new(server), until)?;
+    let step = map.renew(alloc, RangeId(1), ServerNo(server), until)?;
     Ok(told(&step))
 }
 
 /// How much a stopped map sends and shows, or a map whose disk fails.
 fn assign_counts(alloc: Global, map: &mut Held) -> Result<(usize, usize), MapFault> {
-    let step = map.assign(alloc, RangeId::new(1), ServerNo::new(2), 0, 50)?;
+    let step = map.assign(alloc, RangeId(1), ServerNo(2), 0, 50)?;
     Ok(counts(&step))
 }
 
 fn unknown(alloc: Global, map: &mut Held) -> (Option<MapFault>, Option<MapFault>) {
-    let assigned = map.assign(alloc, RangeId::new(2), ServerNo::new(2), 0, 50);
-    let renewed = map.renew(alloc, RangeId::new(2), ServerNo::new(2), 50);
+    let assigned = map.assign(alloc, RangeId(2), ServerNo(2), 0, 50);
+    let renewed = map.renew(alloc, RangeId(2), ServerNo(2), 50);
     (assigned.err(), renewed.err())
 }
 
 /// The only range: its number, its generation, who holds it, and the end of the lease.
 fn only(map: &Held) -> Option<(u64, u64, Option<ServerNo>, u64)> {
     match map.ranges() {
-        [range] => Some((
-            range.range.number(),
-            range.generation.number(),
-            range.holder,
-            range.until,
-        )),
+        [range] => Some((range.range.0, range.generation.0, range.holder, range.until)),
         _ => None,
     }
 }
 
 fn holds(server: u8) -> Option<ServerNo> {
-    Some(ServerNo::new(server))
+    Some(ServerNo(server))
 }
 
 fn route(map: &Held, key: &[u8]) -> (u64, Option<ServerNo>) {
     let (range, holder) = map.route(key);
-    (range.number(), holder)
+    (range.0, holder)
 }
 
 fn stop_in_record(map: &mut Held, keep: bool) -> bool {
@@ -162,7 +157,7 @@ fn asked(alloc: Global, map: &mut Held) -> Result<Option<(u64, Option<ServerNo>)
     let key = Bytes::copy_from_slice(alloc, b"k")?;
     let request = REQUEST;
     let step = ask(alloc, map, MapBody::Route { key, request })?;
-    Ok(match step.packets.as_slice() {
+    Ok(match step.packets.items.as_slice() {
         [only] => match (&only.to, &only.body) {
             (
                 ActorId::User(7),
@@ -173,7 +168,7 @@ fn asked(alloc: Global, map: &mut Held) -> Result<Option<(u64, Option<ServerNo>)
                         server,
                     },
                 ),
-            ) => Some((range.number(), *server)),
+            ) => Some((range.0, *server)),
             _ => None,
         },
         _ => None,

@@ -90,14 +90,14 @@ fn takes(
 }
 
 fn length(node: &Node<MemDisk>) -> Option<u32> {
-    match node.replica(ExtentId::new(1)) {
+    match node.replica(ExtentId(1)) {
         Some(replica) => Some(replica.len()),
         None => None,
     }
 }
 
 fn fence(node: &Node<MemDisk>) -> Option<u64> {
-    match node.replica(ExtentId::new(1)) {
+    match node.replica(ExtentId(1)) {
         Some(replica) => Some(replica.fence()),
         None => None,
     }

@@ -14,7 +14,7 @@ pub fn actor_of(sender: Sender) -> ActorId {
     match sender {
         Sender::Manager => ActorId::Manager,
         Sender::User => ActorId::User(7),
-        Sender::Server => ActorId::Server(ServerNo::new(2)),
+        Sender::Server => ActorId::Server(ServerNo(2)),
         Sender::Node(number) => ActorId::Node(number),
     }
 }

@@ -31,7 +31,7 @@ fn add(notes: &mut Notes, number: u64, group: Group) -> Result<(), AllocError>
     ensures { OnOk result (notes.new ≡ notes.old ++ acknowledgement group number ∷ []) }
 {
     notes.push(Note::Acked {
-        extent: ExtentId::new(number / APPENDS + 1),
+        extent: ExtentId(number / APPENDS + 1),
         offset: (number % APPENDS) as u32 * SIZE,
         group,
     })
@@ -54,7 +54,7 @@ pub fn measure<R: AllocGlobal + Clock + Print>(rt: &R, count: u64) -> Result<(),
     let group = group_of(rt.alloc())?;
     let notes = observed(rt.alloc(), &group, count)?;
     let start = Instant::now(rt)?;
-    let found = check(rt.alloc(), notes.as_slice());
+    let found = check(rt.alloc(), &notes.items);
     let micros = start.elapsed(rt)?.as_micros();
     match found {
         None => rt.println(format_args!("check {count} found none micros {micros}"))?,

@@ -24,7 +24,7 @@ impl SealedLengths for AllSealed {
 
 fn log() -> StreamName {
     StreamName {
-        range: RangeId::new(1),
+        range: RangeId(1),
         kind: StreamKind::Log,
     }
 }
@@ -33,15 +33,15 @@ fn log() -> StreamName {
 fn extended(alloc: Global, count: u64) -> Result<StreamTable, Failure> {
     let mut table = StreamTable::new(alloc);
     let name = log();
-    table.create(&name, Fence::new(1))?;
+    table.create(&name, Fence(1))?;
     for number in 0..count {
         let last = if number == 0 {
             None
         } else {
-            Some(ExtentId::new(number))
+            Some(ExtentId(number))
         };
-        let extent = ExtentId::new(number.saturating_add(1));
-        table.extend(&name, Fence::new(1), last, &AllSealed, extent)?;
+        let extent = ExtentId(number.saturating_add(1));
+        table.extend(&name, Fence(1), last, &AllSealed, extent)?;
     }
     Ok(table)
 }

@@ -23,7 +23,7 @@ fn make(extent: ExtentId) -> Packet {
         to: ActorId::Node(1),
         body: Body::Seal(SealBody::Make {
             extent,
-            fence: Fence::new(0),
+            fence: Fence(0),
             target: 16_777_216,
             places,
         }),
@@ -38,8 +38,8 @@ fn append(alloc: Global, extent: ExtentId, ticket: u64) -> Result<Packet, Failur
         to: ActorId::Node(1),
         body: Body::Append(AppendBody::Append {
             extent,
-            generation: Fence::new(0),
-            blocks: Blocks::of(blocks),
+            generation: Fence(0),
+            blocks: Blocks { items: blocks },
             request: ReqNo::User { user: 1, ticket },
         }),
     })
@@ -51,7 +51,7 @@ fn given(node: &mut Node<MemDisk>, alloc: Global, packet: Packet) -> Result<usiz
 }
 
 fn packets_of(step: Step) -> usize {
-    step.packets.as_slice().len()
+    step.packets.items.len()
 }
 
 /// A new node to which groups of 1 KiB were appended, and how many were taken: so many sent their Puts.
@@ -60,7 +60,7 @@ fn filled(alloc: Global, count: u64) -> Result<(Node<MemDisk>, u64), Failure> {
     let mut node = Node::restart(alloc, 1, disk)?;
     let mut taken = 0u64;
     for ticket in 0..count {
-        let extent = ExtentId::new(ticket / WAITING);
+        let extent = ExtentId(ticket / WAITING);
         if ticket % WAITING == 0 {
             given(&mut node, alloc, make(extent))?;
         }

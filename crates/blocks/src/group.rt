@@ -214,13 +214,13 @@ fn total(blocks: &[Block]) -> u32
 
 /// Groups in order, as an extent has them; there may be none. Its value is the list of their values.
 pub struct Groups {
-    groups: Vec<Group>,
+    pub items: Vec<Group>,
 }
 
 // Written out, so that a crate above that lets one go has no proof of what is in it.
 impl Drop for Groups {
     fn drop(self) {
-        let Groups { groups: _ } = self;
+        let Groups { items: _ } = self;
     }
 }
 
@@ -229,17 +229,10 @@ impl Model for Groups {
 
     ghost Value = { List (List (List ℕ)) };
 
-    ghost view = { λ g. g.groups.items };
+    ghost view = { λ g. g.items.items };
 }
 
 impl Groups {
-    /// These groups.
-    pub fn of(groups: Vec<Group>) -> Groups
-        ensures { result ≡ groups.items }
-    {
-        Groups { groups }
-    }
-
     /// The same groups again, which share their bytes. An error is want of memory (22).
     pub fn copied(alloc: Global, groups: &[Group]) -> Result<Groups, AllocError>
         ensures { IfOk result (λ copied. copied ≡ groups.now) }
@@ -248,29 +241,14 @@ impl Groups {
         for group in groups {
             copied.push(group.copy(alloc)?)?;
         }
-        Ok(Groups { groups: copied })
-    }
-
-    /// The groups in order.
-    pub fn as_slice(&self) -> &[Group]
-        ensures { result.now ≡ self.now }
-    {
-        &self.groups
-    }
-
-    /// Adds a group at the end. For want of memory (22) it gives the group back, and nothing has changed.
-    pub fn push(&mut self, group: Group) -> Result<(), AllocFailed<Group>>
-        ensures ok { OnOk result (self.new ≡ self.old ++ group ∷ []) }
-        ensures err { IfErr result (λ e. (e.value ≡ group) × (self.new ≡ self.old)) }
-    {
-        self.groups.push(group)
+        Ok(Groups { items: copied })
     }
 
     /// The groups as a vector, which has their room too.
     pub fn into_vec(self) -> Vec<Group>
         ensures { result.items ≡ self }
     {
-        let Groups { groups } = self;
-        groups
+        let Groups { items } = self;
+        items
     }
 }

@@ -176,7 +176,7 @@ fn groups_of(
         return Err(BlockFault::Damaged);
     }
     let (groups, size, rest) = all_groups_of(alloc, version, count, rest)?;
-    Ok((Groups::of(groups), size, rest))
+    Ok((Groups { items: groups }, size, rest))
 }
 
 #[tactic(auto, unfolding(crate::specs::Reading::fence_record_at, crate::specs::Reading::fence_at))]

@@ -128,7 +128,7 @@ fn put_fill(
     put_u64(out, extent)?;
     put_u32(out, from)?;
     put_u32(out, upto)?;
-    put_groups(out, version, all.as_slice())
+    put_groups(out, version, &all.items)
 }
 
 fn put_manage(out: &mut Vec<u8>, text: &[u8]) -> Result<(), AllocError>

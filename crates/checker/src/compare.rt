@@ -47,7 +47,7 @@ fn meets_acked(offset: u32, group: &Group, note: &Note) -> bool
             ..
         } => is_apart(offset, group, *at, behind),
         Note::SealedAt { length, .. } => ends_within(offset, group, *length),
-        Note::Content { groups, .. } => stands_at(group, offset, groups.as_slice()),
+        Note::Content { groups, .. } => stands_at(group, offset, &groups.items),
         Note::Seen {
             offset: at,
             bytes,
@@ -65,7 +65,7 @@ fn meets_sealed(length: u32, note: &Note) -> bool
     match note {
         Note::Acked { offset, group, .. } => ends_within(*offset, group, length),
         Note::SealedAt { length: other, .. } => length == *other,
-        Note::Content { groups, .. } => has_length(groups.as_slice(), length),
+        Note::Content { groups, .. } => has_length(&groups.items, length),
         _ => true,
     }
 }
@@ -76,12 +76,10 @@ fn meets_content(groups: &Groups, note: &Note) -> bool
         → Decides result (Compatible (kinds.Content extent node groups.now) note.now) }
 {
     match note {
-        Note::Acked { offset, group, .. } => stands_at(group, *offset, groups.as_slice()),
-        Note::SealedAt { length, .. } => has_length(groups.as_slice(), *length),
-        Note::Content { groups: others, .. } => {
-            is_same_groups(groups.as_slice(), others.as_slice())
-        }
-        Note::Seen { offset, bytes, .. } => is_same_in_groups(*offset, bytes, groups.as_slice()),
+        Note::Acked { offset, group, .. } => stands_at(group, *offset, &groups.items),
+        Note::SealedAt { length, .. } => has_length(&groups.items, *length),
+        Note::Content { groups: others, .. } => { is_same_groups(&groups.items, &others.items) }
+        Note::Seen { offset, bytes, .. } => is_same_in_groups(*offset, bytes, &groups.items),
         _ => true,
     }
 }
@@ -97,7 +95,7 @@ fn meets_seen(offset: u32, bytes: &Bytes, note: &Note) -> bool
             group,
             ..
         } => is_seen(*at, group, offset, bytes),
-        Note::Content { groups, .. } => is_same_in_groups(offset, bytes, groups.as_slice()),
+        Note::Content { groups, .. } => is_same_in_groups(offset, bytes, &groups.items),
         Note::Seen {
             offset: at,
             bytes: others,

@@ -13,10 +13,10 @@ pub fn extent_of(note: &Note) -> Option<u64>
     ensures { result ≡ extent_of note.now }
 {
     match note {
-        Note::Acked { extent, .. } => Some(extent.number()),
-        Note::SealedAt { extent, .. } => Some(extent.number()),
-        Note::Content { extent, .. } => Some(extent.number()),
-        Note::Seen { extent, .. } => Some(extent.number()),
+        Note::Acked { extent, .. } => Some(extent.0),
+        Note::SealedAt { extent, .. } => Some(extent.0),
+        Note::Content { extent, .. } => Some(extent.0),
+        Note::Seen { extent, .. } => Some(extent.0),
         _ => None,
     }
 }

@@ -19,14 +19,20 @@ use wire::{
 /// What a server knows of one of its streams under a generation, and the one request that it has out on it.
 pub struct StreamClient {
     pub(crate) server: ServerNo,
-    pub(crate) stream: StreamName,
-    pub(crate) generation: Fence,
-    pub(crate) base: u64,
-    pub(crate) extents: Vec<StreamExtent>,
-    pub(crate) checked: Option<u32>,
-    pub(crate) pick: Nodes,
+    pub stream: StreamName,
+    /// The generation that it works under.
+    pub generation: Fence,
+    /// The index of the first extent.
+    pub base: u64,
+    /// The extents that it knows, in order, with the length in bytes of each that it knows to be sealed.
+    pub extents: Vec<StreamExtent>,
+    /// The length in bytes at which the last extent was checked, if it was.
+    pub checked: Option<u32>,
+    /// The nodes at which a new extent is asked for, the primary first.
+    pub pick: Nodes,
     pub(crate) group: Blocks,
-    pub(crate) job: Job,
+    /// What is waited for.
+    pub job: Job,
 }
 
 // Written out, so that a crate above that lets one go has no proof of what is in it.
@@ -90,7 +96,7 @@ impl StreamClient {
         ensures { IfOk result (λ c. c ≡ new_client server stream generation list.now pick) }
     {
         let mut extents = Vec::new(alloc);
-        extents.extend_from_slice(list.extents.as_slice())?;
+        extents.extend_from_slice(&list.extents.items)?;
         Ok(StreamClient {
             server,
             stream,
@@ -99,7 +105,9 @@ impl StreamClient {
             extents,
             checked: None,
             pick,
-            group: Blocks::of(Vec::new(alloc)),
+            group: Blocks {
+                items: Vec::new(alloc),
+            },
             job: Job::Idle,
         })
     }

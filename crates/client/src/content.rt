@@ -48,6 +48,8 @@ impl StreamClient {
         ensures { self.new ≡ record self.old { job = jobs.Idle; group = [] } }
     {
         self.job = Job::Idle;
-        self.group = Blocks::of(Vec::new(alloc));
+        self.group = Blocks {
+            items: Vec::new(alloc),
+        };
     }
 }

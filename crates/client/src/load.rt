@@ -28,9 +28,9 @@ pub enum LoadPhase {
 /// The load of a range under a generation (after Calder et al., SOSP 2011, section 5.3).
 pub struct RangeLoad {
     server: ServerNo,
-    range: RangeId,
-    generation: Fence,
-    pub(crate) phase: LoadPhase,
+    pub range: RangeId,
+    pub generation: Fence,
+    pub phase: LoadPhase,
 }
 
 // Written out, so that a crate above that lets one go has no proof of what is in it.
@@ -265,20 +265,6 @@ impl RangeLoad {
             LoadPhase::Confirmed => None,
             LoadPhase::Fenced => None,
         }
-    }
-
-    /// The range.
-    pub fn range(&self) -> RangeId
-        ensures { result ≡ self.now.range }
-    {
-        self.range
-    }
-
-    /// The generation that it is loaded under.
-    pub fn generation(&self) -> Fence
-        ensures { result ≡ self.now.generation }
-    {
-        self.generation
     }
 
     /// Whether an answer of this number is waited for.

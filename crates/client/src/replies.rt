@@ -56,7 +56,9 @@ fn end(client: &mut StreamClient, alloc: Global, told: News) -> Reaction
     ensures { ends client.old told ≡ record { after = client.new; packet = result.packet; news = result.news } }
 {
     client.job = Job::Idle;
-    client.group = Blocks::of(Vec::new(alloc));
+    client.group = Blocks {
+        items: Vec::new(alloc),
+    };
     Reaction {
         packet: None,
         news: Some(told),

@@ -6,7 +6,7 @@ use wire::Changes;
 
 /// Transactions in the order of their numbers. Its value is the list of their changes.
 pub struct Transactions {
-    items: Vec<Changes>,
+    pub items: Vec<Changes>,
 }
 
 // Written out, so that a crate above that lets one go has no proof of what is in it.
@@ -23,22 +23,6 @@ impl Model for Transactions {
     ghost Value = { List (List Change) };
 
     ghost view = { λ list. list.items.items };
-}
-
-impl Transactions {
-    /// Takes them as they are.
-    pub fn of(items: Vec<Changes>) -> Transactions
-        ensures { result ≡ items.items }
-    {
-        Transactions { items }
-    }
-
-    /// They, in order.
-    pub fn as_slice(&self) -> &[Changes]
-        ensures { result.now ≡ self.now }
-    {
-        &self.items
-    }
 }
 
 /// What one append to the commit log commits: transactions with consecutive numbers.

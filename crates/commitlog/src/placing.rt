@@ -92,7 +92,7 @@ fn put_all_cells(
 {
     let mut next = offset;
     for changes in all {
-        next = put_cells(out, extent, next, changes.as_slice())?;
+        next = put_cells(out, extent, next, &changes.items)?;
     }
     Ok(())
 }
@@ -120,7 +120,7 @@ fn offset_after_all(offset: u32, all: &[Changes]) -> u32
 {
     let mut next = offset;
     for changes in all {
-        next = offset_after(next, changes.as_slice());
+        next = offset_after(next, &changes.items);
     }
     next
 }
@@ -143,7 +143,7 @@ pub fn cells_from(
     ensures kept { IfOk result (λ kept. kept.items ≡ flat_map (λ t. t) (drop old (specs.kept written.now extent offset))) }
     ensures entries { IfOk result (λ kept. AllByRecursion (λ e. IsEntry e.0 e.1) kept.items) }
 {
-    let all = written.transactions.as_slice();
+    let all = &written.transactions.items;
     let start = offset + text_size(written);
     let (before, rest) = all.split_at(old);
     let first = offset_after_all(start, before);

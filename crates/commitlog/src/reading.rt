@@ -137,7 +137,7 @@ fn transaction_of(alloc: Global, bytes: &[u8]) -> Result<(TextChanges, &[u8]), B
         return Err(BlockFault::Damaged);
     }
     let (changes, rest) = all_changes_of(alloc, count, rest)?;
-    Ok((TextChanges::of(changes), rest))
+    Ok((TextChanges { items: changes }, rest))
 }
 
 fn many_transactions_of(
@@ -257,7 +257,9 @@ fn record_of(alloc: Global, blocks: &[Block]) -> Result<LogRecord, BlockFault>
 {
     let (text, values) = joined_of(alloc, blocks)?;
     let (first, items) = text_of(alloc, &text)?;
-    let transactions = Transactions::of(transactions_of(alloc, values, &items)?);
+    let transactions = Transactions {
+        items: transactions_of(alloc, values, &items)?,
+    };
     Ok(LogRecord {
         first,
         transactions,

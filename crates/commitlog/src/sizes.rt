@@ -75,7 +75,7 @@ fn sum_of(all: &[Changes]) -> u32
 {
     let mut size = HEADER;
     for changes in all {
-        size += transaction_size(changes.as_slice());
+        size += transaction_size(&changes.items);
     }
     size
 }
@@ -86,8 +86,7 @@ pub(crate) fn text_size(written: &LogRecord) -> u32
     ensures value { result ≡ length (text_from written.now) }
     ensures bound { result ≤ 4194304 }
 {
-    let all = written.transactions.as_slice();
-    sum_of(all)
+    sum_of(&written.transactions.items)
 }
 
 /// How full the group of some transactions is. Its value is the bytes of its text and its large values (`filling` of
@@ -151,6 +150,6 @@ impl Filling {
             → specs.HasRoom (ts ++ changes.now ∷ []) → ⊥ }
         ensures left { result ≡ false → self.new ≡ self.old }
     {
-        self.grown(changes.as_slice())
+        self.grown(&changes.items)
     }
 }

@@ -18,7 +18,7 @@ pub(crate) enum TextCell {
 /// The changes of one transaction as the text has them.
 #[derive(Drop)]
 pub(crate) struct TextChanges {
-    items: Vec<(Bytes, TextCell)>,
+    pub(crate) items: Vec<(Bytes, TextCell)>,
 }
 
 impl Model for TextChanges {
@@ -28,20 +28,4 @@ impl Model for TextChanges {
     ghost Value = { List (List ℕ × TextCell) };
 
     ghost view = { λ list. list.items.items };
-}
-
-impl TextChanges {
-    /// Takes them as they are.
-    pub(crate) fn of(items: Vec<(Bytes, TextCell)>) -> TextChanges
-        ensures { result ≡ items.items }
-    {
-        TextChanges { items }
-    }
-
-    /// They, in order.
-    pub(crate) fn as_slice(&self) -> &[(Bytes, TextCell)]
-        ensures { result.now ≡ self.now }
-    {
-        &self.items
-    }
 }

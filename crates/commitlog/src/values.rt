@@ -87,8 +87,8 @@ fn all_transactions_of<'a>(
     let mut made = Vec::with_capacity(alloc, items.len())?;
     let mut rest = blocks;
     for item in items {
-        let (changes, after) = changes_of(alloc, blocks.len(), rest, item.as_slice())?;
-        made.push(Changes::of(changes))?;
+        let (changes, after) = changes_of(alloc, blocks.len(), rest, &item.items)?;
+        made.push(Changes { items: changes })?;
         rest = after;
     }
     Ok((made, rest))

@@ -84,7 +84,7 @@ fn put_transactions(out: &mut Vec<u8>, all: &[Changes]) -> Result<(), AllocError
 {
     let mut number = 0;
     for changes in all {
-        number = put_transaction(out, number, changes.as_slice())?;
+        number = put_transaction(out, number, &changes.items)?;
     }
     Ok(())
 }
@@ -105,12 +105,11 @@ fn text_of(alloc: Global, written: &LogRecord) -> Result<Vec<u8>, AllocError>
     requires { Fits written.now }
     ensures { IfOk result (λ text. text.items ≡ text_from written.now) }
 {
-    let all = written.transactions.as_slice();
     let size = text_size(written);
     let mut text = Vec::new(alloc);
     put_u32(&mut text, size)?;
     put_u64(&mut text, written.first)?;
-    put_counted(&mut text, all)?;
+    put_counted(&mut text, &written.transactions.items)?;
     Ok(text)
 }
 
@@ -160,7 +159,7 @@ fn put_all_values(out: &mut Vec<Block>, all: &[Changes]) -> Result<(), AllocErro
     ensures { OnOk result (out.new.items ≡ out.old.items ++ flat_map transaction_values all.now) }
 {
     for changes in all {
-        put_values(out, changes.as_slice())?;
+        put_values(out, &changes.items)?;
     }
     Ok(())
 }
@@ -174,6 +173,6 @@ pub fn encode(alloc: Global, written: &LogRecord) -> Result<Group, AllocError>
 {
     let text = text_of(alloc, written)?;
     let mut made = pieces_of(alloc, text)?;
-    put_all_values(&mut made, written.transactions.as_slice())?;
+    put_all_values(&mut made, &written.transactions.items)?;
     Ok(Group::of(made))
 }

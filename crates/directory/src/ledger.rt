@@ -1,5 +1,5 @@
 //! The records of the manager, as bytes (docs/FORMATS.md).
-ghost use Rattle.std.specs.Prelude.{◌≡◌, ◌∷◌, ◌++◌, [], IfOk, OnOk, Some};
+ghost use Rattle.std.specs.Prelude.{◌≡◌, ◌<◌, ◌^◌, ◌∷◌, ◌++◌, [], IfOk, OnOk, Some};
 ghost use Rattle.blocks.specs.Format.{Gives};
 ghost use Rattle.blocks.specs.Reading.{nodes_at};
 ghost use Rattle.blocks.specs.Record.{number, nodes};
@@ -30,7 +30,7 @@ fn number_of(kind: StreamKind) -> u8
 fn put_stream(out: &mut Vec<u8>, stream: &StreamName) -> Result<(), AllocError>
     ensures { OnOk result (out.new.items ≡ out.old.items ++ stream_name stream.now) }
 {
-    put_u64(out, stream.range.number())?;
+    put_u64(out, stream.range.0)?;
     put_u8(out, number_of(stream.kind))
 }
 
@@ -95,21 +95,24 @@ pub fn encode(alloc: Global, ruling: &ManagerRecord) -> Result<Bytes, AllocError
     let mut out = Vec::new(alloc);
     match ruling {
         ManagerRecord::First { nodes, target } => put_first(&mut out, *nodes, *target)?,
-        ManagerRecord::CreateStream { stream, fence } => {
-            put_create(&mut out, stream, fence.number())?
-        }
+        ManagerRecord::CreateStream { stream, fence } => { put_create(&mut out, stream, fence.0)? }
         ManagerRecord::OpenStreams { range, generation } => {
-            put_open(&mut out, range.number(), generation.number())?
+            put_open(&mut out, range.0, generation.0)?
         }
         ManagerRecord::Extend {
             stream,
             generation,
             pick,
-        } => put_extend(&mut out, stream, generation.number(), pick)?,
-        ManagerRecord::Seal { extent, length } => put_seal(&mut out, extent.number(), *length)?,
+        } => put_extend(&mut out, stream, generation.0, pick)?,
+        ManagerRecord::Seal { extent, length } => put_seal(&mut out, extent.0, *length)?,
     }
     Ok(Bytes::from_vec(out)?)
 }
+
+/// A number of 64 bits is below 2^64, which a proof of a number behind a name wants said.
+fn bounded(number: u64)
+    ensures { number < 2 ^ 64 }
+{}
 
 /// A law, which does nothing when it runs: the bytes of a record whose fields are in range are read as that record.
 pub fn reads_back(ruling: &ManagerRecord)
@@ -122,23 +125,23 @@ pub fn reads_back(ruling: &ManagerRecord)
             target: _,
         } => {}
         ManagerRecord::CreateStream { stream, fence } => {
-            let _range = stream.range.number();
-            let _fence = fence.number();
+            bounded(stream.range.0);
+            bounded(fence.0);
         }
         ManagerRecord::OpenStreams { range, generation } => {
-            let _range = range.number();
-            let _generation = generation.number();
+            bounded(range.0);
+            bounded(generation.0);
         }
         ManagerRecord::Extend {
             stream,
             generation,
             pick: _,
         } => {
-            let _range = stream.range.number();
-            let _generation = generation.number();
+            bounded(stream.range.0);
+            bounded(generation.0);
         }
         ManagerRecord::Seal { extent, length } => {
-            let _extent = extent.number();
+            bounded(extent.0);
             let _length = *length;
         }
     }
@@ -165,7 +168,7 @@ fn named(range: u64, kind: StreamKind) -> StreamName
     ensures { result ≡ record { range = range; kind = kind } }
 {
     StreamName {
-        range: RangeId::new(range),
+        range: RangeId(range),
         kind,
     }
 }
@@ -216,7 +219,7 @@ fn create_at(fields: &[u8]) -> Result<ManagerRecord, BlockFault>
     let (fence, rest) = u64_at(rest)?;
     let read = ManagerRecord::CreateStream {
         stream: named(range, kind),
-        fence: Fence::new(fence),
+        fence: Fence(fence),
     };
     ended(read, rest)
 }
@@ -228,8 +231,8 @@ fn open_at(fields: &[u8]) -> Result<ManagerRecord, BlockFault>
     let (range, rest) = u64_at(fields)?;
     let (generation, rest) = u64_at(rest)?;
     let read = ManagerRecord::OpenStreams {
-        range: RangeId::new(range),
-        generation: Fence::new(generation),
+        range: RangeId(range),
+        generation: Fence(generation),
     };
     ended(read, rest)
 }
@@ -244,7 +247,7 @@ fn extend_at(fields: &[u8]) -> Result<ManagerRecord, BlockFault>
     let (pick, rest) = nodes_at(rest)?;
     let read = ManagerRecord::Extend {
         stream: named(range, kind),
-        generation: Fence::new(generation),
+        generation: Fence(generation),
         pick,
     };
     ended(read, rest)
@@ -257,7 +260,7 @@ fn seal_at(fields: &[u8]) -> Result<ManagerRecord, BlockFault>
     let (extent, rest) = u64_at(fields)?;
     let (length, rest) = u32_at(rest)?;
     let read = ManagerRecord::Seal {
-        extent: ExtentId::new(extent),
+        extent: ExtentId(extent),
         length,
     };
     ended(read, rest)

@@ -18,7 +18,7 @@ fn fence_of(streams: &StreamTable, stream: &StreamName) -> Option<Fence>
 {
     match streams.stream(stream) {
         None => None,
-        Some(listed) => Some(listed.fence()),
+        Some(listed) => Some(listed.fence),
     }
 }
 
@@ -53,7 +53,7 @@ pub(crate) fn lengthen(
         Some(fence) => {
             let number = extents.len() as u64 + 1;
             push_entry(extents, new_entry(pick, fence));
-            streams.push_extent(stream, ExtentId::new(number));
+            streams.push_extent(stream, ExtentId(number));
         }
     }
 }
@@ -61,9 +61,9 @@ pub(crate) fn lengthen(
 fn add_first(streams: &mut StreamTable, kind: StreamKind) -> Result<(), AllocError>
     ensures { OnOk result (streams_of streams.new ≡ created (streams_of streams.old) (record { range = 1; kind = kind }) 0) }
 {
-    let range = RangeId::new(1);
+    let range = RangeId(1);
     streams.reserve()?;
-    streams.put(&StreamName { range, kind }, Fence::new(0));
+    streams.put(&StreamName { range, kind }, Fence(0));
     Ok(())
 }
 

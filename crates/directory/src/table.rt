@@ -52,7 +52,7 @@ impl SealedLengths for Table {
     ghost lengths = { λ t e. sealed_in (entry_at t.extents e) };
 
     fn length_of(&self, extent: ExtentId) -> Option<u32> {
-        match self.entry(extent.number()) {
+        match self.entry(extent.0) {
             None => None,
             Some(entry) => entry.sealed,
         }
@@ -141,7 +141,7 @@ impl Table {
     {
         match last {
             None => true,
-            Some(extent) => match self.entry(extent.number()) {
+            Some(extent) => match self.entry(extent.0) {
                 None => false,
                 Some(entry) => entry.sealed.is_some(),
             },
@@ -153,9 +153,7 @@ impl Table {
     {
         match self.streams.stream(stream) {
             None => false,
-            Some(listed) => {
-                generation.number() == listed.fence().number() && self.may_lengthen(listed.last())
-            }
+            Some(listed) => { generation.0 == listed.fence.0 && self.may_lengthen(listed.last()) }
         }
     }
 
@@ -179,7 +177,7 @@ impl Table {
                 generation,
                 pick,
             } => self.is_pick(pick) && self.lengthens(stream, *generation),
-            ManagerRecord::Seal { extent, length: _ } => match self.entry(extent.number()) {
+            ManagerRecord::Seal { extent, length: _ } => match self.entry(extent.0) {
                 None => false,
                 Some(entry) => entry.sealed.is_none(),
             },
@@ -244,7 +242,7 @@ impl Table {
             ManagerRecord::Extend { stream, pick, .. } => {
                 lengthen(&mut self.extents, &mut self.streams, stream, *pick)
             }
-            ManagerRecord::Seal { extent, length } => self.seal(extent.number(), *length),
+            ManagerRecord::Seal { extent, length } => self.seal(extent.0, *length),
         }
     }
 }

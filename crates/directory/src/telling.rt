@@ -16,7 +16,7 @@ impl Table {
     fn tell_extent(&self, out: &mut Vec<StreamExtent>, extent: ExtentId) -> Result<(), AllocError>
         ensures { OnOk result (out.new.items ≡ out.old.items ++ told_before extent (entry_at self.now.extents extent) []) }
     {
-        match self.entry(extent.number()) {
+        match self.entry(extent.0) {
             None => Ok(()),
             Some(entry) => {
                 let told = StreamExtent {
@@ -38,7 +38,7 @@ impl Table {
         for extent in extents {
             self.tell_extent(&mut out, *extent)?;
         }
-        Ok(StreamExtents::of(out))
+        Ok(StreamExtents { items: out })
     }
 
     /// Tells a stream; without one, nothing.
@@ -53,12 +53,14 @@ impl Table {
         match self.streams().stream(&StreamName { range, kind }) {
             None => Ok(StreamList {
                 base: 0,
-                extents: StreamExtents::of(Vec::new(alloc)),
+                extents: StreamExtents {
+                    items: Vec::new(alloc),
+                },
             }),
             Some(listed) => {
-                let extents = self.tell_extents(alloc, listed.extents())?;
+                let extents = self.tell_extents(alloc, &listed.extents)?;
                 Ok(StreamList {
-                    base: listed.base(),
+                    base: listed.base,
                     extents,
                 })
             }

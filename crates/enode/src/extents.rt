@@ -8,9 +8,9 @@ fn append_extent(body: &AppendBody) -> u64
     ensures { result ≡ append_extent body.now }
 {
     match body {
-        AppendBody::Append { extent, .. } => extent.number(),
-        AppendBody::Put { extent, .. } => extent.number(),
-        AppendBody::Have { extent, .. } => extent.number(),
+        AppendBody::Append { extent, .. } => extent.0,
+        AppendBody::Put { extent, .. } => extent.0,
+        AppendBody::Have { extent, .. } => extent.0,
         _ => 0,
     }
 }
@@ -19,9 +19,9 @@ fn check_extent(body: &CheckBody) -> u64
     ensures { result ≡ check_extent body.now }
 {
     match body {
-        CheckBody::Check { extent, .. } => extent.number(),
-        CheckBody::Probe { extent, .. } => extent.number(),
-        CheckBody::Probed { extent, .. } => extent.number(),
+        CheckBody::Check { extent, .. } => extent.0,
+        CheckBody::Probe { extent, .. } => extent.0,
+        CheckBody::Probed { extent, .. } => extent.0,
         _ => 0,
     }
 }
@@ -30,11 +30,11 @@ fn seal_extent(body: &SealBody) -> u64
     ensures { result ≡ seal_extent body.now }
 {
     match body {
-        SealBody::Make { extent, .. } => extent.number(),
-        SealBody::Freeze { extent } => extent.number(),
-        SealBody::Seal { extent, .. } => extent.number(),
-        SealBody::SendTail { extent, .. } => extent.number(),
-        SealBody::Tail { extent, .. } => extent.number(),
+        SealBody::Make { extent, .. } => extent.0,
+        SealBody::Freeze { extent } => extent.0,
+        SealBody::Seal { extent, .. } => extent.0,
+        SealBody::SendTail { extent, .. } => extent.0,
+        SealBody::Tail { extent, .. } => extent.0,
         _ => 0,
     }
 }
@@ -43,8 +43,8 @@ fn read_extent(body: &ReadBody) -> u64
     ensures { result ≡ read_extent body.now }
 {
     match body {
-        ReadBody::ReadAt { extent, .. } => extent.number(),
-        ReadBody::ReadGroups { extent, .. } => extent.number(),
+        ReadBody::ReadAt { extent, .. } => extent.0,
+        ReadBody::ReadGroups { extent, .. } => extent.0,
         _ => 0,
     }
 }

@@ -29,7 +29,7 @@ pub(crate) fn insert_new(
     ensures err { OnErr result (replicas.new.entries ≡ replicas.old.entries) }
     ensures fault { IfErr result (λ e. e ≡ faults.Memory) }
 {
-    match replicas.insert(extent.number(), made) {
+    match replicas.insert(extent.0, made) {
         Ok(_none) => Ok(()),
         Err(_full) => Err(DiskFault::Memory),
     }
@@ -39,7 +39,7 @@ fn remove_new(replicas: &mut BTreeMap<u64, Hosted>, extent: ExtentId)
     ensures gone { find replicas.new.entries extent ≡ None }
     ensures elsewhere { (f : ℕ) → f ≢ extent → find replicas.new.entries f ≡ find replicas.old.entries f }
 {
-    let _made = replicas.remove(&extent.number());
+    let _made = replicas.remove(&extent.0);
 }
 
 /// Adds the record of a new replica to the node's file.
@@ -57,8 +57,8 @@ fn write_make<D: Disk>(
     ensures { Appends D.state file.old file.new (records.Make extent fence target places) result }
 {
     let added = Record::Make {
-        extent: extent.number(),
-        fence: fence.number(),
+        extent: extent.0,
+        fence: fence.0,
         target,
         nodes: places,
     };

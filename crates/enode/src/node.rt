@@ -145,7 +145,7 @@ impl<D: Disk> Node<D> {
     pub fn replica(&self, extent: ExtentId) -> Option<&Replica>
         ensures { option_map (λ r. content_of r.now) result ≡ contents (find self.now.replicas extent) }
     {
-        match self.replicas.get(&extent.number()) {
+        match self.replicas.get(&extent.0) {
             None => None,
             Some(hosted) => Some(hosted.replica()),
         }

@@ -55,7 +55,9 @@ pub(crate) fn record_of(
 ) -> Result<LogRecord, AllocError>
     ensures { IfOk result (λ made. made ≡ record_of first group.now) }
 {
-    let transactions = Transactions::of(changes_of(alloc, group)?);
+    let transactions = Transactions {
+        items: changes_of(alloc, group)?,
+    };
     Ok(LogRecord {
         first,
         transactions,
@@ -94,7 +96,7 @@ fn blocks_of(alloc: Global, group: &Group) -> Result<Blocks, AllocError>
     for block in group.blocks() {
         blocks.push(block.share()?)?;
     }
-    Ok(Blocks::of(blocks))
+    Ok(Blocks { items: blocks })
 }
 
 fn plan_of(

@@ -18,10 +18,14 @@ use wire::Fence;
 /// that is under way.
 pub struct Hosted {
     pub(crate) replica: Replica,
-    pub(crate) second_has: u32,
-    pub(crate) third_has: u32,
-    pub(crate) waiting: VecDeque<Waiting>,
-    pub(crate) check: Option<Checking>,
+    /// How long its second place is known to be, in bytes.
+    pub second_has: u32,
+    /// How long its third place is known to be, in bytes.
+    pub third_has: u32,
+    /// The appends that wait for both secondaries, the oldest first.
+    pub waiting: VecDeque<Waiting>,
+    /// The check that is under way.
+    pub check: Option<Checking>,
 }
 
 // Written out, so that a crate above that lets one go has no proof of what is in it.
@@ -54,7 +58,7 @@ impl Hosted {
         ensures { result ≡ fresh (new_content places target fence) }
     {
         Hosted {
-            replica: Replica::new(alloc, places, target, fence.number()),
+            replica: Replica::new(alloc, places, target, fence.0),
             second_has: 0,
             third_has: 0,
             waiting: VecDeque::new(alloc),
@@ -67,41 +71,6 @@ impl Hosted {
         ensures { content_of result.now ≡ self.now.content }
     {
         &self.replica
-    }
-
-    /// How long its second place is known to be, in bytes.
-    pub fn second_has(&self) -> u32
-        ensures { result ≡ self.now.second_has }
-    {
-        self.second_has
-    }
-
-    /// How long its third place is known to be, in bytes.
-    pub fn third_has(&self) -> u32
-        ensures { result ≡ self.now.third_has }
-    {
-        self.third_has
-    }
-
-    /// The appends that wait for both secondaries, the oldest first.
-    pub fn waiting(&self) -> &VecDeque<Waiting>
-        ensures { result.now.items ≡ self.now.waiting }
-    {
-        &self.waiting
-    }
-
-    /// The check that is under way.
-    pub fn check(&self) -> Option<Checking>
-        ensures { result ≡ self.now.check }
-    {
-        self.check
-    }
-
-    /// Another check is under way, or none.
-    pub fn set_check(&mut self, check: Option<Checking>)
-        ensures { self.new ≡ record self.old { check = check } }
-    {
-        self.check = check;
     }
 
     /// The secondaries are known to be so long, and the first of the waiting appends wait no more.

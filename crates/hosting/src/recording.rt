@@ -118,12 +118,12 @@ impl Hosted {
         ensures same { OnErr result (self.new ≡ self.old) }
         ensures file { Records D.state file.old file.new (listed (raise_written extent self.old.content generation)) result }
     {
-        if self.replica.fence() >= generation.number() {
+        if self.replica.fence() >= generation.0 {
             return Ok(());
         }
         match write_fence(alloc, file, extent, generation) {
             Ok(()) => {
-                self.replica.raise(generation.number());
+                self.replica.raise(generation.0);
                 Ok(())
             }
             Err(fault) => Err(fault),
@@ -199,9 +199,9 @@ impl Hosted {
         ensures same { OnErr result (self.new ≡ self.old) }
         ensures file { Appends D.state file.old file.new (records.Fill extent from length groups.now) result }
     {
-        let kept = Groups::copied(alloc, groups.as_slice())?;
-        let added = Groups::copied(alloc, groups.as_slice())?;
-        self.replica.reserve(groups.as_slice().len())?;
+        let kept = Groups::copied(alloc, &groups.items)?;
+        let added = Groups::copied(alloc, &groups.items)?;
+        self.replica.reserve(groups.items.len())?;
         match write_fill(alloc, file, extent, from, length, added) {
             Ok(()) => {
                 self.replica.fill(alloc, kept);

@@ -36,7 +36,7 @@ impl Hosted {
         ensures same { OnErr result (self.new ≡ self.old) }
         ensures fault { IfErr result (λ e. e ≡ faults.Memory) }
     {
-        self.replica.reserve(groups.as_slice().len())?;
+        self.replica.reserve(groups.items.len())?;
         self.replica.fill(alloc, groups);
         Ok(())
     }

@@ -34,7 +34,7 @@ pub fn is_tail(replica: &Replica, from: u32, length: u32, groups: &Groups) -> bo
     ensures value { result ≡ is_tail (content_of replica.now) from length groups.now }
     ensures groups { result ≡ true → AllByRecursion IsGroup groups.now }
 {
-    if groups.as_slice().is_empty() {
+    if groups.items.is_empty() {
         return false;
     }
     if from != replica.len() {
@@ -44,7 +44,7 @@ pub fn is_tail(replica: &Replica, from: u32, length: u32, groups: &Groups) -> bo
         return false;
     }
     match length.checked_sub(from) {
-        Some(sum) => add_up(groups.as_slice(), sum),
+        Some(sum) => add_up(&groups.items, sum),
         None => false,
     }
 }

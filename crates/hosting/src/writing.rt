@@ -33,7 +33,7 @@ pub(crate) fn write_append<D: Disk>(
     ensures { Appends D.state file.old file.new (records.Append extent offset group) result }
 {
     let added = Record::Append {
-        extent: extent.number(),
+        extent: extent.0,
         offset,
         group,
     };
@@ -51,8 +51,8 @@ pub(crate) fn write_fence<D: Disk>(
     ensures { Appends D.state file.old file.new (records.Fence extent generation) result }
 {
     let added = Record::Fence {
-        extent: extent.number(),
-        generation: generation.number(),
+        extent: extent.0,
+        generation: generation.0,
     };
     write(alloc, file, &added)
 }
@@ -66,9 +66,7 @@ pub(crate) fn write_freeze<D: Disk>(
     requires running { file.old.stopped ≡ false }
     ensures { Appends D.state file.old file.new (records.Freeze extent) result }
 {
-    let added = Record::Freeze {
-        extent: extent.number(),
-    };
+    let added = Record::Freeze { extent: extent.0 };
     write(alloc, file, &added)
 }
 
@@ -83,7 +81,7 @@ pub(crate) fn write_seal<D: Disk>(
     ensures { Appends D.state file.old file.new (records.Seal extent length) result }
 {
     let added = Record::Seal {
-        extent: extent.number(),
+        extent: extent.0,
         length,
     };
     write(alloc, file, &added)
@@ -103,7 +101,7 @@ pub(crate) fn write_fill<D: Disk>(
     ensures { Appends D.state file.old file.new (records.Fill extent from length groups) result }
 {
     let added = Record::Fill {
-        extent: extent.number(),
+        extent: extent.0,
         from,
         length,
         groups,

@@ -9,8 +9,7 @@ use bytes::Bytes;
 use cells::Cell;
 use model_tables::TableNote;
 use range::Sent;
-use servers::Servers;
-use shown::rows_of;
+use servers::{Servers, rows_of};
 use std::alloc::{AllocError, Global};
 use std::collections::BTreeMap;
 use wire::{Note, Packet, Rows, ServerNo};
@@ -31,7 +30,9 @@ fn rows_for(
     ensures { IfOk result (λ rows. (entries : Entries) → option_map (λ table. table.now.entries) loading.entry ≡ Some entries → rows ≡ rows_of notes.now entries) }
 {
     match loading {
-        None => Ok(Rows::of(Vec::new(alloc))),
+        None => Ok(Rows {
+            items: Vec::new(alloc),
+        }),
         Some(entries) => match rows_of(alloc, notes, entries) {
             Ok(rows) => Ok(rows),
             Err(full) => Err(full),
@@ -119,7 +120,12 @@ pub(crate) fn show(alloc: Global, list: &mut Vec<Note>, more: Vec<TableNote>, ro
 {
     let mut left = rows;
     for note in more {
-        let rows = std::mem::replace(&mut left, Rows::of(Vec::new(alloc)));
+        let rows = std::mem::replace(
+            &mut left,
+            Rows {
+                items: Vec::new(alloc),
+            },
+        );
         put(list, told(note, rows));
     }
 }

@@ -416,7 +416,14 @@ impl Layer {
                     notes: shown,
                 } = given;
                 move_in(&mut self.post, sent);
-                show(alloc, &mut self.notes, shown, Rows::of(Vec::new(alloc)));
+                show(
+                    alloc,
+                    &mut self.notes,
+                    shown,
+                    Rows {
+                        items: Vec::new(alloc),
+                    },
+                );
                 Ok(refusal)
             }
             Err(_full) => Err(WorldFault::Memory),

@@ -94,7 +94,7 @@ struct Server {
 
 fn number(server: u8, count: u64) -> ReqNo {
     ReqNo::Server {
-        server: ServerNo::new(server),
+        server: ServerNo(server),
         session: 1,
         count,
     }
@@ -103,7 +103,7 @@ fn number(server: u8, count: u64) -> ReqNo {
 /// Whether a server sends what its client says, and all comes but for what is sent to these nodes.
 fn asks(alloc: Global, run: &mut Run, server: u8, packet: Packet, cut: &[u8]) -> bool {
     let Packet { from: _, to, body } = packet;
-    match run.layer.ask(ServerNo::new(server), to, body) {
+    match run.layer.ask(ServerNo(server), to, body) {
         Ok(()) => settles(alloc, run, cut),
         Err(_fault) => false,
     }
@@ -111,7 +111,7 @@ fn asks(alloc: Global, run: &mut Run, server: u8, packet: Packet, cut: &[u8]) ->
 
 /// The first packet to a server from this one on.
 fn answer(layer: &Layer, server: u8, from: usize) -> Option<&Packet> {
-    let to = ActorId::Server(ServerNo::new(server));
+    let to = ActorId::Server(ServerNo(server));
     let sent = layer.sent();
     for number in from..sent.len() {
         if sent[number].to == to {
@@ -123,14 +123,14 @@ fn answer(layer: &Layer, server: u8, from: usize) -> Option<&Packet> {
 
 fn log_of(alloc: Global, server: u8, list: &StreamList) -> Result<StreamClient, AllocError> {
     let log = StreamName {
-        range: RangeId::new(1),
+        range: RangeId(1),
         kind: StreamKind::Log,
     };
     StreamClient::new(
         alloc,
-        ServerNo::new(server),
+        ServerNo(server),
         log,
-        Fence::new(server as u64),
+        Fence(server as u64),
         list,
         PLACES,
     )
@@ -156,9 +156,9 @@ fn opened(
 
 fn opens(alloc: Global, run: &mut Run, server: u8) -> Option<Server> {
     let (load, packet) = RangeLoad::open_for_load(
-        ServerNo::new(server),
-        RangeId::new(1),
-        Fence::new(server as u64),
+        ServerNo(server),
+        RangeId(1),
+        Fence(server as u64),
         &number(server, 1),
     );
     let mut load = load;
@@ -238,11 +238,11 @@ fn news_of(told: &Told) -> Option<News> {
     match told {
         Nothing => None,
         Appended(extent, offset) => Some(News::Appended {
-            extent: ExtentId::new(*extent),
+            extent: ExtentId(*extent),
             offset: *offset,
         }),
         Checked(extent, length) => Some(News::Checked {
-            extent: ExtentId::new(*extent),
+            extent: ExtentId(*extent),
             length: *length,
         }),
         Fenced => Some(News::Fenced),
@@ -334,7 +334,7 @@ fn takes(alloc: Global, run: &mut Run, server: &mut Server, step: &Step) -> bool
             let begun = hears_of_seal(alloc, run, server);
             goes_on(alloc, run, server, begun, &[], told)
         }
-        HasExtents(count) => server.log.extents().len() == *count,
+        HasExtents(count) => server.log.extents.len() == *count,
     }
 }
 

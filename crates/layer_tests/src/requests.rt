@@ -30,7 +30,7 @@ const REQUEST: ReqNo = ReqNo::User { user: 7, ticket: 0 };
 
 fn metadata() -> StreamName {
     StreamName {
-        range: RangeId::new(0),
+        range: RangeId(0),
         kind: StreamKind::Metadata,
     }
 }
@@ -38,7 +38,7 @@ fn metadata() -> StreamName {
 fn create() -> StreamBody {
     StreamBody::CreateStream {
         stream: metadata(),
-        fence: Fence::new(0),
+        fence: Fence(0),
         request: REQUEST,
     }
 }
@@ -46,7 +46,7 @@ fn create() -> StreamBody {
 fn extend() -> StreamBody {
     StreamBody::Extend {
         stream: metadata(),
-        generation: Fence::new(0),
+        generation: Fence(0),
         last: None,
         pick: PLACES,
         request: REQUEST,
@@ -57,13 +57,13 @@ fn extend() -> StreamBody {
 pub(crate) fn abc(alloc: Global) -> Result<Blocks, AllocError> {
     let mut blocks = Vec::new(alloc);
     blocks.push(Bytes::copy_from_slice(alloc, b"abc")?)?;
-    Ok(Blocks::of(blocks))
+    Ok(Blocks { items: blocks })
 }
 
 fn append(blocks: Blocks) -> AppendBody {
     AppendBody::Append {
-        extent: ExtentId::new(1),
-        generation: Fence::new(0),
+        extent: ExtentId(1),
+        generation: Fence(0),
         blocks,
         request: REQUEST,
     }
@@ -71,14 +71,14 @@ fn append(blocks: Blocks) -> AppendBody {
 
 fn seal() -> SealBody {
     SealBody::SealExtent {
-        extent: ExtentId::new(1),
+        extent: ExtentId(1),
         request: REQUEST,
     }
 }
 
 fn content(upto: u32) -> ReadBody {
     ReadBody::ReadGroups {
-        extent: ExtentId::new(1),
+        extent: ExtentId(1),
         upto,
         sealed: true,
         request: REQUEST,

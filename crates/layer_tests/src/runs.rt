@@ -210,12 +210,12 @@ fn delivers(alloc: Global, run: &mut Run, number: usize) -> bool {
 }
 
 pub(crate) fn decides(alloc: Global, run: &mut Run, extent: u64, wanted: Option<Refusal>) -> bool {
-    let extent = ExtentId::new(extent);
+    let extent = ExtentId(extent);
     answers(alloc, run, Event::Decide { extent }, wanted)
 }
 
 fn may_decide(alloc: Global, run: &mut Run) -> bool {
-    let extent = ExtentId::new(1);
+    let extent = ExtentId(1);
     match happens(alloc, run, Event::Decide { extent }) {
         Ok(_refusal) => true,
         Err(_fault) => false,
@@ -279,7 +279,7 @@ fn puts(run: &Run, number: usize, to: ActorId) -> bool {
 }
 
 fn replica_length(node: &enode::Node<MemDisk>) -> Option<u32> {
-    match node.replica(ExtentId::new(1)) {
+    match node.replica(ExtentId(1)) {
         Some(replica) => Some(replica.len()),
         None => None,
     }

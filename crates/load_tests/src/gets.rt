@@ -97,7 +97,7 @@ fn place() -> Place
     ensures { result.length ≡ 5000 }
 {
     Place {
-        extent: ExtentId::new(7),
+        extent: ExtentId(7),
         offset: 100,
         length: 5_000,
     }
@@ -181,7 +181,7 @@ fn brings(
     requires { asking.now.desk.now.count + 1024 < 2 ^ 64 }
 {
     let value = Bytes::from_vec(vec![in alloc; b'y'; 5_000]?)?;
-    let extent = ExtentId::new(7);
+    let extent = ExtentId(7);
     let tried = lookups.bytes(alloc, asking, &number(count), extent, 100, &value);
     drop(value);
     Ok(Some(tried?))

@@ -113,7 +113,7 @@ const CASES: &[Case<Step>] = &[
 
 /// A load under the generation 2, whose first request has the number 1.
 fn begun(alloc: Global) -> Result<RangeContent, Fail> {
-    let (content, packet) = RangeContent::new(alloc, &desk(1), RangeId::new(5), Fence::new(2))?;
+    let (content, packet) = RangeContent::new(alloc, &desk(1), RangeId(5), Fence(2))?;
     drop(packet);
     Ok(content)
 }
@@ -210,7 +210,7 @@ impl Tested for RangeContent {
             GivesUp(count, asked) => Ok(gives_up(self, *count) == *asked),
             IsAt(stage) => Ok(self.stage == *stage),
             Keys(count) => Ok(self.table.live().len() == *count),
-            NextRecord(number) => Ok(self.said.next_number() == *number),
+            NextRecord(number) => Ok(self.said.next == *number),
         }
     }
 }

@@ -64,7 +64,7 @@ struct Log {
 /// The regions of a log of which no group was read, with all keys.
 fn first_regions(alloc: Global) -> Result<Vec<Region>, Fail> {
     let first = Metadata::first(alloc)?;
-    let regions = copied_regions(alloc, first.regions());
+    let regions = copied_regions(alloc, &first.regions.items);
     drop(first);
     Ok(regions?)
 }
@@ -86,14 +86,7 @@ fn all_keys() -> KeyRange {
 /// Whether the group was taken.
 fn reads(alloc: Global, log: &mut Log, text: &[u8], sizes: &[usize]) -> Result<bool, Fail> {
     let groups = groups(alloc, text, sizes)?;
-    let read = replayed(
-        alloc,
-        &log.regions,
-        &all_keys(),
-        ExtentId::new(7),
-        0,
-        groups.as_slice(),
-    );
+    let read = replayed(alloc, &log.regions, &all_keys(), ExtentId(7), 0, &groups);
     drop(groups);
     match read {
         Ok((regions, changes)) => {
@@ -114,7 +107,7 @@ fn has_next(log: &Log, next: u64) -> bool {
 
 fn is_placed(log: &Log, offset: u32, length: u32) -> bool {
     let wanted = Place {
-        extent: ExtentId::new(7),
+        extent: ExtentId(7),
         offset,
         length,
     };
@@ -151,11 +144,11 @@ fn logs_go_as_their_cases_say(rt: HostRuntime) -> Result<(), Fail> {
 fn next_record(alloc: Global, text: &[u8]) -> Result<u64, Fail> {
     let groups = groups(alloc, text, &[])?;
     let first = Metadata::first(alloc)?;
-    let said = folded(alloc, &first, groups.as_slice());
+    let said = folded(alloc, &first, &groups);
     drop(first);
     drop(groups);
     let said = said?;
-    let next = said.next_number();
+    let next = said.next;
     drop(said);
     Ok(next)
 }

@@ -16,7 +16,7 @@ pub(crate) fn desk(count: u32) -> Desk
     ensures { result.count ≡ count }
 {
     Desk {
-        server: ServerNo::new(1),
+        server: ServerNo(1),
         session: 1,
         moment: 5,
         pick: PLACES,
@@ -27,7 +27,7 @@ pub(crate) fn desk(count: u32) -> Desk
 
 pub(crate) fn number(count: u32) -> ReqNo {
     ReqNo::Server {
-        server: ServerNo::new(1),
+        server: ServerNo(1),
         session: 1,
         count: u64::from(count),
     }
@@ -36,7 +36,7 @@ pub(crate) fn number(count: u32) -> ReqNo {
 /// The extent 7, of this length where it is sealed.
 pub(crate) fn extent(length: Option<u32>) -> StreamExtent {
     StreamExtent {
-        extent: ExtentId::new(7),
+        extent: ExtentId(7),
         places: PLACES,
         length,
     }

@@ -25,7 +25,7 @@ pub(crate) fn groups_of(body: &Body) -> &[Group]
     ensures { result.now ≡ answers.groups_of body.now }
 {
     match body {
-        Body::Read(ReadBody::Groups { groups, .. }) => groups.as_slice(),
+        Body::Read(ReadBody::Groups { groups, .. }) => &groups.items,
         _ => &[],
     }
 }
@@ -55,11 +55,11 @@ impl RangeContent {
         ensures err { OnErr result (self.new ≡ self.old) }
     {
         match body {
-            StreamBody::Opened { streams, .. } => match self.load.phase() {
+            StreamBody::Opened { streams, .. } => match self.load.phase {
                 LoadPhase::Opening { .. } => self.opens(alloc, desk, streams),
                 _ => Ok(Progress::Rests),
             },
-            StreamBody::Confirmed { .. } => match self.load.phase() {
+            StreamBody::Confirmed { .. } => match self.load.phase {
                 LoadPhase::Confirming { .. } => self.serves(alloc),
                 _ => Ok(Progress::Rests),
             },

@@ -55,7 +55,7 @@ fn read_extent(
 pub(crate) fn read_at(client: &mut StreamClient, desk: &Desk, position: u64) -> Option<Packet>
     ensures { read_of desk.now client.old position ≡ record { after = client.new; packet = result; news = None } }
 {
-    let extent = match client.extents().get(position as usize) {
+    let extent = match client.extents.get(position as usize) {
         None => return None,
         Some(extent) => *extent,
     };

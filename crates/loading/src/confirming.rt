@@ -34,9 +34,9 @@ fn log_end(log: &StreamClient, start: &Position) -> Position
         Some(extent) => {
             let offset = match extent.length {
                 Some(sealed) => sealed,
-                None => log.checked().unwrap_or(0),
+                None => log.checked.unwrap_or(0),
             };
-            let index = log.base() + log.extents().len() as u64 - 1;
+            let index = log.base + log.extents.len() as u64 - 1;
             let end = Position { index, offset };
             if is_not_behind(&end, start) {
                 *start
@@ -51,7 +51,7 @@ fn log_end(log: &StreamClient, start: &Position) -> Position
 fn are_counted(log: &StreamClient) -> bool
     ensures { result ≡ rows.are_counted log.now }
 {
-    log.base().checked_add(log.extents().len() as u64).is_some()
+    log.base.checked_add(log.extents.len() as u64).is_some()
 }
 
 impl RangeContent {
@@ -70,10 +70,12 @@ impl RangeContent {
         ensures { IfOk result (λ note. note ≡ notes.Loaded self.now.load.range self.now.load.generation self.now.table.live self.now.said.indexes next) }
     {
         Ok(TableNote::Loaded {
-            range: self.load.range(),
-            generation: self.load.generation(),
+            range: self.load.range,
+            generation: self.load.generation,
             entries: live_entries(alloc, &self.table)?,
-            indexes: IndexRanges::of(copied_indexes(alloc, self.said.indexes())?),
+            indexes: IndexRanges {
+                items: copied_indexes(alloc, &self.said.indexes.items)?,
+            },
             next,
         })
     }

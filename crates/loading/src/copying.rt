@@ -13,10 +13,10 @@ pub(crate) fn copied_list(alloc: Global, list: &StreamList) -> Result<StreamList
     ensures { IfOk result (λ copy. copy ≡ list.now) }
 {
     let mut extents = Vec::new(alloc);
-    extents.extend_from_slice(list.extents.as_slice())?;
+    extents.extend_from_slice(&list.extents.items)?;
     Ok(StreamList {
         base: list.base,
-        extents: StreamExtents::of(extents),
+        extents: StreamExtents { items: extents },
     })
 }
 
@@ -26,7 +26,9 @@ pub(crate) fn no_list(alloc: Global) -> StreamList
 {
     StreamList {
         base: 0,
-        extents: StreamExtents::of(Vec::new(alloc)),
+        extents: StreamExtents {
+            items: Vec::new(alloc),
+        },
     }
 }
 
@@ -39,5 +41,5 @@ pub(crate) fn live_entries(alloc: Global, table: &MemTable) -> Result<Entries, A
     for (key, cell) in live {
         copies.push((key.clone()?, cell.copy()?))?;
     }
-    Ok(Entries::of(copies))
+    Ok(Entries { items: copies })
 }

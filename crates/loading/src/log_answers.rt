@@ -47,15 +47,15 @@ impl RangeContent {
         ensures ok { IfOk result (λ p. Makes desk.now (λ r. answers.log_taken desk.now r body.now) self.old self.new p) }
         ensures err { OnErr result (self.new ≡ self.old) }
     {
-        let pick = self.log.pick();
-        self.log.set_pick(&desk.pick);
+        let pick = self.log.pick;
+        self.log.pick = desk.pick;
         match self.log.on_answer(alloc, &next_request(desk), body) {
             Ok(reaction) => {
                 let told = reaction.news;
                 Ok(self.log_news(desk, &told, reaction.packet))
             }
             Err(full) => {
-                self.log.set_pick(&pick);
+                self.log.pick = pick;
                 Err(full)
             }
         }
@@ -65,7 +65,7 @@ impl RangeContent {
     fn end_log_read(&mut self, alloc: Global, desk: &Desk)
         ensures { self.new ≡ record self.old { log = record (picking desk.now self.old.log) { job = jobs.Idle; group = [] } } }
     {
-        self.log.set_pick(&desk.pick);
+        self.log.pick = desk.pick;
         self.log.end_read(alloc);
     }
 
@@ -83,17 +83,10 @@ impl RangeContent {
             self.old self.new p) }
         ensures err { OnErr result (self.new ≡ self.old) }
     {
-        let Some(index) = self.log.base().checked_add(position) else {
+        let Some(index) = self.log.base.checked_add(position) else {
             return Ok(Progress::Dropped);
         };
-        match replayed(
-            alloc,
-            &self.regions,
-            self.said.keys(),
-            extent,
-            index,
-            groups,
-        ) {
+        match replayed(alloc, &self.regions, &self.said.keys, extent, index, groups) {
             Ok((regions, changes)) => {
                 self.table.apply(alloc, changes)?;
                 self.regions = regions;

@@ -18,8 +18,8 @@ impl RangeContent {
     pub(crate) fn reads_log(&mut self, desk: &Desk, position: u64) -> Progress
         ensures { Makes desk.now (λ r. rows.reads_log desk.now r position) self.old self.new result }
     {
-        if position < self.log.extents().len() as u64 {
-            self.log.set_pick(&desk.pick);
+        if position < self.log.extents.len() as u64 {
+            self.log.pick = desk.pick;
             let packet = read_at(&mut self.log, desk, position);
             self.stage = Stage::Reading {
                 kind: StreamKind::Log,
@@ -35,7 +35,7 @@ impl RangeContent {
     pub(crate) fn reads_log_behind(&mut self, desk: &Desk, position: u64) -> Progress
         ensures { Makes desk.now (λ r. rows.reads_log desk.now r (suc position)) self.old self.new result }
     {
-        if position < self.log.extents().len() as u64 {
+        if position < self.log.extents.len() as u64 {
             self.reads_log(desk, position + 1)
         } else {
             self.confirms(desk)
@@ -50,8 +50,8 @@ impl RangeContent {
             [] => None,
             [region, ..] => {
                 let index = region.start.index;
-                let base = self.log.base();
-                if index < base || index - base > self.log.extents().len() as u64 {
+                let base = self.log.base;
+                if index < base || index - base > self.log.extents.len() as u64 {
                     return None;
                 }
                 Some(index - base)
@@ -79,7 +79,7 @@ impl RangeContent {
                 if extent.length.is_some() {
                     return self.reads_log_from_start(desk);
                 }
-                self.log.set_pick(&desk.pick);
+                self.log.pick = desk.pick;
                 let packet = check_last(&mut self.log, desk);
                 self.stage = Stage::Checking {
                     kind: StreamKind::Log,
@@ -97,7 +97,7 @@ impl RangeContent {
         if open_region(&regions).is_none() {
             return Progress::Dropped;
         }
-        if self.first_position(&regions).is_none() || !self.said.indexes().is_empty() {
+        if self.first_position(&regions).is_none() || !self.said.indexes.items.is_empty() {
             return Progress::Dropped;
         }
         self.regions = regions;

@@ -59,16 +59,16 @@ impl RangeContent {
         ensures ok { IfOk result (λ p. Makes desk.now (λ r. answers.metadata_reply desk.now r body.now) self.old self.new p) }
         ensures err { OnErr result (self.new ≡ self.old) }
     {
-        let regions = copied_regions(alloc, self.said.regions())?;
-        let pick = self.metadata.pick();
-        self.metadata.set_pick(&desk.pick);
+        let regions = copied_regions(alloc, &self.said.regions.items)?;
+        let pick = self.metadata.pick;
+        self.metadata.pick = desk.pick;
         match self.metadata.on_answer(alloc, &next_request(desk), body) {
             Ok(reaction) => {
                 let told = reaction.news;
                 Ok(self.metadata_news(desk, &told, reaction.packet, regions))
             }
             Err(full) => {
-                self.metadata.set_pick(&pick);
+                self.metadata.pick = pick;
                 Err(full)
             }
         }
@@ -78,7 +78,7 @@ impl RangeContent {
     fn end_metadata_read(&mut self, alloc: Global, desk: &Desk)
         ensures { self.new ≡ record self.old { metadata = record (picking desk.now self.old.metadata) { job = jobs.Idle; group = [] } } }
     {
-        self.metadata.set_pick(&desk.pick);
+        self.metadata.pick = desk.pick;
         self.metadata.end_read(alloc);
     }
 
@@ -97,7 +97,7 @@ impl RangeContent {
     {
         match folded(alloc, &self.said, groups) {
             Ok(said) => {
-                let regions = copied_regions(alloc, said.regions())?;
+                let regions = copied_regions(alloc, &said.regions.items)?;
                 self.end_metadata_read(alloc, desk);
                 self.said = said;
                 Ok(self.reads_metadata_behind(desk, position, regions))

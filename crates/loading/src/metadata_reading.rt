@@ -23,8 +23,8 @@ impl RangeContent {
         requires { regions.items ≡ self.old.said.regions }
         ensures { Makes desk.now (λ r. rows.reads_metadata desk.now r position) self.old self.new result }
     {
-        if position < self.metadata.extents().len() as u64 {
-            self.metadata.set_pick(&desk.pick);
+        if position < self.metadata.extents.len() as u64 {
+            self.metadata.pick = desk.pick;
             let packet = read_at(&mut self.metadata, desk, position);
             self.stage = Stage::Reading {
                 kind: StreamKind::Metadata,
@@ -46,7 +46,7 @@ impl RangeContent {
         requires { regions.items ≡ self.old.said.regions }
         ensures { Makes desk.now (λ r. rows.reads_metadata desk.now r (suc position)) self.old self.new result }
     {
-        if position < self.metadata.extents().len() as u64 {
+        if position < self.metadata.extents.len() as u64 {
             self.reads_metadata(desk, position + 1, regions)
         } else {
             self.begins_log(desk, regions)
@@ -64,7 +64,7 @@ impl RangeContent {
                 if extent.length.is_some() {
                     return self.reads_metadata(desk, 0, regions);
                 }
-                self.metadata.set_pick(&desk.pick);
+                self.metadata.pick = desk.pick;
                 let packet = check_last(&mut self.metadata, desk);
                 self.stage = Stage::Checking {
                     kind: StreamKind::Metadata,

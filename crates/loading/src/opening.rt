@@ -32,17 +32,10 @@ fn client_of(
     ensures { IfOk result (λ c. c ≡ new_client desk.now.server (record { range = load.now.range; kind = kind }) load.now.generation list.now desk.now.pick) }
 {
     let stream = StreamName {
-        range: load.range(),
+        range: load.range,
         kind,
     };
-    StreamClient::new(
-        alloc,
-        desk.server,
-        stream,
-        load.generation(),
-        list,
-        desk.pick,
-    )
+    StreamClient::new(alloc, desk.server, stream, load.generation, list, desk.pick)
 }
 
 /// The clients of the metadata and of the log, with nothing out.
@@ -102,7 +95,7 @@ fn first_said(alloc: Global) -> Result<(Metadata, Vec<Region>), AllocError>
     ensures regions { IfOk result (λ both. both.1.items ≡ first_metadata.regions) }
 {
     let said = Metadata::first(alloc)?;
-    match copied_regions(alloc, said.regions()) {
+    match copied_regions(alloc, &said.regions.items) {
         Ok(regions) => Ok((said, regions)),
         Err(full) => {
             drop(said);

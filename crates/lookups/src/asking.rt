@@ -23,7 +23,7 @@ fn places_in(extents: &[StreamExtent], extent: ExtentId) -> Option<Nodes>
     ensures { result ≡ nodes_in extents.now extent }
 {
     for known in extents {
-        if known.extent.number() == extent.number() {
+        if known.extent.0 == extent.0 {
             return Some(known.places);
         }
     }

@@ -33,7 +33,7 @@ fn place_asked(gets: &[WaitingGet], number: &ReqNo) -> Option<Place>
     ensures { result ≡ read_at gets.now number.now }
 {
     for get in gets {
-        if let Some(place) = read_in(get.reads.as_slice(), number) {
+        if let Some(place) = read_in(&get.reads.items, number) {
             return Some(place);
         }
     }
@@ -56,7 +56,7 @@ pub(crate) fn fresh_of(
     match place_asked(gets, number) {
         None => Ok(None),
         Some(place) => {
-            if place.extent.number() == extent.number()
+            if place.extent.0 == extent.0
                 && place.offset == offset
                 && place.length as usize == bytes.len()
             {
@@ -85,7 +85,7 @@ pub(crate) fn some_awaits(gets: &[WaitingGet], number: &ReqNo) -> bool
     ensures { result ≡ list_any (λ g. get_awaits g number.now) gets.now }
 {
     for get in gets {
-        if is_awaited(get.reads.as_slice(), number) {
+        if is_awaited(&get.reads.items, number) {
             return true;
         }
     }

@@ -45,12 +45,12 @@ struct MovedReads {
     last: Option<PlaceRead>,
 }
 
-fn moved_reads(alloc: Global, reads: &[PlaceRead]) -> Result<MovedReads, AllocError>
+fn moved_reads(alloc: Global, reads: &PlaceReads) -> Result<MovedReads, AllocError>
     ensures reads { IfOk result (λ moved. moved.reads.items ≡ last_moved reads.now (slice_get reads.now (length reads.now - 1))) }
     ensures last { IfOk result (λ moved. moved.last ≡ option_map moved_read (slice_get reads.now (length reads.now - 1))) }
 {
-    let mut made = reads.to_vec(alloc)?;
-    match reads.last() {
+    let mut made = reads.items.to_vec(alloc)?;
+    match reads.items.last() {
         None => Ok(MovedReads {
             reads: made,
             last: None,
@@ -83,13 +83,13 @@ fn move_on(alloc: Global, asking: &Asking<'_>, get: &WaitingGet) -> Result<Moved
         → gives_up_get asking.now.desk.now (seen asking.now held r) get.now ≡ (moved.get, option_to_list moved.packet)) }
 {
     let key = get.key.clone()?;
-    let MovedReads { reads, last } = moved_reads(alloc, get.reads.as_slice())?;
+    let MovedReads { reads, last } = moved_reads(alloc, &get.reads)?;
     let packet = asks_again(asking, &last);
     let get = WaitingGet {
         from: get.from,
         request: get.request,
         key,
-        reads: PlaceReads::of(reads),
+        reads: PlaceReads { items: reads },
     };
     Ok(Moved { get, packet })
 }

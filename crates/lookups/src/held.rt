@@ -39,7 +39,7 @@ fn key_of(place: &Place) -> HeldPlace
     ensures { result ≡ place.now }
 {
     HeldPlace {
-        extent: place.extent.number(),
+        extent: place.extent.0,
         offset: place.offset,
         length: place.length,
     }
@@ -55,9 +55,7 @@ pub(crate) struct Fresh {
 pub(crate) fn is_same_place(one: &Place, other: &Place) -> bool
     ensures { result ≡ is_place one.now other.now }
 {
-    one.extent.number() == other.extent.number()
-        && one.offset == other.offset
-        && one.length == other.length
+    one.extent.0 == other.extent.0 && one.offset == other.offset && one.length == other.length
 }
 
 /// Values by their places, the most recently used first.

@@ -144,7 +144,9 @@ impl Lookups {
             from,
             request: number,
             key,
-            reads: PlaceReads::of(Vec::new(alloc)),
+            reads: PlaceReads {
+                items: Vec::new(alloc),
+            },
         };
         let one = one_try(alloc, asking, &self.held, &None, asking.desk.count, get)?;
         let OneTry {

@@ -21,7 +21,7 @@ pub(crate) fn is_same(one: &ReqNo, other: &ReqNo) -> bool
                 server: to,
                 session: of,
                 count: number,
-            } => server.number() == to.number() && *session == *of && *count == *number,
+            } => server.0 == to.0 && *session == *of && *count == *number,
             ReqNo::User { .. } => false,
             ReqNo::NoRequest => false,
         },

@@ -78,9 +78,9 @@ pub(crate) fn reads_place(desk: &Desk, places: &Nodes, read: &PlaceRead) -> Pack
 fn with_read(alloc: Global, reads: &PlaceReads, read: PlaceRead) -> Result<PlaceReads, AllocError>
     ensures { IfOk result (λ made. made ≡ reads.now ++ read ∷ []) }
 {
-    let mut items = reads.as_slice().to_vec(alloc)?;
+    let mut items = reads.items.to_vec(alloc)?;
     items.push(read)?;
-    Ok(PlaceReads::of(items))
+    Ok(PlaceReads { items })
 }
 
 /// One read more is sent for what a Get needs, if its extent is known.
@@ -207,7 +207,9 @@ fn without(alloc: Global, answered: &ReqNo, get: &WaitingGet) -> Result<WaitingG
     ensures { IfOk result (λ made. made ≡ without_read answered.now get.now) }
 {
     let key = get.key.clone()?;
-    let reads = PlaceReads::of(other_reads(alloc, get.reads.as_slice(), answered)?);
+    let reads = PlaceReads {
+        items: other_reads(alloc, &get.reads.items, answered)?,
+    };
     Ok(WaitingGet {
         from: get.from,
         request: get.request,

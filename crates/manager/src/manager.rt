@@ -221,10 +221,10 @@ impl<D: Disk> Manager<D> {
         if self.file.is_stopped() {
             return Ok(Step::silent(alloc));
         }
-        match refusal(&self.table, extent.number()) {
+        match refusal(&self.table, extent.0) {
             Some(fault) => Err(fault),
             None => {
-                let done = decide_on(&mut self.table, &mut self.file, alloc, extent.number());
+                let done = decide_on(&mut self.table, &mut self.file, alloc, extent.0);
                 answer(done)
             }
         }
@@ -234,7 +234,7 @@ impl<D: Disk> Manager<D> {
     pub fn extent(&self, extent: ExtentId) -> Option<&Extent>
         ensures { option_map (λ x. x.now) result ≡ entry_at self.now.extents extent }
     {
-        self.table.entry_ref(extent.number())
+        self.table.entry_ref(extent.0)
     }
 
     /// The length at which `decide` would seal an extent now, in bytes; none where there is no such extent, where it is
@@ -242,7 +242,7 @@ impl<D: Disk> Manager<D> {
     pub fn sealing(&self, extent: ExtentId) -> Option<u32>
         ensures { result ≡ sealing_at (entry_at self.now.extents extent) }
     {
-        match self.table.entry(extent.number()) {
+        match self.table.entry(extent.0) {
             None => None,
             Some(entry) => sealing_of(&entry),
         }

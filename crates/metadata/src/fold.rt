@@ -4,6 +4,7 @@ ghost use Rattle.metadata.specs.declared.record.MetaItem.TheVariants.{Checkpoint
 ghost use Rattle.blocks.specs.declared.fault.BlockFault.TheVariants as faults;
 ghost use Rattle.metadata.specs.Fold as specs;
 
+use crate::lists::{IndexRanges, Regions};
 use crate::record::{IndexRange, KeyRange, MetaItem, MetaRecord, Region};
 use blocks::BlockFault;
 use bytes::Bytes;
@@ -16,10 +17,13 @@ use streams::Position;
 /// applied, and the number of the next record (after Calder et al., SOSP 2011, section 5.2). An index or a region counts
 /// only within the range's keys.
 pub struct Metadata {
-    keys: KeyRange,
-    indexes: Vec<IndexRange>,
-    regions: Vec<Region>,
-    next: u64,
+    pub keys: KeyRange,
+    /// The newest first.
+    pub indexes: IndexRanges,
+    /// In the order of the log.
+    pub regions: Regions,
+    /// The number of the next record, from 1.
+    pub next: u64,
 }
 
 // Written out, so that a crate above that lets one go has no proof of what is in it.
@@ -39,7 +43,7 @@ impl Model for Metadata {
 
     ghost Value = { MetadataState };
 
-    ghost view = { λ m. record { keys = m.keys; indexes = m.indexes.items; regions = m.regions.items; next = m.next } };
+    ghost view = { λ m. record { keys = m.keys; indexes = m.indexes; regions = m.regions; next = m.next } };
 }
 
 fn all_keys() -> KeyRange
@@ -111,8 +115,10 @@ impl Metadata {
         })?;
         Ok(Metadata {
             keys: all_keys(),
-            indexes: Vec::new(alloc),
-            regions,
+            indexes: IndexRanges {
+                items: Vec::new(alloc),
+            },
+            regions: Regions { items: regions },
             next: 1,
         })
     }
@@ -123,8 +129,12 @@ impl Metadata {
     {
         Ok(Metadata {
             keys: copied(&self.keys)?,
-            indexes: copied_indexes(alloc, &self.indexes)?,
-            regions: copied_regions(alloc, &self.regions)?,
+            indexes: IndexRanges {
+                items: copied_indexes(alloc, &self.indexes.items)?,
+            },
+            regions: Regions {
+                items: copied_regions(alloc, &self.regions.items)?,
+            },
             next: self.next,
         })
     }
@@ -154,10 +164,10 @@ impl Metadata {
             keys: copied(&self.keys)?,
         })?;
         if !combine {
-            indexes.append(&mut self.indexes)?;
+            indexes.append(&mut self.indexes.items)?;
         }
-        self.indexes = indexes;
-        self.regions = regions;
+        self.indexes = IndexRanges { items: indexes };
+        self.regions = Regions { items: regions };
         Ok(())
     }
 
@@ -177,8 +187,8 @@ impl Metadata {
                 next,
             } => self.checkpoint(alloc, combine, index, position, next),
             MetaItem::Regions { indexes, regions } => {
-                self.indexes = indexes.into_vec();
-                self.regions = regions.into_vec();
+                self.indexes = indexes;
+                self.regions = regions;
                 Ok(())
             }
             MetaItem::SplitStatus { .. } => Ok(()),
@@ -219,33 +229,5 @@ impl Metadata {
         } else {
             Err(BlockFault::Damaged)
         }
-    }
-
-    /// The keys of the range.
-    pub fn keys(&self) -> &KeyRange
-        ensures { result.now ≡ self.now.keys }
-    {
-        &self.keys
-    }
-
-    /// The indexes, the newest first.
-    pub fn indexes(&self) -> &[IndexRange]
-        ensures { result.now ≡ self.now.indexes }
-    {
-        &self.indexes
-    }
-
-    /// The regions of the log that are still to be applied, in the order of the log.
-    pub fn regions(&self) -> &[Region]
-        ensures { result.now ≡ self.now.regions }
-    {
-        &self.regions
-    }
-
-    /// The number of the next record, from 1.
-    pub fn next_number(&self) -> u64
-        ensures { result ≡ self.now.next }
-    {
-        self.next
     }
 }

@@ -6,7 +6,7 @@ use std::marker::Model;
 
 /// Indexes, the newest first.
 pub struct IndexRanges {
-    items: Vec<IndexRange>,
+    pub items: Vec<IndexRange>,
 }
 
 // Written out, so that a crate above that lets one go has no proof of what is in it.
@@ -25,33 +25,9 @@ impl Model for IndexRanges {
     ghost view = { λ list. list.items.items };
 }
 
-impl IndexRanges {
-    /// Takes them as they are.
-    pub fn of(items: Vec<IndexRange>) -> IndexRanges
-        ensures { result ≡ items.items }
-    {
-        IndexRanges { items }
-    }
-
-    /// They, in order.
-    pub fn as_slice(&self) -> &[IndexRange]
-        ensures { result.now ≡ self.now }
-    {
-        &self.items
-    }
-
-    /// The vector of them.
-    pub fn into_vec(self) -> Vec<IndexRange>
-        ensures { result.items ≡ self }
-    {
-        let IndexRanges { items } = self;
-        items
-    }
-}
-
 /// Regions, in the order of the log.
 pub struct Regions {
-    items: Vec<Region>,
+    pub items: Vec<Region>,
 }
 
 // Written out, so that a crate above that lets one go has no proof of what is in it.
@@ -68,28 +44,4 @@ impl Model for Regions {
     ghost Value = { List Region };
 
     ghost view = { λ list. list.items.items };
-}
-
-impl Regions {
-    /// Takes them as they are.
-    pub fn of(items: Vec<Region>) -> Regions
-        ensures { result ≡ items.items }
-    {
-        Regions { items }
-    }
-
-    /// They, in order.
-    pub fn as_slice(&self) -> &[Region]
-        ensures { result.now ≡ self.now }
-    {
-        &self.items
-    }
-
-    /// The vector of them.
-    pub fn into_vec(self) -> Vec<Region>
-        ensures { result.items ≡ self }
-    {
-        let Regions { items } = self;
-        items
-    }
 }

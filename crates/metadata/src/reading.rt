@@ -91,7 +91,7 @@ fn placed(extent: u64, offset: u32, length: u32) -> Place
     ensures { result ≡ record { extent = extent; offset = offset; length = length } }
 {
     Place {
-        extent: ExtentId::new(extent),
+        extent: ExtentId(extent),
         offset,
         length,
     }
@@ -234,7 +234,7 @@ fn indexes_of(alloc: Global, bytes: &[u8]) -> Result<(IndexRanges, &[u8]), Block
         return Err(BlockFault::Damaged);
     };
     let (items, rest) = all_indexes_of(alloc, count, rest)?;
-    Ok((IndexRanges::of(items), rest))
+    Ok((IndexRanges { items }, rest))
 }
 
 #[tactic(auto, unfolding(crate::specs::Reading::counted_at))]
@@ -245,7 +245,7 @@ fn regions_of(alloc: Global, bytes: &[u8]) -> Result<(Regions, &[u8]), BlockFaul
         return Err(BlockFault::Damaged);
     };
     let (items, rest) = all_regions_of(alloc, count, rest)?;
-    Ok((Regions::of(items), rest))
+    Ok((Regions { items }, rest))
 }
 
 #[tactic(auto, unfolding(crate::specs::Reading::ranges_at))]
@@ -294,8 +294,8 @@ fn status_item(alloc: Global, fields: &[u8]) -> Result<MetaItem, BlockFault>
         return Err(BlockFault::Damaged);
     };
     let (key, rest) = text_of(alloc, 1, rest)?;
-    let low = RangeId::new(low);
-    let high = RangeId::new(high);
+    let low = RangeId(low);
+    let high = RangeId(high);
     ended(MetaItem::SplitStatus { low, high, key }, rest)
 }
 

@@ -48,7 +48,7 @@ fn put_keys(out: &mut Vec<u8>, range: &KeyRange) -> Result<(), AllocError>
 fn put_place(out: &mut Vec<u8>, at: &Place) -> Result<(), AllocError>
     ensures { OnOk result (out.new.items ≡ out.old.items ++ place at.now) }
 {
-    put_u64(out, at.extent.number())?;
+    put_u64(out, at.extent.0)?;
     put_u32(out, at.offset)?;
     put_u32(out, at.length)
 }
@@ -146,13 +146,13 @@ fn put_item(out: &mut Vec<u8>, written: &MetaItem) -> Result<(), AllocError>
         }
         MetaItem::Regions { indexes, regions } => {
             put_u8(out, 3)?;
-            put_indexes(out, indexes.as_slice())?;
-            put_regions(out, regions.as_slice())
+            put_indexes(out, &indexes.items)?;
+            put_regions(out, &regions.items)
         }
         MetaItem::SplitStatus { low, high, key } => {
             put_u8(out, 4)?;
-            put_u64(out, low.number())?;
-            put_u64(out, high.number())?;
+            put_u64(out, low.0)?;
+            put_u64(out, high.0)?;
             put_text(out, key.as_slice())
         }
     }

@@ -9,7 +9,7 @@ use wire::{Changes, Fence, RangeId};
 
 /// Keys, each with what a row keeps of its value, in order of the keys.
 pub struct Entries {
-    items: Vec<(Bytes, Cell)>,
+    pub items: Vec<(Bytes, Cell)>,
 }
 
 // Written out, so that a crate above that lets one go has no proof of what is in it.
@@ -26,22 +26,6 @@ impl Model for Entries {
     ghost Value = { List (List ℕ × Cell) };
 
     ghost view = { λ list. list.items.items };
-}
-
-impl Entries {
-    /// Takes them as they are.
-    pub fn of(items: Vec<(Bytes, Cell)>) -> Entries
-        ensures { result ≡ items.items }
-    {
-        Entries { items }
-    }
-
-    /// They, in order.
-    pub fn as_slice(&self) -> &[(Bytes, Cell)]
-        ensures { result.now ≡ self.now }
-    {
-        &self.items
-    }
 }
 
 /// One observation of a server. Of a loaded table it has the memory table and the indexes, from which a run makes the rows.

@@ -35,7 +35,7 @@ pub struct PlaceRead {
 
 /// Reads, in the order in which they were sent.
 pub struct PlaceReads {
-    items: Vec<PlaceRead>,
+    pub items: Vec<PlaceRead>,
 }
 
 // Written out, so that a crate above that lets one go has no proof of what is in it.
@@ -52,22 +52,6 @@ impl Model for PlaceReads {
     ghost Value = { List PlaceRead };
 
     ghost view = { λ list. list.items.items };
-}
-
-impl PlaceReads {
-    /// Takes them as they are.
-    pub fn of(items: Vec<PlaceRead>) -> PlaceReads
-        ensures { result ≡ items.items }
-    {
-        PlaceReads { items }
-    }
-
-    /// They, in order.
-    pub fn as_slice(&self) -> &[PlaceRead]
-        ensures { result.now ≡ self.now }
-    {
-        &self.items
-    }
 }
 
 /// A Get that waits for the bytes of a value.

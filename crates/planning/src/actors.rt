@@ -26,7 +26,7 @@ pub(crate) fn generation_of(actor: ActorId, generation: Fence) -> Fence
         ActorId::Manager => generation,
         ActorId::Map => generation,
         ActorId::Server(_) => generation,
-        ActorId::User(_) => Fence::new(0),
+        ActorId::User(_) => Fence(0),
     }
 }
 
@@ -34,5 +34,5 @@ pub(crate) fn generation_of(actor: ActorId, generation: Fence) -> Fence
 pub(crate) fn is_foreign(actor: ActorId, range: RangeId) -> bool
     ensures { result ≡ is_foreign actor range }
 {
-    is_user(actor) && range.number() != 0
+    is_user(actor) && range.0 != 0
 }

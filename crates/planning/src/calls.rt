@@ -229,7 +229,7 @@ fn last_told(
 ) -> Result<Plan, AllocError>
     ensures { Plans (last_told packet.now extent (entry_at table.now.extents extent) request) result }
 {
-    let number = extent.number();
+    let number = extent.0;
     match table.entry(number) {
         None => Ok(silent(alloc)),
         Some(entry) => tell(alloc, packet.from, extended(request, number, entry.places)),

@@ -35,7 +35,7 @@ fn ask_tail(
     match (to, at) {
         (Some(to), Some(at)) => {
             let body = Body::Seal(SealBody::SendTail {
-                extent: ExtentId::new(extent),
+                extent: ExtentId(extent),
                 from,
                 to,
             });
@@ -56,15 +56,13 @@ pub(crate) fn seal_body(
 {
     match body {
         SealBody::SealExtent { extent, request } => {
-            seal_extent(alloc, table, packet, extent.number(), *request)
+            seal_extent(alloc, table, packet, extent.0, *request)
         }
         SealBody::Frozen { extent, length } => {
-            Ok(frozen(alloc, table, packet, extent.number(), *length))
+            Ok(frozen(alloc, table, packet, extent.0, *length))
         }
-        SealBody::IsSealed { extent } => Ok(is_sealed(alloc, table, packet, extent.number())),
-        SealBody::Short { extent, length } => {
-            short(alloc, table, packet, extent.number(), *length)
-        }
+        SealBody::IsSealed { extent } => Ok(is_sealed(alloc, table, packet, extent.0)),
+        SealBody::Short { extent, length } => { short(alloc, table, packet, extent.0, *length) }
         _ => Ok(silent(alloc)),
     }
 }
@@ -192,7 +190,7 @@ fn decided(
     ensures { Plans (decided table.now.target extent entry.now length) result }
 {
     let ruling = ManagerRecord::Seal {
-        extent: ExtentId::new(extent),
+        extent: ExtentId(extent),
         length,
     };
     reads_back(&ruling);
@@ -202,7 +200,7 @@ fn decided(
     let mut packets = remind(alloc, table.target(), extent, &sealed)?;
     tell_asker(&mut packets, extent, length, entry.asker)?;
     let mut plan = with_change(alloc, packets, Change::Write(ruling));
-    let extent = ExtentId::new(extent);
+    let extent = ExtentId(extent);
     plan.step.notes.push(Note::SealedAt { extent, length })?;
     Ok(plan)
 }

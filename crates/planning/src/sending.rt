@@ -50,7 +50,7 @@ pub(crate) fn extended(request: ReqNo, extent: u64, places: Nodes) -> Body
 {
     Body::Stream(StreamBody::Extended {
         request,
-        extent: ExtentId::new(extent),
+        extent: ExtentId(extent),
         places,
     })
 }
@@ -60,7 +60,7 @@ fn make(extent: u64, fence: Fence, target: u32, places: Nodes) -> Body
     ensures { result ≡ make_of extent fence target places }
 {
     Body::Seal(SealBody::Make {
-        extent: ExtentId::new(extent),
+        extent: ExtentId(extent),
         fence,
         target,
         places,
@@ -71,7 +71,7 @@ fn make(extent: u64, fence: Fence, target: u32, places: Nodes) -> Body
 fn close(extent: u64, sealed: Option<u32>) -> Body
     ensures { result ≡ bodies.Seal (closes extent sealed) }
 {
-    let extent = ExtentId::new(extent);
+    let extent = ExtentId(extent);
     Body::Seal(match sealed {
         None => SealBody::Freeze { extent },
         Some(length) => SealBody::Seal { extent, length },
@@ -186,7 +186,7 @@ pub(crate) fn tell_sealed(
 {
     let body = Body::Seal(SealBody::SealedIs {
         request,
-        extent: ExtentId::new(extent),
+        extent: ExtentId(extent),
         length,
     });
     packets.push(send(who, body))

@@ -19,9 +19,9 @@ pub(crate) fn begins_by(entry: &RangeEntry, key: &[u8]) -> bool
 pub(crate) fn next_generation(entry: &RangeEntry) -> Option<Fence>
     ensures { result ≡ next_generation entry.now.generation }
 {
-    match entry.generation.number().checked_add(1) {
+    match entry.generation.0.checked_add(1) {
         None => None,
-        Some(next) => Some(Fence::new(next)),
+        Some(next) => Some(Fence(next)),
     }
 }
 
@@ -30,7 +30,7 @@ pub(crate) fn assign_entry(entry: &mut RangeEntry, server: ServerNo, until: u64)
     requires { suc entry.old.generation < 2 ^ 64 }
     ensures { entry.new ≡ assigned server until entry.old }
 {
-    entry.generation = Fence::new(entry.generation.number() + 1);
+    entry.generation = Fence(entry.generation.0 + 1);
     entry.holder = Some(server);
     entry.until = entry.until.max(until);
 }

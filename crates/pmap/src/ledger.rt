@@ -41,8 +41,8 @@ pub(crate) fn encode(alloc: Global, ruling: &MapRecord) -> Result<Bytes, AllocEr
             range,
             server,
             until,
-        } => put_assign(&mut out, range.number(), server.number(), *until)?,
-        MapRecord::Renew { range, until } => put_renew(&mut out, range.number(), *until)?,
+        } => put_assign(&mut out, range.0, server.0, *until)?,
+        MapRecord::Renew { range, until } => put_renew(&mut out, range.0, *until)?,
     }
     Ok(Bytes::from_vec(out)?)
 }
@@ -57,12 +57,12 @@ pub(crate) fn reads_back(ruling: &MapRecord)
             server,
             until,
         } => {
-            let _range = range.number();
-            let _server = server.number();
+            let _range = range.0;
+            let _server = server.0;
             let _until = *until;
         }
         MapRecord::Renew { range, until } => {
-            let _range = range.number();
+            let _range = range.0;
             let _until = *until;
         }
     }
@@ -79,8 +79,8 @@ fn assign_at(fields: &[u8]) -> Result<MapRecord, BlockFault>
     let (server, rest) = u8_at(rest)?;
     let (until, rest) = u64_at(rest)?;
     let read = MapRecord::Assign {
-        range: RangeId::new(range),
-        server: ServerNo::new(server),
+        range: RangeId(range),
+        server: ServerNo(server),
         until,
     };
     ended(read, rest)
@@ -94,7 +94,7 @@ fn renew_at(fields: &[u8]) -> Result<MapRecord, BlockFault>
     let (range, rest) = u64_at(fields)?;
     let (until, rest) = u64_at(rest)?;
     let read = MapRecord::Renew {
-        range: RangeId::new(range),
+        range: RangeId(range),
         until,
     };
     ended(read, rest)

@@ -36,9 +36,7 @@ fn place_of(entries: &[RangeEntry], range: RangeId) -> Option<usize>
     ensures place { option_and_then (slice_get entries.now) result ≡ range_at entries.now range }
     ensures within { IfSome result (λ place. place < length entries.now) }
 {
-    entries
-        .iter()
-        .position(|entry| entry.range.number() == range.number())
+    entries.iter().position(|entry| entry.range.0 == range.0)
 }
 
 impl RangeTable {
@@ -52,15 +50,15 @@ impl RangeTable {
         };
         let mut entries = Vec::new(alloc);
         entries.push(RangeEntry {
-            range: RangeId::new(1),
+            range: RangeId(1),
             keys,
-            generation: Fence::new(0),
+            generation: Fence(0),
             holder: None,
             until: 0,
         })?;
         Ok(RangeTable {
             entries,
-            next: RangeId::new(2),
+            next: RangeId(2),
         })
     }
 

@@ -98,7 +98,7 @@ impl RangeServer {
                 };
                 match self.ranges.get(&range) {
                     None => None,
-                    Some(state) => Some(state.table().live()),
+                    Some(state) => Some(state.content.table.live()),
                 }
             }
             _ => None,
@@ -120,16 +120,11 @@ impl RangeServer {
         ensures err { OnErr result (self.new ≡ self.old) }
         ensures short { IfOk result IsShort }
     {
-        match self.ranges.get_mut(&range.number()) {
+        match self.ranges.get_mut(&range.0) {
             None => self.refuse(alloc, packet.from, request),
             Some(state) => {
                 match state.transact(alloc, &self.desk, packet.from, request, changes) {
-                    Ok(taken) => Ok(settle(
-                        &mut self.ranges,
-                        &mut self.desk,
-                        range.number(),
-                        taken,
-                    )),
+                    Ok(taken) => Ok(settle(&mut self.ranges, &mut self.desk, range.0, taken)),
                     Err(full) => Err(full),
                 }
             }
@@ -151,16 +146,11 @@ impl RangeServer {
         ensures err { OnErr result (self.new ≡ self.old) }
         ensures short { IfOk result IsShort }
     {
-        match self.ranges.get_mut(&range.number()) {
+        match self.ranges.get_mut(&range.0) {
             None => self.refuse(alloc, packet.from, request),
             Some(state) => {
                 match state.get(alloc, &self.desk, packet.from, request, key) {
-                    Ok(taken) => Ok(settle(
-                        &mut self.ranges,
-                        &mut self.desk,
-                        range.number(),
-                        taken,
-                    )),
+                    Ok(taken) => Ok(settle(&mut self.ranges, &mut self.desk, range.0, taken)),
                     Err(full) => Err(full),
                 }
             }
@@ -245,9 +235,9 @@ impl RangeServer {
     fn generation(&self, range: RangeId) -> Option<Fence>
         ensures { result ≡ option_map (λ r. r.load.generation) (range_of self.now.ranges range) }
     {
-        match self.ranges.get(&range.number()) {
+        match self.ranges.get(&range.0) {
             None => None,
-            Some(state) => Some(state.generation()),
+            Some(state) => Some(state.content.load.generation),
         }
     }
 
@@ -256,7 +246,7 @@ impl RangeServer {
         ensures packets { IfOk result (λ packets. packets.items ≡ users_of self.now.desk (range_of self.now.ranges range)) }
         ensures few { IfOk result (λ packets. length packets.items ≤ 1400) }
     {
-        match self.ranges.get(&range.number()) {
+        match self.ranges.get(&range.0) {
             None => Ok(Vec::new(alloc)),
             Some(state) => match state.refusals(alloc, &self.desk) {
                 Ok(packets) => Ok(packets),
@@ -305,7 +295,7 @@ impl RangeServer {
             }
         }
         let (state, packets) = self.opening(alloc, range, generation, until)?;
-        put(&mut self.ranges, range.number(), state)?;
+        put(&mut self.ranges, range.0, state)?;
         self.desk.count += 1;
         Ok(Sent {
             packets,
@@ -318,8 +308,8 @@ impl RangeServer {
     fn renew(&mut self, range: RangeId, generation: Fence, until: u64)
         ensures { renew_row self.old range generation until (range_of self.old.ranges range) ≡ record { after = self.new; packets = []; notes = [] } }
     {
-        if let Some(state) = self.ranges.get_mut(&range.number()) {
-            if state.generation() == generation {
+        if let Some(state) = self.ranges.get_mut(&range.0) {
+            if state.content.load.generation == generation {
                 state.renew(until);
             }
         }
@@ -395,7 +385,7 @@ impl RangeServer {
             pick: *pick,
             ..self.desk
         };
-        match self.ranges.get_mut(&range.number()) {
+        match self.ranges.get_mut(&range.0) {
             None => Err(RangeFault::NotOwner),
             Some(state) => {
                 if !has_numbers(&told) {
@@ -405,7 +395,7 @@ impl RangeServer {
                 match state.give_up(alloc, &told) {
                     Ok(taken) => {
                         self.desk = told;
-                        Ok(settle(&mut self.ranges, &mut self.desk, range.number(), taken))
+                        Ok(settle(&mut self.ranges, &mut self.desk, range.0, taken))
                     }
                     Err(_full) => Err(RangeFault::Memory),
                 }

@@ -11,7 +11,8 @@ ghost use Rattle.range_core.specs.Steps.{outcome, IsShort};
 use crate::forming::{Begun, next_group, next_request};
 use crate::state::RangeState;
 use crate::taken::{Taken, push_some};
-use client::Job;
+use blocks::Nodes;
+use client::{Job, StreamClient};
 use model_tables::{Desk, TableNote};
 use std::alloc::{AllocError, Global};
 use streams::Position;
@@ -50,6 +51,14 @@ fn joined(told: Told, begun: Begun, count: u64) -> Taken
     }
 }
 
+/// A new extent is asked for at these nodes from now on; those of before come back.
+fn replace_pick(log: &mut StreamClient, pick: &Nodes) -> Nodes
+    ensures after { log.new ≡ record log.old { pick = pick.now } }
+    ensures before { result ≡ log.old.pick }
+{
+    std::mem::replace(&mut log.pick, *pick)
+}
+
 /// Whether the generation is refused as an old one.
 fn is_stale(body: &Body) -> bool
     ensures { result ≡ is_stale body.now }
@@ -84,8 +93,8 @@ impl RangeState {
     fn is_counted(&self) -> bool
         ensures { result ≡ are_counted self.now.log }
     {
-        let count = self.content.log.extents().len() as u64;
-        self.content.log.base().checked_add(count).is_some()
+        let count = self.content.log.extents.len() as u64;
+        self.content.log.base.checked_add(count).is_some()
     }
 
     /// Whether an answer to the log's client counts: a group that ends where no extent reaches is told by no node.
@@ -115,15 +124,14 @@ impl RangeState {
         ensures short { IfOk result IsShort }
     {
         let mut packets = Vec::with_capacity(alloc, 1)?;
-        let pick = self.content.log.pick();
-        self.content.log.set_pick(&desk.pick);
+        let pick = replace_pick(&mut self.content.log, &desk.pick);
         match self.content.log.on_answer(alloc, &next_request(desk), body) {
             Ok(reaction) => {
                 push_some(&mut packets, reaction.packet);
                 Ok(Taken::sends(alloc, desk.count + 1, packets))
             }
             Err(full) => {
-                self.content.log.set_pick(&pick);
+                self.content.log.pick = pick;
                 Err(full)
             }
         }
@@ -152,13 +160,13 @@ impl RangeState {
     {
         let changes = self.queue.changes(alloc, extent, offset)?;
         self.content.table.apply(alloc, changes)?;
-        let count = self.content.log.extents().len() as u64;
+        let count = self.content.log.extents.len() as u64;
         self.position = Position {
-            index: (self.content.log.base() + count).saturating_sub(1),
+            index: (self.content.log.base + count).saturating_sub(1),
             offset: offset + self.queue.out_size(),
         };
         self.queue.finish();
-        self.content.log.set_pick(&desk.pick);
+        self.content.log.pick = desk.pick;
         match self.content.log.on_answer(alloc, &next_request(desk), body) {
             Ok(reaction) => drop(reaction),
             Err(_full) => {}
@@ -173,8 +181,8 @@ impl RangeState {
         ensures few { IfOk result (λ told. (length told.packets.items ≤ 1024) × (length told.notes.items ≤ 1024)) }
         ensures room { IfOk result (λ told. (vec_len told.packets + 1 ≤ vec_capacity told.packets) × (vec_len told.notes + 1024 ≤ vec_capacity told.notes)) }
     {
-        let range = self.content.load.range();
-        let generation = self.content.load.generation();
+        let range = self.content.load.range;
+        let generation = self.content.load.generation;
         // No more are done than wait.
         let _most = self.queue.count();
         let (mut packets, mut notes) = self.queue.acknowledge(alloc, desk, range, generation)?;
@@ -205,8 +213,8 @@ impl RangeState {
         ensures short { IfOk result IsShort }
     {
         let told = self.told(alloc, desk)?;
-        let range = self.content.load.range();
-        let generation = self.content.load.generation();
+        let range = self.content.load.range;
+        let generation = self.content.load.generation;
         let next = next_group(&self.queue, alloc, desk, range, generation)?;
         self.apply(alloc, desk, body, extent, offset)?;
         let begun = self.begin_next(alloc, desk, next);
@@ -235,7 +243,7 @@ impl RangeState {
             return Ok(Taken::drops(alloc, desk.count + 1, packets));
         }
         if self.queue.is_out() {
-            if let Some((extent, offset)) = group_end(self.content.log.job(), body) {
+            if let Some((extent, offset)) = group_end(self.content.log.job, body) {
                 return self.acknowledge(alloc, desk, body, extent, offset);
             }
         }

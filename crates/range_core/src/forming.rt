@@ -97,7 +97,7 @@ impl RangeState {
             blocks,
             notes,
         } = ready;
-        self.content.log.set_pick(&desk.pick);
+        self.content.log.pick = desk.pick;
         let packet = match self.content.log.begin_append(&next_request(desk), blocks) {
             Ok(packet) => Some(packet),
             Err(_busy) => None,
@@ -140,8 +140,8 @@ impl RangeState {
         if self.queue.is_out() {
             return Ok(Taken::sends(alloc, desk.count + 1, packets));
         }
-        let range = self.content.load.range();
-        let generation = self.content.load.generation();
+        let range = self.content.load.range;
+        let generation = self.content.load.generation;
         let next = next_group(&self.queue, alloc, desk, range, generation)?;
         let Begun { packet, notes } = self.begin_next(alloc, desk, next);
         push_some(&mut packets, packet);

@@ -5,7 +5,7 @@ ghost use Rattle.model_tables.specs.Getting.{bytes_row, get_fault, get_row, held
 ghost use Rattle.lookups.specs.Lookups.{place_of, Sees};
 ghost use Rattle.range_core.specs.Steps.{outcome, IsShort};
 
-use crate::state::RangeState;
+use crate::state::{RangeState, extents_of, known_extents};
 use crate::taken::Taken;
 use crate::transacting::refused;
 use bytes::Bytes;
@@ -29,7 +29,7 @@ impl RangeState {
         if key.is_empty() || key.len() > 256 {
             return Some(Refusal::BadKey);
         }
-        if !self.content.said.keys().contains(key) {
+        if !self.content.said.keys.contains(key) {
             return Some(Refusal::OutOfRange);
         }
         if self.lookups.count() >= MAX_GETS {
@@ -65,9 +65,9 @@ impl RangeState {
             desk,
             until: self.until,
             table: &self.content.table,
-            log: self.content.log.extents(),
-            blob: self.content.blob_data.extents.as_slice(),
-            rows: self.content.row_data.extents.as_slice(),
+            log: known_extents(&self.content.log),
+            blob: extents_of(&self.content.blob_data),
+            rows: extents_of(&self.content.row_data),
         };
         match self.lookups.get(alloc, &asking, from, *request, key) {
             Ok(tried) => Ok(Taken::sends(alloc, tried.count, tried.packets)),
@@ -97,9 +97,9 @@ impl RangeState {
             desk,
             until: self.until,
             table: &self.content.table,
-            log: self.content.log.extents(),
-            blob: self.content.blob_data.extents.as_slice(),
-            rows: self.content.row_data.extents.as_slice(),
+            log: known_extents(&self.content.log),
+            blob: extents_of(&self.content.blob_data),
+            rows: extents_of(&self.content.row_data),
         };
         match self
             .lookups

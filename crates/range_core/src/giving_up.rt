@@ -3,7 +3,7 @@ ghost use Rattle.std.specs.Prelude.{◌≡◌, ◌<◌, ◌≤◌, ◌+◌, ◌+
 ghost use Rattle.model_tables.specs.Answering.{give_up_all};
 ghost use Rattle.range_core.specs.Steps.{outcome, IsShort};
 
-use crate::state::RangeState;
+use crate::state::{RangeState, extents_of, known_extents};
 use crate::taken::{Taken, push_some};
 use loading::GivenUp;
 use lookups::{Asking, MAX_GETS};
@@ -45,9 +45,9 @@ impl RangeState {
             desk,
             until: self.until,
             table: &self.content.table,
-            log: self.content.log.extents(),
-            blob: self.content.blob_data.extents.as_slice(),
-            rows: self.content.row_data.extents.as_slice(),
+            log: known_extents(&self.content.log),
+            blob: extents_of(&self.content.blob_data),
+            rows: extents_of(&self.content.row_data),
         };
         let reads = self.lookups.give_up(alloc, &asking)?;
         let given = self.content.give_up(desk);

@@ -11,7 +11,6 @@ mod answering;
 mod forming;
 mod getting;
 mod giving_up;
-mod readers;
 mod state;
 mod taken;
 mod transacting;

@@ -5,6 +5,7 @@ ghost use Rattle.model_tables.specs.Range.{RangeState, request, refused_users};
 ghost use Rattle.loading.specs.Steps.{put};
 ghost use Rattle.model_tables.specs.Server.{new_range};
 
+use client::StreamClient;
 use group_commit::Queue;
 use loading::RangeContent;
 use lookups::Lookups;
@@ -12,16 +13,18 @@ use model_tables::Desk;
 use std::alloc::{AllocError, Global};
 use std::marker::Model;
 use streams::Position;
-use wire::{Fence, Packet, RangeId};
+use wire::{Fence, Packet, RangeId, StreamExtent, StreamList};
 
 /// A range at a server: the end of its lease, in ticks; its streams, its metadata and its table; the transactions that wait;
 /// the end of what was appended to its log; and the Gets that wait.
 pub struct RangeState {
-    pub(crate) until: u64,
-    pub(crate) content: RangeContent,
-    pub(crate) queue: Queue,
-    pub(crate) position: Position,
-    pub(crate) lookups: Lookups,
+    /// The end of its lease, in ticks.
+    pub until: u64,
+    pub content: RangeContent,
+    pub queue: Queue,
+    /// The end of what was appended to its log and acknowledged.
+    pub position: Position,
+    pub lookups: Lookups,
 }
 
 // Written out, so that a crate above that lets one go has no proof of what is in it.
@@ -61,6 +64,20 @@ impl Model for RangeState {
       gets = r.lookups.gets;
       held = r.lookups.held;
     } };
+}
+
+/// The extents that a client knows.
+pub(crate) fn known_extents(client: &StreamClient) -> &[StreamExtent]
+    ensures { result.now ≡ client.now.extents }
+{
+    &client.extents
+}
+
+/// The extents of a stream.
+pub(crate) fn extents_of(list: &StreamList) -> &[StreamExtent]
+    ensures { result.now ≡ list.now.extents }
+{
+    &list.extents.items
 }
 
 impl RangeState {

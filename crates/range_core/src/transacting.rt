@@ -78,7 +78,7 @@ impl RangeState {
         if self.lease_ended(desk) {
             return Some(Refusal::LeaseEnded);
         }
-        let fault = change_fault(changes.as_slice(), self.content.said.keys());
+        let fault = change_fault(&changes.items, &self.content.said.keys);
         if fault.is_some() {
             return fault;
         }

@@ -33,7 +33,7 @@ pub(crate) fn number(count: u64) -> ReqNo {
 
 pub(crate) fn number_in(session: u64, count: u64) -> ReqNo {
     ReqNo::Server {
-        server: ServerNo::new(1),
+        server: ServerNo(1),
         session,
         count,
     }
@@ -48,7 +48,7 @@ pub(crate) fn refused(count: u64, refusal: Refusal) -> Body {
 
 fn log() -> StreamName {
     StreamName {
-        range: RangeId::new(1),
+        range: RangeId(1),
         kind: StreamKind::Log,
     }
 }
@@ -62,23 +62,23 @@ fn client(
     let mut items = Vec::new(alloc);
     if has_extent {
         items.push(StreamExtent {
-            extent: ExtentId::new(1),
+            extent: ExtentId(1),
             places: PLACES,
             length,
         })?;
     }
     let list = StreamList {
         base: 5,
-        extents: StreamExtents::of(items),
+        extents: StreamExtents { items },
     };
-    StreamClient::new(alloc, ServerNo::new(1), log(), Fence::new(2), &list, PLACES)
+    StreamClient::new(alloc, ServerNo(1), log(), Fence(2), &list, PLACES)
 }
 
 fn two_blocks(alloc: Global) -> Result<Blocks, AllocError> {
     let mut items = Vec::new(alloc);
     items.push(Bytes::copy_from_slice(alloc, b"abc")?)?;
     items.push(Bytes::copy_from_slice(alloc, b"de")?)?;
-    Ok(Blocks::of(items))
+    Ok(Blocks { items })
 }
 
 /// Begins an append of two blocks.
@@ -100,7 +100,7 @@ fn append(
 fn appending(alloc: Global) -> Result<Appending, AllocError> {
     let mut items = Vec::new(alloc);
     items.push(Bytes::copy_from_slice(alloc, b"abc")?)?;
-    Appending::of(alloc, &Blocks::of(items))
+    Appending::of(alloc, &Blocks { items })
 }
 
 /// Begins an append of one block, made beforehand.
@@ -118,14 +118,16 @@ fn append_made(
 fn groups(alloc: Global, count: u64) -> Body {
     Body::Read(ReadBody::Groups {
         request: number(count),
-        extent: ExtentId::new(1),
-        groups: Groups::of(Vec::new(alloc)),
+        extent: ExtentId(1),
+        groups: Groups {
+            items: Vec::new(alloc),
+        },
     })
 }
 
 /// What an answer says: of the extent 1, and of a new extent at the new places.
 fn body_of(alloc: Global, answer: &Answer) -> Body {
-    let extent = ExtentId::new(1);
+    let extent = ExtentId(1);
     match answer {
         Answer::Appended(count, offset) => Body::Append(AppendBody::Appended {
             request: number(*count),
@@ -140,7 +142,7 @@ fn body_of(alloc: Global, answer: &Answer) -> Body {
         }),
         Answer::Extended(count, made) => Body::Stream(StreamBody::Extended {
             request: number(*count),
-            extent: ExtentId::new(*made),
+            extent: ExtentId(*made),
             places: NEW_PLACES,
         }),
         Answer::Checked(count, length) => Body::Check(CheckBody::Checked {
@@ -159,7 +161,7 @@ fn reply(
 ) -> Result<Reaction, ClientFault> {
     let packet = Packet {
         from: ActorId::Manager,
-        to: ActorId::Server(ServerNo::new(1)),
+        to: ActorId::Server(ServerNo(1)),
         body: body_of(alloc, answer),
     };
     let told = client.on_reply(alloc, request, &packet);
@@ -213,9 +215,9 @@ fn is_append(packet: &Packet, node: u8, extent: u64, count: u64) -> bool {
             },
         ) => {
             packet.to == ActorId::Node(node)
-                && to.number() == extent
-                && generation.number() == 2
-                && blocks.count() == 2
+                && to.0 == extent
+                && generation.0 == 2
+                && blocks.items.len() == 2
                 && *request == number(count)
         }
         _ => false,
@@ -225,7 +227,7 @@ fn is_append(packet: &Packet, node: u8, extent: u64, count: u64) -> bool {
 fn is_seal(packet: &Packet, count: u64) -> bool {
     match &packet.body {
         Body::Seal(SealBody::SealExtent { extent, request }) => {
-            packet.to == ActorId::Manager && extent.number() == 1 && *request == number(count)
+            packet.to == ActorId::Manager && extent.0 == 1 && *request == number(count)
         }
         _ => false,
     }
@@ -235,7 +237,7 @@ fn is_seal(packet: &Packet, count: u64) -> bool {
 fn is_extend(packet: &Packet, behind: bool, count: u64) -> bool {
     match &packet.body {
         Body::Stream(StreamBody::Extend { last, request, .. }) => {
-            *last == behind.then_some(ExtentId::new(1)) && *request == number(count)
+            *last == behind.then_some(ExtentId(1)) && *request == number(count)
         }
         _ => false,
     }
@@ -282,10 +284,10 @@ fn sends(packet: &Option<Packet>, outcome: &Outcome) -> bool {
 }
 
 fn news_of(outcome: &Outcome) -> Option<News> {
-    let extent = ExtentId::new(1);
+    let extent = ExtentId(1);
     match outcome {
         Outcome::Appended(extent, offset) => Some(News::Appended {
-            extent: ExtentId::new(*extent),
+            extent: ExtentId(*extent),
             offset: *offset,
         }),
         Outcome::Checked(length) => Some(News::Checked {
@@ -324,17 +326,17 @@ fn comes_to(told: Result<Reaction, ClientFault>, outcome: &Outcome) -> bool {
 
 /// Whether a client with one open extent, which is at rest, tells what it was made of.
 fn is_at_rest(client: &StreamClient) -> bool {
-    client.job() == Job::Idle
-        && client.base() == 5
-        && client.generation().number() == 2
-        && client.stream() == log()
-        && client.extents().len() == 1
+    client.job == Job::Idle
+        && client.base == 5
+        && client.generation.0 == 2
+        && client.stream == log()
+        && client.extents.len() == 1
         && client.last_extent().is_some()
 }
 
 fn picks(client: &mut StreamClient) -> bool {
-    client.set_pick(&PLACES);
-    client.pick() == PLACES
+    client.pick = PLACES;
+    client.pick == PLACES
 }
 
 /// Whether an answer with groups would bring those of the extent 1 up to the length 6.
@@ -342,22 +344,22 @@ fn brings_content(client: &StreamClient, alloc: Global, count: u64) -> bool {
     let body = groups(alloc, count);
     let told = client.content(&body);
     drop(body);
-    told == Some((ExtentId::new(1), 6))
+    told == Some((ExtentId(1), 6))
 }
 
 fn knows(client: &mut StreamClient, alloc: Global, known: &Known) -> bool {
     match known {
-        Known::Idle => client.job() == Job::Idle,
+        Known::Idle => client.job == Job::Idle,
         Known::AtRest => is_at_rest(client),
         Known::Pick => picks(client),
         Known::Awaits(count, awaited) => client.awaits(&number(*count)) == *awaited,
         Known::Content(count, brought) => brings_content(client, alloc, *count) == *brought,
         Known::ReadEnded => {
             client.end_read(alloc);
-            client.job() == Job::Idle
+            client.job == Job::Idle
         }
-        Known::Extents(count) => client.extents().len() == *count,
-        Known::Checked(length) => client.checked() == Some(*length),
+        Known::Extents(count) => client.extents.len() == *count,
+        Known::Checked(length) => client.checked == Some(*length),
     }
 }
 

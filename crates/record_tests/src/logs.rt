@@ -94,7 +94,7 @@ fn is_spelled_so_by_hand_and_damaged_else(rt: HostRuntime) {
 fn first_place(alloc: Global, group: &Group) -> Result<Option<Place>, Fail> {
     let read = decode(alloc, group)?;
     let _size = group.size();
-    let kept = cells(alloc, &read, ExtentId::new(7), 100);
+    let kept = cells(alloc, &read, ExtentId(7), 100);
     drop(read);
     match kept?.as_slice() {
         [(_, Cell::Placed(place)), ..] => Ok(Some(*place)),
@@ -108,7 +108,7 @@ fn is_kept_by_its_place(rt: HostRuntime) -> Result<(), Fail> {
     let kept = first_place(rt.alloc(), &group);
     drop(group);
     let place = Place {
-        extent: ExtentId::new(7),
+        extent: ExtentId(7),
         offset: 124,
         length: 5_000,
     };
@@ -119,7 +119,7 @@ fn is_kept_by_its_place(rt: HostRuntime) -> Result<(), Fail> {
 fn adds(filling: &mut Filling, read: &LogRecord) -> bool
     requires { Fits read.now }
 {
-    match read.transactions.as_slice() {
+    match read.transactions.items.as_slice() {
         [first, ..] => filling.add(first),
         [] => false,
     }

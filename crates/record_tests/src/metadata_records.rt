@@ -84,7 +84,7 @@ fn each_kind_is_spelled_and_damage_is_refused(rt: HostRuntime) {
 
 fn index() -> Place {
     Place {
-        extent: ExtentId::new(3),
+        extent: ExtentId(3),
         offset: 11,
         length: 28,
     }
@@ -148,12 +148,12 @@ const FOLDS: [(u64, bool, u64, Option<bool>, usize); 5] = [
 fn folds_in_order(alloc: Global, metadata: &mut Metadata) -> bool {
     for (number, combine, next, is_new, indexes) in FOLDS {
         if folds(alloc, metadata, number, checkpoint(combine, next)) != is_new
-            || metadata.indexes().len() != indexes
+            || metadata.indexes.items.len() != indexes
         {
             return false;
         }
     }
-    metadata.next_number() == 4
+    metadata.next == 4
 }
 
 #[test]
@@ -193,16 +193,16 @@ fn one_of_each(alloc: Global) -> Result<MetaItem, Fail> {
         keys: from_m(),
     })?;
     Ok(MetaItem::Regions {
-        indexes: IndexRanges::of(indexes),
-        regions: Regions::of(regions),
+        indexes: IndexRanges { items: indexes },
+        regions: Regions { items: regions },
     })
 }
 
 fn takes_over(alloc: Global, metadata: &mut Metadata, regions: MetaItem) -> bool {
     folds(alloc, metadata, 1, regions) == Some(true)
         && folds(alloc, metadata, 2, MetaItem::Ranges { keys: from_m() }) == Some(true)
-        && metadata.keys().low.as_slice() == b"m".as_slice()
-        && metadata.regions().len() == 1
+        && metadata.keys.low.as_slice() == b"m".as_slice()
+        && metadata.regions.items.len() == 1
 }
 
 #[test]

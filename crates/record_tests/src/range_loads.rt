@@ -10,7 +10,9 @@ use wire::{
 fn no_extents(alloc: Global) -> StreamList {
     StreamList {
         base: 0,
-        extents: StreamExtents::of(Vec::new(alloc)),
+        extents: StreamExtents {
+            items: Vec::new(alloc),
+        },
     }
 }
 
@@ -34,7 +36,7 @@ fn confirmed() -> Body {
 fn told(load: &mut RangeLoad, body: Body) -> LoadPhase {
     let packet = Packet {
         from: ActorId::Manager,
-        to: ActorId::Server(ServerNo::new(1)),
+        to: ActorId::Server(ServerNo(1)),
         body,
     };
     let phase = load.on_reply(&packet);
@@ -52,7 +54,7 @@ enum Asked {
 }
 
 fn is_of_load(range: RangeId, generation: Fence) -> bool {
-    range.number() == 1 && generation.number() == 2
+    range.0 == 1 && generation.0 == 2
 }
 
 fn is_request(packet: &Packet, asked: &Asked) -> bool {
@@ -95,12 +97,7 @@ fn asks(sent: Option<Packet>, asked: &Asked) -> bool {
 
 /// A load that has just begun, and whether it asks for its streams.
 fn begun() -> (RangeLoad, bool) {
-    let (load, packet) = RangeLoad::open_for_load(
-        ServerNo::new(1),
-        RangeId::new(1),
-        Fence::new(2),
-        &number(1),
-    );
+    let (load, packet) = RangeLoad::open_for_load(ServerNo(1), RangeId(1), Fence(2), &number(1));
     (load, asks(Some(packet), &Asked::Open))
 }
 
@@ -108,7 +105,7 @@ fn opens_other(load: &mut RangeLoad, alloc: Global) -> bool {
     asks(load.confirm(&number(2)), &Asked::Nothing)
         && told(load, opened(alloc, 2)) == LoadPhase::Opening { request: number(1) }
         && load.awaits(&number(1))
-        && is_of_load(load.range(), load.generation())
+        && is_of_load(load.range, load.generation)
         && asks(load.give_up(), &Asked::Open)
 }
 
@@ -141,13 +138,13 @@ fn is_fenced(load: &mut RangeLoad, alloc: Global) -> bool {
         && asks(load.confirm(&number(2)), &Asked::Confirm)
         && told(load, refused(2, Refusal::Stale)) == LoadPhase::Fenced
         && told(load, confirmed()) == LoadPhase::Fenced
-        && load.phase() == LoadPhase::Fenced
+        && load.phase == LoadPhase::Fenced
         && !load.is_loaded()
 }
 
 fn has_phase_set(load: &mut RangeLoad) -> bool {
     load.set_phase(LoadPhase::Opened);
-    load.phase() == LoadPhase::Opened
+    load.phase == LoadPhase::Opened
 }
 
 #[test]

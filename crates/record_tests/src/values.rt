@@ -22,7 +22,7 @@ fn size_of_copy(cell: Cell) -> Result<u64, Fail> {
 #[test]
 fn cells_have_their_sizes(rt: HostRuntime) -> Result<(), Fail> {
     let place = Place {
-        extent: ExtentId::new(3),
+        extent: ExtentId(3),
         offset: 4_096,
         length: 5_000,
     };

@@ -1,5 +1,5 @@
 //! What the regions of a log take of its groups.
-ghost use Rattle.std.specs.Prelude.{◌≡◌, ◌+◌, ◌<◌, ◌^◌, ◌++◌, List, Some, None, Err, filter, option_map, IfOk, OnOk};
+ghost use Rattle.std.specs.Prelude.{◌≡◌, ◌+◌, ◌<◌, ◌^◌, ◌++◌, List, Some, None, Err, length, filter, option_map, IfOk, OnOk};
 ghost use Rattle.std.specs.List.{AllByRecursion};
 ghost use Rattle.blocks.specs.declared.fault.BlockFault.TheVariants as faults;
 ghost use Rattle.blocks.specs.Limits.{group_size};
@@ -56,6 +56,13 @@ fn add_cells(
     Ok(())
 }
 
+/// How many transactions a record has.
+fn count_of(written: &LogRecord) -> u64
+    ensures { result ≡ length written.now.transactions }
+{
+    written.transactions.items.len() as u64
+}
+
 /// What a region takes of a record whose group stands at the position: its changes go behind the others, and the region comes
 /// back with its new next number. What an error leaves of the changes is of no use.
 fn take_region(
@@ -83,7 +90,7 @@ fn take_region(
     if region.next < written.first {
         return Err(BlockFault::Damaged);
     }
-    let count = written.transactions.as_slice().len() as u64;
+    let count = count_of(written);
     let old = (region.next - written.first).min(count);
     let cells = cells_from(alloc, written, old as usize, extent, at.offset)?;
     add_cells(changes, cells, keys, &region.keys)?;

@@ -124,7 +124,7 @@ impl FrozenReplica {
     fn fill_fault(&self, from: u32, end: u32, groups: &Groups) -> Option<FillFault>
         ensures { result ≡ fill_fault self.now.content from end groups.now }
     {
-        if groups.as_slice().is_empty() {
+        if groups.items.is_empty() {
             return Some(FillFault::PastEnd);
         }
         if from != self.kept.held.len() {
@@ -134,7 +134,7 @@ impl FrozenReplica {
             return Some(FillFault::ExtentFull);
         }
         match end.checked_sub(from) {
-            Some(sum) if add_up(groups.as_slice(), sum) => None,
+            Some(sum) if add_up(&groups.items, sum) => None,
             _ => Some(FillFault::PastEnd),
         }
     }
@@ -170,7 +170,7 @@ impl FrozenReplica {
             return Err((fault, self, groups));
         }
         let mut frozen = self;
-        match frozen.reserve(groups.as_slice().len()) {
+        match frozen.reserve(groups.items.len()) {
             Ok(()) => Ok(frozen.fill(groups)),
             Err(_refused) => Err((FillFault::Memory, frozen, groups)),
         }

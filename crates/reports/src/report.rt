@@ -131,7 +131,7 @@ impl fmt::Display for Answer {
             Answer::Route {
                 range,
                 server: Some(server),
-            } => write!(f, "route {range} {}", server.number()),
+            } => write!(f, "route {range} {}", server.0),
             Answer::Route {
                 range,
                 server: None,

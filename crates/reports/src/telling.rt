@@ -35,7 +35,7 @@ fn stream_answer(body: &StreamBody) -> Option<(ReqNo, Answer)>
             request,
             extent,
             places: _,
-        } => Some((*request, Answer::Extended(extent.number()))),
+        } => Some((*request, Answer::Extended(extent.0))),
         _ => None,
     }
 }
@@ -51,7 +51,7 @@ fn seal_answer(body: &SealBody) -> Option<(ReqNo, Answer)>
         } => Some((
             *request,
             Answer::Sealed {
-                extent: extent.number(),
+                extent: extent.0,
                 length: *length,
             },
         )),
@@ -87,7 +87,7 @@ fn read_answer(alloc: Global, body: &ReadBody) -> Result<Option<(ReqNo, Answer)>
             request,
             extent: _,
             groups,
-        } => Ok(Some((*request, Answer::Content(size_of(groups.as_slice()))))),
+        } => Ok(Some((*request, Answer::Content(size_of(&groups.items))))),
         _ => Ok(None),
     }
 }
@@ -125,7 +125,7 @@ fn map_answer(body: &MapBody) -> Option<(ReqNo, Answer)>
         } => Some((
             *request,
             Answer::Route {
-                range: range.number(),
+                range: range.0,
                 server: *server,
             },
         )),
@@ -187,8 +187,8 @@ fn report_table(note: &Note) -> Option<Report>
             number,
             changes: _,
         } => Some(Report::Began {
-            range: range.number(),
-            generation: generation.number(),
+            range: range.0,
+            generation: generation.0,
             number: *number,
         }),
         Note::Done {
@@ -196,8 +196,8 @@ fn report_table(note: &Note) -> Option<Report>
             generation,
             number,
         } => Some(Report::Done {
-            range: range.number(),
-            generation: generation.number(),
+            range: range.0,
+            generation: generation.0,
             number: *number,
         }),
         Note::Loaded {
@@ -206,10 +206,10 @@ fn report_table(note: &Note) -> Option<Report>
             rows,
             next,
         } => Some(Report::Loaded {
-            range: range.number(),
-            generation: generation.number(),
+            range: range.0,
+            generation: generation.0,
             next: *next,
-            rows: rows.as_slice().len() as u64,
+            rows: rows.items.len() as u64,
         }),
         _ => None,
     }
@@ -225,12 +225,12 @@ pub fn report_note(note: &Note) -> Option<Report>
             offset,
             group,
         } => Some(Report::Acked {
-            extent: extent.number(),
+            extent: extent.0,
             offset: *offset,
             size: group.size(),
         }),
         Note::SealedAt { extent, length } => Some(Report::SealedAt {
-            extent: extent.number(),
+            extent: extent.0,
             length: *length,
         }),
         Note::Content {
@@ -238,10 +238,10 @@ pub fn report_note(note: &Note) -> Option<Report>
             node,
             groups,
         } => Some(Report::Content {
-            extent: extent.number(),
+            extent: extent.0,
             node: *node,
-            size: size_of(groups.as_slice()),
-            groups: groups.as_slice().len() as u64,
+            size: size_of(&groups.items),
+            groups: groups.items.len() as u64,
         }),
         Note::Seen {
             extent,
@@ -249,7 +249,7 @@ pub fn report_note(note: &Note) -> Option<Report>
             offset,
             bytes,
         } => Some(Report::Seen {
-            extent: extent.number(),
+            extent: extent.0,
             node: *node,
             offset: *offset,
             count: bytes.len() as u64,

@@ -17,7 +17,7 @@ fn stream_of(kind: StreamKind) -> StreamName
     ensures { result ≡ stream_of kind }
 {
     StreamName {
-        range: RangeId::new(0),
+        range: RangeId(0),
         kind,
     }
 }
@@ -60,7 +60,7 @@ fn extent_of(number: Option<u64>) -> Option<ExtentId>
     ensures { result ≡ number }
 {
     match number {
-        Some(number) => Some(ExtentId::new(number)),
+        Some(number) => Some(ExtentId(number)),
         None => None,
     }
 }
@@ -73,7 +73,7 @@ fn create(user: u64, number: ReqNo, kind: StreamKind) -> Event
         user,
         Body::Stream(StreamBody::CreateStream {
             stream: stream_of(kind),
-            fence: Fence::new(0),
+            fence: Fence(0),
             request: number,
         }),
     )
@@ -87,7 +87,7 @@ fn extend(user: u64, number: ReqNo, kind: StreamKind, last: Option<u64>, pick: N
         user,
         Body::Stream(StreamBody::Extend {
             stream: stream_of(kind),
-            generation: Fence::new(0),
+            generation: Fence(0),
             last: extent_of(last),
             pick,
             request: number,
@@ -102,7 +102,7 @@ fn seal(user: u64, number: ReqNo, extent: u64) -> Event
     call(
         user,
         Body::Seal(SealBody::SealExtent {
-            extent: ExtentId::new(extent),
+            extent: ExtentId(extent),
             request: number,
         }),
     )
@@ -116,9 +116,9 @@ fn append(user: u64, number: ReqNo, node: u8, extent: u64, blocks: Vec<Bytes>) -
         user,
         to: ActorId::Node(node),
         body: Body::Append(AppendBody::Append {
-            extent: ExtentId::new(extent),
-            generation: Fence::new(0),
-            blocks: Blocks::of(blocks),
+            extent: ExtentId(extent),
+            generation: Fence(0),
+            blocks: Blocks { items: blocks },
             request: number,
         }),
     }
@@ -132,7 +132,7 @@ fn bytes_at(user: u64, number: ReqNo, node: u8, extent: u64, offset: u32, length
         user,
         node,
         ReadBody::ReadAt {
-            extent: ExtentId::new(extent),
+            extent: ExtentId(extent),
             offset,
             length,
             request: number,
@@ -148,7 +148,7 @@ fn content(user: u64, number: ReqNo, node: u8, extent: u64, upto: u32) -> Event
         user,
         node,
         ReadBody::ReadGroups {
-            extent: ExtentId::new(extent),
+            extent: ExtentId(extent),
             upto,
             sealed: true,
             request: number,
@@ -164,8 +164,8 @@ fn transact(user: u64, number: ReqNo, server: ServerNo, range: u64, changes: Vec
         user,
         server,
         TableBody::Transact {
-            range: RangeId::new(range),
-            changes: Changes::of(changes),
+            range: RangeId(range),
+            changes: Changes { items: changes },
             request: number,
         },
     )
@@ -179,7 +179,7 @@ fn get(user: u64, number: ReqNo, server: ServerNo, range: u64, key: Bytes) -> Ev
         user,
         server,
         TableBody::Get {
-            range: RangeId::new(range),
+            range: RangeId(range),
             key,
             request: number,
         },

@@ -162,7 +162,7 @@ fn decide(words: &[&str]) -> Option<Line>
 {
     let [extent] = numbers::<1>(words)?;
     Some(Line::Happens(Event::Decide {
-        extent: ExtentId::new(extent),
+        extent: ExtentId(extent),
     }))
 }
 
@@ -172,7 +172,7 @@ fn give_up(words: &[&str]) -> Option<Line>
     let [by, range, primary, second, third] = numbers::<5>(words)?;
     Some(Line::Happens(Event::GiveUp {
         server: server(by),
-        range: RangeId::new(range),
+        range: RangeId(range),
         pick: nodes(primary, second, third),
     }))
 }
@@ -182,7 +182,7 @@ fn assign(words: &[&str]) -> Option<Line>
 {
     let [range, to, until] = numbers::<3>(words)?;
     Some(Line::Happens(Event::Assign {
-        range: RangeId::new(range),
+        range: RangeId(range),
         server: server(to),
         until,
     }))
@@ -193,7 +193,7 @@ fn renew(words: &[&str]) -> Option<Line>
 {
     let [range, of, until] = numbers::<3>(words)?;
     Some(Line::Happens(Event::Renew {
-        range: RangeId::new(range),
+        range: RangeId(range),
         server: server(of),
         until,
     }))

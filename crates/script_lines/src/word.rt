@@ -37,7 +37,7 @@ pub fn node(number: u64) -> u8
 pub fn server(number: u64) -> ServerNo
     ensures { result ≡ min number 255 }
 {
-    ServerNo::new(node(number))
+    ServerNo(node(number))
 }
 
 /// No extent has so many bytes, and all numbers above stand for one past every end.
@@ -98,7 +98,7 @@ pub fn actor(word: &str) -> Option<ActorId>
         return Some(ActorId::Node(numbered(digits)?));
     }
     let digits = word.strip_prefix('s')?;
-    Some(ActorId::Server(ServerNo::new(numbered(digits)?)))
+    Some(ActorId::Server(ServerNo(numbered(digits)?)))
 }
 
 /// Actors are numbered from 1, and 255 stands for all greater numbers, which no stamp has.

@@ -51,8 +51,8 @@ fn step(drive: &mut Drive, alloc: Global, event: Event) -> Result<(), Fail> {
 
 fn assignment() -> Event {
     Event::Assign {
-        range: RangeId::new(1),
-        server: ServerNo::new(1),
+        range: RangeId(1),
+        server: ServerNo(1),
         until: 100,
     }
 }
@@ -114,15 +114,15 @@ fn changes_of(alloc: Global, key: u8) -> Result<Changes, Fail> {
     let value = Some(Bytes::copy_from_slice(alloc, &[key])?);
     let mut changes = Vec::new(alloc);
     changes.push(Change { key: name, value })?;
-    Ok(Changes::of(changes))
+    Ok(Changes { items: changes })
 }
 
 fn transaction(changes: Changes, key: u8) -> Event {
     Event::Submit {
         user: 1,
-        to: ActorId::Server(ServerNo::new(1)),
+        to: ActorId::Server(ServerNo(1)),
         body: Body::Table(TableBody::Transact {
-            range: RangeId::new(1),
+            range: RangeId(1),
             changes,
             request: ReqNo::User {
                 user: 1,
@@ -151,7 +151,7 @@ fn is_right(seen: &mut Seen, note: &Note) -> bool {
             changes,
             ..
         } => {
-            if let Some(change) = changes.as_slice().first()
+            if let Some(change) = changes.items.first()
                 && let Some(place) = seen.begun.get_mut((*number).saturating_sub(1) as usize)
                 && let Some(key) = change.key.as_slice().first()
             {
@@ -167,7 +167,7 @@ fn is_right(seen: &mut Seen, note: &Note) -> bool {
             .begun
             .get(..(*next).saturating_sub(1) as usize)
         {
-            Some(begun) => seen.done < *next && are_of(rows.as_slice(), begun),
+            Some(begun) => seen.done < *next && are_of(&rows.items, begun),
             None => false,
         },
         _ => true,
@@ -277,7 +277,7 @@ fn each_load_has_what_was_done(rt: HostRuntime) -> Result<(), Fail> {
     };
     assert!(rt; deliveries(rt.alloc(), &setup)? > 20);
     for actor in [
-        ActorId::Server(ServerNo::new(1)),
+        ActorId::Server(ServerNo(1)),
         ActorId::Node(1),
         ActorId::Node(2),
         ActorId::Node(3),

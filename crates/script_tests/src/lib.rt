@@ -1,5 +1,6 @@
-//! What no clause says of scripts and runs: whole scripts with all that they print, failing readers and writers, and each stop of a
-//! run with transactions. They stand here, so that `scripts` is not proved a second time for its tests.
+//! What no clause says of scripts, of runs and of the program's words: whole scripts with all that they print, failing readers and
+//! writers, each stop of a run with transactions, and words that are read or wrong. They stand here, so that no crate is proved a
+//! second time for its tests.
 #![tactic(auto)]
 
 #[cfg(test)]
@@ -14,3 +15,5 @@ mod scripts_run;
 mod tables;
 #[cfg(test)]
 mod walks;
+#[cfg(test)]
+mod words;

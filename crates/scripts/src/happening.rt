@@ -86,7 +86,7 @@ fn replica_report(node: u8, extent: u64, replica: &Replica) -> Report
 fn look_at(looked: &Node<MemDisk>, node: u8, extent: u64) -> Report
     ensures { result ≡ replica_report node extent (contents (find looked.now.replicas extent)) }
 {
-    match looked.replica(ExtentId::new(extent)) {
+    match looked.replica(ExtentId(extent)) {
         Some(replica) => replica_report(node, extent, replica),
         None => Report::NoReplica { node, extent },
     }

@@ -48,7 +48,7 @@ impl ServerCell {
     {
         ServerCell {
             session: 1,
-            server: Some(RangeServer::start(alloc, ServerNo::new(number), 1, 0, FIRST_PICK, batch)),
+            server: Some(RangeServer::start(alloc, ServerNo(number), 1, 0, FIRST_PICK, batch)),
         }
     }
 
@@ -128,7 +128,7 @@ impl ServerCell {
             self.session = session;
             self.server = Some(RangeServer::start(
                 alloc,
-                ServerNo::new(number),
+                ServerNo(number),
                 session,
                 now,
                 FIRST_PICK,

@@ -104,7 +104,7 @@ impl Servers {
         ensures some { IfSome result (λ at. (server ≡ suc at) × (at < length self.now)) }
         ensures none { IfNone result (entry_at self.now server ≡ None) }
     {
-        let number = usize::from(server.number());
+        let number = usize::from(server.0);
         if number == 0 {
             return None;
         }
@@ -177,7 +177,7 @@ impl Servers {
         ensures { server_starts self.old server now batch ≡ record { servers = self.new; packets = []; notes = [] } }
     {
         if let Some(at) = self.place(server) {
-            start_at(&mut self.cells, at, alloc, server.number(), now, batch);
+            start_at(&mut self.cells, at, alloc, server.0, now, batch);
         }
     }
 

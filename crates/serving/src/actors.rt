@@ -49,10 +49,10 @@ pub(crate) fn generation_of(from: ActorId, generation: Fence) -> u64
     ensures { result ≡ generation_of from generation }
 {
     match from {
-        ActorId::Node(_) => generation.number(),
-        ActorId::Manager => generation.number(),
-        ActorId::Map => generation.number(),
-        ActorId::Server(_) => generation.number(),
+        ActorId::Node(_) => generation.0,
+        ActorId::Manager => generation.0,
+        ActorId::Map => generation.0,
+        ActorId::Server(_) => generation.0,
         ActorId::User(_) => 0,
     }
 }

@@ -35,7 +35,7 @@ fn append_refusal(
     if generation_of(packet.from, fence) < hosted.replica().fence() {
         return Some(Refusal::Stale);
     }
-    let count = blocks.count();
+    let count = blocks.items.len();
     if count == 0 || count > 64 {
         return Some(Refusal::TooManyBlocks);
     }
@@ -45,7 +45,7 @@ fn append_refusal(
     if hosted.replica().len() >= hosted.replica().target() {
         return Some(Refusal::ExtentFull);
     }
-    if hosted.waiting().len() >= 256 {
+    if hosted.waiting.len() >= 256 {
         return Some(Refusal::Busy);
     }
     None

@@ -85,7 +85,7 @@ fn check_refusal(hosted: &Hosted, node: u8, generation: Fence) -> Option<Refusal
     if node != hosted.replica().places().primary {
         return Some(Refusal::NotPrimary);
     }
-    if generation.number() < hosted.replica().fence() {
+    if generation.0 < hosted.replica().fence() {
         return Some(Refusal::Stale);
     }
     None
@@ -106,7 +106,7 @@ pub(crate) fn check<D: Disk>(
     ensures { Rowed D.state hosted.old hosted.new file.old file.new
         (check_row node hosted.old packet.now extent (generation_of packet.now.from generation) request) result }
 {
-    let counted = Fence::new(generation_of(packet.from, generation));
+    let counted = Fence(generation_of(packet.from, generation));
     match check_refusal(hosted, node, counted) {
         Some(refusal) => refuse(alloc, node, packet.from, request, refusal),
         None => check_taken(hosted, file, alloc, node, packet, extent, counted, request),
@@ -160,7 +160,7 @@ fn begin<D: Disk>(
     let step = probes_of(alloc, node, hosted.replica().places(), extent, generation)?;
     match hosted.raise(alloc, file, extent, generation) {
         Ok(()) => {
-            hosted.set_check(Some(begun));
+            hosted.check = Some(begun);
             Ok(step)
         }
         Err(fault) => Err(fault),
@@ -175,7 +175,7 @@ fn probe_refusal(hosted: &Hosted, generation: Fence) -> Option<Refusal>
     if !is_open(hosted.replica().state()) {
         return Some(Refusal::NotOpen);
     }
-    if generation.number() < hosted.replica().fence() {
+    if generation.0 < hosted.replica().fence() {
         return Some(Refusal::Stale);
     }
     None
@@ -272,7 +272,7 @@ pub(crate) fn probed(
 ) -> Result<Step, DiskFault>
     ensures { Told hosted.old hosted.new (probed_row node hosted.old packet.now generation length) result }
 {
-    let Some(check) = hosted.check() else {
+    let Some(check) = hosted.check else {
         return Ok(Step::silent(alloc));
     };
     if check.generation != generation {
@@ -289,15 +289,15 @@ fn settle(hosted: &mut Hosted, alloc: Global, node: u8, check: Checking) -> Resu
     ensures { Told hosted.old hosted.new (settled node hosted.old check check.second check.third) result }
 {
     let Some(second) = check.second else {
-        hosted.set_check(Some(check));
+        hosted.check = Some(check);
         return Ok(Step::silent(alloc));
     };
     let Some(third) = check.third else {
-        hosted.set_check(Some(check));
+        hosted.check = Some(check);
         return Ok(Step::silent(alloc));
     };
     let length = common_length(hosted, second, third);
     let step = tell_checked(alloc, node, check.asker, check.request, length)?;
-    hosted.set_check(None);
+    hosted.check = None;
     Ok(step)
 }

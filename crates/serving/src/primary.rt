@@ -94,8 +94,8 @@ pub(crate) fn have(
             alloc,
             node,
             extent,
-            greater(hosted.second_has(), length),
-            hosted.third_has(),
+            greater(hosted.second_has, length),
+            hosted.third_has,
         );
     }
     if is_node(places.third, packet.from) {
@@ -104,8 +104,8 @@ pub(crate) fn have(
             alloc,
             node,
             extent,
-            hosted.second_has(),
-            greater(hosted.third_has(), length),
+            hosted.second_has,
+            greater(hosted.third_has, length),
         );
     }
     Ok(Step::silent(alloc))
@@ -122,8 +122,8 @@ fn told(
 ) -> Result<Step, DiskFault>
     ensures { Told hosted.old hosted.new (answered node (record hosted.old { second_has = second_has; third_has = third_has }) extent) result }
 {
-    let count = covered(hosted.waiting(), lesser(second_has, third_has));
-    let step = answers_of(alloc, node, extent, hosted.waiting(), count)?;
+    let count = covered(&hosted.waiting, lesser(second_has, third_has));
+    let step = answers_of(alloc, node, extent, &hosted.waiting, count)?;
     hosted.answer(second_has, third_has, count);
     Ok(step)
 }

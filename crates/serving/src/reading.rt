@@ -113,7 +113,7 @@ fn note_of(
     Ok(Note::Content {
         extent,
         node,
-        groups: Groups::copied(alloc, groups.as_slice())?,
+        groups: Groups::copied(alloc, &groups.items)?,
     })
 }
 
@@ -130,7 +130,7 @@ fn text_note(
     ensures note { IfOk result (λ note. note ≡ notes.Seen extent node 0 (text groups.now)) }
     ensures fault { IfErr result (λ e. e ≡ faults.Memory) }
 {
-    let _groups = groups.as_slice();
+    let _groups = &groups.items;
     Ok(Note::Seen {
         extent,
         node,

@@ -17,5 +17,5 @@ pub(crate) fn groups_of(alloc: Global, texts: &[&[u8]]) -> Result<Groups, GroupF
     for text in texts {
         groups.push(group_of(alloc, &[*text])?)?;
     }
-    Ok(Groups::of(groups))
+    Ok(Groups { items: groups })
 }

@@ -63,7 +63,7 @@ const PAIRS: &[[Observation; 2]] = &[
 
 // These calls pass no contract on, so that a test is proved from what it reads alone.
 fn note_of(alloc: Global, extent: u64, seen: Observation) -> Result<Note, GroupFault> {
-    let extent = ExtentId::new(extent);
+    let extent = ExtentId(extent);
     Ok(match seen {
         Acked(offset, words) => Note::Acked {
             extent,
@@ -106,7 +106,7 @@ fn first_broken(
     for (extent, seen) in parts {
         add(&mut notes, alloc, *extent, seen)?;
     }
-    Ok(check(alloc, notes.as_slice()))
+    Ok(check(alloc, &notes.items))
 }
 
 #[test]
@@ -157,7 +157,7 @@ fn first_broken_of_many(alloc: Global, seen: &[Observation]) -> Result<Option<us
     add_to_many(&mut notes, alloc, Acked(0, &[b"ab"]))?;
     add_to_many(&mut notes, alloc, SealedAt(2))?;
     add(&mut notes, alloc, 1, seen)?;
-    Ok(check(alloc, notes.as_slice()))
+    Ok(check(alloc, &notes.items))
 }
 
 #[test]

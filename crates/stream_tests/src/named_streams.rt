@@ -18,11 +18,7 @@ impl SealedLengths for UpTo {
     ghost lengths = { λ s e. if nat_le e s.last then Some 7 else None };
 
     fn length_of(&self, extent: ExtentId) -> Option<u32> {
-        if extent.number() <= self.last {
-            Some(7)
-        } else {
-            None
-        }
+        if extent.0 <= self.last { Some(7) } else { None }
     }
 }
 
@@ -136,13 +132,13 @@ const CASES: &[Case] = &[
 // These calls pass no contract on, so that a test is proved from what it reads alone.
 fn name(range: u64, kind: StreamKind) -> StreamName {
     StreamName {
-        range: RangeId::new(range),
+        range: RangeId(range),
         kind,
     }
 }
 
 fn create(table: &mut StreamTable, range: u64, kind: StreamKind, fence: u64) -> Done {
-    table.create(&name(range, kind), Fence::new(fence))
+    table.create(&name(range, kind), Fence(fence))
 }
 
 fn create_four(table: &mut StreamTable, range: u64, fence: u64) -> bool {
@@ -157,14 +153,14 @@ fn create_four(table: &mut StreamTable, range: u64, fence: u64) -> bool {
 fn extent_of(number: Option<u64>) -> Option<ExtentId> {
     match number {
         None => None,
-        Some(number) => Some(ExtentId::new(number)),
+        Some(number) => Some(ExtentId(number)),
     }
 }
 
 fn number_of(extent: Option<ExtentId>) -> Option<u64> {
     match extent {
         None => None,
-        Some(extent) => Some(extent.number()),
+        Some(extent) => Some(extent.0),
     }
 }
 
@@ -177,10 +173,10 @@ fn extend(
 ) -> End {
     let end = table.extend(
         &name(5, Log),
-        Fence::new(generation),
+        Fence(generation),
         extent_of(last),
         &UpTo { last: sealed },
-        ExtentId::new(extent),
+        ExtentId(extent),
     )?;
     Ok(number_of(end))
 }
@@ -188,7 +184,7 @@ fn extend(
 fn extending(table: &StreamTable, generation: u64, last: Option<u64>) -> End {
     let end = table.extending(
         &name(5, Log),
-        Fence::new(generation),
+        Fence(generation),
         extent_of(last),
         &UpTo { last: 0 },
     )?;
@@ -199,7 +195,7 @@ fn locate(table: &StreamTable, range: u64, index: u64) -> Option<(u64, u32)> {
     let offset = 9;
     match table.locate(&name(range, Log), Position { index, offset }) {
         None => None,
-        Some((extent, offset)) => Some((extent.number(), offset)),
+        Some((extent, offset)) => Some((extent.0, offset)),
     }
 }
 
@@ -207,10 +203,10 @@ fn shown(table: &StreamTable, range: u64, kind: StreamKind) -> Option<Shown> {
     match table.stream(&name(range, kind)) {
         None => None,
         Some(listed) => Some((
-            listed.base(),
-            listed.fence().number(),
+            listed.base,
+            listed.fence.0,
             number_of(listed.last()),
-            listed.extents().len(),
+            listed.extents.len(),
         )),
     }
 }
@@ -223,13 +219,13 @@ impl Subject for StreamTable {
             Creates(range, kind, fence, wanted) => create(self, range, kind, fence) == wanted,
             CreateFour(range, fence) => create_four(self, range, fence),
             Opens(range, generation, wanted) => {
-                self.open(RangeId::new(range), Fence::new(generation)) == wanted
+                self.open(RangeId(range), Fence(generation)) == wanted
             }
             Opening(range, generation, wanted) => {
-                self.opening(RangeId::new(range), Fence::new(generation)) == wanted
+                self.opening(RangeId(range), Fence(generation)) == wanted
             }
             Confirms(range, generation, wanted) => {
-                self.confirm(RangeId::new(range), Fence::new(generation)) == wanted
+                self.confirm(RangeId(range), Fence(generation)) == wanted
             }
             Extends(generation, last, sealed, extent, wanted) => {
                 extend(self, generation, last, sealed, extent) == wanted

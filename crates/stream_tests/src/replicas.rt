@@ -269,7 +269,7 @@ fn filled(
     match taken {
         Ok(sealed) => kept_if(Replica::Sealed(sealed), wanted.is_none()),
         Err((fault, frozen, given)) => {
-            let returned = given.as_slice().len();
+            let returned = given.items.len();
             drop(given);
             kept_if(
                 Replica::Frozen(frozen),
@@ -374,7 +374,7 @@ fn one(alloc: Global, text: &[u8]) -> Result<Groups, GroupFault>
     let _size = group.size();
     let mut groups = Vec::new(alloc);
     groups.push(group)?;
-    Ok(Groups::of(groups))
+    Ok(Groups { items: groups })
 }
 
 fn fill(alloc: Global, kept: &mut Replica, text: &[u8]) -> Result<bool, GroupFault> {
@@ -422,7 +422,7 @@ fn sizes(groups: &[Group]) -> Sizes {
 
 fn has_sizes(found: Result<Option<Groups>, AllocError>, wanted: Sizes) -> bool {
     match found {
-        Ok(Some(groups)) => sizes(groups.as_slice()) == wanted,
+        Ok(Some(groups)) => sizes(&groups.items) == wanted,
         Ok(None) => wanted.is_none(),
         Err(_full) => false,
     }

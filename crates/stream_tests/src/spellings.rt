@@ -230,16 +230,18 @@ fn are_shared(alloc: Global, groups: &mut Groups) -> Result<bool, AllocError> {
     let is_same = other(&block)?.as_slice() == b"abc".as_slice();
     let shared = shared(alloc, &block)?;
     let size = shared.copy(alloc)?.size();
-    groups.push(only(alloc, block)?)?;
-    groups.push(shared)?;
-    Ok(is_same && size == 3 && groups.as_slice().len() == 2)
+    groups.items.push(only(alloc, block)?)?;
+    groups.items.push(shared)?;
+    Ok(is_same && size == 3 && groups.items.len() == 2)
 }
 
 #[test]
 fn payloads_are_shared(rt: HostRuntime) -> Result<(), Fail> {
-    let mut groups = Groups::of(Vec::new(rt.alloc()));
+    let mut groups = Groups {
+        items: Vec::new(rt.alloc()),
+    };
     assert!(rt; are_shared(rt.alloc(), &mut groups)?);
-    assert!(rt; groups.into_vec().len() == 2);
+    assert!(rt; groups.items.len() == 2);
     Ok(())
 }
 

@@ -18,19 +18,19 @@ impl Fences {
     pub(crate) fn are_below(self, generation: Fence) -> bool
         ensures { result ≡ are_below self generation }
     {
-        self.metadata.number() < generation.number()
-            && self.log.number() < generation.number()
-            && self.row_data.number() < generation.number()
-            && self.blob_data.number() < generation.number()
+        self.metadata.0 < generation.0
+            && self.log.0 < generation.0
+            && self.row_data.0 < generation.0
+            && self.blob_data.0 < generation.0
     }
 
     /// Whether a generation is each of them.
     pub(crate) fn are(self, generation: Fence) -> bool
         ensures { result ≡ are_all self generation }
     {
-        self.metadata.number() == generation.number()
-            && self.log.number() == generation.number()
-            && self.row_data.number() == generation.number()
-            && self.blob_data.number() == generation.number()
+        self.metadata.0 == generation.0
+            && self.log.0 == generation.0
+            && self.row_data.0 == generation.0
+            && self.blob_data.0 == generation.0
     }
 }

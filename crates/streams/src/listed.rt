@@ -10,9 +10,12 @@ use wire::{ExtentId, Fence, StreamKind, StreamName};
 /// A stream: the index of its first extent, its fence, and its extents in order.
 pub struct Listed {
     name: StreamName,
-    base: u64,
-    fence: Fence,
-    extents: Vec<ExtentId>,
+    /// The index of its first extent.
+    pub base: u64,
+    /// The generation that it listens to.
+    pub fence: Fence,
+    /// Its extents, in order.
+    pub extents: Vec<ExtentId>,
 }
 
 // Written out, so that a crate above that lets one go has no proof of what is in it.
@@ -44,7 +47,7 @@ impl Model for Listed {
 pub(crate) fn key_of(name: StreamName) -> u128
     ensures { result ≡ key_of name }
 {
-    let range = name.range.number() as u128;
+    let range = name.range.0 as u128;
     match name.kind {
         StreamKind::Metadata => range * 4,
         StreamKind::Log => range * 4 + 1,
@@ -72,27 +75,6 @@ impl Listed {
         ensures { result ≡ key_of self.now.name }
     {
         key_of(self.name)
-    }
-
-    /// The index of its first extent.
-    pub fn base(&self) -> u64
-        ensures { result ≡ self.now.stream.base }
-    {
-        self.base
-    }
-
-    /// The generation that it listens to.
-    pub fn fence(&self) -> Fence
-        ensures { result ≡ self.now.stream.fence }
-    {
-        self.fence
-    }
-
-    /// Its extents, in order.
-    pub fn extents(&self) -> &[ExtentId]
-        ensures { result.now ≡ self.now.stream.extents }
-    {
-        &self.extents
     }
 
     /// Its last extent, if it has one.

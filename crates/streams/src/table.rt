@@ -78,7 +78,7 @@ fn is_number(extent: ExtentId, last: Option<ExtentId>) -> bool
 {
     match last {
         None => false,
-        Some(last) => last.number() == extent.number(),
+        Some(last) => last.0 == extent.0,
     }
 }
 
@@ -140,7 +140,7 @@ impl StreamTable {
     {
         match self.stream(&StreamName { range, kind }) {
             None => None,
-            Some(listed) => Some(listed.fence()),
+            Some(listed) => Some(listed.fence),
         }
     }
 
@@ -232,7 +232,7 @@ impl StreamTable {
         match self.stream(name) {
             None => Err(StreamFault::NoSuchStream),
             Some(listed) => {
-                if generation.number() == listed.fence().number() {
+                if generation.0 == listed.fence.0 {
                     behind(listed.last(), last, sealed)
                 } else {
                     Err(StreamFault::Stale)

@@ -94,7 +94,7 @@ fn fault(
     length: usize,
 ) -> Result<Option<Refusal>, Fail> {
     let changes = puts(alloc, key, length, count)?;
-    Ok(change_fault(changes.as_slice(), &keys()))
+    Ok(change_fault(&changes.items, &keys()))
 }
 
 fn sets_next(queue: &mut Queue, next: u64) -> bool {
@@ -108,7 +108,7 @@ fn sets_next(queue: &mut Queue, next: u64) -> bool {
 /// Whether there was room for a transaction of user 7.
 fn pushes(alloc: Global, queue: &mut Queue, ticket: u64) -> Result<bool, Fail> {
     let changes = puts(alloc, b"a", 5_000, 1)?;
-    if queue.count() >= 1_024 || change_fault(changes.as_slice(), &keys()).is_some() {
+    if queue.count() >= 1_024 || change_fault(&changes.items, &keys()).is_some() {
         return Ok(false);
     }
     queue.push(WaitingTransaction {
@@ -132,11 +132,11 @@ fn begins(alloc: Global, queue: &mut Queue) -> Result<Option<(usize, u32, usize)
     if queue.is_out() {
         return Ok(None);
     }
-    match queue.plan(alloc, &desk(1, 5), RangeId::new(3), Fence::new(2))? {
+    match queue.plan(alloc, &desk(1, 5), RangeId(3), Fence(2))? {
         None => Ok(None),
         Some(plan) => {
             queue.begin(plan.count, plan.size);
-            Ok(Some((plan.count, plan.size, plan.blocks.count())))
+            Ok(Some((plan.count, plan.size, plan.blocks.items.len())))
         }
     }
 }
@@ -162,13 +162,13 @@ fn are_answers(packets: &[Packet], notes: &[TableNote], count: usize, wanted: u6
 }
 
 fn answers(alloc: Global, queue: &Queue, count: usize, last: u64) -> Result<bool, Fail> {
-    let (packets, notes) = queue.acknowledge(alloc, &desk(1, 5), RangeId::new(3), Fence::new(2))?;
-    Ok(are_answers(packets.as_slice(), notes.as_slice(), count, last))
+    let (packets, notes) = queue.acknowledge(alloc, &desk(1, 5), RangeId(3), Fence(2))?;
+    Ok(are_answers(&packets, &notes, count, last))
 }
 
 fn keeps_at(alloc: Global, queue: &Queue, offset: u32) -> Result<bool, Fail> {
     let _size = queue.out_size();
-    let kept = queue.changes(alloc, ExtentId::new(7), 100)?;
+    let kept = queue.changes(alloc, ExtentId(7), 100)?;
     match kept.as_slice() {
         [.., (_, Cell::Placed(place))] => Ok(place.offset == offset),
         _ => Ok(false),

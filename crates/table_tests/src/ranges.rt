@@ -140,7 +140,7 @@ const TICKET: ReqNo = ReqNo::User { user: 7, ticket: 0 };
 
 fn number(count: u64) -> ReqNo {
     ReqNo::Server {
-        server: ServerNo::new(1),
+        server: ServerNo(1),
         session: 1,
         count,
     }
@@ -148,13 +148,7 @@ fn number(count: u64) -> ReqNo {
 
 /// A range under the generation 2 and a lease up to the moment 100, whose streams are asked for under the number 1.
 fn begun(alloc: Global) -> Result<RangeState, Fail> {
-    let (state, packet) = RangeState::assign(
-        alloc,
-        &desk(1, 1),
-        RangeId::new(1),
-        Fence::new(2),
-        100,
-    )?;
+    let (state, packet) = RangeState::assign(alloc, &desk(1, 1), RangeId(1), Fence(2), 100)?;
     drop(packet);
     Ok(state)
 }
@@ -229,13 +223,13 @@ fn refusal_count(state: &RangeState, alloc: Global) -> Result<usize, Fail> {
 }
 
 fn is_empty(state: &RangeState) -> bool {
-    state.phase() == Stage::Serving
-        && state.generation() == Fence::new(2)
-        && state.range() == RangeId::new(1)
-        && state.indexes().is_empty()
-        && state.regions().len() == 1
-        && state.position().index == 0
-        && state.table().live().is_empty()
+    state.content.stage == Stage::Serving
+        && state.content.load.generation == Fence(2)
+        && state.content.load.range == RangeId(1)
+        && state.content.said.indexes.items.is_empty()
+        && state.content.regions.len() == 1
+        && state.position.index == 0
+        && state.content.table.live().is_empty()
 }
 
 impl Tested for RangeState {
@@ -256,7 +250,7 @@ impl Tested for RangeState {
                 Ok(true)
             }
             Step::GivesUp(packets) => Ok(given_up(self, alloc)? == *packets),
-            Step::Next(number) => Ok(self.next_number() == *number),
+            Step::Next(number) => Ok(self.queue.next() == *number),
             Step::Awaits(count) => Ok(self.awaits(&number(*count))),
             Step::Refuses(count) => Ok(refusal_count(self, alloc)? == *count),
             Step::IsEmpty => Ok(is_empty(self)),

@@ -2,7 +2,7 @@
 use blocks::{Group, Groups};
 use bytes::Bytes;
 use cells::{Cell, Place};
-use shown::rows_of;
+use servers::rows_of;
 use std::alloc::Global;
 use std::collections::BTreeMap;
 use std::test::Fail;
@@ -77,7 +77,7 @@ fn cell_of(kept: &Kept) -> Cell {
         Kept::Deleted => Cell::Deleted,
         Kept::Inline(value) => Cell::Inline(Bytes::from_static(value)),
         Kept::Placed => Cell::Placed(Place {
-            extent: ExtentId::new(7),
+            extent: ExtentId(7),
             offset: 2,
             length: 3,
         }),
@@ -94,11 +94,11 @@ fn group(alloc: Global) -> Result<Group, Fail> {
 fn groups(alloc: Global) -> Result<Groups, Fail> {
     let mut groups = Vec::new(alloc);
     groups.push(group(alloc)?)?;
-    Ok(Groups::of(groups))
+    Ok(Groups { items: groups })
 }
 
 fn note_of(alloc: Global, observed: &Observed) -> Result<Note, Fail> {
-    let extent = ExtentId::new(7);
+    let extent = ExtentId(7);
     match observed {
         Observed::Acked(offset) => Ok(Note::Acked {
             extent,
@@ -149,9 +149,9 @@ fn shows(
     value: Option<&[u8]>,
 ) -> Result<bool, Fail> {
     let notes = notes_of(alloc, observed)?;
-    let told = rows(alloc, kept, notes.as_slice());
+    let told = rows(alloc, kept, &notes);
     drop(notes);
-    Ok(has_value(told?.as_slice(), value))
+    Ok(has_value(&told?.items, value))
 }
 
 #[test]

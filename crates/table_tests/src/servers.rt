@@ -19,7 +19,7 @@ pub(crate) fn desk(count: u32, moment: u64) -> Desk
     ensures { result.count ≡ count }
 {
     Desk {
-        server: ServerNo::new(1),
+        server: ServerNo(1),
         session: 1,
         moment,
         pick: PLACES,
@@ -47,5 +47,5 @@ pub(crate) fn puts(
     for _ in 0..count {
         changes.push(put(alloc, key, length)?)?;
     }
-    Ok(Changes::of(changes))
+    Ok(Changes { items: changes })
 }

@@ -11,7 +11,7 @@ use std::marker::Model;
 
 /// Byte strings of any number and size, as an append carries them before they are known to be a group.
 pub struct Blocks {
-    items: Vec<Bytes>,
+    pub items: Vec<Bytes>,
 }
 
 // Written out, so that a crate above that lets one go has no proof of what is in it.
@@ -30,33 +30,12 @@ impl Model for Blocks {
 }
 
 impl Blocks {
-    /// Takes the byte strings as they are.
-    pub fn of(items: Vec<Bytes>) -> Blocks
-        ensures { result ≡ items.items }
-    {
-        Blocks { items }
-    }
-
-    /// The byte strings in order.
-    pub fn as_slice(&self) -> &[Bytes]
-        ensures { result.now ≡ self.now }
-    {
-        &self.items
-    }
-
     /// The group of these blocks, which shares their bytes.
     pub fn group(&self, alloc: Global) -> Result<Group, AllocError>
         requires { IsGroup self.now }
         ensures { IfOk result (λ group. group ≡ self.now) }
     {
         Group::shared(alloc, &self.items)
-    }
-
-    /// How many there are.
-    pub fn count(&self) -> usize
-        ensures { result ≡ length self.now }
-    {
-        self.items.len()
     }
 
     /// Whether some block has no byte, or more than 65,536.

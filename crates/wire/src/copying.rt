@@ -48,7 +48,9 @@ impl Blocks {
     pub fn copy(&self, alloc: Global) -> Result<Blocks, AllocError>
         ensures { IfOk result (λ copy. copy ≡ self.now) }
     {
-        Ok(Blocks::of(copies(alloc, self.as_slice())?))
+        Ok(Blocks {
+            items: copies(alloc, &self.items)?,
+        })
     }
 }
 
@@ -57,6 +59,8 @@ impl Changes {
     pub fn copy(&self, alloc: Global) -> Result<Changes, AllocError>
         ensures { IfOk result (λ copy. copy ≡ self.now) }
     {
-        Ok(Changes::of(changes_of(alloc, self.as_slice())?))
+        Ok(Changes {
+            items: changes_of(alloc, &self.items)?,
+        })
     }
 }

@@ -75,7 +75,7 @@ pub enum Note {
 
 /// Observations in order.
 pub struct Notes {
-    items: Vec<Note>,
+    pub items: Vec<Note>,
 }
 
 // Written out, so that a crate above that lets one go has no proof of what is in it.
@@ -111,13 +111,6 @@ impl Notes {
     {
         self.items.push(added)?;
         Ok(())
-    }
-
-    /// They, in order.
-    pub fn as_slice(&self) -> &[Note]
-        ensures { result.now ≡ self.now }
-    {
-        &self.items
     }
 
     /// Adds these at the end. Without memory nothing has changed.

@@ -17,7 +17,7 @@ pub struct Packet {
 
 /// Packets in the order in which they are sent.
 pub struct Packets {
-    items: Vec<Packet>,
+    pub items: Vec<Packet>,
 }
 
 // Written out, so that a crate above that lets one go has no proof of what is in it.
@@ -53,13 +53,6 @@ impl Packets {
     {
         self.items.push(added)?;
         Ok(())
-    }
-
-    /// They, in order.
-    pub fn as_slice(&self) -> &[Packet]
-        ensures { result.now ≡ self.now }
-    {
-        &self.items
     }
 
     /// Adds these at the end. Without memory nothing has changed.

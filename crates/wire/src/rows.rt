@@ -19,7 +19,7 @@ impl Drop for Row {
 
 /// A table: its rows in order of their keys.
 pub struct Rows {
-    items: Vec<Row>,
+    pub items: Vec<Row>,
 }
 
 // Written out, so that a crate above that lets one go has no proof of what is in it.
@@ -36,20 +36,4 @@ impl Model for Rows {
     ghost Value = { List Row };
 
     ghost view = { λ list. list.items.items };
-}
-
-impl Rows {
-    /// Takes them as they are.
-    pub fn of(items: Vec<Row>) -> Rows
-        ensures { result ≡ items.items }
-    {
-        Rows { items }
-    }
-
-    /// They, in order.
-    pub fn as_slice(&self) -> &[Row]
-        ensures { result.now ≡ self.now }
-    {
-        &self.items
-    }
 }

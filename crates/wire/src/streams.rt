@@ -33,7 +33,7 @@ pub struct StreamExtent {
 
 /// The extents of a stream, in order.
 pub struct StreamExtents {
-    items: Vec<StreamExtent>,
+    pub items: Vec<StreamExtent>,
 }
 
 // Written out, so that a crate above that lets one go has no proof of what is in it.
@@ -50,22 +50,6 @@ impl Model for StreamExtents {
     ghost Value = { List StreamExtent };
 
     ghost view = { λ list. list.items.items };
-}
-
-impl StreamExtents {
-    /// Takes them as they are.
-    pub fn of(items: Vec<StreamExtent>) -> StreamExtents
-        ensures { result ≡ items.items }
-    {
-        StreamExtents { items }
-    }
-
-    /// They, in order.
-    pub fn as_slice(&self) -> &[StreamExtent]
-        ensures { result.now ≡ self.now }
-    {
-        &self.items
-    }
 }
 
 /// A stream: the index of its first extent, and its extents.
@@ -113,7 +97,7 @@ pub struct Source {
 
 /// Streams whose lists are joined, in order.
 pub struct Sources {
-    items: Vec<Source>,
+    pub items: Vec<Source>,
 }
 
 // Written out, so that a crate above that lets one go has no proof of what is in it.
@@ -130,22 +114,6 @@ impl Model for Sources {
     ghost Value = { List Source };
 
     ghost view = { λ list. list.items.items };
-}
-
-impl Sources {
-    /// Takes them as they are.
-    pub fn of(items: Vec<Source>) -> Sources
-        ensures { result ≡ items.items }
-    {
-        Sources { items }
-    }
-
-    /// They, in order.
-    pub fn as_slice(&self) -> &[Source]
-        ensures { result.now ≡ self.now }
-    {
-        &self.items
-    }
 }
 
 /// A stream to be built from the lists of others.
@@ -166,7 +134,7 @@ impl Drop for Modify {
 
 /// Streams to be built, in order.
 pub struct Modifies {
-    items: Vec<Modify>,
+    pub items: Vec<Modify>,
 }
 
 // Written out, so that a crate above that lets one go has no proof of what is in it.
@@ -183,20 +151,4 @@ impl Model for Modifies {
     ghost Value = { List Modify };
 
     ghost view = { λ list. list.items.items };
-}
-
-impl Modifies {
-    /// Takes them as they are.
-    pub fn of(items: Vec<Modify>) -> Modifies
-        ensures { result ≡ items.items }
-    {
-        Modifies { items }
-    }
-
-    /// They, in order.
-    pub fn as_slice(&self) -> &[Modify]
-        ensures { result.now ≡ self.now }
-    {
-        &self.items
-    }
 }

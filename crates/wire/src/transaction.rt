@@ -19,7 +19,7 @@ impl Drop for Change {
 
 /// The changes of one transaction, applied from left to right.
 pub struct Changes {
-    items: Vec<Change>,
+    pub items: Vec<Change>,
 }
 
 // Written out, so that a crate above that lets one go has no proof of what is in it.
@@ -36,20 +36,4 @@ impl Model for Changes {
     ghost Value = { List Change };
 
     ghost view = { λ list. list.items.items };
-}
-
-impl Changes {
-    /// Takes them as they are.
-    pub fn of(items: Vec<Change>) -> Changes
-        ensures { result ≡ items.items }
-    {
-        Changes { items }
-    }
-
-    /// They, in order.
-    pub fn as_slice(&self) -> &[Change]
-        ensures { result.now ≡ self.now }
-    {
-        &self.items
-    }
 }

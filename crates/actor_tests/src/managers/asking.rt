@@ -35,7 +35,7 @@ const USER_REQUEST: ReqNo = ReqNo::User { user: 7, ticket: 0 };
 
 fn server_request() -> ReqNo {
     ReqNo::Server {
-        server: ServerNo::new(2),
+        server: ServerNo(2),
         session: 1,
         count: 1,
     }
@@ -43,7 +43,7 @@ fn server_request() -> ReqNo {
 
 fn row_data(range: u64) -> StreamName {
     StreamName {
-        range: RangeId::new(range),
+        range: RangeId(range),
         kind: StreamKind::RowData,
     }
 }
@@ -51,7 +51,7 @@ fn row_data(range: u64) -> StreamName {
 fn create(range: u64) -> StreamBody {
     StreamBody::CreateStream {
         stream: row_data(range),
-        fence: Fence::new(0),
+        fence: Fence(0),
         request: USER_REQUEST,
     }
 }
@@ -59,8 +59,8 @@ fn create(range: u64) -> StreamBody {
 fn extend(range: u64, generation: u64, last: Option<u64>, third: u8, request: ReqNo) -> StreamBody {
     StreamBody::Extend {
         stream: row_data(range),
-        generation: Fence::new(generation),
-        last: last.map(ExtentId::new),
+        generation: Fence(generation),
+        last: last.map(|number| ExtentId(number)),
         pick: Nodes {
             primary: 1,
             second: 2,
@@ -72,24 +72,24 @@ fn extend(range: u64, generation: u64, last: Option<u64>, third: u8, request: Re
 
 fn open(range: u64, generation: u64) -> StreamBody {
     StreamBody::OpenStreams {
-        range: RangeId::new(range),
-        generation: Fence::new(generation),
+        range: RangeId(range),
+        generation: Fence(generation),
         request: server_request(),
     }
 }
 
 fn confirm(range: u64, generation: u64) -> StreamBody {
     StreamBody::Confirm {
-        range: RangeId::new(range),
-        generation: Fence::new(generation),
+        range: RangeId(range),
+        generation: Fence(generation),
         request: server_request(),
     }
 }
 
 fn trim() -> StreamBody {
     StreamBody::Trim {
-        range: RangeId::new(1),
-        generation: Fence::new(1),
+        range: RangeId(1),
+        generation: Fence(1),
         before: 1,
         to_blob: false,
         request: server_request(),
@@ -98,20 +98,22 @@ fn trim() -> StreamBody {
 
 fn modify(alloc: Global) -> StreamBody {
     StreamBody::MultiModify {
-        list: Modifies::of(Vec::new(alloc)),
+        list: Modifies {
+            items: Vec::new(alloc),
+        },
         request: server_request(),
     }
 }
 
 fn seal_extent(extent: u64) -> SealBody {
     SealBody::SealExtent {
-        extent: ExtentId::new(extent),
+        extent: ExtentId(extent),
         request: USER_REQUEST,
     }
 }
 
 pub fn body_of(alloc: Global, ask: Ask) -> Body {
-    let extent = ExtentId::new(1);
+    let extent = ExtentId(1);
     match ask {
         Ask::Create(range) => Body::Stream(create(range)),
         Ask::Extend(last, third) => Body::Stream(extend(0, 0, last, third, USER_REQUEST)),

@@ -54,9 +54,9 @@ fn append(alloc: Global, extent: u64, generation: u64, words: &[&str]) -> Result
         blocks.push(Bytes::copy_from_slice(alloc, word.as_bytes())?)?;
     }
     Ok(Body::Append(AppendBody::Append {
-        extent: ExtentId::new(extent),
-        generation: Fence::new(generation),
-        blocks: Blocks::of(blocks),
+        extent: ExtentId(extent),
+        generation: Fence(generation),
+        blocks: Blocks { items: blocks },
         request: user_request(0),
     }))
 }
@@ -73,7 +73,7 @@ fn group(alloc: Global, word: &str) -> Result<Group, DiskFault> {
 
 fn put(alloc: Global, offset: u32, word: &str) -> Result<Body, DiskFault> {
     Ok(Body::Append(AppendBody::Put {
-        extent: ExtentId::new(1),
+        extent: ExtentId(1),
         offset,
         group: group(alloc, word)?,
     }))
@@ -83,17 +83,17 @@ fn tail(alloc: Global, from: u32) -> Result<Body, DiskFault> {
     let mut groups = Vec::new(alloc);
     groups.push(group(alloc, "ghi")?)?;
     Ok(Body::Seal(SealBody::Tail {
-        extent: ExtentId::new(1),
+        extent: ExtentId(1),
         from,
         length: 9,
-        groups: Groups::of(groups),
+        groups: Groups { items: groups },
     }))
 }
 
 fn make(fence: u64, target: u32) -> SealBody {
     SealBody::Make {
-        extent: ExtentId::new(1),
-        fence: Fence::new(fence),
+        extent: ExtentId(1),
+        fence: Fence(fence),
         target,
         places: PLACES,
     }
@@ -101,10 +101,10 @@ fn make(fence: u64, target: u32) -> SealBody {
 
 fn check(extent: u64, generation: u64) -> CheckBody {
     CheckBody::Check {
-        extent: ExtentId::new(extent),
-        generation: Fence::new(generation),
+        extent: ExtentId(extent),
+        generation: Fence(generation),
         request: ReqNo::Server {
-            server: ServerNo::new(2),
+            server: ServerNo(2),
             session: 1,
             count: 3,
         },
@@ -113,7 +113,7 @@ fn check(extent: u64, generation: u64) -> CheckBody {
 
 fn read_at(offset: u32, length: u32) -> ReadBody {
     ReadBody::ReadAt {
-        extent: ExtentId::new(1),
+        extent: ExtentId(1),
         offset,
         length,
         request: user_request(1),
@@ -122,7 +122,7 @@ fn read_at(offset: u32, length: u32) -> ReadBody {
 
 fn read_groups(upto: u32, sealed: bool) -> ReadBody {
     ReadBody::ReadGroups {
-        extent: ExtentId::new(1),
+        extent: ExtentId(1),
         upto,
         sealed,
         request: user_request(1),
@@ -131,8 +131,8 @@ fn read_groups(upto: u32, sealed: bool) -> ReadBody {
 
 /// A probe by the primary, or a secondary's answer to it where there is a length.
 fn probe(generation: u64, length: Option<u32>) -> CheckBody {
-    let extent = ExtentId::new(1);
-    let generation = Fence::new(generation);
+    let extent = ExtentId(1);
+    let generation = Fence(generation);
     match length {
         Some(length) => CheckBody::Probed {
             extent,
@@ -144,7 +144,7 @@ fn probe(generation: u64, length: Option<u32>) -> CheckBody {
 }
 
 pub fn body_of(alloc: Global, ask: Ask) -> Result<Body, DiskFault> {
-    let extent = ExtentId::new(1);
+    let extent = ExtentId(1);
     match ask {
         Ask::Append(extent, generation, words) => append(alloc, extent, generation, words),
         Ask::Put(offset, word) => put(alloc, offset, word),
@@ -153,7 +153,7 @@ pub fn body_of(alloc: Global, ask: Ask) -> Result<Body, DiskFault> {
         Ask::ReadGroups(upto, sealed) => Ok(Body::Read(read_groups(upto, sealed))),
         Ask::Make(fence, target) => Ok(Body::Seal(make(fence, target))),
         Ask::Freeze(extent) => Ok(Body::Seal(SealBody::Freeze {
-            extent: ExtentId::new(extent),
+            extent: ExtentId(extent),
         })),
         Ask::Seal(length) => Ok(Body::Seal(SealBody::Seal { extent, length })),
         Ask::SendTail(from) => Ok(Body::Seal(SealBody::SendTail {

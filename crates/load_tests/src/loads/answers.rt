@@ -29,7 +29,9 @@ pub(crate) enum Answer {
 fn no_extent(alloc: Global) -> StreamList {
     StreamList {
         base: 0,
-        extents: StreamExtents::of(Vec::new(alloc)),
+        extents: StreamExtents {
+            items: Vec::new(alloc),
+        },
     }
 }
 
@@ -38,7 +40,7 @@ fn one_extent(alloc: Global, length: Option<u32>) -> Result<StreamList, Fail> {
     extents.push(extent(length))?;
     Ok(StreamList {
         base: 0,
-        extents: StreamExtents::of(extents),
+        extents: StreamExtents { items: extents },
     })
 }
 
@@ -57,8 +59,10 @@ fn opened(alloc: Global, request: ReqNo, metadata: StreamList, log: StreamList) 
 fn read(alloc: Global, request: ReqNo, text: &[u8]) -> Result<Body, Fail> {
     Ok(Body::Read(ReadBody::Groups {
         request,
-        extent: ExtentId::new(7),
-        groups: Groups::of(groups(alloc, text, &[])?),
+        extent: ExtentId(7),
+        groups: Groups {
+            items: groups(alloc, text, &[])?,
+        },
     }))
 }
 

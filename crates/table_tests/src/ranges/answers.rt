@@ -27,20 +27,22 @@ pub(crate) enum Answer {
 fn no_extent(alloc: Global) -> StreamList {
     StreamList {
         base: 0,
-        extents: StreamExtents::of(Vec::new(alloc)),
+        extents: StreamExtents {
+            items: Vec::new(alloc),
+        },
     }
 }
 
 fn one_extent(alloc: Global, length: u32) -> Result<StreamList, Fail> {
     let mut extents = Vec::new(alloc);
     extents.push(StreamExtent {
-        extent: ExtentId::new(7),
+        extent: ExtentId(7),
         places: PLACES,
         length: Some(length),
     })?;
     Ok(StreamList {
         base: 0,
-        extents: StreamExtents::of(extents),
+        extents: StreamExtents { items: extents },
     })
 }
 
@@ -63,7 +65,7 @@ fn groups(alloc: Global, text: &[u8]) -> Result<Groups, Fail> {
     texts.push(text.to_vec(alloc)?)?;
     let mut groups = Vec::new(alloc);
     groups.push(Group::new(alloc, texts)?)?;
-    Ok(Groups::of(groups))
+    Ok(Groups { items: groups })
 }
 
 fn group(request: ReqNo, groups: Groups) -> Body
@@ -71,7 +73,7 @@ fn group(request: ReqNo, groups: Groups) -> Body
 {
     Body::Read(ReadBody::Groups {
         request,
-        extent: ExtentId::new(7),
+        extent: ExtentId(7),
         groups,
     })
 }

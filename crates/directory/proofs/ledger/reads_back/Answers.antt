@@ -13,7 +13,7 @@ returns-in-First c = subst Again (sym c.in-First.is) (first_again c.in-First.nod
 
 pub returns-in-CreateStream : goal.returns-in-CreateStream
 returns-in-CreateStream c =
-    let range : c.in-CreateStream.stream.range < 2 ^ 64 = omega arith in
+    let range : c.in-CreateStream.stream.range < 2 ^ 64 = grind arith in
     let fence : c.in-CreateStream.fence < 2 ^ 64 = omega arith in
     subst Again (sym c.in-CreateStream.is) (create_again c.in-CreateStream.stream c.in-CreateStream.fence range fence)
 
@@ -25,7 +25,7 @@ returns-in-OpenStreams c =
 
 pub returns-in-Extend : goal.returns-in-Extend
 returns-in-Extend c =
-    let range : c.in-Extend.stream.range < 2 ^ 64 = omega arith in
+    let range : c.in-Extend.stream.range < 2 ^ 64 = grind arith in
     let generation : c.in-Extend.generation < 2 ^ 64 = omega arith in
     subst Again (sym c.in-Extend.is) (extend_again c.in-Extend.stream c.in-Extend.generation c.in-Extend.pick range generation (subst CanSpell c.in-Extend.is c.requires))
 

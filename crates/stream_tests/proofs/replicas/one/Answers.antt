@@ -10,4 +10,4 @@ one_group g gs n is size_is bound = rw is (refl, omega (arith, size_is, bound, g
 pub returns : goal.returns
 returns c =
     let group = c.in_ok-group.group in
-    one_group group c.of.result c.size-size.result (c.of.ensures ∙ c.in_ok-push.ensures.items ∙ ap (λ l. l ++ group ∷ []) c.new-groups.ensures.items) c.size-size.ensures.value c.size-size.ensures.bound
+    one_group group c.push.new.self.items c.size-size.result (c.in_ok-push.ensures.items ∙ ap (λ l. l ++ group ∷ []) c.new-groups.ensures.items) c.size-size.ensures.value c.size-size.ensures.bound

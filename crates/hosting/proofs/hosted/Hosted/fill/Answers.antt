@@ -4,4 +4,4 @@ use Rattle.hosting.proofs.hosted.Hosted.fill.Goals as goal
 
 pub returns-in-Ok-clause-file : goal.returns-in-Ok-clause-file
 returns-in-Ok-clause-file g c = fill_written g.D.Disk.state _ _ c.args.extent c.args.from c.args.length c.args.groups.now c.in_ok-added.added c.write_fill.result
-    (c.in_ok-added.ensures ∙ c.as_slice-2.ensures) c.in-Ok.is c.write_fill.ensures
+    (c.in_ok-added.ensures ∙ (c.deref-2.ensures.value ∙ c.groups.view_is)) c.in-Ok.is c.write_fill.ensures

@@ -9,7 +9,7 @@ use Rattle.lookups.proofs.lookups.Lookups.get.Goals as goal
 pub returns-clause-ok : goal.returns-clause-ok
 returns-clause-ok c = λ r sees own.
     let inside = c.self.inside in
-    let reads : c.of.result ≡ [] = c.of.ensures ∙ c.new.ensures.items in
+    let reads : c.new.result.items ≡ [] = c.new.ensures.items in
     let tried = c.in_ok-one.ensures.value r ∙ ap (λ (l : List PlaceRead). try c.args.asking.now.desk.now (seen c.args.asking.now c.self.inside.held r) (record { from = c.args.from; request = c.args.number; key = c.args.key; reads = l })) reads in
     get_taken c.args.asking.now.desk.now r c.args.asking.now (record { gets = inside.gets.items; held = inside.held }) (record { from = c.args.from; request = c.args.number; key = c.args.key; reads = [] }) c.in_ok-one.one c.promote_some.new.held c.push_some.new.items.items c.in_ok-packets.packets.items
     sees (subst (IsOf r) (sym c.self.view_is) own) tried c.in_ok-push_some.ensures.ok c.in_ok-packets.ensures

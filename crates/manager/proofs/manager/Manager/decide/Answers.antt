@@ -17,20 +17,20 @@ use Rattle.manager.proofs.manager.Manager.decide.Goals as goal
 pub invariant_of-self : goal.invariant_of-self
 invariant_of-self g c = λ up.
     stays g.D.Disk.state (plain c.self.inside.table) (plain c.decide_on-done.new.table) _ _ _ c.decide_on-done.result c.decide_on-done.ensures.done c.decide_on-done.ensures.again
-    (decision_follows (plain c.self.inside.table) _ (book_shows (plain c.self.inside.table)) c.number-in-None.result).can (c.self.invariant (sym c.is_stopped.ensures ∙ c.if-is_stopped.false)) up
+    (decision_follows (plain c.self.inside.table) _ (book_shows (plain c.self.inside.table)) c.extent.inside.0).can (c.self.invariant (sym c.is_stopped.ensures ∙ c.if-is_stopped.false)) up
 
 pub returns-in-None-clause-ruled : goal.returns-in-None-clause-ruled
 returns-in-None-clause-ruled g c = rw (← c.self.view_is) (λ up none b shows.
     let was = state_of c.self.inside.table c.self.inside.file in
     let is = state_of c.decide_on-done.new.table c.decide_on-done.new.file in
-    subst (λ (e : ℕ). Ruled g.D.Disk.state was is (decide_row b e (b.extent e)) (as_row c.answer.result)) c.number-in-None.ensures
-    (subst (λ (w : Result Step DiskFault). Ruled g.D.Disk.state was is (decide_row b c.number-in-None.result (b.extent c.number-in-None.result)) w) (sym c.answer.ensures.row)
+    subst (λ (e : ℕ). Ruled g.D.Disk.state was is (decide_row b e (b.extent e)) (as_row c.answer.result)) c.extent.view_is
+    (subst (λ (w : Result Step DiskFault). Ruled g.D.Disk.state was is (decide_row b c.extent.inside.0 (b.extent c.extent.inside.0)) w) (sym c.answer.ensures.row)
     (ruled g.D.Disk.state c.self.inside.table c.decide_on-done.new.table _ _ _ _ c.decide_on-done.result c.decide_on-done.ensures.done c.decide_on-done.ensures.again
-    (decision_follows _ b shows c.number-in-None.result) (c.self.invariant (sym c.is_stopped.ensures ∙ c.if-is_stopped.false)))))
+    (decision_follows _ b shows c.extent.inside.0) (c.self.invariant (sym c.is_stopped.ensures ∙ c.if-is_stopped.false)))))
 
 pub returns-in-None-clause-few : goal.returns-in-None-clause-few
 returns-in-None-clause-few g c =
-    let plan = decide c.self.inside.table.target c.number-in-None.result (entry_at c.self.inside.table.extents c.number-in-None.result) in
+    let plan = decide c.self.inside.table.target c.extent.inside.0 (entry_at c.self.inside.table.extents c.extent.inside.0) in
     row_step (λ (s : Step). AreFew s.packets s.notes) c.answer.result
     (subst (λ (w : Result Step DiskFault). IfOk w (λ s. AreFew s.packets s.notes)) (sym c.answer.ensures.row)
-    (step_few plan c.decide_on-done.result (decision_follows (plain c.self.inside.table) _ (book_shows (plain c.self.inside.table)) c.number-in-None.result).few c.decide_on-done.ensures.done.step))
+    (step_few plan c.decide_on-done.result (decision_follows (plain c.self.inside.table) _ (book_shows (plain c.self.inside.table)) c.extent.inside.0).few c.decide_on-done.ensures.done.step))

@@ -15,8 +15,8 @@ use Rattle.range_core.proofs.state.RangeState.give_up.Goals as goal
 pub returns-clause-ok : goal.returns-clause-ok
 returns-clause-ok c =
     let before : RangeState = the_view c.self.inside in
-    let moved = c.in_ok-reads.ensures.gets before (record { until = refl; live = refl; fixed = refl; log = c.extents.ensures; blob = c.as_slice.ensures; rows = c.as_slice-2.ensures }) in
-    let reads = c.in_ok-reads.ensures.packets before (record { until = refl; live = refl; fixed = refl; log = c.extents.ensures; blob = c.as_slice.ensures; rows = c.as_slice-2.ensures }) in
+    let moved = c.in_ok-reads.ensures.gets before (record { until = refl; live = refl; fixed = refl; log = c.known_extents.ensures; blob = c.extents_of.ensures; rows = c.extents_of-2.ensures }) in
+    let reads = c.in_ok-reads.ensures.packets before (record { until = refl; live = refl; fixed = refl; log = c.known_extents.ensures; blob = c.extents_of.ensures; rows = c.extents_of-2.ensures }) in
     let new : RangeContent = c.give_up-given.new.self in
     let after : RangeState = record before { gets = c.give_up.new.self.gets } in
     let packets = c.gathered-sent.ensures ∙ ap (λ (ps : List Packet). (((ps ++ option_to_list c.give_up-given.result.load) ++ option_to_list c.give_up-given.result.metadata) ++ option_to_list c.give_up-given.result.log) ++ c.in_ok-reads.reads.items) c.in_ok-packets.ensures.items in

@@ -17,8 +17,8 @@ returns-in-Ok-clause-ok c =
     let after : RangeState = record before { log = c.on_answer.new.self } in
     let o : Outcome = record { after = c.on_answer.new.self; packet = c.in-Ok.reaction.packet; news = c.in-Ok.reaction.news } in
     let is : reaction c.args.desk.now before c.args.body.now ≡ o =
-    ap (λ (x : ClientState). reply_row x (request c.args.desk.now) c.args.body.now) (sym c.set_pick.ensures)
-    ∙ ap (λ (q : ReqNo). reply_row c.set_pick.new.self q c.args.body.now) (sym c.next_request.ensures) ∙ c.in-Ok.ensures.ok in
+    ap (λ (x : ClientState). reply_row x (request c.args.desk.now) c.args.body.now) (sym c.replace_pick-pick.ensures.after)
+    ∙ ap (λ (q : ReqNo). reply_row c.replace_pick-pick.new.log q c.args.body.now) (sym c.next_request.ensures) ∙ c.in-Ok.ensures.ok in
     let serving = subst (λ (r : RangeState). is_serving r.stage ≡ true) (sym c.self.view_is) c.requires.serving in
     let quiet = subst (λ (r : RangeState). (is_some r.out && is_end_of r.log.job c.args.body.now) ≡ false) (sym c.self.view_is) c.requires.quiet in
     let packets = c.push_some.ensures.items ∙ ap (λ (l : List Packet). l ++ option_to_list c.in-Ok.reaction.packet) c.in_ok-packets.ensures.items in

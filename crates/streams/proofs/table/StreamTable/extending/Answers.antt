@@ -1,5 +1,5 @@
 use Rattle.std.proofs.Common.{rules}
 use Rattle.streams.proofs.table.StreamTable.extending.Goals as goal
 
-pub returns-then-number : goal.returns-then-number
-returns-then-number g c = search rules
+pub returns-then-generation-listed : goal.returns-then-generation-listed
+returns-then-generation-listed g c = search rules
