@@ -1,6 +1,6 @@
 //! What no clause says: that calls succeed where there is memory, and groups from the push to the answer.
+use crate::asking::{desk, puts};
 use crate::cases::{Case, Tested, holds};
-use crate::servers::{desk, puts};
 use bytes::Bytes;
 use cells::Cell;
 use group_commit::{Queue, change_fault};

@@ -6,6 +6,8 @@
 #![tactic(auto)]
 
 #[cfg(test)]
+mod asking;
+#[cfg(test)]
 mod cases;
 #[cfg(test)]
 mod groups;
@@ -13,5 +15,3 @@ mod groups;
 mod ranges;
 #[cfg(test)]
 mod rows;
-#[cfg(test)]
-mod servers;

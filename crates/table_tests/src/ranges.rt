@@ -1,8 +1,8 @@
 //! What no clause says: that calls succeed where there is memory, and each refusal once.
 mod answers;
 
+use crate::asking::{desk, puts};
 use crate::cases::{Case, Tested, holds};
-use crate::servers::{desk, puts};
 use answers::{Answer, body_of};
 use bytes::Bytes;
 use model_tables::Stage;

@@ -2,7 +2,7 @@
 ghost use Rattle.std.specs.Prelude.{◌≡◌, Some, IfOk};
 ghost use Rattle.model_tables.specs.Answering.{answered_number};
 
-use crate::servers::PLACES;
+use crate::asking::PLACES;
 use blocks::{Group, Groups};
 use std::alloc::Global;
 use std::test::Fail;
