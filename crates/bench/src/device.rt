@@ -1,8 +1,5 @@
 //! Appends to a record file over a file of the system, against plain writes of the same bytes.
-ghost use Rattle.std.specs.Prelude.{IfOk};
-ghost use Rattle.blocks.specs.Record.{Fits};
-ghost use Rattle.blocks.specs.declared.record.Version.{Version};
-
+use crate::checking::group_of;
 use crate::error::Failure;
 use blocks::{Group, Record, Version, encode};
 use disk::{Disk, FileDisk, RecordFile};
@@ -14,22 +11,6 @@ use std::{fs, io};
 
 /// So many times appends and plain writes follow each other.
 const TURNS: u64 = 10;
-
-/// The record of a group of 1 KiB.
-fn record_of(alloc: Global) -> Result<Record, Failure>
-    ensures { IfOk result (λ added. (v : Version) → Fits v added) }
-{
-    let mut texts = Vec::new(alloc);
-    texts.push([b'a'; 1024].to_vec(alloc)?)?;
-    let Ok(group) = Group::new(alloc, texts) else {
-        return Err(Failure::Step);
-    };
-    Ok(Record::Append {
-        extent: 1,
-        offset: 0,
-        group,
-    })
-}
 
 /// A new file of records over a file of the system that is empty.
 fn empty_records<R: AllocGlobal + Files<File = fs::File>>(
@@ -47,9 +28,10 @@ fn empty_records<R: AllocGlobal + Files<File = fs::File>>(
     Ok(file)
 }
 
-/// Appends so many records.
+/// Appends so many records of the group.
 fn append_records(
     alloc: Global,
+    group: &Group,
     count: u64,
     file: &mut RecordFile<FileDisk>,
 ) -> Result<(), Failure> {
@@ -57,16 +39,27 @@ fn append_records(
         if file.is_stopped() {
             return Err(Failure::Step);
         }
-        let added = record_of(alloc)?;
+        let _blocks = group.blocks();
+        let added = Record::Append {
+            extent: 1,
+            offset: 0,
+            group: group.copy(alloc)?,
+        };
         file.append(alloc, &added)?;
     }
     Ok(())
 }
 
 /// The bytes that an append of the record writes.
-fn text_of(alloc: Global) -> Result<Vec<u8>, Failure> {
+fn text_of(alloc: Global, group: &Group) -> Result<Vec<u8>, Failure> {
+    let _blocks = group.blocks();
+    let added = Record::Append {
+        extent: 1,
+        offset: 0,
+        group: group.copy(alloc)?,
+    };
     let mut text = Vec::new(alloc);
-    encode(&record_of(alloc)?, &mut text)?;
+    encode(&added, &mut text)?;
     text.push(1)?;
     Ok(text)
 }
@@ -87,17 +80,18 @@ fn by_turns<R: AllocGlobal + Clock>(
     rt: &R,
     records: &mut RecordFile<FileDisk>,
     plain: &fs::File,
-    text: &[u8],
+    group: &Group,
     turn: u64,
 ) -> Result<(u128, u128), Failure> {
+    let text = text_of(rt.alloc(), group)?;
     let mut appends = 0u128;
     let mut writes = 0u128;
     for done in 0..TURNS {
         let start = Instant::now(rt)?;
-        append_records(rt.alloc(), turn, records)?;
+        append_records(rt.alloc(), group, turn, records)?;
         appends = appends.saturating_add(start.elapsed(rt)?.as_micros());
         let start = Instant::now(rt)?;
-        write_plainly(plain, text, done.wrapping_mul(turn), turn)?;
+        write_plainly(plain, &text, done.wrapping_mul(turn), turn)?;
         writes = writes.saturating_add(start.elapsed(rt)?.as_micros());
     }
     Ok((appends, writes))
@@ -111,10 +105,10 @@ pub fn measure<R: AllocGlobal + Clock + Files<File = fs::File> + Print>(
     path: &str,
 ) -> Result<(), Failure> {
     let mut records = empty_records(rt, path)?;
-    let text = text_of(rt.alloc())?;
+    let group = group_of(rt.alloc())?;
     let plain = fs::create(rt, &format!(in rt.alloc(); "{path}.plain")?)?;
     let turn = count / TURNS;
-    let (appends, writes) = by_turns(rt, &mut records, &plain, text.as_slice(), turn)?;
+    let (appends, writes) = by_turns(rt, &mut records, &plain, &group, turn)?;
     rt.println(format_args!("appends {appends} plain {writes}"))?;
     Ok(())
 }

@@ -1,35 +1,42 @@
 //! What the words of the command line name, and which are wrong.
-use command_words::command;
+use command_words::{Task, command};
+use std::alloc::Global;
 use std::test::Fail;
+
+/// Words, and the file that they name, where they name a task.
+type Case = (&'static [&'static str], Option<Option<&'static str>>);
+
+const CASES: &[Case] = &[
+    (&["stampctl"], Some(None)),
+    (&["stampctl", "run", "a b"], Some(Some("a b"))),
+    (&["stampctl", "run", "--", "-x"], Some(Some("-x"))),
+    (&["stampctl", "run", "c", "--"], Some(Some("c"))),
+    (&["stampctl", "run", "-"], Some(Some("-"))),
+    (&["stampctl", "run"], None),
+    (&["stampctl", "run", "a", "b"], None),
+    (&["stampctl", "storm", "a"], None),
+];
+
+fn owned(alloc: Global, words: &[&str]) -> Result<Vec<String>, Fail> {
+    let mut owned = Vec::new(alloc);
+    for word in words {
+        owned.push(word.to_string(alloc)?)?;
+    }
+    Ok(owned)
+}
+
+fn names(alloc: Global, words: &[String], wanted: Option<Option<&str>>) -> bool {
+    match command(alloc, words) {
+        Ok(Task::Run(file)) => wanted == Some(file),
+        Err(_wrong) => wanted.is_none(),
+    }
+}
 
 #[test]
 fn reads_words(rt: HostRuntime) -> Result<(), Fail> {
-    let cases: [(&[&str], &str); 8] = [
-        (["stampctl"].as_slice(), "Run(None)"),
-        (["stampctl", "run", "a b"].as_slice(), "Run(Some(\"a b\"))"),
-        (
-            ["stampctl", "run", "--", "-x"].as_slice(),
-            "Run(Some(\"-x\"))",
-        ),
-        (
-            ["stampctl", "run", "c", "--"].as_slice(),
-            "Run(Some(\"c\"))",
-        ),
-        (["stampctl", "run", "-"].as_slice(), "Run(Some(\"-\"))"),
-        (["stampctl", "run"].as_slice(), "wrong"),
-        (["stampctl", "run", "a", "b"].as_slice(), "wrong"),
-        (["stampctl", "storm", "a"].as_slice(), "wrong"),
-    ];
-    for (words, want) in cases {
-        let mut owned = Vec::new(rt.alloc());
-        for word in words {
-            owned.push(word.to_string(rt.alloc())?)?;
-        }
-        let shown = match command(rt.alloc(), owned.as_slice()) {
-            Ok(task) => format!(in rt.alloc(); "{task:?}")?,
-            Err(_) => "wrong".to_string(rt.alloc())?,
-        };
-        assert_eq!(rt; shown.as_str(), want, "at {words:?}");
+    for (words, wanted) in CASES {
+        let told = owned(rt.alloc(), *words)?;
+        assert!(rt; names(rt.alloc(), told.as_slice(), *wanted), "{words:?}");
     }
     Ok(())
 }

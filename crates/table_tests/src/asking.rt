@@ -1,4 +1,4 @@
-//! The server that a range is of, and the changes that users ask it for.
+//! The server that a range is of, the numbers of its requests, and what users ask it for.
 ghost use Rattle.std.specs.Prelude.{◌≡◌};
 
 use blocks::Nodes;
@@ -6,7 +6,7 @@ use bytes::Bytes;
 use model_tables::Desk;
 use std::alloc::Global;
 use std::test::Fail;
-use wire::{Change, Changes, ServerNo};
+use wire::{Change, Changes, ExtentId, ReqNo, ServerNo, StreamExtent};
 
 pub(crate) const PLACES: Nodes = Nodes {
     primary: 1,
@@ -25,6 +25,24 @@ pub(crate) fn desk(count: u32, moment: u64) -> Desk
         pick: PLACES,
         batch: 2,
         count: u64::from(count),
+    }
+}
+
+/// A request of the server.
+pub(crate) fn number(count: u64) -> ReqNo {
+    ReqNo::Server {
+        server: ServerNo(1),
+        session: 1,
+        count,
+    }
+}
+
+/// The extent 7, of this length where it is sealed.
+pub(crate) fn extent(length: Option<u32>) -> StreamExtent {
+    StreamExtent {
+        extent: ExtentId(7),
+        places: PLACES,
+        length,
     }
 }
 

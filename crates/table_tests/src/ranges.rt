@@ -1,7 +1,7 @@
 //! What no clause says: that calls succeed where there is memory, and each refusal once.
 mod answers;
 
-use crate::asking::{desk, puts};
+use crate::asking::{desk, number, puts};
 use crate::cases::{Case, Tested, holds};
 use answers::{Answer, body_of};
 use bytes::Bytes;
@@ -9,7 +9,7 @@ use model_tables::Stage;
 use range_core::{RangeState, Taken};
 use std::alloc::Global;
 use std::test::Fail;
-use wire::{ActorId, AppendBody, Body, Fence, RangeId, Refusal, ReqNo, ServerNo};
+use wire::{ActorId, AppendBody, Body, Fence, RangeId, Refusal, ReqNo};
 
 /// What is done with a range, or what is known of it.
 pub(crate) enum Step {
@@ -137,14 +137,6 @@ const CASES: &[Case<Step>] = &[
 const USER: ActorId = ActorId::User(7);
 
 const TICKET: ReqNo = ReqNo::User { user: 7, ticket: 0 };
-
-fn number(count: u64) -> ReqNo {
-    ReqNo::Server {
-        server: ServerNo(1),
-        session: 1,
-        count,
-    }
-}
 
 /// A range under the generation 2 and a lease up to the moment 100, whose streams are asked for under the number 1.
 fn begun(alloc: Global) -> Result<RangeState, Fail> {

@@ -36,22 +36,22 @@ pub(crate) enum Step {
 const CASES: &[Case<Step>] = &[
     (
         "a log is read once",
-        &[
+        &[&[
             Step::Reads(LOG, &[5_000]),
             Step::Next(3),
             Step::Reads(LOG, &[5_000]),
             Step::Next(3),
-        ],
+        ]],
     ),
     (
         "a large value is kept by its place",
-        &[
+        &[&[
             Step::Reads(LOG, &[5_000]),
             Step::IsPlaced(34, 5_000),
             Step::Keys(2),
-        ],
+        ]],
     ),
-    ("a gap is damage", &[Step::Refuses(GAP), Step::Next(1)]),
+    ("a gap is damage", &[&[Step::Refuses(GAP), Step::Next(1)]]),
 ];
 
 /// What a load has read of a log.
@@ -133,9 +133,9 @@ impl Tested for Log {
 
 #[test]
 fn logs_go_as_their_cases_say(rt: HostRuntime) -> Result<(), Fail> {
-    for (name, steps) in CASES {
+    for (name, parts) in CASES {
         let log = begun(rt.alloc())?;
-        assert!(rt; holds(rt.alloc(), log, *steps)?, "{name}");
+        assert!(rt; holds(rt.alloc(), log, *parts)?, "{name}");
     }
     Ok(())
 }

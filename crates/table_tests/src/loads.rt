@@ -1,9 +1,9 @@
 //! What no clause says: that calls succeed where there is memory, and loads followed by hand.
 mod answers;
 
+use crate::asking::{desk, number};
 use crate::cases::{Case, Tested, holds};
 use crate::records::{FIRST, GAP, KEYS};
-use crate::servers::{desk, number};
 use answers::{Answer, body_of};
 use loading::{Progress, RangeContent};
 use model_tables::{Desk, Stage};
@@ -54,66 +54,66 @@ use Step::{Answered, GivesUp, IsAt, Keys, NextRecord};
 const CASES: &[Case<Step>] = &[
     (
         "an empty range is served",
-        &[
+        &[&[
             Answered(Load, 1, 2, Answer::Empty, Confirm),
             Answered(Load, 2, 3, Answer::Confirmed, Serves(1, 0)),
             IsAt(Stage::Serving),
             Answered(Load, 2, 4, Answer::Confirmed, Rests),
-        ],
+        ]],
     ),
     (
         "a sealed log is read",
-        &[
+        &[&[
             Answered(Load, 1, 2, Answer::Log(Some(24)), Request),
             Answered(Log, 2, 3, Answer::Group(FIRST), Confirm),
             Answered(Load, 3, 4, Answer::Confirmed, Serves(2, 24)),
             Keys(1),
-        ],
+        ]],
     ),
     (
         "an open log is checked first",
-        &[
+        &[&[
             Answered(Load, 1, 2, Answer::Log(None), Request),
             IsAt(Stage::Checking {
                 kind: StreamKind::Log,
             }),
             Answered(Log, 2, 3, Answer::Checked(24), Request),
             Answered(Log, 3, 4, Answer::Group(FIRST), Confirm),
-        ],
+        ]],
     ),
     (
         "a gap drops the range",
-        &[
+        &[&[
             Answered(Load, 1, 2, Answer::Log(Some(24)), Request),
             Answered(Log, 2, 3, Answer::Group(GAP), Dropped),
-        ],
+        ]],
     ),
     (
         "the metadata is read before the log",
-        &[
+        &[&[
             Answered(Load, 1, 2, Answer::Metadata(15), Request),
             Answered(Metadata, 1, 3, Answer::Group(KEYS), Silence),
             Answered(Metadata, 2, 4, Answer::Group(KEYS), Confirm),
             NextRecord(2),
-        ],
+        ]],
     ),
     (
         "an old generation drops the range",
-        &[Answered(Load, 1, 2, Answer::Stale, Dropped)],
+        &[&[Answered(Load, 1, 2, Answer::Stale, Dropped)]],
     ),
     (
         "what is not answered is asked for again",
-        &[
+        &[&[
             GivesUp(2, (true, false, false)),
             Answered(Load, 1, 4, Answer::Log(None), Request),
             GivesUp(5, (false, false, true)),
-        ],
+        ]],
     ),
 ];
 
 /// A load under the generation 2, whose first request has the number 1.
 fn begun(alloc: Global) -> Result<RangeContent, Fail> {
-    let (content, packet) = RangeContent::new(alloc, &desk(1), RangeId(5), Fence(2))?;
+    let (content, packet) = RangeContent::new(alloc, &desk(1, 5), RangeId(5), Fence(2))?;
     drop(packet);
     Ok(content)
 }
@@ -141,7 +141,7 @@ fn reply(
 
 fn is_confirm(packet: &Packet, count: u32) -> bool {
     match &packet.body {
-        Body::Stream(StreamBody::Confirm { request, .. }) => *request == number(count),
+        Body::Stream(StreamBody::Confirm { request, .. }) => *request == number(u64::from(count)),
         _ => false,
     }
 }
@@ -183,13 +183,13 @@ fn answered(
     outcome: &Outcome,
 ) -> Result<bool, Fail> {
     let body = body_of(alloc, asked, answer)?;
-    let told = reply(content, alloc, &desk(count), part, &body);
+    let told = reply(content, alloc, &desk(count, 5), part, &body);
     drop(body);
     Ok(comes_to(told?, count, outcome))
 }
 
 fn gives_up(content: &mut RangeContent, count: u32) -> (bool, bool, bool) {
-    let given = content.give_up(&desk(count));
+    let given = content.give_up(&desk(count, 5));
     let asked = (
         given.load.is_some(),
         given.metadata.is_some(),
@@ -217,9 +217,9 @@ impl Tested for RangeContent {
 
 #[test]
 fn loads_go_as_their_cases_say(rt: HostRuntime) -> Result<(), Fail> {
-    for (name, steps) in CASES {
+    for (name, parts) in CASES {
         let content = begun(rt.alloc())?;
-        assert!(rt; holds(rt.alloc(), content, *steps)?, "{name}");
+        assert!(rt; holds(rt.alloc(), content, *parts)?, "{name}");
     }
     Ok(())
 }

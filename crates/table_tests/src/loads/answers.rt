@@ -1,6 +1,6 @@
 //! The answers that a load gets.
+use crate::asking::{extent, number};
 use crate::records::groups;
-use crate::servers::{extent, number};
 use blocks::Groups;
 use std::alloc::Global;
 use std::test::Fail;
@@ -68,7 +68,7 @@ fn read(alloc: Global, request: ReqNo, text: &[u8]) -> Result<Body, Fail> {
 
 /// The body of an answer to the request of this number.
 pub(crate) fn body_of(alloc: Global, asked: u32, answer: &Answer) -> Result<Body, Fail> {
-    let request = number(asked);
+    let request = number(u64::from(asked));
     match answer {
         Answer::Empty => Ok(opened(alloc, request, no_extent(alloc), no_extent(alloc))),
         Answer::Metadata(length) => {

@@ -2,8 +2,8 @@
 ghost use Rattle.std.specs.Prelude.{◌≡◌, ◌+◌, ◌<◌, ◌^◌};
 ghost use Rattle.cells.specs.Cell.{IsCell};
 
+use crate::asking::{desk, extent, number};
 use crate::cases::{Case, Tested, holds};
-use crate::servers::{desk, extent, number};
 use bytes::Bytes;
 use cells::{Cell, Place};
 use lookups::{Asking, Lookups, MAX_GETS, Tried};
@@ -50,45 +50,45 @@ const READS: Step = Step::Does(4, Call::Get(b"b"), 5, Sent::Read(1, 100));
 const CASES: &[Case<Step>] = &[
     (
         "a small value is answered",
-        &[
+        &[&[
             Step::Does(4, Call::Get(b"a"), 4, Sent::Value(1)),
             Step::Waits(0),
-        ],
+        ]],
     ),
     (
         "a large value is read once",
-        &[
+        &[&[
             READS,
             Step::Awaits(4, true),
             Step::Awaits(5, false),
             Step::Does(20, Call::Bytes(4), 20, Sent::Value(5_000)),
             Step::Waits(0),
             Step::Does(4, Call::Get(b"b"), 4, Sent::Value(5_000)),
-        ],
+        ]],
     ),
     (
         "what was not asked for is not held",
-        &[
+        &[&[
             READS,
             Step::Does(20, Call::Bytes(6), 21, Sent::Read(1, 100)),
             Step::Waits(1),
-        ],
+        ]],
     ),
     (
         "the next node is asked",
-        &[
+        &[&[
             READS,
             Step::Does(30, Call::GiveUp, 30, Sent::Read(2, 100)),
             Step::Refuses(1),
-        ],
+        ]],
     ),
     (
         "an ended lease refuses",
-        &[
+        &[&[
             Step::LeaseEnds(5),
             Step::Does(4, Call::Get(b"a"), 4, Sent::Refusal(Refusal::LeaseEnded)),
             Step::Waits(0),
-        ],
+        ]],
     ),
 ];
 
@@ -182,7 +182,14 @@ fn brings(
 {
     let value = Bytes::from_vec(vec![in alloc; b'y'; 5_000]?)?;
     let extent = ExtentId(7);
-    let tried = lookups.bytes(alloc, asking, &number(count), extent, 100, &value);
+    let tried = lookups.bytes(
+        alloc,
+        asking,
+        &number(u64::from(count)),
+        extent,
+        100,
+        &value,
+    );
     drop(value);
     Ok(Some(tried?))
 }
@@ -205,7 +212,7 @@ fn called(
     count: u32,
     call: &Call,
 ) -> Result<Option<Tried>, AllocError> {
-    let desk = desk(count);
+    let desk = desk(count, 5);
     let log = [extent(None)];
     let asking = Asking {
         desk: &desk,
@@ -268,7 +275,7 @@ fn does(
 }
 
 fn refusal_count(alloc: Global, lookups: &Lookups) -> Result<usize, Fail> {
-    Ok(lookups.refusals(alloc, &desk(4))?.len())
+    Ok(lookups.refusals(alloc, &desk(4, 5))?.len())
 }
 
 impl Tested for Getting {
@@ -282,7 +289,9 @@ impl Tested for Getting {
             }
             Step::Does(count, call, next, sent) => does(alloc, self, *count, call, *next, sent),
             Step::Waits(count) => Ok(self.lookups.count() == *count),
-            Step::Awaits(count, awaited) => Ok(self.lookups.awaits(&number(*count)) == *awaited),
+            Step::Awaits(count, awaited) => Ok(
+                self.lookups.awaits(&number(u64::from(*count))) == *awaited,
+            ),
             Step::Refuses(count) => Ok(refusal_count(alloc, &self.lookups)? == *count),
         }
     }
@@ -290,9 +299,9 @@ impl Tested for Getting {
 
 #[test]
 fn gets_go_as_their_cases_say(rt: HostRuntime) -> Result<(), Fail> {
-    for (name, steps) in CASES {
+    for (name, parts) in CASES {
         let getting = begun(rt.alloc())?;
-        assert!(rt; holds(rt.alloc(), getting, *steps)?, "{name}");
+        assert!(rt; holds(rt.alloc(), getting, *parts)?, "{name}");
     }
     Ok(())
 }
