@@ -6,7 +6,7 @@ ghost use Rattle.blocks.specs.Limits.{IsBlock, IsGroup, group_size, group_fault,
 use crate::fault::GroupFault;
 use crate::limits::{MAX_BLOCK, MAX_BLOCKS};
 use bytes::Bytes;
-use std::alloc::{AllocError, AllocFailed, Global};
+use std::alloc::{AllocError, Global};
 use std::marker::Model;
 
 /// The smallest piece that is written or read, from 1 to 65,536 bytes (after Calder et al., SOSP 2011, section 4).

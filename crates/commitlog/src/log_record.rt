@@ -1,5 +1,4 @@
 //! Records of the commit log, as values.
-ghost use Rattle.std.specs.Prelude.{◌≡◌};
 
 use std::marker::Model;
 use wire::Changes;

@@ -1,5 +1,4 @@
 //! What the text of a record has of its changes.
-ghost use Rattle.std.specs.Prelude.{◌≡◌};
 
 use bytes::Bytes;
 use std::marker::Model;

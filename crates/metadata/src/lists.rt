@@ -1,5 +1,4 @@
 //! Lists of indexes and of regions.
-ghost use Rattle.std.specs.Prelude.{◌≡◌};
 
 use crate::record::{IndexRange, Region};
 use std::marker::Model;

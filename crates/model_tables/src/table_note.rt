@@ -1,5 +1,4 @@
 //! What a server shows of its steps.
-ghost use Rattle.std.specs.Prelude.{◌≡◌};
 
 use bytes::Bytes;
 use cells::Cell;

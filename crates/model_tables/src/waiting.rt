@@ -1,5 +1,4 @@
 //! What waits at a server.
-ghost use Rattle.std.specs.Prelude.{◌≡◌};
 
 use bytes::Bytes;
 use cells::Place;

@@ -1,5 +1,4 @@
 //! The rows of a table.
-ghost use Rattle.std.specs.Prelude.{◌≡◌};
 
 use bytes::Bytes;
 use std::marker::Model;

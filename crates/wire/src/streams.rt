@@ -1,5 +1,4 @@
 //! Streams by name, and what the stream manager tells of them.
-ghost use Rattle.std.specs.Prelude.{◌≡◌};
 
 use crate::extent_id::ExtentId;
 use crate::fence::Fence;

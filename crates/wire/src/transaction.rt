@@ -1,5 +1,4 @@
 //! Transactions as a user sends them.
-ghost use Rattle.std.specs.Prelude.{◌≡◌};
 
 use bytes::Bytes;
 use std::marker::Model;
