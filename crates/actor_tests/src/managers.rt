@@ -117,6 +117,10 @@ fn sealed_at(manager: &Manager<MemDisk>, extent: u64) -> Option<Option<u32>> {
     }
 }
 
+fn runs(manager: &Manager<MemDisk>) -> bool {
+    manager.nodes() == 4 && manager.target() == 4096 && !manager.is_stopped()
+}
+
 fn is_told_to_stop(manager: &mut Manager<MemDisk>, keep: bool) -> bool {
     manager.stop_at(3, keep);
     manager.told().is_some()
@@ -139,7 +143,7 @@ fn fits(alloc: Global, manager: &mut Manager<MemDisk>, event: Event) -> bool {
         Event::DecidesAt(length) => decides_at(alloc, manager, length),
         Event::HasExtent(extent, wanted) => sealed_at(manager, extent) == wanted,
         Event::WouldSealAt(wanted) => manager.sealing(ExtentId(1)) == wanted,
-        Event::Runs => !manager.is_stopped(),
+        Event::Runs => runs(manager),
         Event::IsToldToStop(keep) => is_told_to_stop(manager, keep),
         Event::StopsNow => stops_now(manager),
         Event::HasStopped => manager.is_stopped(),

@@ -39,6 +39,7 @@ fn append_records(
         if file.is_stopped() {
             return Err(Failure::Step);
         }
+        // says that the group fits a record
         let _blocks = group.blocks();
         let added = Record::Append {
             extent: 1,
@@ -52,6 +53,7 @@ fn append_records(
 
 /// The bytes that an append of the record writes.
 fn text_of(alloc: Global, group: &Group) -> Result<Vec<u8>, Failure> {
+    // as above
     let _blocks = group.blocks();
     let added = Record::Append {
         extent: 1,

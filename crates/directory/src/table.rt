@@ -74,6 +74,13 @@ impl Table {
         })
     }
 
+    /// How many nodes it knows: those from 1 to this number.
+    pub fn nodes(&self) -> u8
+        ensures { result ≡ self.now.nodes }
+    {
+        self.nodes
+    }
+
     /// The target of each extent that is made, in bytes.
     pub fn target(&self) -> u32
         ensures { result ≡ self.now.target }

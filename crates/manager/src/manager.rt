@@ -248,6 +248,20 @@ impl<D: Disk> Manager<D> {
         }
     }
 
+    /// How many nodes it knows: those from 1 to this number.
+    pub fn nodes(&self) -> u8
+        ensures { result ≡ self.now.nodes }
+    {
+        self.table.nodes()
+    }
+
+    /// The target of each extent that it makes, in bytes.
+    pub fn target(&self) -> u32
+        ensures { result ≡ self.now.target }
+    {
+        self.table.target()
+    }
+
     /// Whether it has stopped. Then it does nothing until it is restarted from its disk.
     pub fn is_stopped(&self) -> bool
         ensures { result ≡ self.now.file.stopped }

@@ -66,7 +66,7 @@ impl Model for RangeState {
     } };
 }
 
-/// The extents that a client knows.
+/// The extents that a client knows. A call, since a struct of several direct borrows is none that the check follows.
 pub(crate) fn known_extents(client: &StreamClient) -> &[StreamExtent]
     ensures { result.now ≡ client.now.extents }
 {

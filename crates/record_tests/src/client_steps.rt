@@ -69,8 +69,6 @@ pub(crate) enum Known {
     Idle,
     /// It is idle, and tells what it was made of.
     AtRest,
-    /// It keeps the nodes that it is given for new extents.
-    Pick,
     /// Whether it awaits the answer of this number.
     Awaits(u64, bool),
     /// Whether groups under this number would bring the content of the extent 1 up to the length 6.
@@ -120,7 +118,6 @@ pub(crate) const CASES: &[Case] = &[
             APPENDS,
             Step::Gets(9, Answer::Appended(1, 7), Outcome::Appended(1, 7)),
             Step::Knows(Known::AtRest),
-            Step::Knows(Known::Pick),
         ],
     },
     Case {

@@ -334,11 +334,6 @@ fn is_at_rest(client: &StreamClient) -> bool {
         && client.last_extent().is_some()
 }
 
-fn picks(client: &mut StreamClient) -> bool {
-    client.pick = PLACES;
-    client.pick == PLACES
-}
-
 /// Whether an answer with groups would bring those of the extent 1 up to the length 6.
 fn brings_content(client: &StreamClient, alloc: Global, count: u64) -> bool {
     let body = groups(alloc, count);
@@ -351,7 +346,6 @@ fn knows(client: &mut StreamClient, alloc: Global, known: &Known) -> bool {
     match known {
         Known::Idle => client.job == Job::Idle,
         Known::AtRest => is_at_rest(client),
-        Known::Pick => picks(client),
         Known::Awaits(count, awaited) => client.awaits(&number(*count)) == *awaited,
         Known::Content(count, brought) => brings_content(client, alloc, *count) == *brought,
         Known::ReadEnded => {
