@@ -1,8 +1,9 @@
 //! Appends to a record file over a file of the system, against plain writes of the same bytes.
 use crate::checking::group_of;
 use crate::error::Failure;
-use blocks::{Group, Record, Version, encode};
+use blocks::{Group, Record, Version};
 use disk::{Disk, FileDisk, RecordFile};
+use formats::encode;
 use std::alloc::Global;
 use std::os::unix::fs::FileExt;
 use std::rt::{Clock, Files};

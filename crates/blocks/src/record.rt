@@ -1,7 +1,6 @@
 //! Records: what an actor keeps of an event, as a value (docs/FORMATS.md).
 ghost use Rattle.std.specs.Prelude.{◌≡◌, ◌↔◌, IsTrue};
-ghost use Rattle.blocks.specs.Limits.{AreNodes};
-ghost use Rattle.blocks.specs.Reading.{are_nodes};
+ghost use Rattle.blocks.specs.Limits.{are_nodes, AreNodes};
 
 use crate::group::{Group, Groups};
 use crate::limits::MAX_NODE;
@@ -21,7 +20,7 @@ pub struct Nodes {
 
 impl Nodes {
     /// Whether these are three different nodes, each from 1 to 12.
-    #[tactic(auto, unfolding(crate::specs::Reading::are_nodes))]
+    #[tactic(auto, unfolding(crate::specs::Limits::are_nodes))]
     pub fn are_distinct_nodes(&self) -> bool
         ensures value { result ≡ are_nodes self.now }
         ensures nodes { IsTrue result ↔ AreNodes self.now }
@@ -47,7 +46,7 @@ pub enum Version {
 /// One entry of a record file (docs/FORMATS.md). Extents, fences and generations are raw numbers of 64 bits; offsets,
 /// lengths and targets count bytes.
 ///
-/// A value may be out of range: `IsInRange` of specs/Record.antt is what a field may hold, and `Fits` what has a spelling.
+/// A value may be out of range: the crate `formats` says what a field may hold (`IsInRange`) and what has a spelling (`Fits`).
 #[derive(Drop)]
 pub enum Record {
     /// Kind 1: the extent is made at this node.

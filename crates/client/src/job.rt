@@ -3,7 +3,7 @@ use blocks::Nodes;
 use wire::{ExtentId, Packet, ReqNo};
 
 /// A place of an extent, in the order in which replicas are read.
-#[derive(Clone, Copy, Debug, PartialEq, Eq)]
+#[derive(Clone, Copy)]
 pub enum Place {
     First,
     Second,
@@ -11,7 +11,7 @@ pub enum Place {
 }
 
 /// What a client waits for. Each request that is out has its number.
-#[derive(Clone, Copy, Debug, PartialEq, Eq)]
+#[derive(Clone, Copy)]
 pub enum Job {
     /// Nothing is out.
     Idle,
@@ -53,7 +53,7 @@ pub enum Job {
 }
 
 /// What an answer brought to an end.
-#[derive(Clone, Copy, Debug, PartialEq, Eq)]
+#[derive(Clone, Copy, PartialEq, Eq)]
 pub enum News {
     /// The group stands at this offset of the extent, in bytes, on all three places.
     Appended { extent: ExtentId, offset: u32 },

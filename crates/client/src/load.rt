@@ -11,7 +11,7 @@ use wire::{
 };
 
 /// How far a load is, beside the reading of its streams.
-#[derive(Clone, Copy, Debug, PartialEq, Eq)]
+#[derive(Clone, Copy, PartialEq, Eq)]
 pub enum LoadPhase {
     /// The streams are asked for.
     Opening { request: ReqNo },

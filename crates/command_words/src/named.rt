@@ -11,7 +11,7 @@ use std::alloc::{AllocError, Global};
 use thiserror::Error as ThisError;
 
 /// What the program is asked to do, with the file that the words name.
-#[derive(Clone, Copy, Debug, PartialEq, Eq)]
+#[derive(Clone, Copy)]
 pub enum Task<'a> {
     /// Runs a script; without a file, the one on standard input.
     Run(Option<&'a str>),

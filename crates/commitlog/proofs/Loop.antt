@@ -3,7 +3,7 @@ use Rattle.std.proofs.Common.{◌≡◌, ℕ, suc, ◌-◌, ◌+◌, ◌<◌, Li
 use Rattle.std.proofs.lemmas.List.{drop_more}
 use Rattle.blocks.specs.declared.fault.BlockFault.{BlockFault}
 use Rattle.blocks.specs.declared.fault.BlockFault.TheVariants as faults
-use Rattle.blocks.specs.Format.{◌>>=◌, Fails}
+use Rattle.formats.specs.Format.{◌>>=◌, Fails}
 use Rattle.commitlog.specs.Reading.{each_of, piece_at, joined}
 
 -- what was read before, and what is still read

@@ -7,8 +7,8 @@ use Rattle.std.proofs.lemmas.List.{length-append, append-nil}
 use Rattle.std.proofs.lemmas.List.Concat.{flat_map-cons, flat_map-append}
 use Rattle.std.proofs.lemmas.List.Sums.{sum_by-cons, sum_by_push, sum_by-append}
 use Rattle.blocks.specs.Limits.{group_size}
-use Rattle.blocks.specs.Record.{number}
-use Rattle.blocks.proofs.Formats.{length-number}
+use Rattle.formats.specs.Record.{number}
+use Rattle.formats.proofs.Formats.{length-number}
 use Rattle.wire.specs.declared.transaction.Change.{Change}
 use Rattle.cells.specs.Limits.{is_large}
 use Rattle.commitlog.specs.declared.log_record.LogRecord.{LogRecord}

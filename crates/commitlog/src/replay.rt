@@ -8,7 +8,7 @@ use std::marker::Model;
 /// Which number of a log comes next. Its value is that number.
 ///
 /// A line is what replay has taken so far, the item of number 1 first, so the next number is one more than its length.
-#[derive(Debug, Drop)]
+#[derive(Drop)]
 pub struct Replay {
     next: u64,
 }

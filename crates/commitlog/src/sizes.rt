@@ -91,7 +91,7 @@ pub(crate) fn text_size(written: &LogRecord) -> u32
 
 /// How full the group of some transactions is. Its value is the bytes of its text and its large values (`filling` of
 /// specs/Sizes.antt), so that it needs no transaction again.
-#[derive(Debug, Drop)]
+#[derive(Drop)]
 pub struct Filling {
     text: u32,
     values: u32,

@@ -1,10 +1,11 @@
 -- The bytes of the manager's records: they are few, and they are read as they were written.
 use Rattle.std.proofs.Common.{◌≡◌, ℕ, ◌^◌, ◌<◌, ◌≤◌, true, List, [], ◌∷◌, ◌++◌, length, Some, refl, ap, ◌∙◌, arith, length-append, append_assoc}
 use Rattle.blocks.specs.declared.record.Nodes.{Nodes}
-use Rattle.blocks.specs.Format.{◌>>=◌, number_at}
-use Rattle.blocks.specs.Reading.{are_nodes, nodes_at}
-use Rattle.blocks.specs.Record.{number, nodes}
-use Rattle.blocks.proofs.Formats.{number8, length-number, within_again, one_again, last8, last4}
+use Rattle.formats.specs.Format.{◌>>=◌, number_at}
+use Rattle.blocks.specs.Limits.{are_nodes}
+use Rattle.formats.specs.Reading.{nodes_at}
+use Rattle.formats.specs.Record.{number, nodes}
+use Rattle.formats.proofs.Formats.{number8, length-number, within_again, one_again, last8, last4}
 use Rattle.wire.specs.declared.streams.StreamKind.{StreamKind}
 use Rattle.wire.specs.declared.streams.StreamKind.TheVariants.{Metadata, Log, RowData, BlobData}
 use Rattle.wire.specs.declared.streams.StreamName.{StreamName}

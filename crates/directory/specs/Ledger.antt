@@ -1,7 +1,6 @@
 -- Records whose bytes are read as they were written.
 use Rattle.std.specs.Prelude.{◌≡◌, ◌≤◌, true}
-use Rattle.blocks.specs.Limits.{IsTarget}
-use Rattle.blocks.specs.Reading.{are_nodes}
+use Rattle.blocks.specs.Limits.{are_nodes, IsTarget}
 use Rattle.model.specs.declared.manager_record.ManagerRecord.{ManagerRecord}
 use Rattle.model.specs.declared.manager_record.ManagerRecord.TheVariants.{First, CreateStream, OpenStreams, Extend, Seal}
 

@@ -1,15 +1,15 @@
 //! The records of the manager, as bytes (docs/FORMATS.md).
 ghost use Rattle.std.specs.Prelude.{◌≡◌, ◌<◌, ◌^◌, ◌∷◌, ◌++◌, [], IfOk, OnOk, Some};
-ghost use Rattle.blocks.specs.Format.{Gives};
-ghost use Rattle.blocks.specs.Reading.{nodes_at};
-ghost use Rattle.blocks.specs.Record.{number, nodes};
+ghost use Rattle.formats.specs.Format.{Gives};
+ghost use Rattle.formats.specs.Reading.{nodes_at};
+ghost use Rattle.formats.specs.Record.{number, nodes};
 ghost use Rattle.model.specs.Ledger.{spelled, stream_name, record_of, kind_number, kind_at, first_at, create_at, open_at, extend_at, seal_at, fields_at};
 ghost use Rattle.directory.specs.Ledger.{CanSpell};
 
-use blocks::reader::{ended, u8_at, u32_at, u64_at};
-use blocks::writer::{put_u8, put_u32, put_u64};
 use blocks::{BlockFault, Nodes};
 use bytes::Bytes;
+use formats::reader::{ended, u8_at, u32_at, u64_at};
+use formats::writer::{put_u8, put_u32, put_u64};
 use model::ManagerRecord;
 use std::alloc::{AllocError, Global};
 use wire::{ExtentId, Fence, RangeId, StreamKind, StreamName};
@@ -173,7 +173,7 @@ fn named(range: u64, kind: StreamKind) -> StreamName
     }
 }
 
-#[tactic(auto, unfolding(blocks::specs::Reading::nodes_at))]
+#[tactic(auto, unfolding(formats::specs::Reading::nodes_at))]
 fn nodes_at(bytes: &[u8]) -> Result<(Nodes, &[u8]), BlockFault>
     ensures { Gives (λ x. (x.0, x.1.now)) result (nodes_at bytes.now) }
 {

@@ -3,7 +3,7 @@ use Rattle.std.proofs.Common.{◌≡◌, inl, inr, ℕ, ◌+◌, ◌-◌, ◌<�
 use Rattle.std.specs.Prelude.{IsErrOf, ◌⊎◌}
 use Rattle.blocks.specs.declared.record.Version.{Version}
 use Rattle.blocks.specs.declared.record.Record.{Record}
-use Rattle.blocks.specs.Record.{spelling, Fits}
+use Rattle.formats.specs.Record.{spelling, Fits}
 use Rattle.disk.specs.declared.device.DiskFault.{DiskFault}
 use Rattle.disk.specs.declared.device.DiskFault.TheVariants.{Failed, Memory}
 use Rattle.disk.specs.Disk.{DiskState, IsUntouched, Writes, Syncs, OnlyNow, CountsNow, SeenIsThere, SyncedIsThere, IsSteady, LeavesOnly}

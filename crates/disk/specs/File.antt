@@ -4,8 +4,8 @@ use Rattle.std.specs.List.{AllByRecursion}
 use Rattle.blocks.specs.declared.record.Version.{Version}
 use Rattle.blocks.specs.declared.record.Version.TheVariants.{V1, V2}
 use Rattle.blocks.specs.declared.record.Record.{Record}
-use Rattle.blocks.specs.Record.{spelling, Fits}
-use Rattle.blocks.specs.Reading.{record_at}
+use Rattle.formats.specs.Record.{spelling, Fits}
+use Rattle.formats.specs.Reading.{record_at}
 use Rattle.disk.specs.Disk.{DiskState, Only}
 
 -- "XRF1", "XRF2"

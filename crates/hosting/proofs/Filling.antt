@@ -3,11 +3,11 @@ use Rattle.std.proofs.Common.{◌≡◌, ◌≤◌, ◌<◌, ◌+◌, ◌*◌, �
 use Rattle.std.specs.List.{AllByRecursion, flat_map, fold}
 use Rattle.std.proofs.lemmas.List.Concat.{flat_map-cons}
 use Rattle.blocks.specs.Limits.{IsBlock, IsGroup, group_size, groups_size}
-use Rattle.blocks.specs.Record.{number, check, block, group, Fits}
+use Rattle.formats.specs.Record.{number, check, block, group, Fits}
 use Rattle.blocks.specs.declared.record.Version.{Version}
 use Rattle.blocks.specs.declared.record.Record.TheVariants as records
-use Rattle.blocks.proofs.Formats.{length-number}
-use Rattle.blocks.proofs.Laws.{length-check}
+use Rattle.formats.proofs.Formats.{length-number}
+use Rattle.formats.proofs.Laws.{length-check}
 use Rattle.replica.specs.Groups.{Group, joined, size, text, text_length}
 use Rattle.replica.proofs.Lengths.{group_size-size}
 use Rattle.hosting.specs.Fill.{IsFill}

@@ -1,7 +1,7 @@
 //! The records of a replica, added to its node's file.
 ghost use Rattle.std.specs.Prelude.{◌≡◌, false};
 ghost use Rattle.blocks.specs.Limits.{IsGroup};
-ghost use Rattle.blocks.specs.Record.{Fits};
+ghost use Rattle.formats.specs.Record.{Fits};
 ghost use Rattle.blocks.specs.declared.record.Record.TheVariants as records;
 ghost use Rattle.disk.specs.Appends.{Appends};
 ghost use Rattle.hosting.specs.Fill.{IsFill};

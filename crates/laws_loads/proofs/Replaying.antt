@@ -4,7 +4,7 @@ use Rattle.std.specs.Prelude.{◌&&◌, filter}
 use Rattle.std.specs.List.{flat_map}
 use Rattle.std.proofs.lemmas.List.{length-append}
 use Rattle.std.proofs.lemmas.Bool.{ltb-true}
-use Rattle.blocks.specs.Format.{◌>>=◌}
+use Rattle.formats.specs.Format.{◌>>=◌}
 use Rattle.blocks.specs.Limits.{group_size}
 use Rattle.streams.specs.declared.table.Position.{Position}
 use Rattle.cells.specs.declared.cell.Cell.{Cell}

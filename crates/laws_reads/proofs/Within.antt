@@ -4,7 +4,7 @@ use Rattle.std.specs.Prelude.{◌&&◌, filter}
 use Rattle.std.specs.List.{flat_map}
 use Rattle.std.specs.BTreeMap.{insert_entry}
 use Rattle.std.specs.declared.cmp.Ordering.TheVariants.{Less, Equal, Greater}
-use Rattle.blocks.specs.Format.{◌>>=◌}
+use Rattle.formats.specs.Format.{◌>>=◌}
 use Rattle.blocks.specs.Limits.{group_size}
 use Rattle.wire.specs.declared.transaction.Change.{Change}
 use Rattle.streams.specs.declared.table.Position.{Position}

@@ -12,7 +12,7 @@ use Rattle.model.specs.declared.event.Event.TheVariants.{Deliver}
 use Rattle.model.specs.Outcome.{packet}
 use Rattle.model.specs.World.{start, Move, run_moves}
 use Rattle.model.specs.World.Move.{Happens, Asks}
-use Rattle.blocks.specs.Reading as tests
+use Rattle.blocks.specs.Limits as tests
 use Rattle.laws_streams.specs.Fences.{Opens, Confirms}
 use Rattle.laws_streams.proofs.Examples.{asked, delivered, begun, append, abc}
 

@@ -15,7 +15,7 @@ use Rattle.replica.specs.Groups.{Group}
 use Rattle.model.specs.declared.event.Event.{Event}
 use Rattle.model.specs.declared.event.Event.TheVariants.{Submit, Deliver}
 use Rattle.model.specs.World.{run, start}
-use Rattle.blocks.specs.Reading as tests
+use Rattle.blocks.specs.Limits as tests
 
 abbrev pub asked : ℕ → ReqNo
 asked ticket = numbers.User 1 ticket

@@ -12,7 +12,7 @@ use Rattle.model.specs.declared.event.Event.{Event}
 use Rattle.model.specs.declared.event.Event.TheVariants.{Submit, Deliver, Stop, Restart, Decide}
 use Rattle.model.specs.Outcome.{packet}
 use Rattle.model.specs.World.{run, start}
-use Rattle.blocks.specs.Reading as tests
+use Rattle.blocks.specs.Limits as tests
 use Rattle.laws_streams.proofs.Examples.{asked, delivered, begun, append, abc, def}
 
 abbrev seal : ℕ → Event

@@ -3,7 +3,7 @@ ghost use Rattle.std.specs.Prelude.{◌≡◌, ◌≤◌, ◌↔◌, IsSome, IfS
 ghost use Rattle.layer.specs.Limits.{IsWithinLimits};
 
 /// How many actors a stamp has, and how large an extent and a group of the log may grow.
-#[derive(Clone, Copy, Debug, PartialEq, Eq)]
+#[derive(Clone, Copy)]
 pub struct Setup {
     pub nodes: u8,
     pub servers: u8,

@@ -3,7 +3,7 @@ use Rattle.std.specs.Prelude.{ℕ, ◌^◌, ◌≤◌, ◌<◌, Bool, List, ◌+
 use Rattle.std.specs.List.{flat_map, AllByRecursion}
 use Rattle.cells.specs.declared.cell.Place.{Place}
 use Rattle.streams.specs.declared.table.Position.{Position}
-use Rattle.blocks.specs.Record.{number}
+use Rattle.formats.specs.Record.{number}
 use Rattle.metadata.specs.declared.record.KeyRange.{KeyRange}
 use Rattle.metadata.specs.declared.record.IndexRange.{IndexRange}
 use Rattle.metadata.specs.declared.record.Region.{Region}

@@ -1,8 +1,9 @@
 -- The records of the stream manager, as bytes.
 use Rattle.std.specs.Prelude.{ℕ, zero, suc, List, [], ◌∷◌, ◌++◌, Option, Some, None}
-use Rattle.blocks.specs.Format.{◌>>=◌, number_at, pair_at, only_at, whole}
-use Rattle.blocks.specs.Reading.{nodes_at, is_within}
-use Rattle.blocks.specs.Record.{number, nodes}
+use Rattle.formats.specs.Format.{◌>>=◌, number_at, pair_at, only_at, whole}
+use Rattle.blocks.specs.Limits.{is_within}
+use Rattle.formats.specs.Reading.{nodes_at}
+use Rattle.formats.specs.Record.{number, nodes}
 use Rattle.wire.specs.declared.streams.StreamKind.{StreamKind}
 use Rattle.wire.specs.declared.streams.StreamKind.TheVariants.{Metadata, Log, RowData, BlobData}
 use Rattle.wire.specs.declared.streams.StreamName.{StreamName}

@@ -3,7 +3,7 @@ use Rattle.std.specs.Prelude.{ℕ, suc, Bool, true, false, not, ◌&&◌, List, 
 use Rattle.blocks.specs.declared.record.Nodes.{Nodes}
 use Rattle.blocks.specs.declared.record.Record.{Record}
 use Rattle.blocks.specs.declared.record.Record.TheVariants.{Manage}
-use Rattle.blocks.specs.Reading.{are_nodes}
+use Rattle.blocks.specs.Limits.{are_nodes}
 use Rattle.wire.specs.declared.actor.ActorId.{ActorId}
 use Rattle.wire.specs.declared.actor.ActorId.TheVariants.{Node, Manager}
 use Rattle.wire.specs.declared.actor.ReqNo.{ReqNo}

@@ -3,7 +3,7 @@ use wire::{ActorId, Fence, ReqNo};
 
 /// The check of an open extent's length: the generation that it raises the fence to, who is to be answered with which
 /// request number, and what the second and the third place have told of their lengths, in bytes.
-#[derive(Clone, Copy, Debug, PartialEq, Eq)]
+#[derive(Clone, Copy)]
 pub struct Checking {
     pub generation: Fence,
     pub asker: ActorId,

@@ -3,7 +3,7 @@ use blocks::Nodes;
 use wire::{ActorId, Fence, ReqNo};
 
 /// What one place of an extent has told the manager since the manager started.
-#[derive(Clone, Copy, Debug, PartialEq, Eq)]
+#[derive(Clone, Copy)]
 pub struct PlaceReport {
     /// The length at which its replica is frozen, in bytes.
     pub frozen: Option<u32>,
@@ -12,14 +12,14 @@ pub struct PlaceReport {
 }
 
 /// Who asked last for the seal of an extent, and with which request number.
-#[derive(Clone, Copy, Debug, PartialEq, Eq)]
+#[derive(Clone, Copy)]
 pub struct Asker {
     pub who: ActorId,
     pub request: ReqNo,
 }
 
 /// An extent at the manager. The reports of its places and the asker are gone after a stop; the rest is in the records.
-#[derive(Clone, Copy, Debug, PartialEq, Eq)]
+#[derive(Clone, Copy)]
 pub struct Extent {
     /// Where its replicas are, the primary first.
     pub places: Nodes,

@@ -1,7 +1,7 @@
 -- The bytes of the map's records: they are few, and they are read as they were written.
 use Rattle.std.proofs.Common.{◌≡◌, ℕ, ◌^◌, ◌<◌, ◌≤◌, ◌∷◌, length, Some, refl, arith, length-append}
-use Rattle.blocks.specs.Record.{number}
-use Rattle.blocks.proofs.Formats.{number8, length-number, one_again, last8}
+use Rattle.formats.specs.Record.{number}
+use Rattle.formats.proofs.Formats.{number8, length-number, one_again, last8}
 use Rattle.model_map.specs.declared.map_record.MapRecord.{MapRecord}
 use Rattle.model_map.specs.declared.map_record.MapRecord.TheVariants.{Assign, Renew}
 use Rattle.model_map.specs.Ledger.{spelled, assign_at, renew_at, fields_at, record_of}

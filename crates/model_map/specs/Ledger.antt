@@ -1,7 +1,7 @@
 -- The records of the map, as bytes.
 use Rattle.std.specs.Prelude.{ℕ, zero, suc, List, [], ◌∷◌, ◌++◌, Option, Some, None, ◌==◌, if◌then◌else◌}
-use Rattle.blocks.specs.Format.{◌>>=◌, number_at, pair_at, whole}
-use Rattle.blocks.specs.Record.{number}
+use Rattle.formats.specs.Format.{◌>>=◌, number_at, pair_at, whole}
+use Rattle.formats.specs.Record.{number}
 use Rattle.model_map.specs.declared.map_record.MapRecord.{MapRecord}
 use Rattle.model_map.specs.declared.map_record.MapRecord.TheVariants.{Assign, Renew}
 

@@ -1,6 +1,6 @@
 -- The load of a range: its streams are opened, its metadata is read and then its log, and its generation is confirmed.
 use Rattle.std.specs.Prelude.{ℕ, suc, ◌+◌, ◌-◌, ◌^◌, Bool, true, false, ◌&&◌, ◌||◌, ◌==◌, nat_lt, List, [], ◌∷◌, length, drop, filter, flat_map, Option, Some, None, option_to_list, is_some, slice_get, if◌then◌else◌}
-use Rattle.blocks.specs.Format.{◌>>=◌}
+use Rattle.formats.specs.Format.{◌>>=◌}
 use Rattle.blocks.specs.Limits.{group_size}
 use Rattle.wire.specs.declared.streams.StreamExtent.{StreamExtent}
 use Rattle.wire.specs.declared.streams.StreamKind.TheVariants as kinds

@@ -3,7 +3,7 @@ use blocks::Nodes;
 use wire::ServerNo;
 
 /// A server, as each of its ranges sees it.
-#[derive(Clone, Copy, Debug, PartialEq, Eq)]
+#[derive(Clone, Copy)]
 pub struct Desk {
     pub server: ServerNo,
     /// Which start of the server this is. No two have one number.

@@ -2,7 +2,7 @@
 use wire::StreamKind;
 
 /// What is under way with a range. A load goes through its stages in this order, the metadata before the log.
-#[derive(Clone, Copy, Debug, PartialEq, Eq)]
+#[derive(Clone, Copy, PartialEq, Eq)]
 pub enum Stage {
     /// The four streams are asked for.
     Opening,

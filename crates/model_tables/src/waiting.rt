@@ -25,7 +25,7 @@ impl Drop for WaitingTransaction {
 }
 
 /// A read of a value that a Get asked for: its number, the place, and the replica that was asked last.
-#[derive(Clone, Copy, Debug, PartialEq, Eq)]
+#[derive(Clone, Copy)]
 pub struct PlaceRead {
     pub request: ReqNo,
     pub place: Place,

@@ -1,13 +1,13 @@
 //! The records of the map, as bytes (docs/FORMATS.md).
 ghost use Rattle.std.specs.Prelude.{◌≡◌, ◌∷◌, ◌++◌, IfOk, OnOk, Some};
-ghost use Rattle.blocks.specs.Format.{Gives};
-ghost use Rattle.blocks.specs.Record.{number};
+ghost use Rattle.formats.specs.Format.{Gives};
+ghost use Rattle.formats.specs.Record.{number};
 ghost use Rattle.model_map.specs.Ledger.{spelled, assign_at, renew_at, fields_at, record_of};
 
 use blocks::BlockFault;
-use blocks::reader::{ended, u8_at, u64_at};
-use blocks::writer::{put_u8, put_u64};
 use bytes::Bytes;
+use formats::reader::{ended, u8_at, u64_at};
+use formats::writer::{put_u8, put_u64};
 use model_map::MapRecord;
 use std::alloc::{AllocError, Global};
 use wire::{RangeId, ServerNo};

@@ -326,7 +326,7 @@ fn comes_to(told: Result<Reaction, ClientFault>, outcome: &Outcome) -> bool {
 
 /// Whether a client with one open extent, which is at rest, tells what it was made of.
 fn is_at_rest(client: &StreamClient) -> bool {
-    client.job == Job::Idle
+    matches!(client.job, Job::Idle)
         && client.base == 5
         && client.generation.0 == 2
         && client.stream == log()
@@ -344,13 +344,13 @@ fn brings_content(client: &StreamClient, alloc: Global, count: u64) -> bool {
 
 fn knows(client: &mut StreamClient, alloc: Global, known: &Known) -> bool {
     match known {
-        Known::Idle => client.job == Job::Idle,
+        Known::Idle => matches!(client.job, Job::Idle),
         Known::AtRest => is_at_rest(client),
         Known::Awaits(count, awaited) => client.awaits(&number(*count)) == *awaited,
         Known::Content(count, brought) => brings_content(client, alloc, *count) == *brought,
         Known::ReadEnded => {
             client.end_read(alloc);
-            client.job == Job::Idle
+            matches!(client.job, Job::Idle)
         }
         Known::Extents(count) => client.extents.len() == *count,
         Known::Checked(length) => client.checked == Some(*length),

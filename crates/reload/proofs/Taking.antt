@@ -4,7 +4,7 @@ use Rattle.std.specs.Prelude.{min, nat_lt, filter, is_some, if◌then◌else◌}
 use Rattle.std.specs.List.{flat_map, AllByRecursion}
 use Rattle.std.proofs.lemmas.Bool.{ltb-true}
 use Rattle.std.proofs.lemmas.List.{length-drop, drop_min}
-use Rattle.blocks.specs.Format.{◌>>=◌}
+use Rattle.formats.specs.Format.{◌>>=◌}
 use Rattle.blocks.specs.Limits.{group_size}
 use Rattle.streams.specs.declared.table.Position.{Position}
 use Rattle.cells.specs.declared.cell.Cell.{Cell}

@@ -1,6 +1,6 @@
 -- What a load takes of a group.
 use Rattle.std.specs.Prelude.{ℕ, Bool, ◌&&◌, List, Option}
-use Rattle.blocks.specs.Format.{◌>>=◌}
+use Rattle.formats.specs.Format.{◌>>=◌}
 use Rattle.streams.specs.declared.table.Position.{Position}
 use Rattle.cells.specs.declared.cell.Cell.{Cell}
 use Rattle.commitlog.specs.Reading.{each_of, record_at}

@@ -31,7 +31,7 @@ pub enum Answer {
 }
 
 /// What a replica does.
-#[derive(Clone, Copy, Debug, PartialEq, Eq)]
+#[derive(Clone, Copy)]
 pub enum Standing {
     Open,
     Frozen,

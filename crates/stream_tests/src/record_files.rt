@@ -1,6 +1,6 @@
 //! Record files on a disk in memory and on a real one.
 ghost use Rattle.std.specs.Prelude.{◌≡◌, false, IfOk};
-ghost use Rattle.blocks.specs.Record.{Fits};
+ghost use Rattle.formats.specs.Record.{Fits};
 ghost use Rattle.disk.specs.Appends.{Appends};
 ghost use Rattle.blocks.specs.declared.record.Version.{Version};
 ghost use Rattle.blocks.specs.declared.record.Version.TheVariants.{V1};

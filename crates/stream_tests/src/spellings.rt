@@ -1,14 +1,12 @@
 //! What no clause says: that calls succeed, and that the spellings are those of docs/FORMATS.md.
-ghost use Rattle.blocks.specs.Record.{Fits};
+ghost use Rattle.formats.specs.Record.{Fits};
 ghost use Rattle.blocks.specs.declared.record.Version.TheVariants.{V1};
 
 use crate::groups::group_of;
-use blocks::reader::{bytes_of, ended, u8_at, u16_at, u32_at, u64_at};
-use blocks::writer::{put_bytes, put_u8, put_u16, put_u32, put_u64};
-use blocks::{
-    Block, BlockFault, Group, GroupFault, Groups, Nodes, Record, Version, decode, decode_as,
-    encode, encode_as,
-};
+use blocks::{Block, BlockFault, Group, GroupFault, Groups, Nodes, Record, Version};
+use formats::reader::{bytes_of, ended, u8_at, u16_at, u32_at, u64_at};
+use formats::writer::{put_bytes, put_u8, put_u16, put_u32, put_u64};
+use formats::{decode, decode_as, encode, encode_as};
 use std::alloc::{AllocError, Global};
 use std::test::Fail;
 

@@ -88,7 +88,7 @@ impl Drop for StreamLists {
 }
 
 /// A stream that another is built from, and the generation that its fence is to have.
-#[derive(Clone, Copy, Debug, PartialEq, Eq)]
+#[derive(Clone, Copy)]
 pub struct Source {
     pub stream: StreamName,
     pub generation: Fence,

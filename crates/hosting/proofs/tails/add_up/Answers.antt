@@ -2,7 +2,7 @@ use Rattle.std.proofs.Common.{◌≡◌, ◌+◌, ◌∷◌, ◌++◌, [], take,
 use Rattle.std.specs.List.{AllByRecursion}
 use Rattle.std.proofs.lemmas.List.{drop_more, take_more}
 use Rattle.blocks.specs.Limits.{IsGroup}
-use Rattle.blocks.proofs.Loop.{All-push}
+use Rattle.formats.proofs.Loop.{All-push}
 use Rattle.replica.specs.Groups.{text_length}
 use Rattle.replica.proofs.Lengths.{group_size-size}
 use Rattle.replica.proofs.Placing.{length-cons, apart}

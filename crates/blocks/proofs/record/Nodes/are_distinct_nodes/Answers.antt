@@ -1,5 +1,5 @@
 use Rattle.std.proofs.Common.{rules}
-use Rattle.blocks.specs.Reading.{are_nodes}
+use Rattle.blocks.specs.Limits.{are_nodes}
 use Rattle.blocks.proofs.record.Nodes.are_distinct_nodes.Goals as goal
 
 pub returns-then-self-2-clause-value : goal.returns-then-self-2-clause-value

@@ -1,0 +1,23 @@
+//! Values as bytes: numbers, byte strings, and the records that an actor keeps (docs/FORMATS.md).
+//!
+//! It stands on `blocks`, which has the records as values, and touches memory alone: no disk, no clock and no runtime. A
+//! call takes the allocator that it may use.
+//!
+//! What the layers above may build on, each a clause here:
+//! - `encode` appends the one spelling of a record, or changes nothing.
+//! - `decode` answers a record and its size exactly where the first bytes are the spelling of that record, and `Damaged`
+//!   only where no front of the bytes is a spelling.
+//! - No spelling begins another (`one_spelling`), in version 1 and in version 2 alike.
+//! - `reader` and `writer` read and write the numbers and byte strings of every other format. Their laws stand in
+//!   proofs/Formats.antt, for the formats of the crates above.
+//!
+//! Want of memory is the one error that no clause limits.
+#![tactic(auto)]
+
+pub mod reader;
+mod reading;
+pub mod writer;
+mod writing;
+
+pub use reading::{decode, decode_as, one_spelling};
+pub use writing::{encode, encode_as};
