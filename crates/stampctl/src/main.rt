@@ -1,21 +1,20 @@
 //! `stampctl`: runs a script of events on one stamp and prints what is observed.
 //!
 //! The program reads its words, one file or the standard input, and writes lines to the standard output and texts about
-//! wrong words to the standard error; it touches nothing else. What the words name is told by `command_words`, a script is
-//! run by `scripts`, and how it ended is told by `ending`. Status 0 is a script that ran to its end, 1 a refusal, told by
-//! the line `refused N Name`, and 2 wrong words.
+//! wrong words to the standard error; it touches nothing else. What the words name is told by `command_words`, and a script is
+//! run by `scripts`. Status 0 is a script that ran to its end, 1 a refusal, told by the line `refused N Name`, and 2 wrong
+//! words.
 #![tactic(auto)]
 
-ghost use Rattle.std.specs.Prelude.{◌≡◌, ◌≢◌, ◌<◌};
+ghost use Rattle.std.specs.Prelude.{◌≡◌, ◌≢◌, ◌<◌, IfErr};
 ghost use Rattle.std.specs.Process.{exit_status};
 ghost use Rattle.clap.specs.Words.{kind_of};
 ghost use Rattle.clap.specs.declared.error.kind.ErrorKind.TheVariants.{DisplayHelp, DisplayVersion};
 
 use command_words::{CommandError, Task, command};
-use ending::end;
 use scripts::{Failure, script};
 use std::alloc::Global;
-use std::io::{self, ErrorKind, Print, Read};
+use std::io::{self, ErrorKind, Print, Read, Write};
 use std::process::ExitCode;
 use std::rt::{Env, Files};
 use std::{env, fs};
@@ -33,6 +32,14 @@ fn words<R: AllocGlobal + Env>(rt: &R, alloc: Global) -> Result<Vec<String>, NoW
         Err(error) if error.kind() == ErrorKind::OutOfMemory => Err(NoWords::Memory),
         Err(_) => Err(NoWords::NoText),
     }
+}
+
+/// Tells why a task ended early, where there is no buffered writer to tell it.
+fn refused<R: Print>(rt: &R, refusal: Refusal) -> ExitCode
+    ensures { exit_status result ≡ 1 }
+{
+    let _ = rt.println(format_args!("refused {refusal}"));
+    ExitCode::FAILURE
 }
 
 /// Tells the help that was asked for, or how the words are wrong.
@@ -61,11 +68,23 @@ fn text_of<R: Files + Input>(
     Ok(text)
 }
 
-/// Why a script ended early. One that could write no more ended for want of memory.
-fn refusal_of(failure: Failure) -> Refusal {
-    match failure {
-        Failure::Refused(refusal) => refusal,
-        Failure::Output(_) => Refusal::Memory,
+/// Prints what a script wrote, and how it ended. A script that could write no more ended for want of memory.
+fn finish<R: Print>(rt: &R, ended: Result<(), Failure>, written: &[u8]) -> ExitCode
+    ensures refused { IfErr ended (λ _. exit_status result ≡ 1) }
+    ensures told { exit_status result < 2 }
+{
+    let mut writer = io::writer(rt);
+    if writer
+        .write_all(written)
+        .and_then(|()| writer.flush())
+        .is_err()
+    {
+        return ExitCode::FAILURE;
+    }
+    match ended {
+        Ok(()) => ExitCode::SUCCESS,
+        Err(Failure::Refused(refusal)) => refused(rt, refusal),
+        Err(Failure::Output(_)) => refused(rt, Refusal::Memory),
     }
 }
 
@@ -78,13 +97,13 @@ fn run<R: Files + Input + Print>(rt: &R, alloc: Global, path: Option<&str>) -> E
         Ok(text) => script(alloc, text.as_slice(), &mut written),
         Err(error) => Err(Failure::of_input(&error)),
     };
-    end(rt, &written, ended.map_err(refusal_of))
+    finish(rt, ended, &written)
 }
 
 fn main(rt: HostRuntime) -> ExitCode {
     let words = match words(&rt, rt.alloc()) {
         Ok(words) => words,
-        Err(NoWords::Memory) => return end(&rt, &[], Err(Refusal::Memory)),
+        Err(NoWords::Memory) => return refused(&rt, Refusal::Memory),
         Err(NoWords::NoText) => {
             let _ = rt.eprintln("error: the arguments are no text");
             return ExitCode::from(2);
@@ -92,7 +111,7 @@ fn main(rt: HostRuntime) -> ExitCode {
     };
     match command(rt.alloc(), words.as_slice()) {
         Ok(Task::Run(path)) => run(&rt, rt.alloc(), path),
-        Err(CommandError::Memory) => end(&rt, &[], Err(Refusal::Memory)),
+        Err(CommandError::Memory) => refused(&rt, Refusal::Memory),
         Err(CommandError::WrongWords(error)) => tell(&rt, &error),
     }
 }

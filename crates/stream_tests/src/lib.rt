@@ -1,6 +1,6 @@
 //! What no clause says of the parts of the stream layer: that calls succeed where there is memory, and that spellings are those of
-//! docs/FORMATS.md. The tests of `blocks`, `formats`, `disk`, `wire`, `replica`, `streams` and `checker` stand here, so that none of these
-//! is proved a second time for its tests.
+//! docs/FORMATS.md. The tests of `blocks`, `formats`, `disk`, `wire`, `replica`, `streams` and `checker` stand here, so that none
+//! of these is proved a second time for its tests.
 //!
 //! A case is a list of events in their order, each with what is wanted of it. Cases are tables, so that a test costs the proof no
 //! more than the few functions that run them.
