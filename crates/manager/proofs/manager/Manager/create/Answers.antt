@@ -14,3 +14,6 @@ returns-in_default-clause-failed g c = search rules
 
 pub returns-in_default-clause-steady : goal.returns-in_default-clause-steady
 returns-in_default-clause-steady g c = search rules
+
+pub returns-in-Ok-format-clause-version : goal.returns-in-Ok-format-clause-version
+returns-in-Ok-format-clause-version g c = search rules
