@@ -75,7 +75,7 @@ fn restarted(alloc: Global, disk: MemDisk) -> Option<Manager<MemDisk>> {
 }
 
 fn copied(alloc: Global, manager: Manager<MemDisk>) -> Option<Manager<MemDisk>> {
-    match manager.copy_disk(alloc) {
+    match manager.file().copy_disk(alloc) {
         Ok(disk) => restarted(alloc, disk),
         Err(_fault) => None,
     }
@@ -123,7 +123,7 @@ fn runs(manager: &Manager<MemDisk>) -> bool {
 
 fn is_told_to_stop(manager: &mut Manager<MemDisk>, keep: bool) -> bool {
     manager.stop_at(3, keep);
-    manager.told().is_some()
+    manager.file().told().is_some()
 }
 
 fn stops_now(manager: &mut Manager<MemDisk>) -> bool {
@@ -147,7 +147,7 @@ fn fits(alloc: Global, manager: &mut Manager<MemDisk>, event: Event) -> bool {
         Event::IsToldToStop(keep) => is_told_to_stop(manager, keep),
         Event::StopsNow => stops_now(manager),
         Event::HasStopped => manager.is_stopped(),
-        Event::IsToldNothing => manager.told().is_none(),
+        Event::IsToldNothing => manager.file().told().is_none(),
         Event::Restarts | Event::IsCopied => false,
     }
 }

@@ -53,7 +53,7 @@ fn restarted(alloc: Global, map: Held) -> Result<Held, Fail> {
 }
 
 fn copied(alloc: Global, map: &Held) -> Result<Held, Fail> {
-    started(alloc, map.copy_disk(alloc)?)
+    started(alloc, map.file().copy_disk(alloc)?)
 }
 
 /// What a server is told: to whom it goes, the generation, and the end of the lease.
@@ -134,7 +134,7 @@ fn route(map: &Held, key: &[u8]) -> (u64, Option<ServerNo>) {
 
 fn stop_in_record(map: &mut Held, keep: bool) -> bool {
     map.stop_at(3, keep);
-    map.told().is_some()
+    map.file().told().is_some()
 }
 
 fn stop(map: &mut Held) {
@@ -254,7 +254,7 @@ fn stops_inside_a_record(rt: HostRuntime) -> Result<(), Fail> {
         let mut map = first(alloc)?;
         assert!(rt; stop_in_record(&mut map, keep));
         assert!(rt; assign_counts(alloc, &mut map) == Err(MapFault::DiskFailed));
-        assert!(rt; map.is_stopped() && map.told().is_none());
+        assert!(rt; map.is_stopped() && map.file().told().is_none());
         assert!(rt; assign_counts(alloc, &mut map) == Ok((0, 0)));
         assert!(rt; only(&map) == Some((1, 0, None, 0)));
         let map = restarted(alloc, map)?;

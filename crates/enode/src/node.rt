@@ -2,7 +2,7 @@
 ghost use Rattle.std.specs.Prelude.{◌≡◌, ◌≢◌, ◌<◌, ℕ, List, [], Some, None, false, true, IfOk, IfErr, MatchResult, option_map};
 ghost use Rattle.blocks.specs.declared.record.Record.{Record};
 ghost use Rattle.blocks.specs.declared.record.Version.{Version};
-ghost use Rattle.disk.specs.Disk.{IsSame, IsSteady, LeavesOnly, Only};
+ghost use Rattle.disk.specs.Disk.{IsSame, IsSteady, LeavesOnly};
 ghost use Rattle.disk.specs.File.{IsFileOf};
 ghost use Rattle.disk.specs.Memory.{memory_state};
 ghost use Rattle.replica.specs.State.{content_of};
@@ -17,7 +17,7 @@ use crate::rows::take;
 use disk::{Disk, DiskFault, FileFault, MemDisk, RecordFile};
 use hosting::Hosted;
 use replica::Replica;
-use std::alloc::{AllocError, Global};
+use std::alloc::Global;
 use std::collections::BTreeMap;
 use std::marker::Model;
 use wire::{ExtentId, Packet, Step};
@@ -165,6 +165,13 @@ impl<D: Disk> Node<D> {
         self.file.is_stopped()
     }
 
+    /// The file of its records: what its disk was told, and a copy of that.
+    pub fn file(&self) -> &RecordFile<D>
+        ensures { result.now ≡ self.now.file }
+    {
+        &self.file
+    }
+
     /// Its disk, whether it has stopped or not.
     pub fn into_disk(self) -> D
         ensures disk { result ≡ self.file.disk }
@@ -190,16 +197,6 @@ impl Node<MemDisk> {
         ensures disk { self.new.file.disk ≡ record self.old.file.disk { stop = Some (record { calls = calls; keep = keep }) } }
     {
         self.file.stop_at(calls, keep);
-    }
-
-    /// Another disk, as a restart finds it: with its records, all made sure of, and not told to stop. An error is want
-    /// of memory (22).
-    pub fn copy_disk(&self, alloc: Global) -> Result<MemDisk, AllocError>
-        ensures stands { IfOk result (λ disk. IsFileOf self.now.file.version self.now.file.records (memory_state disk).seen) }
-        ensures durable { IfOk result (λ disk. Only (memory_state disk).seen (memory_state disk).may_leave) }
-        ensures steady { IfOk result (λ disk. IsSteady (memory_state disk)) }
-    {
-        self.file.copy_disk(alloc)
     }
 
     /// It stops, and its disk is not told to stop any more. Its replicas, its records and all else stay.

@@ -124,7 +124,7 @@ fn decide(
     if manager.is_stopped() {
         return Ok(taken(Step::silent(alloc)));
     }
-    let stands = stands(manager.told());
+    let stands = stands(manager.file().told());
     let notes = match shown(alloc, extent, manager.sealing(extent), stands) {
         Ok(notes) => notes,
         Err(_full) => return Err(WorldFault::Memory),
@@ -160,7 +160,7 @@ fn restart(manager: &mut Manager<MemDisk>, alloc: Global) -> Result<(), WorldFau
     if !manager.is_stopped() {
         return Ok(());
     }
-    let disk = match manager.copy_disk(alloc) {
+    let disk = match manager.file().copy_disk(alloc) {
         Ok(disk) => disk,
         Err(_full) => return Err(WorldFault::Memory),
     };

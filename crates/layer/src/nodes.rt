@@ -99,7 +99,7 @@ fn restart_node(node: &mut Node<MemDisk>, alloc: Global) -> Result<(), WorldFaul
     if !node.is_stopped() {
         return Ok(());
     }
-    let disk = match node.copy_disk(alloc) {
+    let disk = match node.file().copy_disk(alloc) {
         Ok(disk) => disk,
         Err(_full) => return Err(WorldFault::Memory),
     };

@@ -169,7 +169,7 @@ impl MapDesk {
         if !self.map.is_stopped() {
             return Ok(());
         }
-        let disk = match self.map.copy_disk(alloc) {
+        let disk = match self.map.file().copy_disk(alloc) {
             Ok(disk) => disk,
             Err(refused) => return Err(refused),
         };

@@ -2,7 +2,7 @@
 ghost use Rattle.std.specs.Prelude.{◌≡◌, ◌≢◌, ◌<◌, List, [], Ok, Err, Some, None, false, true, IfOk, IfErr, MatchResult, option_map};
 ghost use Rattle.blocks.specs.declared.record.Record.{Record};
 ghost use Rattle.blocks.specs.declared.record.Version.{Version};
-ghost use Rattle.disk.specs.Disk.{IsSame, IsSteady, LeavesOnly, Only};
+ghost use Rattle.disk.specs.Disk.{IsSame, IsSteady, LeavesOnly};
 ghost use Rattle.disk.specs.File.{IsFileOf};
 ghost use Rattle.disk.specs.Memory.{memory_state};
 ghost use Rattle.wire.specs.declared.refusal.Refusal.{Refusal};
@@ -20,9 +20,9 @@ use crate::planning::answer_to;
 use crate::recovery::table_of;
 use crate::refusing::{answer, assign_fault, renew_fault};
 use crate::table::RangeTable;
-use disk::{Disk, DiskFault, FileFault, MemDisk, RecordFile, Stop};
+use disk::{Disk, DiskFault, FileFault, MemDisk, RecordFile};
 use model_map::{MapRecord, RangeEntry};
-use std::alloc::{AllocError, Global};
+use std::alloc::Global;
 use std::marker::Model;
 use wire::{Packet, RangeId, ServerNo, Step};
 
@@ -236,6 +236,13 @@ impl<D: Disk> PartitionMap<D> {
         self.file.is_stopped()
     }
 
+    /// The file of its records: what its disk was told, and a copy of that.
+    pub fn file(&self) -> &RecordFile<D>
+        ensures { result.now ≡ self.now.file }
+    {
+        &self.file
+    }
+
     /// Its disk, whether it has stopped or not. Its bytes are a file of the records that the map had.
     pub fn into_disk(self) -> D
         ensures disk { result ≡ self.file.disk }
@@ -247,16 +254,6 @@ impl<D: Disk> PartitionMap<D> {
 }
 
 impl PartitionMap<MemDisk> {
-    /// Another disk, as a restart finds it: with its records, all made sure of, and not told to stop. An error is want
-    /// of memory (22).
-    pub fn copy_disk(&self, alloc: Global) -> Result<MemDisk, AllocError>
-        ensures stands { IfOk result (λ disk. IsFileOf self.now.file.version self.now.file.records (memory_state disk).seen) }
-        ensures durable { IfOk result (λ disk. Only (memory_state disk).seen (memory_state disk).may_leave) }
-        ensures steady { IfOk result (λ disk. IsSteady (memory_state disk)) }
-    {
-        self.file.copy_disk(alloc)
-    }
-
     /// Tells its disk to stop at the `calls`-th `write_at` or `sync` from now on, in place of what it was told before: a
     /// record makes four of them. All else stays.
     pub fn stop_at(&mut self, calls: u64, keep: bool)
@@ -280,12 +277,5 @@ impl PartitionMap<MemDisk> {
     {
         self.file.cancel_stop();
         self.file.halt();
-    }
-
-    /// What its disk was told last and has not come to.
-    pub fn told(&self) -> Option<Stop>
-        ensures { option_map (λ s. (s.calls, s.keep)) result ≡ (memory_state self.now.file.disk).stop }
-    {
-        self.file.told()
     }
 }

@@ -1,31 +1,98 @@
 //! `stampctl`: runs a script of events on one stamp and prints what is observed.
 //!
+//! # Words
+//!
+//!     stampctl                runs the script on standard input
+//!     stampctl run FILE       runs the script of a file
+//!     stampctl --help         tells these, on standard output
+//!
+//! A `--` may stand before FILE, so that the file's name may begin with a hyphen. What the words name is told by
+//! `command_words`, and `tasks` does it.
+//!
+//! # What it touches
+//!
 //! The program reads its words, one file or the standard input, and writes lines to the standard output and texts about
-//! wrong words to the standard error; it touches nothing else. What the words name is told by `command_words`, and a script is
-//! run by `scripts`. Status 0 is a script that ran to its end, 1 a refusal, told by the line `refused N Name`, and 2 wrong
-//! words.
+//! wrong words to the standard error; it touches nothing else. The disks of nodes, of the manager and of the map are in
+//! memory, and so is the network, so that a script always prints the same. The whole script is read and tested before its
+//! first event runs, and nothing is printed before it has ended: the output is kept in memory until then. Where it does not
+//! fit, the lines so far are printed, and 22 is told.
+//!
+//! # Statuses
+//!
+//! - 0: the script ran to its end, or help was asked for.
+//! - 1: a refusal, told by the line `refused N Name` at the end of the output, or the output could not be written. N is
+//!   - 60: the text is no script;
+//!   - 62: the file cannot be read;
+//!   - 22: memory ran out.
+//! - 2: wrong words. The standard error says how, and nothing runs.
+//!
+//! # An example
+//!
+//! The lines of a script, and those that are printed, are in docs/FORMATS.md. This one is run by the tests, from the files
+//! `stdin` and `stdout` beside this folder: an append of two blocks to an extent with three replicas, step by step, and a read
+//! of two bytes of it. docs/WALKS.md goes through it, and through two more, which lie in examples/:
+//!
+//! - `sealed.script`: a seal survives a lost node;
+//! - `failover.script`: a range fails over to another server.
+//!
+//! The first of them:
+//!
+//!     setup 3 1 4096 1
+//!     user 1 create 0
+//!     settle
+//!     user 1 extend 0 none 1 2 3
+//!     settle
+//!     user 1 append 1 1 abc de
+//!     show 1 1
+//!     deliver last
+//!     show 1 1
+//!     show 2 1
+//!     deliver 8
+//!     show 2 1
+//!     deliver 10
+//!     settle
+//!     user 1 read 2 1 3 2
+//!     settle
+//!
+//! prints
+//!
+//!     user 1 0 created
+//!     user 1 1 extended 1
+//!     replica 1 1 open 0 0
+//!     replica 1 1 open 5 0
+//!     replica 2 1 open 0 0
+//!     replica 2 1 open 5 0
+//!     acked 1 0 5
+//!     user 1 2 appended 0
+//!     seen 1 2 3 2
+//!     user 1 3 bytes 6465
+//!
+//! # What is proved of it
+//!
+//! `main` is the system's entry, and can have no contract of its own. What it calls has: `command` names the task that the
+//! words spell, exactly; `perform` answers the status; and what is printed is what `scripts::script` wrote into memory, which
+//! promises that it is what the lines of the text print, run in order over one run of `world`. Of that run `world` promises
+//! that what is observed of extents agrees and keeps each acknowledged append, and that what is observed of tables replays.
+//! docs/PROOFS.md leads from here to each part.
 #![tactic(auto)]
 
-ghost use Rattle.std.specs.Prelude.{◌≡◌, ◌≢◌, ◌<◌, IfErr};
-ghost use Rattle.std.specs.Process.{exit_status};
-ghost use Rattle.clap.specs.Words.{kind_of};
-ghost use Rattle.clap.specs.declared.error.kind.ErrorKind.TheVariants.{DisplayHelp, DisplayVersion};
-
-use command_words::{CommandError, Task, command};
-use scripts::{Failure, script};
+use command_words::{CommandError, command};
 use std::alloc::Global;
-use std::io::{self, ErrorKind, Print, Read, Write};
+use std::env;
+use std::io::ErrorKind;
 use std::process::ExitCode;
-use std::rt::{Env, Files};
-use std::{env, fs};
-use wire::Refusal;
+use std::rt::Env;
+use tasks::perform;
 
 /// Why the words of the command line were not had.
 enum NoWords {
+    /// Memory ran out, which ends in status 1.
     Memory,
+    /// A word is no UTF-8, which ends in status 2.
     NoText,
 }
 
+/// The words of the command line, of which the first is the program's name.
 fn words<R: AllocGlobal + Env>(rt: &R, alloc: Global) -> Result<Vec<String>, NoWords> {
     match env::args(rt) {
         Ok(args) => args.collect(alloc).map_err(|_| NoWords::Memory),
@@ -34,84 +101,14 @@ fn words<R: AllocGlobal + Env>(rt: &R, alloc: Global) -> Result<Vec<String>, NoW
     }
 }
 
-/// Tells why a task ended early, where there is no buffered writer to tell it.
-fn refused<R: Print>(rt: &R, refusal: Refusal) -> ExitCode
-    ensures { exit_status result ≡ 1 }
-{
-    let _ = rt.println(format_args!("refused {refusal}"));
-    ExitCode::FAILURE
-}
-
-/// Tells the help that was asked for, or how the words are wrong.
-fn tell<R: Eprint + Print>(rt: &R, error: &clap::Error) -> ExitCode
-    ensures mistake { (kind_of error.now ≢ DisplayHelp)
-        → (kind_of error.now ≢ DisplayVersion) → exit_status result ≡ 2 }
-{
-    let status = ExitCode::from(error.exit_code() as u8);
-    match error.print(rt) {
-        Err(_) if !error.use_stderr() => ExitCode::FAILURE,
-        _ => status,
-    }
-}
-
-/// The whole script: of the file, or of the standard input.
-fn text_of<R: Files + Input>(
-    rt: &R,
-    alloc: Global,
-    path: Option<&str>,
-) -> Result<Vec<u8>, io::Error> {
-    let mut text = Vec::new(alloc);
-    match path {
-        None => rt.reader().read_to_end(&mut text)?,
-        Some(path) => fs::open(rt, path)?.read_to_end(&mut text)?,
-    };
-    Ok(text)
-}
-
-/// Prints what a script wrote, and how it ended. A script that could write no more ended for want of memory.
-fn finish<R: Print>(rt: &R, ended: Result<(), Failure>, written: &[u8]) -> ExitCode
-    ensures refused { IfErr ended (λ _. exit_status result ≡ 1) }
-    ensures told { exit_status result < 2 }
-{
-    let mut writer = io::writer(rt);
-    if writer
-        .write_all(written)
-        .and_then(|()| writer.flush())
-        .is_err()
-    {
-        return ExitCode::FAILURE;
-    }
-    match ended {
-        Ok(()) => ExitCode::SUCCESS,
-        Err(Failure::Refused(refusal)) => refused(rt, refusal),
-        Err(Failure::Output(_)) => refused(rt, Refusal::Memory),
-    }
-}
-
-/// Runs the script over bytes in memory, so that what `script` promises is said of this very call.
-fn run<R: Files + Input + Print>(rt: &R, alloc: Global, path: Option<&str>) -> ExitCode
-    ensures { exit_status result < 2 }
-{
-    let mut written = Vec::new(alloc);
-    let ended = match text_of(rt, alloc, path) {
-        Ok(text) => script(alloc, text.as_slice(), &mut written),
-        Err(error) => Err(Failure::of_input(&error)),
-    };
-    finish(rt, ended, &written)
-}
-
+/// Reads the words, has done what they name, and ends with its status.
 fn main(rt: HostRuntime) -> ExitCode {
-    let words = match words(&rt, rt.alloc()) {
-        Ok(words) => words,
-        Err(NoWords::Memory) => return refused(&rt, Refusal::Memory),
+    match words(&rt, rt.alloc()) {
+        Ok(words) => perform(&rt, rt.alloc(), command(rt.alloc(), words.as_slice())),
+        Err(NoWords::Memory) => perform(&rt, rt.alloc(), Err(CommandError::Memory)),
         Err(NoWords::NoText) => {
             let _ = rt.eprintln("error: the arguments are no text");
-            return ExitCode::from(2);
+            ExitCode::from(2)
         }
-    };
-    match command(rt.alloc(), words.as_slice()) {
-        Ok(Task::Run(path)) => run(&rt, rt.alloc(), path),
-        Err(CommandError::Memory) => refused(&rt, Refusal::Memory),
-        Err(CommandError::WrongWords(error)) => tell(&rt, &error),
     }
 }

@@ -1,5 +1,0 @@
-use Rattle.std.proofs.Common.{rules}
-use Rattle.pmap.proofs.partition_map.PartitionMap+MemDisk.told.Goals as goal
-
-pub returns : goal.returns
-returns c = search rules
