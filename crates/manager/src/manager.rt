@@ -269,7 +269,7 @@ impl<D: Disk> Manager<D> {
         self.file.is_stopped()
     }
 
-    /// The file of its records: what its disk was told, and a copy of that.
+    /// The file of its records, to look at: it tells what its disk was told, and copies the disk.
     pub fn file(&self) -> &RecordFile<D>
         ensures { result.now ≡ self.now.file }
     {

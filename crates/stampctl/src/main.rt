@@ -26,46 +26,10 @@
 //!   - 22: memory ran out.
 //! - 2: wrong words. The standard error says how, and nothing runs.
 //!
-//! # An example
+//! # Scripts
 //!
-//! The lines of a script, and those that are printed, are in docs/FORMATS.md. This one is run by the tests, from the files
-//! `stdin` and `stdout` beside this folder: an append of two blocks to an extent with three replicas, step by step, and a read
-//! of two bytes of it. docs/WALKS.md goes through it, and through two more, which lie in examples/:
-//!
-//! - `sealed.script`: a seal survives a lost node;
-//! - `failover.script`: a range fails over to another server.
-//!
-//! The first of them:
-//!
-//!     setup 3 1 4096 1
-//!     user 1 create 0
-//!     settle
-//!     user 1 extend 0 none 1 2 3
-//!     settle
-//!     user 1 append 1 1 abc de
-//!     show 1 1
-//!     deliver last
-//!     show 1 1
-//!     show 2 1
-//!     deliver 8
-//!     show 2 1
-//!     deliver 10
-//!     settle
-//!     user 1 read 2 1 3 2
-//!     settle
-//!
-//! prints
-//!
-//!     user 1 0 created
-//!     user 1 1 extended 1
-//!     replica 1 1 open 0 0
-//!     replica 1 1 open 5 0
-//!     replica 2 1 open 0 0
-//!     replica 2 1 open 5 0
-//!     acked 1 0 5
-//!     user 1 2 appended 0
-//!     seen 1 2 3 2
-//!     user 1 3 bytes 6465
+//! The lines of a script, and those that are printed, are in docs/FORMATS.md. docs/WALKS.md goes through three of examples/. The
+//! gate runs the program on the file `stdin` beside this folder, and what it prints must be the file `stdout`.
 //!
 //! # What is proved of it
 //!

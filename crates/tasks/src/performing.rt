@@ -1,5 +1,5 @@
 //! Tasks.
-ghost use Rattle.std.specs.Prelude.{◌≡◌, ◌≢◌, ◌<◌, Err, IfErr, IfOk};
+ghost use Rattle.std.specs.Prelude.{◌≡◌, ◌≢◌, ◌<◌, ◌⊎◌, Err, IfErr, IfOk};
 ghost use Rattle.std.specs.Process.{exit_status};
 ghost use Rattle.clap.specs.Words.{kind_of};
 ghost use Rattle.clap.specs.declared.error.kind.ErrorKind.TheVariants.{DisplayHelp, DisplayVersion};
@@ -27,6 +27,7 @@ fn refused<R: Print>(rt: &R, refusal: Refusal) -> ExitCode
 fn tell<R: Eprint + Print>(rt: &R, error: &clap::Error) -> ExitCode
     ensures mistake { (kind_of error.now ≢ DisplayHelp)
         → (kind_of error.now ≢ DisplayVersion) → exit_status result ≡ 2 }
+    ensures help { (kind_of error.now ≡ DisplayHelp) ⊎ (kind_of error.now ≡ DisplayVersion) → exit_status result < 2 }
 {
     let status = ExitCode::from(error.exit_code() as u8);
     match error.print(rt) {
@@ -83,7 +84,8 @@ fn run<R: Files + Input + Print>(rt: &R, alloc: Global, path: Option<&str>) -> E
 
 /// Performs a task, or tells why the words name none, and answers the status to end with. A script ends in 0 where it ran to
 /// its end, and in 1 where it was refused or what it wrote could not be printed. Where memory for the words ran out it is 1;
-/// wrong words are told on the standard error and end in 2, and help that was asked for in 0.
+/// wrong words are told on the standard error and end in 2, and help that was asked for in 0, or in 1 where it could not be
+/// printed.
 pub fn perform<R: Eprint + Files + Input + Print>(
     rt: &R,
     alloc: Global,
@@ -93,6 +95,8 @@ pub fn perform<R: Eprint + Files + Input + Print>(
     ensures memory { task.entry ≡ Err Memory → exit_status result ≡ 1 }
     ensures mistake { (e : Error) → task.entry ≡ Err (WrongWords e) → kind_of e ≢ DisplayHelp → kind_of e ≢ DisplayVersion
         → exit_status result ≡ 2 }
+    ensures help { (e : Error) → task.entry ≡ Err (WrongWords e) → (kind_of e ≡ DisplayHelp) ⊎ (kind_of e ≡ DisplayVersion)
+        → exit_status result < 2 }
 {
     match task {
         Ok(Task::Run(path)) => run(rt, alloc, path),
