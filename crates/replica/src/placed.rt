@@ -1,10 +1,11 @@
 //! Groups in order, and where each of them ends, so that a place is found by a search.
-ghost use Rattle.std.specs.Prelude.{◌≡◌, ◌+◌, ◌-◌, ◌<◌, ◌≤◌, ◌++◌, [], ◌∷◌, take, drop, length, min, vec_len, vec_capacity, IfOk, IfSome, OnOk};
+ghost use Rattle.std.specs.Prelude.{◌≡◌, ◌+◌, ◌-◌, ◌<◌, ◌≤◌, ◌++◌, [], ◌∷◌, take, drop, length, min, vec_len, vec_capacity, IfOk, IfSome, OnOk, OnErr, MatchResult};
 ghost use Rattle.replica.specs.Groups.{text, text_length, joined};
 ghost use Rattle.replica.specs.Placed.{IsBefore, first, found_or};
 ghost use Rattle.replica.specs.Reading.{bytes_at, groups_to, groups_from};
 ghost use Rattle.replica.specs.Replay.{is_boundary};
 
+use crate::fault::PastEnd;
 use blocks::{Block, Group, Groups};
 use bytes::Bytes;
 use std::alloc::{AllocError, Global};
@@ -122,6 +123,57 @@ pub fn part_of_text(
     Ok(Bytes::from_vec(out)?)
 }
 
+/// Writes a block's bytes from one on into the places from one on, as far as there are any, and says where they end.
+fn write_block(out: &mut [u8], at: usize, block: &Block, from: usize) -> usize
+    requires { at ≤ length out.old }
+    ensures written { take result out.new ≡ take at out.old ++ take (length out.old - at) (drop from block.now) }
+    ensures within { result ≤ length out.old }
+    ensures len { length out.new ≡ length out.old }
+{
+    let bytes = block.as_slice();
+    let Some(rest) = bytes.get(from..) else {
+        return at;
+    };
+    let count = rest.len().min(out.len() - at);
+    let end = at + count;
+    out[at..end].copy_from_slice(&rest[..count]);
+    end
+}
+
+/// Writes a group's bytes from one on into the places from one on, as far as there are any, and says where they end.
+fn write_group(out: &mut [u8], at: usize, group: &Group, from: usize) -> usize
+    requires { at ≤ length out.old }
+    ensures written { take result out.new ≡ take at out.old ++ take (length out.old - at) (drop from (joined group.now)) }
+    ensures within { result ≤ length out.old }
+    ensures len { length out.new ≡ length out.old }
+{
+    let mut from = from;
+    let mut at = at;
+    for block in group.blocks() {
+        at = write_block(out, at, block, from);
+        from = from.saturating_sub(block.as_slice().len());
+    }
+    at
+}
+
+/// Writes the bytes of groups from one on into places, as far as there are any, and says where they end.
+fn write_groups(out: &mut [u8], groups: &[Group], from: usize) -> usize
+    ensures written { take result out.new ≡ take (length out.old) (drop from (text groups.now)) }
+    ensures within { result ≤ length out.old }
+    ensures len { length out.new ≡ length out.old }
+{
+    let mut from = from;
+    let mut at = 0;
+    for group in groups {
+        if at == out.len() {
+            break;
+        }
+        at = write_group(out, at, group, from);
+        from = from.saturating_sub(group.size() as usize);
+    }
+    at
+}
+
 impl PlacedGroups {
     /// No groups; takes no memory.
     pub(crate) fn new(alloc: Global) -> PlacedGroups
@@ -207,6 +259,23 @@ impl PlacedGroups {
             length as usize,
         )?;
         Ok(Bytes::from_vec(out)?)
+    }
+
+    /// Fills a slice with the bytes from an offset on. Where there are not so many it is refused (8), and the slice
+    /// is as it was. Takes no memory.
+    pub(crate) fn read_into(&self, offset: u32, out: &mut [u8]) -> Result<(), PastEnd>
+        ensures ok { OnOk result (out.new ≡ bytes_at offset (length out.old) self.now.groups) }
+        ensures refused { OnErr result (out.new ≡ out.old) }
+        ensures fault { MatchResult result (λ _. offset + length out.old ≤ text_length self.now.groups)
+            (λ _. text_length self.now.groups < offset + length out.old) }
+    {
+        if offset > self.length || out.len() > (self.length - offset) as usize {
+            return Err(PastEnd);
+        }
+        let index = self.before(offset);
+        let from = offset - self.start_of(index);
+        let _end = write_groups(out, &self.groups[index..], from as usize);
+        Ok(())
     }
 
     /// How many of the first groups have this many bytes together; none where a group goes over that boundary.

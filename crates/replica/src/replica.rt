@@ -1,5 +1,5 @@
 //! A replica in any state.
-ghost use Rattle.std.specs.Prelude.{◌≡◌, ◌<◌, ◌+◌, ◌≤◌, ◌++◌, true, false, length, IfOk, OnOk};
+ghost use Rattle.std.specs.Prelude.{◌≡◌, ◌<◌, ◌+◌, ◌≤◌, ◌++◌, true, false, length, IfOk, OnOk, OnErr, MatchResult};
 ghost use Rattle.blocks.specs.Limits.{IsTarget};
 ghost use Rattle.replica.specs.Groups.{text_length};
 ghost use Rattle.replica.specs.Content.{appended, fenced, frozen, new_content, sealed_with};
@@ -7,6 +7,7 @@ ghost use Rattle.replica.specs.Reading.{bytes_at, groups_from, groups_to};
 ghost use Rattle.replica.specs.Replay.{cut_to, is_boundary, is_frozen, is_open, is_sealed};
 ghost use Rattle.replica.specs.State.{content_of, room_of};
 
+use crate::fault::PastEnd;
 use crate::frozen::FrozenReplica;
 use crate::kept::Kept;
 use crate::open::OpenReplica;
@@ -109,6 +110,17 @@ impl Replica {
         ensures { IfOk result (λ bytes. bytes ≡ bytes_at offset length (content_of self.now).groups) }
     {
         self.kept().held.bytes(alloc, offset, length)
+    }
+
+    /// Fills a slice with the bytes from an offset on. Where there are not so many it is refused (8), and the slice
+    /// is as it was. Takes no memory.
+    pub fn read_into(&self, offset: u32, out: &mut [u8]) -> Result<(), PastEnd>
+        ensures ok { OnOk result (out.new ≡ bytes_at offset (length out.old) (content_of self.now).groups) }
+        ensures refused { OnErr result (out.new ≡ out.old) }
+        ensures fault { MatchResult result (λ _. offset + length out.old ≤ text_length (content_of self.now).groups)
+            (λ _. text_length (content_of self.now).groups < offset + length out.old) }
+    {
+        self.kept().held.read_into(offset, out)
     }
 
     /// Whether a group ends at that length, or the first one begins. Takes no memory.

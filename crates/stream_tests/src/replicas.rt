@@ -6,7 +6,7 @@ use crate::cases::{Subject, holds};
 use crate::groups::{group_of, groups_of};
 use Event::{
     Adds, EndsAt, FillsInPlace, FillsTail, Freezes, FreezesInPlace, GroupsFrom, GroupsTo, Is, Puts,
-    Raises, RaisesInPlace, Reads, Seals, SealsInPlace,
+    Raises, RaisesInPlace, Reads, ReadsFour, Seals, SealsInPlace,
 };
 use Phase::{Frozen, Open, Sealed};
 use blocks::{Group, GroupFault, Groups, Nodes};
@@ -51,6 +51,8 @@ pub(crate) enum Event {
     Is(u32, u64, Phase),
     /// So many bytes from an offset on are these.
     Reads(u32, u32, &'static [u8]),
+    /// What a read from an offset on into four bytes answers, and what they are then.
+    ReadsFour(u32, Result<(), PastEnd>, [u8; 4]),
     /// Whether a group ends at a length.
     EndsAt(u32, bool),
     GroupsTo(u32, Sizes),
@@ -125,7 +127,12 @@ const TAKES_ITS_TAIL_ALONE: &[Event] = &[
     Reads(0, 9, b"abcdefgh"),
 ];
 
-const READS_WHAT_IS_THERE: &[Event] = &[Is(5, 2, Open), Reads(4, 4, b"e"), Reads(1, 4, b"bcde")];
+const READS_WHAT_IS_THERE: &[Event] = &[
+    Is(5, 2, Open),
+    Reads(4, 4, b"e"),
+    ReadsFour(2, Err(PastEnd), *b"...."),
+    ReadsFour(1, Ok(()), *b"bcde"),
+];
 
 const ENDS_AT_THREE_AND_FIVE: &[Event] = &[
     EndsAt(0, true),
@@ -397,6 +404,12 @@ fn reads(found: Result<Bytes, AllocError>, wanted: &[u8]) -> bool {
     }
 }
 
+fn read_four(kept: &Replica, offset: u32) -> (Result<(), PastEnd>, [u8; 4]) {
+    let mut bytes = [b'.'; 4];
+    let read = kept.read_into(offset, &mut bytes);
+    (read, bytes)
+}
+
 fn sizes(groups: &[Group]) -> Sizes {
     match groups {
         [] => Some((0, None, None)),
@@ -430,6 +443,7 @@ impl Subject for Replica {
             FillsInPlace(text) => fill(alloc, self, text) == Ok(true),
             Is(length, fence, phase) => is(self, length, fence, phase),
             Reads(offset, length, wanted) => reads(self.bytes(alloc, offset, length), wanted),
+            ReadsFour(offset, told, wanted) => read_four(self, offset) == (told, wanted),
             EndsAt(length, ends) => self.is_boundary(length) == ends,
             GroupsTo(upto, wanted) => has_sizes(self.groups_to(alloc, upto), wanted),
             GroupsFrom(from, wanted) => has_sizes(self.groups_from(alloc, from), wanted),
