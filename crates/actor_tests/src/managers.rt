@@ -111,14 +111,15 @@ fn decides_at(alloc: Global, manager: &mut Manager<MemDisk>, length: u32) -> boo
 }
 
 fn sealed_at(manager: &Manager<MemDisk>, extent: u64) -> Option<Option<u32>> {
-    match manager.extent(ExtentId(extent)) {
+    match manager.table().entry(extent) {
         Some(entry) => Some(entry.sealed),
         None => None,
     }
 }
 
 fn runs(manager: &Manager<MemDisk>) -> bool {
-    manager.nodes() == 4 && manager.target() == 4096 && !manager.is_stopped()
+    let table = manager.table();
+    table.nodes() == 4 && table.target() == 4096 && !manager.is_stopped()
 }
 
 fn is_told_to_stop(manager: &mut Manager<MemDisk>, keep: bool) -> bool {

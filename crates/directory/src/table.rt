@@ -102,16 +102,6 @@ impl Table {
         self.extents.len() as u64 + 1
     }
 
-    /// The extent of a number, where it lies, if there is one.
-    pub fn entry_ref(&self, extent: u64) -> Option<&Extent>
-        ensures { option_map (λ x. x.now) result ≡ entry_at self.now.extents extent }
-    {
-        if extent == 0 {
-            return None;
-        }
-        self.extents.get((extent - 1) as usize)
-    }
-
     /// The extent of a number, if there is one.
     pub fn entry(&self, extent: u64) -> Option<Extent>
         ensures { result ≡ entry_at self.now.extents extent }

@@ -23,4 +23,3 @@ pub use fault::FileFault;
 pub use file::RecordFile;
 pub use memory::{MemDisk, Stop};
 pub use real::FileDisk;
-pub use scan::read_file;

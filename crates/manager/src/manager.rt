@@ -1,5 +1,5 @@
 //! The manager.
-ghost use Rattle.std.specs.Prelude.{◌≡◌, ◌≢◌, ◌<◌, ◌≤◌, ◌⊎◌, List, [], ◌∷◌, Ok, Err, Some, None, false, true, IfOk, IfErr, MatchResult, option_map};
+ghost use Rattle.std.specs.Prelude.{◌≡◌, ◌≢◌, ◌<◌, ◌≤◌, ◌⊎◌, List, [], ◌∷◌, Ok, Err, Some, None, false, true, IfOk, IfErr, MatchResult};
 ghost use Rattle.blocks.specs.Limits.{IsTarget};
 ghost use Rattle.blocks.specs.declared.record.Record.{Record};
 ghost use Rattle.blocks.specs.declared.record.Version.{Version};
@@ -12,7 +12,7 @@ ghost use Rattle.model.specs.Maps.{entry_at};
 ghost use Rattle.model.specs.Manager.{Book, first_book, manager_row, decide_row, decide_refusal};
 ghost use Rattle.model.specs.Replay.{book_fits};
 ghost use Rattle.directory.specs.Table.{plain, first_table};
-ghost use Rattle.manager.specs.Manager.{Shows, IsLedger, first_record, forgotten_state};
+ghost use Rattle.manager.specs.Manager.{Shows, IsLedger, first_record, forgotten_state, state_of};
 ghost use Rattle.manager.specs.Ruled.{Ruled, as_row, fault_of, sealing_at};
 
 use crate::fault::ManagerFault;
@@ -22,7 +22,7 @@ use crate::sealing::{answer, refusal, sealing_of};
 use blocks::Version;
 use directory::{Table, reads_back};
 use disk::{Disk, DiskFault, FileFault, MemDisk, RecordFile};
-use model::{Extent, ManagerRecord};
+use model::ManagerRecord;
 use std::alloc::Global;
 use std::marker::Model;
 use wire::{ExtentId, Packet, Step};
@@ -230,13 +230,6 @@ impl<D: Disk> Manager<D> {
         }
     }
 
-    /// The extent of a number, if there is one; takes no memory.
-    pub fn extent(&self, extent: ExtentId) -> Option<&Extent>
-        ensures { option_map (λ x. x.now) result ≡ entry_at self.now.extents extent }
-    {
-        self.table.entry_ref(extent.0)
-    }
-
     /// The length at which `decide` would seal an extent now, in bytes; none where there is no such extent, where it is
     /// sealed, or where no place has told a length.
     pub fn sealing(&self, extent: ExtentId) -> Option<u32>
@@ -248,18 +241,12 @@ impl<D: Disk> Manager<D> {
         }
     }
 
-    /// How many nodes it knows: those from 1 to this number.
-    pub fn nodes(&self) -> u8
-        ensures { result ≡ self.now.nodes }
+    /// What its records make of it, to look at: how many nodes there are, the target of each extent that it makes, the
+    /// streams and the extents.
+    pub fn table(&self) -> &Table
+        ensures { state_of result.now self.now.file ≡ self.now }
     {
-        self.table.nodes()
-    }
-
-    /// The target of each extent that it makes, in bytes.
-    pub fn target(&self) -> u32
-        ensures { result ≡ self.now.target }
-    {
-        self.table.target()
+        &self.table
     }
 
     /// Whether it has stopped. Then it does nothing until it is restarted from its disk.
