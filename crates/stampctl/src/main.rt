@@ -38,7 +38,27 @@
 //! promises that it is what the lines of the text print, run in order over one run of `world`. Of that run `world` promises
 //! that what is observed of extents agrees and keeps each acknowledged append, and that what is observed of tables replays.
 //! docs/PROOFS.md leads from here to each part.
+//!
+//! # Tests
+//!
+//! What no clause says of scripts, of runs and of the program's words is tested here, above all that it takes: whole scripts with all
+//! that they print, failing readers and writers, each stop of a run with transactions, and words that are read or wrong.
 #![tactic(auto)]
+
+#[cfg(test)]
+mod failover;
+#[cfg(test)]
+mod maps;
+#[cfg(test)]
+mod printed;
+#[cfg(test)]
+mod scripts_run;
+#[cfg(test)]
+mod tables;
+#[cfg(test)]
+mod walks;
+#[cfg(test)]
+mod words_read;
 
 use command_words::{CommandError, command};
 use std::alloc::Global;
