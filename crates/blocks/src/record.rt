@@ -8,7 +8,7 @@ use bytes::Bytes;
 
 /// The nodes of an extent's three replicas. Places 1, 2 and 3 are its fields in order; each is a node's number, from 1 to
 /// 12, and no two are one (`AreNodes`, which a value need not meet).
-#[derive(Clone, Copy, Debug, PartialEq, Eq)]
+#[derive(Clone, Copy, PartialEq, Eq)]
 pub struct Nodes {
     /// Place 1, whose node orders the appends.
     pub primary: u8,
@@ -35,7 +35,7 @@ impl Nodes {
 }
 
 /// How a record is spelled: each version has one spelling of each record that fits it (`Fits`).
-#[derive(Clone, Copy, Debug, PartialEq, Eq)]
+#[derive(Clone, Copy, PartialEq, Eq)]
 pub enum Version {
     /// A block is its size and its bytes.
     V1,

@@ -7,7 +7,7 @@ use std::alloc::AllocError;
 use wire::ExtentId;
 
 /// Where a large value stands: `length` bytes of an extent, from `offset` on. Offset and length count bytes.
-#[derive(Clone, Copy, Debug, PartialEq, Eq)]
+#[derive(Clone, Copy, PartialEq, Eq)]
 pub struct Place {
     pub extent: ExtentId,
     pub offset: u32,

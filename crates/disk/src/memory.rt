@@ -9,7 +9,7 @@ use crate::image::Image;
 use std::alloc::{AllocError, Global};
 
 /// A plan: a disk stops at one of its next calls.
-#[derive(Clone, Copy, Debug, PartialEq, Eq)]
+#[derive(Clone, Copy, PartialEq, Eq)]
 pub struct Stop {
     /// How many `write_at` and `sync` there are up to the one that fails, which counts too. 0 is as 1.
     pub calls: u64,

@@ -5,6 +5,7 @@
 #![tactic(auto)]
 
 mod hex_text;
+mod line;
 mod report;
 mod telling;
 

@@ -1,5 +1,6 @@
 //! The lines of output.
 use crate::hex_text::HexText;
+use crate::line::{write_four, write_one, write_three, write_two};
 use std::fmt;
 use wire::{Refusal, ServerNo};
 
@@ -119,24 +120,24 @@ impl fmt::Display for Answer {
 
     fn fmt<W: fmt::Write>(&self, f: &mut fmt::Formatter<W>) -> fmt::Result {
         match self {
-            Answer::Created => write!(f, "created"),
-            Answer::Extended(extent) => write!(f, "extended {extent}"),
-            Answer::Appended(offset) => write!(f, "appended {offset}"),
-            Answer::Bytes(bytes) => write!(f, "bytes {bytes}"),
-            Answer::Content(size) => write!(f, "content {size}"),
-            Answer::Sealed { extent, length } => write!(f, "sealedis {extent} {length}"),
-            Answer::Committed(number) => write!(f, "committed {number}"),
-            Answer::Value(bytes) => write!(f, "value {bytes}"),
-            Answer::NoValue => write!(f, "value none"),
+            Answer::Created => f.write_str("created"),
+            Answer::Extended(extent) => write_one(f, "extended", extent),
+            Answer::Appended(offset) => write_one(f, "appended", offset),
+            Answer::Bytes(bytes) => write_one(f, "bytes", bytes),
+            Answer::Content(size) => write_one(f, "content", size),
+            Answer::Sealed { extent, length } => write_two(f, "sealedis", extent, length),
+            Answer::Committed(number) => write_one(f, "committed", number),
+            Answer::Value(bytes) => write_one(f, "value", bytes),
+            Answer::NoValue => f.write_str("value none"),
             Answer::Route {
                 range,
                 server: Some(server),
-            } => write!(f, "route {range} {}", server.0),
+            } => write_two(f, "route", range, &server.0),
             Answer::Route {
                 range,
                 server: None,
-            } => write!(f, "route {range} 0"),
-            Answer::Refused(refusal) => write!(f, "refused {refusal}"),
+            } => write_two(f, "route", range, &"0"),
+            Answer::Refused(refusal) => write_one(f, "refused", refusal),
         }
     }
 }
@@ -149,9 +150,9 @@ impl fmt::Display for Standing {
 
     fn fmt<W: fmt::Write>(&self, f: &mut fmt::Formatter<W>) -> fmt::Result {
         match self {
-            Standing::Open => write!(f, "open"),
-            Standing::Frozen => write!(f, "frozen"),
-            Standing::Sealed => write!(f, "sealed"),
+            Standing::Open => f.write_str("open"),
+            Standing::Frozen => f.write_str("frozen"),
+            Standing::Sealed => f.write_str("sealed"),
         }
     }
 }
@@ -168,42 +169,42 @@ impl fmt::Display for Report {
                 extent,
                 offset,
                 size,
-            } => write!(f, "acked {extent} {offset} {size}"),
-            Report::SealedAt { extent, length } => write!(f, "sealed {extent} {length}"),
+            } => write_three(f, "acked", extent, offset, size),
+            Report::SealedAt { extent, length } => write_two(f, "sealed", extent, length),
             Report::Content {
                 extent,
                 node,
                 size,
                 groups,
-            } => write!(f, "content {extent} {node} {size} {groups}"),
+            } => write_four(f, "content", extent, node, size, groups),
             Report::Seen {
                 extent,
                 node,
                 offset,
                 count,
-            } => write!(f, "seen {extent} {node} {offset} {count}"),
+            } => write_four(f, "seen", extent, node, offset, count),
             Report::Began {
                 range,
                 generation,
                 number,
-            } => write!(f, "began {range} {generation} {number}"),
+            } => write_three(f, "began", range, generation, number),
             Report::Done {
                 range,
                 generation,
                 number,
-            } => write!(f, "done {range} {generation} {number}"),
+            } => write_three(f, "done", range, generation, number),
             Report::Loaded {
                 range,
                 generation,
                 next,
                 rows,
-            } => write!(f, "loaded {range} {generation} {next} {rows}"),
-            Report::Refused(refusal) => write!(f, "refused {refusal}"),
+            } => write_four(f, "loaded", range, generation, next, rows),
+            Report::Refused(refusal) => write_one(f, "refused", refusal),
             Report::Told {
                 user,
                 ticket,
                 answer,
-            } => write!(f, "user {user} {ticket} {answer}"),
+            } => write_three(f, "user", user, ticket, answer),
             Report::Replica {
                 node,
                 extent,
@@ -211,8 +212,8 @@ impl fmt::Display for Report {
                 length,
                 fence,
             } => write!(f, "replica {node} {extent} {standing} {length} {fence}"),
-            Report::NoReplica { node, extent } => write!(f, "replica {node} {extent} none"),
-            Report::Stopped { node, extent } => write!(f, "replica {node} {extent} stopped"),
+            Report::NoReplica { node, extent } => write_three(f, "replica", node, extent, &"none"),
+            Report::Stopped { node, extent } => write_three(f, "replica", node, extent, &"stopped"),
         }
     }
 }

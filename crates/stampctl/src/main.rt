@@ -42,9 +42,14 @@
 //! # Tests
 //!
 //! What no clause says of scripts, of runs and of the program's words is tested here, above all that it takes: whole scripts with all
-//! that they print, failing readers and writers, each stop of a run with transactions, and words that are read or wrong.
+//! that they print, failing readers and writers, each stop of a run with transactions, words that are read or wrong, and what no
+//! clause of `layer` says: that its calls succeed where there is memory, runs of it followed by hand, with clients of streams over
+//! them, and the rows that a loaded table shows. Of these a test goes through cases, each a list of steps in their order: what is
+//! done, with the answer that is wanted, or what is seen then.
 #![tactic(auto)]
 
+#[cfg(test)]
+mod clients;
 #[cfg(test)]
 mod failover;
 #[cfg(test)]
@@ -52,7 +57,15 @@ mod maps;
 #[cfg(test)]
 mod printed;
 #[cfg(test)]
+mod requests;
+#[cfg(test)]
+mod rows;
+#[cfg(test)]
+mod runs;
+#[cfg(test)]
 mod scripts_run;
+#[cfg(test)]
+mod stops;
 #[cfg(test)]
 mod tables;
 #[cfg(test)]

@@ -14,7 +14,7 @@ use std::marker::Model;
 use wire::{ExtentId, Fence, RangeId, StreamKind, StreamName};
 
 /// A place in a stream: the index of an extent, and an offset in it in bytes.
-#[derive(Clone, Copy, Debug, PartialEq, Eq)]
+#[derive(Clone, Copy, PartialEq, Eq)]
 pub struct Position {
     pub index: u64,
     pub offset: u32,

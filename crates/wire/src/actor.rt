@@ -2,7 +2,7 @@
 use crate::server_number::ServerNo;
 
 /// Somebody who takes packets and sends them.
-#[derive(Clone, Copy, Debug, PartialEq, Eq)]
+#[derive(Clone, Copy, PartialEq, Eq)]
 pub enum ActorId {
     /// An extent node, from 1 to 12.
     Node(u8),
@@ -17,7 +17,7 @@ pub enum ActorId {
 }
 
 /// The number of a request, which its answer repeats.
-#[derive(Clone, Copy, Debug, PartialEq, Eq)]
+#[derive(Clone, Copy, PartialEq, Eq)]
 pub enum ReqNo {
     /// The count-th request of a server since it began this session.
     Server {

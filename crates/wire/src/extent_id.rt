@@ -3,7 +3,7 @@
 use std::marker::Model;
 
 /// The number of an extent, from 1. The stream manager gives each number once (after Calder et al., SOSP 2011, section 4).
-#[derive(Clone, Copy, Debug, PartialEq, Eq, PartialOrd, Ord)]
+#[derive(Clone, Copy, PartialEq, Eq, PartialOrd, Ord)]
 pub struct ExtentId(pub u64);
 
 impl Model for ExtentId {

@@ -3,7 +3,7 @@
 use std::marker::Model;
 
 /// A generation of a range, or a fence: the least generation that an extent or a stream listens to. Users count with 0.
-#[derive(Clone, Copy, Debug, PartialEq, Eq, PartialOrd, Ord)]
+#[derive(Clone, Copy, PartialEq, Eq, PartialOrd, Ord)]
 pub struct Fence(pub u64);
 
 impl Model for Fence {

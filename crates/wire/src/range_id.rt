@@ -3,7 +3,7 @@
 use std::marker::Model;
 
 /// The number of a range, from 1; 0 stands for the streams that users work on. The partition map gives each number once.
-#[derive(Clone, Copy, Debug, PartialEq, Eq, PartialOrd, Ord)]
+#[derive(Clone, Copy, PartialEq, Eq, PartialOrd, Ord)]
 pub struct RangeId(pub u64);
 
 impl Model for RangeId {

@@ -3,7 +3,7 @@
 use std::marker::Model;
 
 /// The number of a partition server, from 1 to 4.
-#[derive(Clone, Copy, Debug, PartialEq, Eq, PartialOrd, Ord)]
+#[derive(Clone, Copy, PartialEq, Eq, PartialOrd, Ord)]
 pub struct ServerNo(pub u8);
 
 impl Model for ServerNo {

@@ -7,7 +7,7 @@ use blocks::Nodes;
 use std::marker::Model;
 
 /// What a stream of a range is for (after Calder et al., SOSP 2011, section 5.2).
-#[derive(Clone, Copy, Debug, PartialEq, Eq)]
+#[derive(Clone, Copy, PartialEq, Eq)]
 pub enum StreamKind {
     Metadata,
     Log,
@@ -16,14 +16,14 @@ pub enum StreamKind {
 }
 
 /// The name of a stream: the range that it belongs to, and what it is for.
-#[derive(Clone, Copy, Debug, PartialEq, Eq)]
+#[derive(Clone, Copy, PartialEq, Eq)]
 pub struct StreamName {
     pub range: RangeId,
     pub kind: StreamKind,
 }
 
 /// An extent of a stream, its three places (the primary first), and its length in bytes once it is sealed.
-#[derive(Clone, Copy, Debug, PartialEq, Eq)]
+#[derive(Clone, Copy, PartialEq, Eq)]
 pub struct StreamExtent {
     pub extent: ExtentId,
     pub places: Nodes,

@@ -1,4 +1,5 @@
 use Rattle.std.proofs.Common.{◌≡◌, ℕ, ◌+◌, ◌-◌, map, take, sym, ap, ◌∙◌, arith}
+use Rattle.std.proofs.lemmas.Grind.{common_steps}
 use Rattle.commitlog.specs.Record.{IsTransaction}
 use Rattle.commitlog.specs.Sizes.{filling}
 use Rattle.model_tables.specs.declared.waiting.WaitingTransaction.{WaitingTransaction}
@@ -42,3 +43,6 @@ pub returns : goal.returns
 returns c = λ next.
     let stays = grows_end next c.args.waiting.now c.loop-transaction.count (c.args.batch - c.loop-transaction.count) (omega (arith, c.loop-transaction-test.false, c.loop-transaction.invariant.counted)) in
     sym stays ∙ c.loop-transaction.invariant.grown next
+
+pub add-requires : goal.add-requires
+add-requires c = grind (arith, common_steps)

@@ -1,0 +1,19 @@
+-- A line: a word, and values after it, a blank (32) before each. It is `None` where nothing states the text of a value.
+use Rattle.std.specs.Prelude.{ℕ, List, [], ◌∷◌, Option, Some}
+use Rattle.std.specs.Fmt.{◌++?◌}
+
+-- the text, and one value more
+abbrev pub then_value : Option (List ℕ) → Option (List ℕ) → Option (List ℕ)
+then_value text value = text ++? (Some (32 ∷ []) ++? value)
+
+abbrev pub line_one : List ℕ → Option (List ℕ) → Option (List ℕ)
+line_one word value = then_value (Some word) value
+
+abbrev pub line_two : List ℕ → Option (List ℕ) → Option (List ℕ) → Option (List ℕ)
+line_two word first second = then_value (line_one word first) second
+
+abbrev pub line_three : List ℕ → Option (List ℕ) → Option (List ℕ) → Option (List ℕ) → Option (List ℕ)
+line_three word first second third = then_value (line_two word first second) third
+
+abbrev pub line_four : List ℕ → Option (List ℕ) → Option (List ℕ) → Option (List ℕ) → Option (List ℕ) → Option (List ℕ)
+line_four word first second third fourth = then_value (line_three word first second third) fourth
