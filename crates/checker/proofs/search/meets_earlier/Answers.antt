@@ -1,4 +1,5 @@
 use Rattle.std.proofs.Common.{◌≡◌, ◌-◌, sym, ◌∙◌, arith, Some}
+use Rattle.std.proofs.lemmas.Grind.{common_steps}
 use Rattle.std.proofs.lemmas.Bool.Decides.{not_from_Decides}
 use Rattle.checker.specs.Checking.{extent_of}
 use Rattle.checker.proofs.Linking.{link_of, walk_begins, walk_passes, walk_goes_on}
@@ -32,3 +33,9 @@ loop-below-preserved c =
           c.loop-below.below c.loop-below-test.true c.loop-below.invariant.within c.loop-below.invariant.meets c.index-notes-before.result c.index-notes-before.is
           c.link-below-in-loop-below.result earlier compared linked;
     }
+
+pub returns-in_default : goal.returns-in_default
+returns-in_default c = grind (arith, common_steps)
+
+pub returns-then-not-is_compatible : goal.returns-then-not-is_compatible
+returns-then-not-is_compatible c = grind (arith, common_steps)

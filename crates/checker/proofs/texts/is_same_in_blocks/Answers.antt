@@ -1,4 +1,5 @@
-use Rattle.std.proofs.Common.{◌≡◌, length, ℕ, ◌+◌, List, ◌++◌, drop, sym, ap, subst}
+use Rattle.std.proofs.Common.{◌≡◌, length, ℕ, ◌+◌, List, ◌++◌, drop, sym, ap, subst, arith}
+use Rattle.std.proofs.lemmas.Grind.{common_steps}
 use Rattle.std.specs.Bool.{Decides}
 use Rattle.std.proofs.lemmas.Bool.Decides.{not_from_Decides}
 use Rattle.replica.specs.Groups.{joined}
@@ -28,3 +29,6 @@ loop-block-preserved c =
       (λ s. c.loop-block.invariant.1 (subst (SameWhereBoth o xs at) (sym here)
           (shown_all o xs at (c.block-item.result) rest (tells.0 c.if-not-is_same_where_both.false) (subst (λ n. SameWhereBoth o xs n rest) (sym sized) s)))),
     )
+
+pub returns : goal.returns
+returns c = grind (arith, common_steps)

@@ -1,4 +1,5 @@
-use Rattle.std.proofs.Common.{◌≡◌, length, ℕ, ◌+◌, ◌++◌, drop, sym, ap, subst, ◌∙◌}
+use Rattle.std.proofs.Common.{◌≡◌, length, ℕ, ◌+◌, ◌++◌, drop, sym, ap, subst, ◌∙◌, arith}
+use Rattle.std.proofs.lemmas.Grind.{common_steps}
 use Rattle.std.specs.Bool.{Decides}
 use Rattle.std.proofs.lemmas.Bool.Decides.{not_from_Decides}
 use Rattle.replica.specs.Groups.{joined, text}
@@ -29,3 +30,6 @@ loop-group-preserved c =
       (λ s. c.loop-group.invariant.1 (subst (SameWhereBoth o xs at) (sym here)
           (shown_all o xs at (joined c.group-item.result) rest (tells.0 c.if-not-is_same_in_blocks.false) (subst (λ n. SameWhereBoth o xs n rest) (sym sized) s)))),
     )
+
+pub returns : goal.returns
+returns c = grind (arith, common_steps)

@@ -1,4 +1,5 @@
 use Rattle.std.proofs.Common.{◌≡◌, ℕ, ◌+◌, List, [], ◌∷◌, ◌++◌, Option, arith, ap, ◌∙◌}
+use Rattle.std.proofs.lemmas.Grind.{common_steps}
 use Rattle.cells.specs.declared.cell.Cell.{Cell}
 use Rattle.cells.specs.Cell.{entry_size}
 use Rattle.memtable.specs.Entries.{found, old_size, entries_size, all_taken_back}
@@ -23,3 +24,6 @@ returns-in-Ok-clause-undos c =
     ap (λ (us : List (List ℕ × Option Cell)). all_taken_back us c.insert.new.self.entries) items
     ∙ ap (all_taken_back (c.args.undos.now.items ++ (c.args.key, found c.args.layer.now.entries c.args.key) ∷ [])) c.in-Ok.ensures.entries
     ∙ undone c.args.undos.now.items c.args.key c.args.cell c.args.layer.now.entries c.in-Ok.ensures.was_ordered
+
+pub old_size-less-requires : goal.old_size-less-requires
+old_size-less-requires c = grind (arith, common_steps)

@@ -1,4 +1,5 @@
-use Rattle.std.proofs.Common.{◌≡◌, List, subst}
+use Rattle.std.proofs.Common.{◌≡◌, List, subst, arith}
+use Rattle.std.proofs.lemmas.Grind.{common_steps}
 use Rattle.std.specs.Vec.Iter.{into_iter_items}
 use Rattle.commitlog.specs.Reading.{each_of}
 use Rattle.commitlog.proofs.Loop.{with_done, each_goes_on}
@@ -16,3 +17,6 @@ loop-region-preserved c = record {
       (each_of (region_takes c.args.keys.now c.args.at.now c.args.extent c.args.written.now) (put_all layer c.args.changes.now.items) c.args.regions.items) (c.in_ok-taken.ensures.ok layer) so_far);
   entries = c.in_ok-taken.ensures.entries;
 }
+
+pub returns-clause-ok : goal.returns-clause-ok
+returns-clause-ok c = grind (arith, common_steps)

@@ -1,4 +1,5 @@
 use Rattle.std.proofs.Common.{◌≡◌, ◌∷◌, ◌++◌, ◌+◌, ◌-◌, length, take, drop, ap, sym, ◌∙◌, arith}
+use Rattle.std.proofs.lemmas.Grind.{common_steps}
 use Rattle.std.proofs.lemmas.List.{drop_more}
 use Rattle.replica.specs.Groups.{joined}
 use Rattle.replica.proofs.Copying.{piece}
@@ -13,3 +14,12 @@ loop-block-preserved c =
     piece c.loop-block.out.items c.copy_block.new.out.items c.loop-block.most _ c.loop-block.from _ block (joined (drop (index + 1) blocks)) _
     c.in_ok-copy_block.ensures (omega (arith, c.len.ensures, c.len-before.ensures)) (c.saturating_sub-from.ensures ∙ ap (λ x. c.loop-block.from - length x) c.as_slice.ensures.value)
     (ap (λ x. c.loop-block.out.items ++ take c.loop-block.most (drop c.loop-block.from (joined x))) (sym cut) ∙ c.loop-block.invariant)
+
+pub overflow_sub-most : goal.overflow_sub-most
+overflow_sub-most c = grind (arith, common_steps)
+
+pub overflow_sub-most-in-loop-block : goal.overflow_sub-most-in-loop-block
+overflow_sub-most-in-loop-block c = grind (arith, common_steps)
+
+pub returns : goal.returns
+returns c = grind (arith, common_steps)

@@ -1,4 +1,5 @@
-use Rattle.std.proofs.Common.{take}
+use Rattle.std.proofs.Common.{take, arith}
+use Rattle.std.proofs.lemmas.Grind.{common_steps}
 use Rattle.model_clusters.specs.Cluster.{first_cluster}
 use Rattle.world.proofs.Honest.{led_next, led_agree, led_keep, led_replays}
 use Rattle.world.proofs.whole.run.Goals as goal
@@ -19,3 +20,6 @@ returns-clause-kept c =
 pub returns-clause-replays : goal.returns-clause-replays
 returns-clause-replays c =
     led_replays c.args.setup.now.nodes c.args.setup.now.servers c.args.setup.now.target c.args.setup.now.batch (take c.loop-event.event-index c.args.events.now) c.loop-event.made c.loop-event.invariant
+
+pub returns-clause-led : goal.returns-clause-led
+returns-clause-led c = grind (arith, common_steps)

@@ -4,3 +4,6 @@ use Rattle.blocks.proofs.group.Groups.copied.Goals as goal
 
 pub returns : goal.returns
 returns c = grind (arith, common_steps)
+
+pub loop-group-preserved : goal.loop-group-preserved
+loop-group-preserved c = grind (arith, common_steps)

@@ -1,4 +1,5 @@
-use Rattle.std.proofs.Common.{rules}
+use Rattle.std.proofs.Common.{rules, arith}
+use Rattle.std.proofs.lemmas.Grind.{common_steps}
 use Rattle.blocks.specs.Limits.{are_nodes}
 use Rattle.blocks.proofs.record.Nodes.are_distinct_nodes.Goals as goal
 
@@ -9,3 +10,6 @@ returns-then-self-2-clause-value c = search rules
 pub returns-then-self-2-clause-nodes : goal.returns-then-self-2-clause-nodes
 unfolding are_nodes
 returns-then-self-2-clause-nodes c = search rules
+
+pub returns-else-self-2-clause-nodes : goal.returns-else-self-2-clause-nodes
+returns-else-self-2-clause-nodes c = grind (arith, common_steps)
