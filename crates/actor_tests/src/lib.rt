@@ -11,6 +11,8 @@ mod answers;
 #[cfg(test)]
 mod cases;
 #[cfg(test)]
+mod ledgers;
+#[cfg(test)]
 mod managers;
 #[cfg(test)]
 mod maps;

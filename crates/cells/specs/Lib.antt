@@ -1,2 +1,4 @@
 pub mod Limits
 pub mod Cell
+pub mod Entries
+pub mod Layers

@@ -1,9 +1,10 @@
 -- The record that a step adds to its node's file.
-use Rattle.std.proofs.Common.{◌≡◌, ℕ, List, Result}
+use Rattle.std.proofs.Common.{◌≡◌, ℕ, Result}
 use Rattle.disk.specs.declared.device.DiskFault.{DiskFault}
 use Rattle.disk.specs.Disk.{DiskState}
 use Rattle.disk.specs.Filed.{Filed}
 use Rattle.disk.specs.Appends.{Appends}
+use Rattle.blocks.specs.declared.record.Record.{Record}
 use Rattle.blocks.specs.declared.record.Record.TheVariants as records
 use Rattle.replica.specs.Groups.{Group}
 
@@ -12,7 +13,7 @@ pub append_written : {D : Type 0} (state : D → DiskState) (old new : Filed D) 
     offset ≡ end → added ≡ g → w ≡ r → Appends state old new (records.Append e offset added) w → Appends {T = Unit} state old new (records.Append e end g) r
 append_written state old new e offset end g added w r at same told h = rw (← at, ← same, ← told) h
 
--- and a copy of groups
-pub fill_written : {D : Type 0} (state : D → DiskState) (old new : Filed D) (e from upto : ℕ) (gs added : List Group) (w r : Result Unit DiskFault) →
-    added ≡ gs → w ≡ r → Appends state old new (records.Fill e from upto added) w → Appends {T = Unit} state old new (records.Fill e from upto gs) r
-fill_written state old new e from upto gs added w r same told h = rw (← same, ← told) h
+-- what a write told is told
+pub told_again : {D : Type 0} (state : D → DiskState) (old new : Filed D) (added : Record) (w r : Result Unit DiskFault) →
+    w ≡ r → Appends state old new added w → Appends {T = Unit} state old new added r
+told_again state old new added w r told h = rw (← told) h

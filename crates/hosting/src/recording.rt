@@ -6,17 +6,19 @@ ghost use Rattle.std.specs.VecDeque.{deque_len, deque_capacity};
 ghost use Rattle.blocks.specs.Limits.{IsGroup};
 ghost use Rattle.blocks.specs.declared.record.Record.TheVariants as records;
 ghost use Rattle.disk.specs.Appends.{Appends, Records, listed};
-ghost use Rattle.replica.specs.Content.{appended};
+ghost use Rattle.replica.specs.Content.{appended, fenced};
 ghost use Rattle.replica.specs.Groups.{text_length};
 ghost use Rattle.replica.specs.Reading.{groups_to};
 ghost use Rattle.replica.specs.Replay.{cut_to, is_boundary, is_frozen, is_open, is_sealed, is_tail};
+ghost use Rattle.replica.specs.State.{content_of};
 ghost use Rattle.model.specs.Node.{fresh, frozen_at, raise_written, raised, sealed_at};
 
 use crate::hosted::Hosted;
-use crate::writing::{write_append, write_fence, write_fill, write_freeze, write_seal};
-use blocks::{Group, Groups};
+use crate::writing::{write, write_append, write_fill};
+use blocks::{Group, Groups, Record};
 use disk::{Disk, DiskFault, RecordFile};
 use model::Waiting;
+use replica::Replica;
 use std::alloc::Global;
 use std::collections::VecDeque;
 use wire::{ActorId, Blocks, ExtentId, Fence, ReqNo};
@@ -27,6 +29,29 @@ fn push_waiting(waiting: &mut VecDeque<Waiting>, added: Waiting)
     ensures { waiting.new.items ≡ waiting.old.items ++ added ∷ [] }
 {
     if let Err(_full) = waiting.push_back(added) {}
+}
+
+/// Adds a copy of a group to the end of an open replica below its target, once it is recorded there.
+fn add_group<D: Disk>(
+    replica: &mut Replica,
+    alloc: Global,
+    file: &mut RecordFile<D>,
+    extent: ExtentId,
+    end: u32,
+    group: &Group,
+) -> Result<(), DiskFault>
+    requires running { file.old.stopped ≡ false }
+    requires open { is_open (content_of replica.old).phase ≡ true }
+    requires room { text_length (content_of replica.old).groups < (content_of replica.old).target }
+    ensures after { OnOk result (content_of replica.new ≡ appended (content_of replica.old) group.now) }
+    ensures same { OnErr result (content_of replica.new ≡ content_of replica.old) }
+    ensures file { Appends D.state file.old file.new (records.Append extent end group.now) result }
+{
+    replica.reserve(1)?;
+    let kept = group.copy(alloc)?;
+    write_append(alloc, file, extent, end, group)?;
+    replica.add(kept);
+    Ok(())
 }
 
 impl Hosted {
@@ -53,19 +78,16 @@ impl Hosted {
         ensures file { Appends D.state file.old file.new (records.Append extent (text_length self.old.content.groups) blocks.now) result }
     {
         let offset = self.replica.len();
-        let kept = blocks.group(alloc)?;
-        let added = blocks.group(alloc)?;
-        let waiting = Waiting {
-            offset,
-            group: blocks.group(alloc)?,
-            asker,
-            request,
-        };
-        self.replica.reserve(1)?;
         self.waiting.reserve(1)?;
-        match write_append(alloc, file, extent, offset, added) {
+        let group = blocks.group(alloc)?;
+        match add_group(&mut self.replica, alloc, file, extent, offset, &group) {
             Ok(()) => {
-                self.replica.add(kept);
+                let waiting = Waiting {
+                    offset,
+                    group,
+                    asker,
+                    request,
+                };
                 push_waiting(&mut self.waiting, waiting);
                 Ok(())
             }
@@ -90,17 +112,31 @@ impl Hosted {
         ensures file { Appends D.state file.old file.new (records.Append extent (text_length self.old.content.groups) group.now) result }
     {
         let end = self.replica.len();
-        let _blocks = group.blocks();
-        let kept = group.copy(alloc)?;
-        let added = group.copy(alloc)?;
-        self.replica.reserve(1)?;
-        match write_append(alloc, file, extent, end, added) {
-            Ok(()) => {
-                self.replica.add(kept);
-                Ok(())
-            }
-            Err(fault) => Err(fault),
-        }
+        add_group(&mut self.replica, alloc, file, extent, end, group)
+    }
+
+    /// Raises the fence of an open replica to a generation above it, once that is recorded.
+    fn raise_above<D: Disk>(
+        &mut self,
+        alloc: Global,
+        file: &mut RecordFile<D>,
+        extent: ExtentId,
+        generation: Fence,
+    ) -> Result<(), DiskFault>
+        requires running { file.old.stopped ≡ false }
+        requires open { is_open self.old.content.phase ≡ true }
+        requires above { self.old.content.fence < generation }
+        ensures after { OnOk result (self.new ≡ record self.old { content = fenced self.old.content generation }) }
+        ensures same { OnErr result (self.new ≡ self.old) }
+        ensures file { Appends D.state file.old file.new (records.Fence extent generation) result }
+    {
+        let raised = Record::Fence {
+            extent: extent.0,
+            generation: generation.0,
+        };
+        write(alloc, file, raised)?;
+        self.replica.raise(generation.0);
+        Ok(())
     }
 
     /// Raises the fence of an open replica to a generation above it, once that is recorded; any other leaves it. 20: the
@@ -121,13 +157,7 @@ impl Hosted {
         if self.replica.fence() >= generation.0 {
             return Ok(());
         }
-        match write_fence(alloc, file, extent, generation) {
-            Ok(()) => {
-                self.replica.raise(generation.0);
-                Ok(())
-            }
-            Err(fault) => Err(fault),
-        }
+        self.raise_above(alloc, file, extent, generation)
     }
 
     /// Lets an open replica take no more groups and drops what a stop drops, once that is recorded. 20: the disk failed,
@@ -144,14 +174,10 @@ impl Hosted {
         ensures same { OnErr result (self.new ≡ self.old) }
         ensures file { Appends D.state file.old file.new (records.Freeze extent) result }
     {
-        match write_freeze(alloc, file, extent) {
-            Ok(()) => {
-                self.replica.freeze(alloc);
-                self.forget();
-                Ok(())
-            }
-            Err(fault) => Err(fault),
-        }
+        write(alloc, file, Record::Freeze { extent: extent.0 })?;
+        self.replica.freeze(alloc);
+        self.forget();
+        Ok(())
     }
 
     /// Keeps the groups up to a length at which one ends, for good, and drops what a stop drops, once that is recorded.
@@ -170,14 +196,14 @@ impl Hosted {
         ensures same { OnErr result (self.new ≡ self.old) }
         ensures file { Appends D.state file.old file.new (records.Seal extent length) result }
     {
-        match write_seal(alloc, file, extent, length) {
-            Ok(()) => {
-                self.replica.seal(alloc, length);
-                self.forget();
-                Ok(())
-            }
-            Err(fault) => Err(fault),
-        }
+        let sealed = Record::Seal {
+            extent: extent.0,
+            length,
+        };
+        write(alloc, file, sealed)?;
+        self.replica.seal(alloc, length);
+        self.forget();
+        Ok(())
     }
 
     /// Adds the groups that bring a frozen replica from its end to its length, for good, and drops what a stop drops,
@@ -199,16 +225,12 @@ impl Hosted {
         ensures same { OnErr result (self.new ≡ self.old) }
         ensures file { Appends D.state file.old file.new (records.Fill extent from length groups.now) result }
     {
-        let kept = Groups::copied(alloc, &groups.items)?;
-        let added = Groups::copied(alloc, &groups.items)?;
-        self.replica.reserve(groups.items.len())?;
-        match write_fill(alloc, file, extent, from, length, added) {
-            Ok(()) => {
-                self.replica.fill(alloc, kept);
-                self.forget();
-                Ok(())
-            }
-            Err(fault) => Err(fault),
-        }
+        let items = groups.items.as_slice();
+        self.replica.reserve(items.len())?;
+        let kept = Groups::copied(alloc, items)?;
+        write_fill(alloc, file, extent, from, length, groups)?;
+        self.replica.fill(alloc, kept);
+        self.forget();
+        Ok(())
     }
 }

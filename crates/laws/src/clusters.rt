@@ -9,7 +9,7 @@ ghost use Rattle.model.specs.World.{start};
 ghost use Rattle.model.specs.declared.event.Event.{Event};
 ghost use Rattle.model_tables.specs.Past.{Replays};
 ghost use Rattle.model_tables.specs.Servers.{ArePlain, Held, ServerCell, ShowsLoad, server_gives_up, server_loads, server_takes};
-ghost use Rattle.model_clusters.specs.Cluster.{Cluster, LeadTo, first_cluster, comes};
+ghost use Rattle.model_tables.specs.Cluster.{Cluster, LeadTo, first_cluster, comes};
 ghost use Rattle.laws_clusters.specs.Orders.{ComesOfStreams};
 ghost use Rattle.laws_servers.specs.Sending.{ByMoves, MaySendAll};
 

@@ -12,7 +12,7 @@ use Rattle.model.specs.World.{World, Move, happens, start}
 use Rattle.model.specs.World.Move.{Happens}
 use Rattle.laws_streams.proofs.Law.{run_moves_push}
 use Rattle.laws_streams.proofs.Sending.{moved_gains}
-use Rattle.model_clusters.specs.Cluster.{Cluster}
+use Rattle.model_tables.specs.Cluster.{Cluster}
 use Rattle.model_tables.specs.Extents.{State, Step}
 use Rattle.model_tables.specs.Log.{ShowsTables, next_number, observed}
 use Rattle.model_tables.specs.Range.{RangeState}

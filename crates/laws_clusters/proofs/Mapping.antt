@@ -13,8 +13,8 @@ use Rattle.wire.specs.declared.packet.Packet.{Packet}
 use Rattle.model.specs.Outcome.{Outcome, packet}
 use Rattle.model.specs.World.{is_told}
 use Rattle.model.proofs.Tests.{if_elim}
-use Rattle.model_map.specs.declared.range_entry.RangeEntry.{RangeEntry}
-use Rattle.model_map.specs.Map.{MapState, range_at, range_of_key, changed_if, assigned, renewed, assign_row, renew_row, route_row, told, map_row}
+use Rattle.model_tables.specs.declared.range_entry.RangeEntry.{RangeEntry}
+use Rattle.model_tables.specs.Map.{MapState, range_at, range_of_key, changed_if, assigned, renewed, assign_row, renew_row, route_row, told, map_row}
 
 -- what the map tells servers of leases is of range 1, and what it tells else says nothing to them
 abbrev pub IsMapWord : MapBody → Type 0

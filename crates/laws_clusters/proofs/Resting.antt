@@ -20,8 +20,8 @@ use Rattle.model.specs.World.{Cell as MapCell, World, Move, sent_more, start}
 use Rattle.model.specs.World.Move.{Says}
 use Rattle.laws_streams.proofs.Law.{run_moves_push}
 use Rattle.model_tables.specs.Servers.{ServerCell, with_told, cell_rests, cell_does, cell_stops, cell_starts, first_pick, at_server, server_stops, server_starts, told_moment}
-use Rattle.model_clusters.specs.Cluster.{Cluster, does, shows_moment}
-use Rattle.model_map.specs.Map.{MapState}
+use Rattle.model_tables.specs.Cluster.{Cluster, does, shows_moment}
+use Rattle.model_tables.specs.Map.{MapState}
 use Rattle.model_tables.specs.Range.{RangeState}
 use Rattle.model_tables.specs.Server.{ServerState, ServerOutcome, range_of, set_range, rests, renew_row, moment_row, started}
 use Rattle.model_tables.specs.Extents as extents

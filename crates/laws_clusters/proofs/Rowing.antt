@@ -18,7 +18,7 @@ use Rattle.model_tables.specs.declared.desk.Desk.{Desk}
 use Rattle.model_tables.specs.declared.stage.Stage.TheVariants as stages
 use Rattle.model_tables.specs.Answering.{answered_number, is_answerer, answer_row, give_up_all}
 use Rattle.model_tables.specs.Servers.{noted, rows_of}
-use Rattle.model_clusters.specs.Cluster.{Cluster}
+use Rattle.model_tables.specs.Cluster.{Cluster}
 use Rattle.model_tables.specs.Getting.{get_row}
 use Rattle.model_tables.specs.Loading.{open_region, are_counted, serves_region, serves_from, serves}
 use Rattle.model_tables.specs.Log.{ShowsTables, line_shown}

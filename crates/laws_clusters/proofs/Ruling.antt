@@ -5,8 +5,8 @@ use Rattle.wire.specs.declared.refusal.Refusal.{Refusal}
 use Rattle.model.specs.Outcome.{Outcome}
 use Rattle.model.specs.World.{Cell, running, down, armed, burnt, stops_in, stands_in, sent_more}
 use Rattle.model.proofs.Tests.{if_elim}
-use Rattle.model_map.specs.Map.{MapState, range_at, assign_fault, assign_row, renew_fault, renew_row, map_row}
-use Rattle.model_clusters.specs.Cluster.{Cluster, map_does, map_does_if, map_takes, assigns, renews, map_stops, map_starts}
+use Rattle.model_tables.specs.Map.{MapState, range_at, assign_fault, assign_row, renew_fault, renew_row, map_row}
+use Rattle.model_tables.specs.Cluster.{Cluster, map_does, map_does_if, map_takes, assigns, renews, map_stops, map_starts}
 use Rattle.laws_clusters.proofs.Mapping.{AreFirst, Tells, Nothing, Word, IsRow, assign_is_row, renew_is_row, map_is_row}
 use Rattle.laws_clusters.proofs.Resting.{told_nothing, still_runs, rests_as, map_says_stands}
 use Rattle.laws_clusters.proofs.Standing.{Standing}

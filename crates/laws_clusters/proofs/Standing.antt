@@ -10,7 +10,7 @@ use Rattle.model.specs.Maps.{entry_at}
 use Rattle.model.specs.Outcome.{packet}
 use Rattle.model.specs.World.{World, Move}
 use Rattle.model_tables.specs.Servers.{ServerCell}
-use Rattle.model_clusters.specs.Cluster.{Cluster}
+use Rattle.model_tables.specs.Cluster.{Cluster}
 use Rattle.model_tables.specs.Log.{ShowsTables}
 use Rattle.model_tables.specs.Range.{RangeState}
 use Rattle.model_tables.specs.Server.{ServerState}

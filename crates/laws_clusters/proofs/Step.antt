@@ -16,7 +16,7 @@ use Rattle.model.specs.Outcome.{packet}
 use Rattle.model.specs.World.{World, Move}
 use Rattle.model_tables.specs.declared.desk.Desk.{Desk}
 use Rattle.model_tables.specs.Servers.{ServerCell, noted, with_told}
-use Rattle.model_clusters.specs.Cluster.{Cluster}
+use Rattle.model_tables.specs.Cluster.{Cluster}
 use Rattle.model_tables.specs.Log.{ShowsTables}
 use Rattle.model_tables.specs.Range.{RangeState, RangeOutcome}
 use Rattle.model_tables.specs.Server.{ServerState}

@@ -27,7 +27,7 @@ use Rattle.model.specs.Outcome.{packet}
 use Rattle.model.specs.World.{World}
 use Rattle.model_tables.specs.Answering.{answered_number, is_answerer, range_awaits, answer_row, give_up_all}
 use Rattle.model_tables.specs.Servers.{Held, ServerCell, cell_takes, cell_rests, cell_does, cell_gives_up, cell_given_up, at_server, server_takes, server_gives_up, with_told}
-use Rattle.model_clusters.specs.Cluster.{Cluster, does}
+use Rattle.model_tables.specs.Cluster.{Cluster, does}
 use Rattle.model_tables.specs.Getting.{get_row}
 use Rattle.model_tables.specs.Range.{RangeState, RangeOutcome, request, used, refuses, waiting_out}
 use Rattle.model_tables.specs.Server.{ServerState, ServerOutcome, set_range, range_of, awaiting, rests, sends_one, stepped, new_range, users_of, is_newer, assign_row, told_by_map, map_row, transacts_in, gets_in, table_row, answer_in, answer_of, numbered_row, taken_row, has_numbers, server_row, gives_up, give_up_row}

@@ -4,7 +4,7 @@ use Rattle.std.proofs.lemmas.Bool.Decides.{nat_tests}
 use Rattle.wire.specs.declared.note.Note.{Note}
 use Rattle.wire.specs.declared.note.Note.TheVariants.{Began, Done, Loaded}
 use Rattle.wire.specs.declared.rows.Row.{Row}
-use Rattle.memtable.specs.Entries.{Entries}
+use Rattle.cells.specs.Entries.{Entries}
 use Rattle.metadata.specs.declared.record.IndexRange.{IndexRange}
 use Rattle.replica.specs.Groups.{Group}
 use Rattle.commitlog.specs.Replay.{Numbered}

@@ -9,7 +9,7 @@ use Rattle.model.specs.declared.event.Event.TheVariants.{Submit, Deliver, Stop, 
 use Rattle.model.specs.Maps.{entry_at}
 use Rattle.model.specs.World.{delivered, delivered_if}
 use Rattle.model_tables.specs.Servers.{Held, ServerCell, first_pick, first_server, first_servers}
-use Rattle.model_clusters.specs.Cluster.{Cluster, goes_to, delivers, stops, restarts, comes, LeadTo, first_cluster}
+use Rattle.model_tables.specs.Cluster.{Cluster, goes_to, delivers, stops, restarts, comes, LeadTo, first_cluster}
 use Rattle.model_tables.specs.Log.{IsServed}
 use Rattle.model_tables.specs.Past.{Replays, Transaction}
 use Rattle.model_tables.specs.Server.{ServerState, started}

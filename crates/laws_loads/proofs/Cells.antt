@@ -12,7 +12,7 @@ use Rattle.blocks.specs.Limits.{group_size}
 use Rattle.cells.specs.declared.cell.Cell.{Cell}
 use Rattle.cells.specs.declared.cell.Cell.TheVariants.{Inline, Placed}
 use Rattle.cells.specs.Limits.{is_large}
-use Rattle.memtable.specs.Entries.{Entries, key_cmp, found, put_all}
+use Rattle.cells.specs.Entries.{Entries, key_cmp, found, put_all}
 use Rattle.std.proofs.lemmas.List.Concat.{flat_map-cons}
 use Rattle.replica.specs.Groups.{Group, joined}
 use Rattle.replica.proofs.Lengths.{group_size-size}

@@ -8,7 +8,7 @@ use Rattle.formats.specs.Format.{◌>>=◌}
 use Rattle.blocks.specs.Limits.{group_size}
 use Rattle.streams.specs.declared.table.Position.{Position}
 use Rattle.cells.specs.declared.cell.Cell.{Cell}
-use Rattle.memtable.specs.Entries.{Entries, put_all}
+use Rattle.cells.specs.Entries.{Entries, put_all}
 use Rattle.metadata.specs.declared.record.KeyRange.{KeyRange}
 use Rattle.metadata.specs.declared.record.Region.{Region}
 use Rattle.metadata.specs.Fold.{all_keys}

@@ -14,7 +14,7 @@ use Rattle.wire.specs.declared.rows.Row.{Row}
 use Rattle.cells.specs.declared.cell.Cell.{Cell}
 use Rattle.cells.specs.declared.cell.Cell.TheVariants.{Deleted, Inline, Placed}
 use Rattle.cells.specs.declared.cell.Place.{Place}
-use Rattle.memtable.specs.Entries.{Entries, key_cmp, found, put_all}
+use Rattle.cells.specs.Entries.{Entries, key_cmp, found, put_all}
 use Rattle.replica.specs.Groups.{joined, text}
 use Rattle.model_tables.specs.Servers.{part, shown_in, first_shown, or_later, row_if, row_of, rows_of}
 use Rattle.model_tables.specs.Past.{Bytes, stored}

@@ -2,7 +2,7 @@
 use Rattle.std.specs.Prelude.{◌≡◌, ℕ, ◌++◌, length, take, drop, Option, Some, None}
 use Rattle.cells.specs.declared.cell.Cell.{Cell}
 use Rattle.cells.specs.declared.cell.Cell.TheVariants.{Deleted, Inline, Placed}
-use Rattle.memtable.specs.Entries.{Entries, found}
+use Rattle.cells.specs.Entries.{Entries, found}
 use Rattle.model_tables.specs.Past.{Bytes, Table}
 
 -- the bytes stand at an offset of a text

@@ -6,7 +6,7 @@ use Rattle.wire.specs.declared.streams.StreamKind.TheVariants as kinds
 use Rattle.client.specs.declared.job.Job.TheVariants as jobs
 use Rattle.client.specs.Client.{ClientState, Outcome, last_extent}
 use Rattle.commitlog.specs.declared.log_record.LogRecord.{LogRecord}
-use Rattle.memtable.specs.Entries.{Entries}
+use Rattle.cells.specs.Entries.{Entries}
 use Rattle.metadata.specs.declared.record.Region.{Region}
 use Rattle.metadata.specs.Fold.{all_keys, first_metadata}
 use Rattle.model.specs.World.{World}

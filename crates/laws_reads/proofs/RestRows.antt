@@ -10,7 +10,7 @@ use Rattle.client.specs.declared.job.News.TheVariants as news
 use Rattle.client.specs.Client.{ClientState, Outcome, give_up_row}
 use Rattle.cells.specs.declared.cell.Place.{Place}
 use Rattle.commitlog.specs.Places.{kept}
-use Rattle.memtable.specs.Entries.{put_all}
+use Rattle.cells.specs.Entries.{put_all}
 use Rattle.model.specs.World.{World}
 use Rattle.model.proofs.Tests.{none_met}
 use Rattle.model_tables.specs.declared.desk.Desk.{Desk}

@@ -8,7 +8,7 @@ use Rattle.replica.specs.Groups.{Group, text}
 use Rattle.cells.specs.declared.cell.Cell.TheVariants.{Deleted, Inline, Placed}
 use Rattle.cells.specs.declared.cell.Place.{Place}
 use Rattle.client.specs.Client.{ClientState}
-use Rattle.memtable.specs.Entries.{Entries}
+use Rattle.cells.specs.Entries.{Entries}
 use Rattle.model.specs.World.{World}
 use Rattle.model_tables.specs.Servers.{part, shown_in, rows_of}
 use Rattle.model_tables.specs.Log.{line_shown}

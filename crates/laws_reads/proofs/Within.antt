@@ -12,7 +12,7 @@ use Rattle.cells.specs.declared.cell.Cell.{Cell}
 use Rattle.cells.specs.declared.cell.Cell.TheVariants.{Deleted, Inline, Placed}
 use Rattle.cells.specs.declared.cell.Place.{Place}
 use Rattle.cells.specs.Limits.{is_large}
-use Rattle.memtable.specs.Entries.{Entries, key_cmp, put_all}
+use Rattle.cells.specs.Entries.{Entries, key_cmp, put_all}
 use Rattle.metadata.specs.declared.record.KeyRange.{KeyRange}
 use Rattle.metadata.specs.declared.record.Region.{Region}
 use Rattle.metadata.specs.Keys.{within}

@@ -12,7 +12,7 @@ use Rattle.replica.specs.Groups.{Group, text}
 use Rattle.cells.specs.declared.cell.Cell.{Cell}
 use Rattle.cells.specs.declared.cell.Cell.TheVariants.{Deleted, Inline, Placed}
 use Rattle.cells.specs.declared.cell.Place.{Place}
-use Rattle.memtable.specs.Entries.{Entries}
+use Rattle.cells.specs.Entries.{Entries}
 use Rattle.metadata.specs.declared.record.Region.{Region}
 use Rattle.metadata.specs.Fold.{all_keys, first_metadata}
 use Rattle.client.specs.declared.job.Job.{Job}

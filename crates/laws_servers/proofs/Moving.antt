@@ -17,12 +17,12 @@ use Rattle.model.specs.Outcome.{Outcome, packet}
 use Rattle.model.specs.World.{World, happens, moved, sent_more, stops_in, stands_in, delivered, delivered_if, is_table_note, start, Move, run_moves}
 use Rattle.model.specs.World.Move.{Happens, Asks, Says, Observes}
 use Rattle.model.proofs.Tests.{if_elim}
-use Rattle.model_map.specs.declared.range_entry.RangeEntry.{RangeEntry}
-use Rattle.model_map.specs.Map.{MapState, range_at, range_of_key, assign_fault, assign_row, renew_fault, renew_row, route_row, told as map_told, map_row}
+use Rattle.model_tables.specs.declared.range_entry.RangeEntry.{RangeEntry}
+use Rattle.model_tables.specs.Map.{MapState, range_at, range_of_key, assign_fault, assign_row, renew_fault, renew_row, route_row, told as map_told, map_row}
 use Rattle.model_tables.specs.declared.table_note.TableNote.{TableNote}
 use Rattle.model_tables.specs.declared.table_note.TableNote.TheVariants.{Began, Done, Loaded}
 use Rattle.model_tables.specs.Servers.{Held, ServersOutcome, told, noted, with_told, server_takes, server_gives_up, server_stops, server_starts}
-use Rattle.model_clusters.specs.Cluster.{Cluster, map_does, map_does_if, map_takes, goes_to, delivers, stops, restarts, comes, assigns, renews, shows_moment, LeadTo}
+use Rattle.model_tables.specs.Cluster.{Cluster, map_does, map_does_if, map_takes, goes_to, delivers, stops, restarts, comes, assigns, renews, shows_moment, LeadTo}
 use Rattle.laws_streams.proofs.Law.{agree_in_moves, kept_in_moves}
 use Rattle.laws_streams.proofs.Rising.{run_more}
 use Rattle.laws_servers.specs.Sending.{MaySend, MaySendAll, ByMoves}

@@ -15,7 +15,7 @@ use Rattle.wire.specs.declared.body.Body.{Body}
 use Rattle.wire.specs.declared.body.Body.TheVariants as bodies
 use Rattle.wire.specs.declared.packet.Packet.{Packet}
 use Rattle.wire.specs.declared.transaction.Change.{Change}
-use Rattle.memtable.specs.Entries.{Entries}
+use Rattle.cells.specs.Entries.{Entries}
 use Rattle.model.proofs.Tests.{if_elim}
 use Rattle.model.specs.Maps.{entry_at}
 use Rattle.model_tables.specs.declared.desk.Desk.{Desk}

@@ -28,7 +28,7 @@ use Rattle.client.specs.Load.{again, load_awaits}
 use Rattle.cells.specs.declared.cell.Place.{Place}
 use Rattle.commitlog.specs.Record.{spelling}
 use Rattle.commitlog.specs.Places.{kept}
-use Rattle.memtable.specs.Entries.{Entries, put_all}
+use Rattle.cells.specs.Entries.{Entries, put_all}
 use Rattle.metadata.specs.Fold.{MetadataState, first_metadata}
 use Rattle.metadata.specs.declared.record.Region.{Region}
 use Rattle.model.proofs.Tests.{if_elim}

@@ -26,7 +26,7 @@ use Rattle.model_tables.specs.Range.{OutGroup, RangeState, RangeOutcome, request
 use Rattle.model_tables.specs.Loading.{log_news}
 use Rattle.model_tables.specs.Serving.{group_count, appends as appending, forms, log_done, transact_fault, transacts, transact_row, record_of, out_size}
 use Rattle.commitlog.specs.Places.{kept}
-use Rattle.memtable.specs.Entries.{put_all}
+use Rattle.cells.specs.Entries.{put_all}
 use Rattle.model_tables.specs.Answering.{serving_news, log_taken, log_reply, is_taken, groups_of}
 use Rattle.model_tables.specs.Extents as machine
 use Rattle.replica.specs.Groups.{Group}

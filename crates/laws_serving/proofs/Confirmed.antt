@@ -6,7 +6,7 @@ use Rattle.wire.specs.declared.body.StreamBody.TheVariants as streams
 use Rattle.wire.specs.declared.refusal.Refusal.TheVariants as refusals
 use Rattle.wire.specs.declared.streams.StreamName.{StreamName}
 use Rattle.replica.specs.Groups.{Group}
-use Rattle.memtable.specs.Entries.{Entries}
+use Rattle.cells.specs.Entries.{Entries}
 use Rattle.metadata.specs.declared.record.IndexRange.{IndexRange}
 use Rattle.metadata.specs.declared.record.Region.{Region}
 use Rattle.client.specs.Requests.{is_same}

@@ -14,7 +14,7 @@ use Rattle.laws_serving.proofs.Picked.{reading_goes}
 use Rattle.laws_serving.proofs.Sides.{log_step}
 use Rattle.laws_serving.proofs.Confirmed.{dropped_both}
 use Rattle.metadata.specs.declared.record.Region.{Region}
-use Rattle.memtable.specs.Entries.{Entries}
+use Rattle.cells.specs.Entries.{Entries}
 
 module _ (generation : ℕ → ℕ) (range : ℕ) (w : World) (i : ℕ) (both : BothListed w range) (m l : Side) (d : Desk) (by : IsSentBy d d.count m.sent l.sent) where
   -- the next extent is read, or all is read

@@ -28,7 +28,7 @@ use Rattle.model_tables.specs.Past.{Transaction}
 use Rattle.commitlog.specs.Replay.{Numbered}
 use Rattle.laws_loads.specs.Renaming.{renamed, decoded}
 use Rattle.commitlog.specs.Places.{kept}
-use Rattle.memtable.specs.Entries.{put_all}
+use Rattle.cells.specs.Entries.{put_all}
 use Rattle.model_tables.specs.Loading.{log_news}
 use Rattle.model_tables.specs.Range.{is_serving}
 use Rattle.model_tables.specs.Answering.{serving_news, log_taken, log_reply, is_taken, groups_of}

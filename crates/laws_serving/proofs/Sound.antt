@@ -8,8 +8,8 @@ use Rattle.wire.specs.declared.refusal.Refusal.{Refusal}
 use Rattle.wire.specs.declared.refusal.Refusal.TheVariants as refusals
 use Rattle.wire.specs.declared.transaction.Change.{Change}
 use Rattle.commitlog.specs.Record.{HasValue, IsChange, IsTransaction, Fits, spelling}
-use Rattle.memtable.specs.Entries.{entries_size}
-use Rattle.memtable.specs.Layers.{size_of}
+use Rattle.cells.specs.Entries.{entries_size}
+use Rattle.cells.specs.Layers.{size_of}
 use Rattle.metadata.specs.Keys.{within}
 use Rattle.model.proofs.Tests.{if_elim, none_met}
 use Rattle.model_tables.specs.declared.desk.Desk.{Desk}

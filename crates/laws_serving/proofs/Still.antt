@@ -26,7 +26,7 @@ use Rattle.client.specs.declared.load.LoadPhase.TheVariants as phases
 use Rattle.client.specs.Client.{Outcome, new_client, last_extent, awaits, reply_row}
 use Rattle.client.specs.Load.{load_awaits}
 use Rattle.commitlog.specs.Places.{kept}
-use Rattle.memtable.specs.Entries.{Entries, put_all}
+use Rattle.cells.specs.Entries.{Entries, put_all}
 use Rattle.metadata.specs.declared.record.Region.{Region}
 use Rattle.metadata.specs.Fold.{MetadataState, first_metadata}
 use Rattle.model.proofs.Tests.{if_elim}

@@ -24,7 +24,7 @@ use Rattle.client.specs.declared.load.LoadPhase.TheVariants as phases
 use Rattle.client.specs.Client.{ClientState, last_extent}
 use Rattle.commitlog.specs.declared.log_record.LogRecord.{LogRecord}
 use Rattle.commitlog.specs.Record.{spelling, Fits}
-use Rattle.memtable.specs.Entries.{Entries}
+use Rattle.cells.specs.Entries.{Entries}
 use Rattle.metadata.specs.declared.record.IndexRange.{IndexRange}
 use Rattle.model.specs.World.{World}
 use Rattle.model_tables.specs.declared.desk.Desk.{Desk}

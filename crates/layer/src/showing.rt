@@ -1,6 +1,6 @@
 //! What servers show.
 ghost use Rattle.std.specs.Prelude.{◌≡◌, ◌++◌, ◌∷◌, [], ◌+◌, ◌<◌, ◌≤◌, suc, Some, IfOk, OnErr, option_map, vec_len, vec_capacity};
-ghost use Rattle.memtable.specs.Entries.{Entries};
+ghost use Rattle.cells.specs.Entries.{Entries};
 ghost use Rattle.model_tables.specs.Servers.{noted, rows_of};
 ghost use Rattle.servers.specs.Servers.{ServersGave, NoMore};
 ghost use Rattle.layer.specs.Told.{ShowsRows, told_with};

@@ -13,7 +13,7 @@ ghost use Rattle.layer.specs.Nodes.{NodesMirror, seen_of, running_at};
 ghost use Rattle.layer.specs.Run.{IsFew, Mirrors, Moved, refusal_of};
 ghost use Rattle.layer.specs.Told.{Ordered, Took, TookPacket};
 ghost use Rattle.map_desk.specs.Seen.{Steps, StepsAt, assign_refusal, renew_refusal};
-ghost use Rattle.model_clusters.specs.Cluster.{assigns, map_takes, renews};
+ghost use Rattle.model_tables.specs.Cluster.{assigns, map_takes, renews};
 
 use crate::calls::is_call;
 use crate::desk::{Decision, Desk};

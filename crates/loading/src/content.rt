@@ -1,6 +1,6 @@
 //! What a load makes of a range.
+use cells::MemTable;
 use client::{RangeLoad, StreamClient};
-use memtable::MemTable;
 use metadata::{Metadata, Region};
 use model_tables::Stage;
 use wire::StreamList;

@@ -2,8 +2,7 @@
 ghost use Rattle.std.specs.Prelude.{◌≡◌, [], IfOk};
 
 use bytes::Bytes;
-use cells::Cell;
-use memtable::MemTable;
+use cells::{Cell, MemTable};
 use model_tables::Entries;
 use std::alloc::{AllocError, Global};
 use wire::{StreamExtents, StreamList};

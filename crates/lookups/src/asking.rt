@@ -3,7 +3,7 @@ ghost use Rattle.std.specs.Prelude.{◌≡◌, ◌++◌};
 ghost use Rattle.model_tables.specs.Getting.{places_in as nodes_in};
 
 use blocks::Nodes;
-use memtable::MemTable;
+use cells::MemTable;
 use model_tables::Desk;
 use wire::{ExtentId, StreamExtent};
 

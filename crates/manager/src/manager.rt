@@ -105,10 +105,13 @@ fn recovered<D: Disk>(alloc: Global, file: RecordFile<D>) -> Result<Manager<D>, 
         (λ m. IsSame (D.state file.disk) (D.state m.file.disk))
         (λ e. IsSame (D.state file.disk) (D.state e.1)) }
 {
-    let mut file = file;
-    match table_of(alloc, &mut file) {
-        Ok(table) => Ok(Manager { table, file }),
-        Err(fault) => Err((fault, file.into_disk())),
+    let mut opened = file;
+    match table_of(alloc, &mut opened) {
+        Ok(table) => Ok(Manager {
+            table,
+            file: opened,
+        }),
+        Err(fault) => Err((fault, opened.into_disk())),
     }
 }
 

@@ -8,9 +8,9 @@ use Rattle.wire.specs.declared.packet.Step.{Step}
 use Rattle.wire.specs.declared.refusal.Refusal.{Refusal}
 use Rattle.wire.specs.declared.refusal.Refusal.TheVariants as refusals
 use Rattle.model.specs.Outcome.{Outcome}
-use Rattle.model_map.specs.declared.range_entry.RangeEntry.{RangeEntry}
-use Rattle.model_map.specs.Map.{MapState, is_other, is_holder, range_at, assign_fault, assign_row, renew_fault, renew_row}
-use Rattle.model_clusters.specs.Cluster.{Cluster, assigns, renews, map_does_if}
+use Rattle.model_tables.specs.declared.range_entry.RangeEntry.{RangeEntry}
+use Rattle.model_tables.specs.Map.{MapState, is_other, is_holder, range_at, assign_fault, assign_row, renew_fault, renew_row}
+use Rattle.model_tables.specs.Cluster.{Cluster, assigns, renews, map_does_if}
 use Rattle.pmap.specs.declared.fault.MapFault.{MapFault}
 use Rattle.pmap.specs.declared.fault.MapFault.TheVariants as faults
 use Rattle.pmap.specs.Held.{MapHeld, map_of}

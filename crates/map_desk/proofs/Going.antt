@@ -14,9 +14,9 @@ use Rattle.wire.specs.declared.refusal.Refusal.{Refusal}
 use Rattle.model.specs.Outcome.{Outcome}
 use Rattle.model.specs.World.{World, armed, down, running, sent_more, stands_in, stops_in}
 use Rattle.model.proofs.Tests.{if_elim}
-use Rattle.model_map.specs.Map.{MapState}
-use Rattle.model_map.specs.Replay.{map_replay}
-use Rattle.model_clusters.specs.Cluster.{Cluster, map_does, map_does_if, map_halted, map_stops, map_starts}
+use Rattle.model_tables.specs.Map.{MapState}
+use Rattle.model_tables.specs.Replay.{map_replay}
+use Rattle.model_tables.specs.Cluster.{Cluster, map_does, map_does_if, map_halted, map_stops, map_starts}
 use Rattle.stopping.specs.Plan.{plan_of}
 use Rattle.stopping.proofs.Breaking.{broken_down, broken_records, broken_stops, burnt_up, no_stop, plan_ok, plan_armed, short_same, up_ok}
 use Rattle.pmap.specs.Held.{MapHeld, map_of}

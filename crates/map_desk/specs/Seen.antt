@@ -5,9 +5,9 @@ use Rattle.disk.specs.Memory.{memory_state}
 use Rattle.wire.specs.declared.packet.Packet.{Packet}
 use Rattle.wire.specs.declared.refusal.Refusal.{Refusal}
 use Rattle.model.specs.World.{Cell, sent_more}
-use Rattle.model_map.specs.Map.{MapState, first_map, range_at, assign_fault, renew_fault}
-use Rattle.model_map.specs.Replay.{map_replay}
-use Rattle.model_clusters.specs.Cluster.{Cluster}
+use Rattle.model_tables.specs.Map.{MapState, first_map, range_at, assign_fault, renew_fault}
+use Rattle.model_tables.specs.Replay.{map_replay}
+use Rattle.model_tables.specs.Cluster.{Cluster}
 use Rattle.stopping.specs.Plan.{plan_of}
 use Rattle.pmap.specs.Held.{MapHeld, map_of}
 

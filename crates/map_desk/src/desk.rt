@@ -1,6 +1,6 @@
 //! The map on a disk in memory.
 ghost use Rattle.std.specs.Prelude.{◌≡◌, ◌≢◌, ◌≤◌, [], Err, None, Some, IfOk, OnOk, OnErr, length};
-ghost use Rattle.model_clusters.specs.Cluster.{assigns, renews, map_takes, map_stops, map_starts};
+ghost use Rattle.model_tables.specs.Cluster.{assigns, renews, map_takes, map_stops, map_starts};
 ghost use Rattle.map_desk.specs.Outcome.{packets_of, refusal_of};
 ghost use Rattle.map_desk.specs.Seen.{Steps, StepsAt, assign_refusal, new_map, renew_refusal};
 

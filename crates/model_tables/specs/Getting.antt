@@ -21,8 +21,8 @@ use Rattle.client.specs.Requests.{is_same}
 use Rattle.model_tables.specs.declared.waiting.PlaceRead.{PlaceRead}
 use Rattle.model_tables.specs.declared.waiting.WaitingGet.{WaitingGet}
 use Rattle.metadata.specs.Keys.{within}
-use Rattle.memtable.specs.Entries.{found}
-use Rattle.memtable.specs.Layers.{found_in, or_else}
+use Rattle.cells.specs.Entries.{found}
+use Rattle.cells.specs.Layers.{found_in, or_else}
 use Rattle.model_tables.specs.declared.desk.Desk.{Desk}
 use Rattle.model_tables.specs.Range.{RangeState, RangeOutcome, request, tells, refuses, answers, is_serving}
 use Rattle.model_tables.specs.Serving.{is_key, lease_ended}

@@ -11,3 +11,8 @@ pub mod Servers
 pub mod Serving
 pub mod Story
 pub mod Turns
+pub mod Map
+pub mod Partition
+pub mod Ledger
+pub mod Replay
+pub mod Cluster

@@ -24,7 +24,7 @@ use Rattle.model_tables.specs.declared.stage.Stage.{Stage}
 use Rattle.model_tables.specs.declared.stage.Stage.TheVariants.{Checking, Reading, Confirming, Serving}
 use Rattle.model_tables.specs.declared.table_note.TableNote.TheVariants.{Loaded}
 use Rattle.metadata.specs.Keys.{within}
-use Rattle.memtable.specs.Entries.{Entries as Layer, put_all}
+use Rattle.cells.specs.Entries.{Entries as Layer, put_all}
 use Rattle.model_tables.specs.declared.desk.Desk.{Desk}
 use Rattle.model_tables.specs.Range.{RangeState, RangeOutcome, request, goes, dropped, given, picking, later}
 

@@ -14,7 +14,7 @@ use Rattle.wire.specs.declared.refusal.Refusal.TheVariants as refusals
 use Rattle.wire.specs.declared.streams.StreamList.{StreamList}
 use Rattle.streams.specs.declared.table.Position.{Position}
 use Rattle.cells.specs.declared.cell.Place.{Place}
-use Rattle.memtable.specs.Entries.{Entries}
+use Rattle.cells.specs.Entries.{Entries}
 use Rattle.metadata.specs.declared.record.Region.{Region}
 use Rattle.metadata.specs.Fold.{MetadataState}
 use Rattle.client.specs.declared.fault.ClientFault.{ClientFault}

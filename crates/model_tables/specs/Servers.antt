@@ -17,7 +17,7 @@ use Rattle.model.specs.World.{World}
 use Rattle.cells.specs.declared.cell.Cell.{Cell}
 use Rattle.cells.specs.declared.cell.Cell.TheVariants.{Deleted, Inline, Placed}
 use Rattle.cells.specs.declared.cell.Place.{Place}
-use Rattle.memtable.specs.Entries.{Entries}
+use Rattle.cells.specs.Entries.{Entries}
 use Rattle.model_tables.specs.declared.table_note.TableNote.{TableNote}
 use Rattle.model_tables.specs.declared.table_note.TableNote.TheVariants as tables
 use Rattle.metadata.specs.declared.record.IndexRange.{IndexRange}

@@ -19,8 +19,8 @@ use Rattle.model_tables.specs.declared.table_note.TableNote.{TableNote}
 use Rattle.model_tables.specs.declared.table_note.TableNote.TheVariants.{Began, Done}
 use Rattle.model_tables.specs.declared.waiting.WaitingTransaction.{WaitingTransaction}
 use Rattle.metadata.specs.Keys.{within}
-use Rattle.memtable.specs.Entries.{put_all, entries_size}
-use Rattle.memtable.specs.Layers.{size_of}
+use Rattle.cells.specs.Entries.{put_all, entries_size}
+use Rattle.cells.specs.Layers.{size_of}
 use Rattle.model_tables.specs.declared.desk.Desk.{Desk}
 use Rattle.model_tables.specs.Range.{OutGroup, RangeState, RangeOutcome, request, tells, refuses, goes, answers, given, picking, waiting_out, is_serving}
 

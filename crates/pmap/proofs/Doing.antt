@@ -8,10 +8,10 @@ use Rattle.disk.specs.Disk.{DiskState}
 use Rattle.disk.specs.Filed.{Filed}
 use Rattle.disk.specs.Appends.{Appends, Records, listed}
 use Rattle.wire.specs.declared.packet.Step.{Step}
-use Rattle.model_map.specs.declared.map_record.MapRecord.{MapRecord}
-use Rattle.model_map.specs.Ledger.{spelled}
-use Rattle.model_map.specs.Map.{MapState}
-use Rattle.model_map.specs.Replay.{after_record, map_after}
+use Rattle.model_tables.specs.declared.map_record.MapRecord.{MapRecord}
+use Rattle.model_tables.specs.Ledger.{spelled}
+use Rattle.model_tables.specs.Map.{MapState}
+use Rattle.model_tables.specs.Replay.{after_record, map_after}
 use Rattle.pmap.specs.declared.plan.Plan.{Plan}
 use Rattle.pmap.specs.Done.{Done}
 use Rattle.pmap.specs.Plan.{written_by, outcome_of}

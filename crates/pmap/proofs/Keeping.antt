@@ -9,7 +9,7 @@ use Rattle.disk.specs.Filed.{Filed}
 use Rattle.disk.specs.Appends.{Records, listed}
 use Rattle.wire.specs.declared.packet.Step.{Step}
 use Rattle.model.specs.Outcome.{Outcome}
-use Rattle.model_map.specs.Map.{MapState}
+use Rattle.model_tables.specs.Map.{MapState}
 use Rattle.pmap.specs.Done.{Done}
 use Rattle.pmap.specs.Held.{MakesMap, held_of}
 use Rattle.pmap.specs.Ruled.{Ruled}

@@ -8,13 +8,13 @@ use Rattle.blocks.specs.declared.record.Record.TheVariants.{Manage}
 use Rattle.disk.specs.Appends.{listed}
 use Rattle.wire.specs.declared.refusal.Refusal.TheVariants.{NotOwner}
 use Rattle.model.specs.Outcome.{Outcome, first_met}
-use Rattle.model_map.specs.declared.map_record.MapRecord.{MapRecord}
-use Rattle.model_map.specs.declared.map_record.MapRecord.TheVariants.{Assign, Renew}
-use Rattle.model_map.specs.declared.range_entry.RangeEntry.{RangeEntry}
-use Rattle.model_map.specs.Ledger.{spelled, record_of}
-use Rattle.model_map.specs.Map.{MapState, first_map, range_at, is_holder, assign_row, renew_fault, renew_row}
-use Rattle.model_map.specs.Replay.{after_record, map_after, ruling_of, replay_from, may_assign, may_renew, ruling_fits, fit_from, map_fits}
-use Rattle.model_map.proofs.Replaying.{replay_push, fits_push}
+use Rattle.model_tables.specs.declared.map_record.MapRecord.{MapRecord}
+use Rattle.model_tables.specs.declared.map_record.MapRecord.TheVariants.{Assign, Renew}
+use Rattle.model_tables.specs.declared.range_entry.RangeEntry.{RangeEntry}
+use Rattle.model_tables.specs.Ledger.{spelled, record_of}
+use Rattle.model_tables.specs.Map.{MapState, first_map, range_at, is_holder, assign_row, renew_fault, renew_row}
+use Rattle.model_tables.specs.Replay.{after_record, map_after, ruling_of, replay_from, may_assign, may_renew, ruling_fits, fit_from, map_fits}
+use Rattle.model_tables.proofs.Replaying.{replay_push, fits_push}
 use Rattle.pmap.specs.Held.{MakesMap}
 
 -- one record more

@@ -6,7 +6,7 @@ use Rattle.disk.specs.Filed.{Filed}
 use Rattle.disk.specs.Appends.{Records, listed}
 use Rattle.wire.specs.declared.packet.Step.{Step}
 use Rattle.model.specs.Outcome.{Outcome}
-use Rattle.model_map.specs.Map.{MapState}
+use Rattle.model_tables.specs.Map.{MapState}
 
 pub record Done {D : Type 0} (state : D → DiskState) (was is : MapState) (old new : Filed D) (o : Outcome MapState) (result : Result Step DiskFault) : Type 0 where
   pub after : OnOk result (is ≡ o.after)

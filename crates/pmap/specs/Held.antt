@@ -2,9 +2,9 @@
 use Rattle.std.specs.Prelude.{◌≡◌, ℕ, true, List}
 use Rattle.blocks.specs.declared.record.Record.{Record}
 use Rattle.disk.specs.Filed.{Filed}
-use Rattle.model_map.specs.Map.{MapState}
-use Rattle.model_map.specs.Replay.{map_replay, map_fits}
-use Rattle.model_map.specs.declared.range_entry.RangeEntry.{RangeEntry}
+use Rattle.model_tables.specs.Map.{MapState}
+use Rattle.model_tables.specs.Replay.{map_replay, map_fits}
+use Rattle.model_tables.specs.declared.range_entry.RangeEntry.{RangeEntry}
 
 -- the ranges in the order of their keys, the number of the next range, and the file of records that they come from
 pub record MapHeld (D : Type 0) : Type 0 where

@@ -2,9 +2,9 @@
 use Rattle.std.specs.Prelude.{◌≡◌, ℕ, suc, ◌^◌, true, nat_lt, Option, Some, None, if◌then◌else◌}
 use Rattle.blocks.specs.declared.record.Record.{Record}
 use Rattle.model.specs.Outcome.{Outcome}
-use Rattle.model_map.specs.declared.map_record.MapRecord.{MapRecord}
-use Rattle.model_map.specs.Map.{MapState, writes}
-use Rattle.model_map.specs.Replay.{map_after, ruling_fits}
+use Rattle.model_tables.specs.declared.map_record.MapRecord.{MapRecord}
+use Rattle.model_tables.specs.Map.{MapState, writes}
+use Rattle.model_tables.specs.Replay.{map_after, ruling_fits}
 use Rattle.pmap.specs.declared.plan.Plan.{Plan}
 
 -- the next generation, where one of 64 bits is left

@@ -9,7 +9,7 @@ use Rattle.wire.specs.declared.packet.Step.{Step}
 use Rattle.wire.specs.declared.refusal.Refusal.{Refusal}
 use Rattle.wire.specs.declared.refusal.Refusal.TheVariants as refusals
 use Rattle.model.specs.Outcome.{Outcome}
-use Rattle.model_map.specs.Map.{MapState}
+use Rattle.model_tables.specs.Map.{MapState}
 use Rattle.pmap.specs.declared.fault.MapFault.{MapFault}
 use Rattle.pmap.specs.declared.fault.MapFault.TheVariants as faults
 use Rattle.pmap.specs.Held.{MapHeld, map_of, MakesMap}

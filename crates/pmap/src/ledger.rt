@@ -2,13 +2,13 @@
 ghost use Rattle.std.specs.Prelude.{◌≡◌, ◌∷◌, ◌++◌, IfOk, OnOk, Some};
 ghost use Rattle.formats.specs.Format.{Gives};
 ghost use Rattle.formats.specs.Record.{number};
-ghost use Rattle.model_map.specs.Ledger.{spelled, assign_at, renew_at, fields_at, record_of};
+ghost use Rattle.model_tables.specs.Ledger.{spelled, assign_at, renew_at, fields_at, record_of};
 
 use blocks::BlockFault;
 use bytes::Bytes;
 use formats::reader::{ended, u8_at, u64_at};
 use formats::writer::{put_u8, put_u64};
-use model_map::MapRecord;
+use model_tables::MapRecord;
 use std::alloc::{AllocError, Global};
 use wire::{RangeId, ServerNo};
 
@@ -71,7 +71,7 @@ pub(crate) fn reads_back(ruling: &MapRecord)
 // ---- reading
 
 /// The record of kind 16 in its fields.
-#[tactic(auto, unfolding(model_map::specs::Ledger::assign_at))]
+#[tactic(auto, unfolding(model_tables::specs::Ledger::assign_at))]
 fn assign_at(fields: &[u8]) -> Result<MapRecord, BlockFault>
     ensures { Gives (λ r. r) result (assign_at fields.now) }
 {
@@ -87,7 +87,7 @@ fn assign_at(fields: &[u8]) -> Result<MapRecord, BlockFault>
 }
 
 /// The record of kind 17 in its fields.
-#[tactic(auto, unfolding(model_map::specs::Ledger::renew_at))]
+#[tactic(auto, unfolding(model_tables::specs::Ledger::renew_at))]
 fn renew_at(fields: &[u8]) -> Result<MapRecord, BlockFault>
     ensures { Gives (λ r. r) result (renew_at fields.now) }
 {
@@ -100,7 +100,7 @@ fn renew_at(fields: &[u8]) -> Result<MapRecord, BlockFault>
     ended(read, rest)
 }
 
-#[tactic(auto, unfolding(model_map::specs::Ledger::fields_at))]
+#[tactic(auto, unfolding(model_tables::specs::Ledger::fields_at))]
 fn fields_at(kind: u8, fields: &[u8]) -> Result<MapRecord, BlockFault>
     ensures { Gives (λ r. r) result (fields_at kind fields.now) }
 {
@@ -112,7 +112,7 @@ fn fields_at(kind: u8, fields: &[u8]) -> Result<MapRecord, BlockFault>
 }
 
 /// The record that bytes spell. `Memory` does not come.
-#[tactic(auto, unfolding(model_map::specs::Ledger::record_of))]
+#[tactic(auto, unfolding(model_tables::specs::Ledger::record_of))]
 pub(crate) fn decode(text: &[u8]) -> Result<MapRecord, BlockFault>
     ensures { Gives (λ r. r) result (record_of text.now) }
 {

@@ -2,8 +2,8 @@
 ghost use Rattle.std.specs.Prelude.{◌≡◌, false, None};
 ghost use Rattle.blocks.specs.declared.record.Record.TheVariants as records;
 ghost use Rattle.disk.specs.Appends.{Appends};
-ghost use Rattle.model_map.specs.Ledger.{spelled};
-ghost use Rattle.model_map.specs.Map.{range_at, assign_row, renew_row, renew_fault};
+ghost use Rattle.model_tables.specs.Ledger.{spelled};
+ghost use Rattle.model_tables.specs.Map.{range_at, assign_row, renew_row, renew_fault};
 ghost use Rattle.pmap.specs.Done.{Done};
 ghost use Rattle.pmap.specs.Plan.{outcome_of, MayRule};
 
@@ -13,7 +13,7 @@ use crate::planning::{plan_assign, plan_renew};
 use crate::table::RangeTable;
 use blocks::Record;
 use disk::{Disk, DiskFault, RecordFile};
-use model_map::MapRecord;
+use model_tables::MapRecord;
 use std::alloc::Global;
 use wire::{RangeId, ServerNo, Step};
 

@@ -1,7 +1,7 @@
 //! What a call is about to do.
 ghost use Rattle.std.specs.Prelude.{◌≡◌, [], None};
 
-use model_map::MapRecord;
+use model_tables::MapRecord;
 use std::alloc::Global;
 use wire::Step;
 

@@ -3,13 +3,13 @@ ghost use Rattle.std.specs.Prelude.{◌≡◌, [], ◌∷◌, None, IfOk};
 ghost use Rattle.wire.specs.declared.actor.ActorId.TheVariants.{Map};
 ghost use Rattle.wire.specs.declared.body.Body.TheVariants as bodies;
 ghost use Rattle.model.specs.Outcome.{packet};
-ghost use Rattle.model_map.specs.Map.{range_at, assign_row, renew_fault, renew_row, map_row};
+ghost use Rattle.model_tables.specs.Map.{range_at, assign_row, renew_fault, renew_row, map_row};
 ghost use Rattle.pmap.specs.Plan.{outcome_of, MayRule};
 
 use crate::entry::next_generation;
 use crate::plan::Plan;
 use crate::table::RangeTable;
-use model_map::MapRecord;
+use model_tables::MapRecord;
 use std::alloc::{AllocError, Global};
 use wire::{ActorId, Body, MapBody, Notes, Packet, Packets, RangeId, ServerNo, Step};
 

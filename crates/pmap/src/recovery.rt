@@ -1,7 +1,7 @@
 //! The table from the records of the map's file.
 ghost use Rattle.std.specs.Prelude.{◌≡◌, ◌<◌, true, false, IfOk, IsErrOf};
 ghost use Rattle.disk.specs.Disk.{IsSame, IsSteady};
-ghost use Rattle.model_map.specs.Replay.{map_fits};
+ghost use Rattle.model_tables.specs.Replay.{map_fits};
 ghost use Rattle.pmap.specs.Held.{MakesMap};
 
 use crate::replay::replayed;

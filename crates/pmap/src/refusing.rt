@@ -1,6 +1,6 @@
 //! Why a range is not assigned and a lease not renewed, and the answer of a call.
 ghost use Rattle.std.specs.Prelude.{◌≡◌, ◌≢◌, IfErr, option_map};
-ghost use Rattle.model_map.specs.Map.{range_at, assign_fault, renew_fault};
+ghost use Rattle.model_tables.specs.Map.{range_at, assign_fault, renew_fault};
 ghost use Rattle.pmap.specs.Ruled.{as_row, fault_of};
 
 use crate::fault::MapFault;

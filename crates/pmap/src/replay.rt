@@ -1,13 +1,13 @@
 //! The table that records make.
 ghost use Rattle.std.specs.Prelude.{◌≡◌, true, false, Some, IfOk, OnOk, IsErrOf};
-ghost use Rattle.model_map.specs.Map.{MapState};
-ghost use Rattle.model_map.specs.Replay.{map_after, map_fits, ruling_fits, ruling_of};
+ghost use Rattle.model_tables.specs.Map.{MapState};
+ghost use Rattle.model_tables.specs.Replay.{map_after, map_fits, ruling_fits, ruling_of};
 ghost use Rattle.pmap.specs.Held.{MakesMap};
 
 use crate::ledger::decode;
 use crate::table::RangeTable;
 use blocks::{BlockFault, Record};
-use model_map::MapRecord;
+use model_tables::MapRecord;
 use std::alloc::Global;
 
 /// The ruling that a record spells. `Damaged`: it spells none.

@@ -1,13 +1,13 @@
 //! The ranges in the order of their keys.
 ghost use Rattle.std.specs.Prelude.{◌≡◌, ◌<◌, length, true, Some, IfOk, IfSome, option_map, option_and_then, slice_get};
-ghost use Rattle.model_map.specs.Map.{first_map, range_at, range_of_key, with_range, assigned, renewed};
-ghost use Rattle.model_map.specs.Partition.{IsPartition, AreNumbered};
-ghost use Rattle.model_map.specs.Replay.{after_record, may_assign, ruling_fits};
+ghost use Rattle.model_tables.specs.Map.{first_map, range_at, range_of_key, with_range, assigned, renewed};
+ghost use Rattle.model_tables.specs.Partition.{IsPartition, AreNumbered};
+ghost use Rattle.model_tables.specs.Replay.{after_record, may_assign, ruling_fits};
 
 use crate::entry::{assign_entry, begins_by, next_generation, renew_entry};
 use bytes::Bytes;
 use metadata::KeyRange;
-use model_map::{MapRecord, RangeEntry};
+use model_tables::{MapRecord, RangeEntry};
 use std::alloc::{AllocError, Global};
 use std::marker::Model;
 use wire::{Fence, RangeId, ServerNo};
@@ -21,8 +21,8 @@ pub(crate) struct RangeTable {
 }
 
 impl Model for RangeTable {
-    ghost use Rattle.model_map.specs.Map.{MapState};
-    ghost use Rattle.model_map.specs.Partition.{IsPartition, AreNumbered};
+    ghost use Rattle.model_tables.specs.Map.{MapState};
+    ghost use Rattle.model_tables.specs.Partition.{IsPartition, AreNumbered};
 
     ghost Value = { MapState };
 

@@ -28,7 +28,7 @@ use Rattle.model_tables.specs.declared.table_note.TableNote.{TableNote}
 use Rattle.model_tables.specs.Range.{OutGroup, RangeState, RangeOutcome, request, goes, dropped, picking, is_serving}
 use Rattle.model_tables.specs.Serving.{forms, log_done, applies}
 use Rattle.model_tables.specs.Answering.{answered_number, append_number, log_taken, serving_news}
-use Rattle.memtable.specs.Entries.{put_all}
+use Rattle.cells.specs.Entries.{put_all}
 use Rattle.group_commit.specs.Queue.{changes_out, committed_out, dones_out, size_out}
 use Rattle.range_core.specs.Steps.{Taken, outcome}
 use Rattle.range_core.specs.Replies.{IsAppended, IsAwaited, is_old, is_stale, is_end_of, is_quiet, reaction}

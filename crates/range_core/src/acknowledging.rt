@@ -1,7 +1,8 @@
 //! Answers to the client of the log while the range is served.
 ghost use Rattle.std.specs.Prelude.{◌≡◌, ◌<◌, ◌≤◌, ◌+◌, ◌-◌, ◌^◌, ◌++◌, ◌&&◌, [], true, false, length, vec_len, vec_capacity, None, is_some, option_to_list, IfOk, IfSome, IfNone, OnOk, OnErr};
-ghost use Rattle.memtable.specs.Entries.{put_all};
-ghost use Rattle.model_tables.specs.Range.{RangeState, is_serving};
+ghost use Rattle.cells.specs.Entries.{put_all};
+ghost use Rattle.client.specs.Client.{needs_memory, reply_row};
+ghost use Rattle.model_tables.specs.Range.{RangeState, is_serving, picking, request};
 ghost use Rattle.model_tables.specs.Loading.{are_counted};
 ghost use Rattle.model_tables.specs.Answering.{is_taken, log_taken};
 ghost use Rattle.group_commit.specs.Queue.{changes_out, committed_out, dones_out, size_out};
@@ -11,8 +12,7 @@ ghost use Rattle.range_core.specs.Steps.{outcome, IsShort};
 use crate::forming::{Begun, next_group, next_request};
 use crate::state::RangeState;
 use crate::taken::{Taken, push_some};
-use blocks::Nodes;
-use client::{Job, StreamClient};
+use client::{Job, Reaction, StreamClient};
 use model_tables::{Desk, TableNote};
 use std::alloc::{AllocError, Global};
 use streams::Position;
@@ -51,12 +51,35 @@ fn joined(told: Told, begun: Begun, count: u64) -> Taken
     }
 }
 
-/// A new extent is asked for at these nodes from now on; those of before come back.
-fn replace_pick(log: &mut StreamClient, pick: &Nodes) -> Nodes
-    ensures after { log.new ≡ record log.old { pick = pick.now } }
-    ensures before { result ≡ log.old.pick }
+/// What the log's client makes of an answer; a new extent is asked for at the desk's nodes from now on. For want of memory (22)
+/// nothing has changed.
+fn take_answer(
+    log: &mut StreamClient,
+    alloc: Global,
+    desk: &Desk,
+    body: &Body,
+) -> Result<Reaction, AllocError>
+    ensures ok { IfOk result (λ x. reply_row (picking desk.now log.old) (request desk.now) body.now ≡ record { after = log.new; packet = x.packet; news = x.news }) }
+    ensures err { OnErr result (log.new ≡ log.old) }
+    ensures needed { OnErr result (needs_memory body.now ≡ true) }
 {
-    std::mem::replace(&mut log.pick, *pick)
+    let pick = log.pick;
+    log.pick = desk.pick;
+    match log.on_answer(alloc, &next_request(desk), body) {
+        Ok(reaction) => Ok(reaction),
+        Err(full) => {
+            log.pick = pick;
+            Err(full)
+        }
+    }
+}
+
+/// Whether the indexes of the log's extents fit 64 bits.
+fn is_counted(log: &StreamClient) -> bool
+    ensures { result ≡ are_counted log.now }
+{
+    let count = log.extents.len() as u64;
+    log.base.checked_add(count).is_some()
 }
 
 /// Whether the generation is refused as an old one.
@@ -89,14 +112,6 @@ fn group_end(job: Job, body: &Body) -> Option<(ExtentId, u32)>
 }
 
 impl RangeState {
-    /// Whether the indexes of the log's extents fit 64 bits.
-    fn is_counted(&self) -> bool
-        ensures { result ≡ are_counted self.now.log }
-    {
-        let count = self.content.log.extents.len() as u64;
-        self.content.log.base.checked_add(count).is_some()
-    }
-
     /// Whether an answer to the log's client counts: a group that ends where no extent reaches is told by no node.
     pub(crate) fn is_taken(&self, body: &Body) -> bool
         ensures { result ≡ is_taken self.now body.now }
@@ -106,7 +121,7 @@ impl RangeState {
                 if !self.queue.is_out() {
                     return true;
                 }
-                offset.checked_add(self.queue.out_size()).is_some() && self.is_counted()
+                offset.checked_add(self.queue.out_size()).is_some() && is_counted(&self.content.log)
             }
             _ => true,
         }
@@ -124,17 +139,9 @@ impl RangeState {
         ensures short { IfOk result IsShort }
     {
         let mut packets = Vec::with_capacity(alloc, 1)?;
-        let pick = replace_pick(&mut self.content.log, &desk.pick);
-        match self.content.log.on_answer(alloc, &next_request(desk), body) {
-            Ok(reaction) => {
-                push_some(&mut packets, reaction.packet);
-                Ok(Taken::sends(alloc, desk.count + 1, packets))
-            }
-            Err(full) => {
-                self.content.log.pick = pick;
-                Err(full)
-            }
-        }
+        let reaction = take_answer(&mut self.content.log, alloc, desk, body)?;
+        push_some(&mut packets, reaction.packet);
+        Ok(Taken::sends(alloc, desk.count + 1, packets))
     }
 
     /// The group that is out stands at the offset of the extent: its changes are applied, and it is out no more. For want of
@@ -166,8 +173,7 @@ impl RangeState {
             offset: offset + self.queue.out_size(),
         };
         self.queue.finish();
-        self.content.log.pick = desk.pick;
-        match self.content.log.on_answer(alloc, &next_request(desk), body) {
+        match take_answer(&mut self.content.log, alloc, desk, body) {
             Ok(reaction) => drop(reaction),
             Err(_full) => {}
         }

@@ -1,19 +1,21 @@
 //! Answers that a range waits for.
 ghost use Rattle.std.specs.Prelude.{◌≡◌, ◌<◌, ◌≤◌, ◌+◌, ◌^◌, [], Some, true, false, length, vec_len, vec_capacity, IfOk, OnOk, OnErr};
 ghost use Rattle.model_tables.specs.Range.{is_serving, refused_users};
-ghost use Rattle.model_tables.specs.Answering.{answer_row, answered_number, gets_reply, load_reply, log_reply, log_taken, metadata_reply, range_awaits};
+ghost use Rattle.model_tables.specs.Answering.{answer_row, answered_number, log_reply, range_awaits};
 ghost use Rattle.loading.specs.Steps as steps;
 ghost use Rattle.range_core.specs.Cache.{HoldsOnly, Takes, is_for_gets};
 ghost use Rattle.range_core.specs.Replies.{IsAwaited};
 ghost use Rattle.range_core.specs.Steps.{outcome, IsShort};
+ghost use Rattle.range_core.specs.Waiters.{waiter_row};
+ghost use Rattle.range_core.specs.declared.answering.Waiter.TheVariants as waiters;
 
 use crate::state::RangeState;
 use crate::taken::{Taken, push_some};
 use group_commit::Queue;
-use loading::{Progress, Service};
+use loading::{Progress, RangeContent, Service};
 use model_tables::{Desk, TableNote};
 use std::alloc::{AllocError, Global};
-use wire::{Body, Packet, ReadBody, ReqNo};
+use wire::{Body, Packet, ReqNo};
 
 /// What a step of a load may need of memory: the farewell to those who wait, and room for a packet and an observation.
 #[derive(Drop)]
@@ -23,20 +25,47 @@ struct Prepared {
     notes: Vec<TableNote>,
 }
 
-impl RangeState {
-    fn prepared(&self, alloc: Global, desk: &Desk) -> Result<Prepared, AllocError>
-        ensures farewell { IfOk result (λ p. p.farewell.items ≡ refused_users desk.now self.now) }
-        ensures few { IfOk result (λ p. length p.farewell.items ≤ 1280) }
-        ensures packets { IfOk result (λ p. (p.packets.items ≡ []) × (vec_len p.packets < vec_capacity p.packets)) }
-        ensures notes { IfOk result (λ p. (p.notes.items ≡ []) × (vec_len p.notes < vec_capacity p.notes)) }
-    {
-        Ok(Prepared {
-            farewell: self.refusals(alloc, desk)?,
-            packets: Vec::with_capacity(alloc, 1)?,
-            notes: Vec::with_capacity(alloc, 1)?,
-        })
-    }
+/// Room for what a step of a load leaves, beside the farewell.
+fn make_room(alloc: Global, farewell: Vec<Packet>) -> Result<Prepared, AllocError>
+    ensures farewell { IfOk result (λ p. p.farewell.items ≡ farewell.items) }
+    ensures packets { IfOk result (λ p. (p.packets.items ≡ []) × (vec_len p.packets < vec_capacity p.packets)) }
+    ensures notes { IfOk result (λ p. (p.notes.items ≡ []) × (vec_len p.notes < vec_capacity p.notes)) }
+{
+    Ok(Prepared {
+        farewell,
+        packets: Vec::with_capacity(alloc, 1)?,
+        notes: Vec::with_capacity(alloc, 1)?,
+    })
+}
 
+/// Whose answer moves a load on.
+#[derive(Drop)]
+enum Waiter {
+    Load,
+    Metadata,
+    Log,
+}
+
+/// What an answer to this one leaves of what is loaded.
+fn progress_of(
+    content: &mut RangeContent,
+    alloc: Global,
+    desk: &Desk,
+    waiter: Waiter,
+    body: &Body,
+) -> Result<Progress, AllocError>
+    requires { waiter ≡ waiters.Log → is_serving content.old.stage ≡ false }
+    ensures ok { IfOk result (λ p. steps.Makes desk.now (λ r. waiter_row waiter desk.now r body.now) content.old content.new p) }
+    ensures err { OnErr result (content.new ≡ content.old) }
+{
+    match waiter {
+        Waiter::Load => content.load_reply(alloc, desk, body),
+        Waiter::Metadata => content.metadata_reply(alloc, desk, body),
+        Waiter::Log => content.log_load_reply(alloc, desk, body),
+    }
+}
+
+impl RangeState {
     /// What a step of the load leaves of the range.
     fn settle(
         &mut self,
@@ -88,55 +117,24 @@ impl RangeState {
         }
     }
 
-    fn load_reply(&mut self, alloc: Global, desk: &Desk, body: &Body) -> Result<Taken, AllocError>
-        requires numbers { desk.now.count + 1024 < 2 ^ 64 }
-        ensures ok { IfOk result (λ t. load_reply desk.now self.old body.now ≡ outcome t self.new) }
-        ensures held { OnOk result (self.new.held ≡ self.old.held) }
-        ensures err { OnErr result (self.new ≡ self.old) }
-        ensures short { IfOk result IsShort }
-    {
-        let prepared = self.prepared(alloc, desk)?;
-        match self.content.load_reply(alloc, desk, body) {
-            Ok(progress) => Ok(self.settle(alloc, desk, progress, prepared)),
-            Err(full) => Err(full),
-        }
-    }
-
-    fn metadata_reply(
+    /// A step of the load, by the answer to this one.
+    fn step_of_load(
         &mut self,
         alloc: Global,
         desk: &Desk,
+        waiter: Waiter,
         body: &Body,
     ) -> Result<Taken, AllocError>
         requires numbers { desk.now.count + 1024 < 2 ^ 64 }
-        ensures ok { IfOk result (λ t. metadata_reply desk.now self.old body.now ≡ outcome t self.new) }
+        requires loading { waiter ≡ waiters.Log → is_serving self.old.stage ≡ false }
+        ensures ok { IfOk result (λ t. waiter_row waiter desk.now self.old body.now ≡ outcome t self.new) }
         ensures held { OnOk result (self.new.held ≡ self.old.held) }
         ensures err { OnErr result (self.new ≡ self.old) }
         ensures short { IfOk result IsShort }
     {
-        let prepared = self.prepared(alloc, desk)?;
-        match self.content.metadata_reply(alloc, desk, body) {
-            Ok(progress) => Ok(self.settle(alloc, desk, progress, prepared)),
-            Err(full) => Err(full),
-        }
-    }
-
-    /// An answer to the log's client while the range is loaded.
-    fn loading_reply(
-        &mut self,
-        alloc: Global,
-        desk: &Desk,
-        body: &Body,
-    ) -> Result<Taken, AllocError>
-        requires numbers { desk.now.count + 1024 < 2 ^ 64 }
-        requires loading { is_serving self.old.stage ≡ false }
-        ensures ok { IfOk result (λ t. log_taken desk.now self.old body.now ≡ outcome t self.new) }
-        ensures held { OnOk result (self.new.held ≡ self.old.held) }
-        ensures err { OnErr result (self.new ≡ self.old) }
-        ensures short { IfOk result IsShort }
-    {
-        let prepared = self.prepared(alloc, desk)?;
-        match self.content.log_load_reply(alloc, desk, body) {
+        let farewell = self.refusals(alloc, desk)?;
+        let prepared = make_room(alloc, farewell)?;
+        match progress_of(&mut self.content, alloc, desk, waiter, body) {
             Ok(progress) => Ok(self.settle(alloc, desk, progress, prepared)),
             Err(full) => Err(full),
         }
@@ -156,35 +154,7 @@ impl RangeState {
         if self.is_serving() {
             return self.serving_reply(alloc, desk, body);
         }
-        self.loading_reply(alloc, desk, body)
-    }
-
-    #[tactic(auto, using(crate::proofs::Cache::kept))]
-    fn gets_reply(
-        &mut self,
-        alloc: Global,
-        desk: &Desk,
-        request: &ReqNo,
-        body: &Body,
-    ) -> Result<Taken, AllocError>
-        requires numbers { desk.now.count + 1024 < 2 ^ 64 }
-        ensures ok { IfOk result (λ t. gets_reply desk.now self.old request.now body.now self.new.held ≡ outcome t self.new) }
-        ensures held { OnOk result (HoldsOnly self.new.held self.old.held body.now) }
-        ensures taken { OnOk result (Takes self.old self.new.held request.now body.now) }
-        ensures err { OnErr result (self.new ≡ self.old) }
-        ensures short { IfOk result IsShort }
-    {
-        match body {
-            Body::Read(
-                ReadBody::Bytes {
-                    extent,
-                    offset,
-                    bytes,
-                    ..
-                },
-            ) => self.bytes(alloc, desk, request, *extent, *offset, bytes),
-            _ => Ok(Taken::sends(alloc, desk.count, Vec::new(alloc))),
-        }
+        self.step_of_load(alloc, desk, Waiter::Log, body)
     }
 
     /// Whether a job of the range waits for an answer of this number.
@@ -218,10 +188,10 @@ impl RangeState {
         ensures short { IfOk result IsShort }
     {
         if self.content.load.awaits(request) {
-            return self.load_reply(alloc, desk, body);
+            return self.step_of_load(alloc, desk, Waiter::Load, body);
         }
         if self.content.metadata.awaits(request) {
-            return self.metadata_reply(alloc, desk, body);
+            return self.step_of_load(alloc, desk, Waiter::Metadata, body);
         }
         if self.content.log.awaits(request) {
             return self.log_reply(alloc, desk, body);

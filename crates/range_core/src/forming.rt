@@ -1,14 +1,15 @@
 //! The next group of a range.
 ghost use Rattle.std.specs.Prelude.{◌≡◌, ◌<◌, ◌≤◌, ◌+◌, ◌^◌, length, take, None, true, false, option_to_list, IfOk, IfSome, IfNone, OnErr};
+ghost use Rattle.client.specs.Client.{append_row};
 ghost use Rattle.commitlog.specs.Record.{spelling};
-ghost use Rattle.model_tables.specs.Range.{goes, request};
-ghost use Rattle.model_tables.specs.Serving.{appends, began, forms, grown, record_of};
+ghost use Rattle.model_tables.specs.Range.{given, goes, picking, request};
+ghost use Rattle.model_tables.specs.Serving.{began, forms, grown, record_of};
 ghost use Rattle.group_commit.specs.Queue.{IsNextGroup, is_formed};
 ghost use Rattle.range_core.specs.Steps.{outcome, IsShort};
 
 use crate::state::RangeState;
 use crate::taken::{Taken, push_some};
-use client::Appending;
+use client::{Appending, StreamClient};
 use group_commit::{Plan, Queue};
 use model_tables::{Desk, TableNote};
 use std::alloc::{AllocError, Global};
@@ -80,33 +81,16 @@ pub(crate) struct Begun {
     pub(crate) notes: Vec<TableNote>,
 }
 
-impl RangeState {
-    /// The group that is ready is out: it is sent, unless the log's client is busy.
-    pub(crate) fn begin(&mut self, desk: &Desk, ready: Ready) -> Begun
-        requires none { self.old.out ≡ None }
-        requires begins { IsNextGroup self.old.next self.old.queue ready.count ready.size }
-        requires blocks { ready.blocks ≡ spelling (record_of self.old.next (take ready.count self.old.queue)) }
-        requires notes { ready.notes.items ≡ began self.old.load.range self.old.load.generation self.old.next (take ready.count self.old.queue) }
-        ensures row { appends desk.now self.old ready.count ≡ goes desk.now self.new (option_to_list result.packet) result.notes.items }
-        ensures held { self.new.held ≡ self.old.held }
-        ensures notes { result.notes.items ≡ ready.notes.items }
-    {
-        let Ready {
-            count,
-            size,
-            blocks,
-            notes,
-        } = ready;
-        self.content.log.pick = desk.pick;
-        let packet = match self.content.log.begin_append(&next_request(desk), blocks) {
-            Ok(packet) => Some(packet),
-            Err(_busy) => None,
-        };
-        self.queue.begin(count, size);
-        Begun { packet, notes }
-    }
+/// The group is given to the log's client, which sends it unless it is busy: then it goes later.
+fn send_group(log: &mut StreamClient, desk: &Desk, blocks: Appending) -> Option<Packet>
+    ensures { given (picking desk.now log.old) (append_row (picking desk.now log.old) (request desk.now) blocks) ≡ record { after = log.new; packet = result; news = None } }
+{
+    log.pick = desk.pick;
+    log.begin_append(&next_request(desk), blocks).ok()
+}
 
-    /// The group that is ready, if one is, is out, where none is.
+impl RangeState {
+    /// The group that is ready, if one is, is out, where none is: it is sent, unless the log's client is busy.
     pub(crate) fn begin_next(&mut self, alloc: Global, desk: &Desk, next: Option<Ready>) -> Begun
         requires none { self.old.out ≡ None }
         requires some { IfSome next (λ x. x.count ≡ grown self.old.next self.old.queue 0 desk.now.batch) }
@@ -125,7 +109,17 @@ impl RangeState {
                 packet: None,
                 notes: Vec::new(alloc),
             },
-            Some(ready) => self.begin(desk, ready),
+            Some(ready) => {
+                let Ready {
+                    count,
+                    size,
+                    blocks,
+                    notes,
+                } = ready;
+                let packet = send_group(&mut self.content.log, desk, blocks);
+                self.queue.begin(count, size);
+                Begun { packet, notes }
+            }
         }
     }
 

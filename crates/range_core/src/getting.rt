@@ -1,8 +1,10 @@
 //! A Get comes, or the bytes of a value.
-ghost use Rattle.std.specs.Prelude.{◌≡◌, ◌<◌, ◌≤◌, ◌+◌, ◌^◌, ℕ, List, length, Contains, Some, None, IfOk, OnOk, OnErr};
+ghost use Rattle.std.specs.Prelude.{◌≡◌, ◌<◌, ◌≤◌, ◌+◌, ◌^◌, ℕ, List, length, Contains, None, IfOk, OnOk, OnErr};
 ghost use Rattle.cells.specs.declared.cell.Place.{Place as ValuePlace};
-ghost use Rattle.model_tables.specs.Getting.{bytes_row, get_fault, get_row, held_at, read_at, MayHold};
-ghost use Rattle.lookups.specs.Lookups.{place_of, Sees};
+ghost use Rattle.model_tables.specs.Getting.{get_fault, get_row, held_at};
+ghost use Rattle.lookups.specs.Lookups.{Sees};
+ghost use Rattle.model_tables.specs.Answering.{gets_reply};
+ghost use Rattle.range_core.specs.Cache.{HoldsOnly, Takes};
 ghost use Rattle.range_core.specs.Steps.{outcome, IsShort};
 
 use crate::state::{RangeState, extents_of, known_extents};
@@ -12,7 +14,7 @@ use bytes::Bytes;
 use lookups::{Asking, MAX_GETS};
 use model_tables::Desk;
 use std::alloc::{AllocError, Global};
-use wire::{ActorId, ExtentId, Refusal, ReqNo};
+use wire::{ActorId, Body, ReadBody, Refusal, ReqNo};
 
 impl RangeState {
     /// Why a Get is refused: 38, 32, 36, 33 or 35, the first that is met.
@@ -75,38 +77,48 @@ impl RangeState {
         }
     }
 
-    /// The bytes of a value have come: each Get that waits is tried again.
-    pub(crate) fn bytes(
+    /// The bytes of a value have come: each Get that waits is tried again. No other answer is for a Get.
+    #[tactic(auto, using(crate::proofs::Cache::kept))]
+    pub(crate) fn gets_reply(
         &mut self,
         alloc: Global,
         desk: &Desk,
         request: &ReqNo,
-        extent: ExtentId,
-        offset: u32,
-        bytes: &Bytes,
+        body: &Body,
     ) -> Result<Taken, AllocError>
         requires numbers { desk.now.count + 1024 < 2 ^ 64 }
-        ensures ok { IfOk result (λ t. bytes_row desk.now self.old request.now self.new.held ≡ outcome t self.new) }
-        ensures held { OnOk result (MayHold self.new.held self.old.held (place_of extent offset bytes.now) bytes.now) }
-        ensures taken { OnOk result (read_at self.old.gets request.now ≡ Some (place_of extent offset bytes.now)
-            → held_at self.new.held (place_of extent offset bytes.now) ≡ Some bytes.now) }
+        ensures ok { IfOk result (λ t. gets_reply desk.now self.old request.now body.now self.new.held ≡ outcome t self.new) }
+        ensures held { OnOk result (HoldsOnly self.new.held self.old.held body.now) }
+        ensures taken { OnOk result (Takes self.old self.new.held request.now body.now) }
         ensures err { OnErr result (self.new ≡ self.old) }
         ensures short { IfOk result IsShort }
     {
-        let asking = Asking {
-            desk,
-            until: self.until,
-            table: &self.content.table,
-            log: known_extents(&self.content.log),
-            blob: extents_of(&self.content.blob_data),
-            rows: extents_of(&self.content.row_data),
-        };
-        match self
-            .lookups
-            .bytes(alloc, &asking, request, extent, offset, bytes)
-        {
-            Ok(tried) => Ok(Taken::sends(alloc, tried.count, tried.packets)),
-            Err(full) => Err(full),
+        match body {
+            Body::Read(
+                ReadBody::Bytes {
+                    extent,
+                    offset,
+                    bytes,
+                    ..
+                },
+            ) => {
+                let asking = Asking {
+                    desk,
+                    until: self.until,
+                    table: &self.content.table,
+                    log: known_extents(&self.content.log),
+                    blob: extents_of(&self.content.blob_data),
+                    rows: extents_of(&self.content.row_data),
+                };
+                match self
+                    .lookups
+                    .bytes(alloc, &asking, request, *extent, *offset, bytes)
+                {
+                    Ok(tried) => Ok(Taken::sends(alloc, tried.count, tried.packets)),
+                    Err(full) => Err(full),
+                }
+            }
+            _ => Ok(Taken::sends(alloc, desk.count, Vec::new(alloc))),
         }
     }
 }

@@ -1,7 +1,7 @@
 //! A transaction comes.
 ghost use Rattle.std.specs.Prelude.{◌≡◌, ◌<◌, ◌+◌, ◌^◌, [], ◌∷◌, length, None, IfOk, OnErr};
 ghost use Rattle.model_tables.specs.Range.{RangeState, answers, refuses, is_serving, waiting_out};
-ghost use Rattle.model_tables.specs.Serving.{transact_fault, transact_row, is_full, lease_ended};
+ghost use Rattle.model_tables.specs.Serving.{transact_fault, transact_row, lease_ended};
 ghost use Rattle.commitlog.specs.Record.{IsTransaction};
 ghost use Rattle.range_core.specs.Steps.{outcome, IsShort};
 
@@ -59,13 +59,6 @@ impl RangeState {
         self.until <= desk.moment
     }
 
-    /// Whether no more transactions may wait, or the memory table is full.
-    fn is_full(&self) -> bool
-        ensures { result ≡ is_full self.now }
-    {
-        self.queue.count() >= MAX_WAITING || self.content.table.size() >= MAX_TABLE
-    }
-
     /// Why a transaction is refused: 38, 32, 37, 36, 37, 33 or 35, the first that is met.
     fn transact_fault(&self, desk: &Desk, changes: &Changes) -> Option<Refusal>
         ensures value { result ≡ transact_fault desk.now self.now changes.now }
@@ -82,7 +75,7 @@ impl RangeState {
         if fault.is_some() {
             return fault;
         }
-        if self.is_full() {
+        if self.queue.count() >= MAX_WAITING || self.content.table.size() >= MAX_TABLE {
             return Some(Refusal::Busy);
         }
         None

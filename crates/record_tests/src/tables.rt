@@ -2,8 +2,7 @@
 ghost use Rattle.cells.specs.Cell.{IsCell};
 
 use bytes::Bytes;
-use cells::Cell;
-use memtable::MemTable;
+use cells::{Cell, MemTable};
 use std::alloc::Global;
 use std::test::Fail;
 

@@ -14,7 +14,7 @@ use Rattle.commitlog.specs.Reading.{each_of, record_at}
 use Rattle.commitlog.specs.Running.{running}
 use Rattle.commitlog.specs.Places.{kept}
 use Rattle.commitlog.proofs.Entries.{All-append}
-use Rattle.memtable.specs.Entries.{Entries, put_all, key_cmp}
+use Rattle.cells.specs.Entries.{Entries, put_all, key_cmp}
 use Rattle.std.specs.BTreeMap.{insert_entry}
 use Rattle.metadata.specs.declared.record.KeyRange.{KeyRange}
 use Rattle.metadata.specs.declared.record.Region.{Region}

@@ -4,7 +4,7 @@ use Rattle.formats.specs.Format.{◌>>=◌}
 use Rattle.streams.specs.declared.table.Position.{Position}
 use Rattle.cells.specs.declared.cell.Cell.{Cell}
 use Rattle.commitlog.specs.Reading.{each_of, record_at}
-use Rattle.memtable.specs.Entries.{Entries}
+use Rattle.cells.specs.Entries.{Entries}
 use Rattle.metadata.specs.declared.record.KeyRange.{KeyRange}
 use Rattle.metadata.specs.declared.record.Region.{Region}
 use Rattle.metadata.specs.Keys.{within}

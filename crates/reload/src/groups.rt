@@ -4,7 +4,7 @@ ghost use Rattle.std.specs.List.{AllByRecursion};
 ghost use Rattle.blocks.specs.declared.fault.BlockFault.TheVariants as faults;
 ghost use Rattle.blocks.specs.Limits.{group_size};
 ghost use Rattle.cells.specs.Cell.{IsEntry};
-ghost use Rattle.memtable.specs.Entries.{Entries, put_all};
+ghost use Rattle.cells.specs.Entries.{Entries, put_all};
 ghost use Rattle.model_tables.specs.Loading.{replayed};
 ghost use Rattle.reload.specs.Reload.{group_takes};
 

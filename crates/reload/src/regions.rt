@@ -6,7 +6,7 @@ ghost use Rattle.blocks.specs.Limits.{group_size};
 ghost use Rattle.cells.specs.Cell.{IsEntry};
 ghost use Rattle.commitlog.specs.Reading.{each_of};
 ghost use Rattle.commitlog.specs.Record.{Fits, spelling};
-ghost use Rattle.memtable.specs.Entries.{Entries, put_all};
+ghost use Rattle.cells.specs.Entries.{Entries, put_all};
 ghost use Rattle.model_tables.specs.Loading as specs;
 ghost use Rattle.reload.specs.Reload.{is_of};
 

@@ -1,14 +1,25 @@
 -- Lines that are played in turn, and packets that a settle delivers in turn.
-use Rattle.std.proofs.Common.{◌≡◌, ◌∙◌, ap, refl, sym, subst, inl, inr, arith, ℕ, suc, ◌+◌, ◌≤◌, Bool, List, [], ◌∷◌, ◌++◌, length, Option, append-nil, append_assoc, add-one}
-use Rattle.std.proofs.lemmas.Option.{slice_get_past}
+use Rattle.std.proofs.Common.{◌≡◌, ◌∙◌, ap, refl, sym, subst, inl, inr, arith, ℕ, suc, ◌+◌, ◌<◌, ◌≤◌, Bool, List, [], ◌∷◌, ◌++◌, length, Option, Some, append-nil, append_assoc, add-one}
+use Rattle.std.proofs.lemmas.Option.{slice_get_past, slice_get_read}
+use Rattle.std.specs.List.{slice_get, slice_index_or}
 use Rattle.std.specs.Io.KnownBytes.{Appends}
+use Rattle.wire.specs.declared.actor.ReqNo.TheVariants.{User}
 use Rattle.wire.specs.declared.packet.Packet.{Packet}
+use Rattle.model.specs.declared.event.Event.{Event}
 use Rattle.model.specs.declared.event.Event.TheVariants.{Deliver}
+use Rattle.layer.specs.Nodes.{running_at}
 use Rattle.reports.specs.declared.report.Report.{Report}
+use Rattle.reports.specs.Reports.{report_text}
+use Rattle.reports.specs.Telling.{told_to}
 use Rattle.script_lines.specs.declared.line.Line.{Line}
+use Rattle.script_lines.specs.declared.line.Line.TheVariants.{Show}
+use Rattle.script_lines.specs.declared.line.Request.{Request}
+use Rattle.script_lines.specs.Asking.{asked}
+use Rattle.world.specs.Cluster.{ClusterState}
 use Rattle.scripts.specs.Deliveries.{Delivered, IsLowest, Passed}
-use Rattle.scripts.specs.Output.{Prints, line}
-use Rattle.scripts.specs.Playing.{Delivers, DeliversIf, DeliversLowest, DeliversPacket, DeliversSome, Happens, IsSettled, Plays, PlaysAll, Settles, Stamp, most_deliveries}
+use Rattle.scripts.specs.Output.{Prints, Tells, line, node_report}
+use Rattle.scripts.specs.Playing.{Delivers, DeliversIf, DeliversLowest, DeliversPacket, DeliversSome, Happens, IsSettled, Plays, PlaysAll, Settles, Stamp, Submits, most_deliveries}
+use Rattle.scripts.specs.Tickets.{Takes}
 use Rattle.scripts.proofs.Texts.{appends_both, appends_nothing}
 
 pub prints_nothing : (a : Option (List ℕ)) (IsText : List ℕ → Type 0) → IsText [] → Prints a a IsText
@@ -47,13 +58,9 @@ settled_at_last a b s t n few whole some =
     (some.0, record { count = n; few = few; last = t; delivers = some.1; ends = inl (all, refl) }, some.2)
 
 -- a settle that finds none left
-pub settled_before : (a b c : Option (List ℕ)) (s t u : Stamp) (n : ℕ) → n ≤ most_deliveries
-    → Prints a b (λ text. DeliversSome n s text t) → IsSettled t u → Appends b c [] → Prints a c (λ text. Settles s text u)
-settled_before a b c s t u n few some settled same =
-    prints_both a b c (λ text. DeliversSome n s text t) (λ text. text ≡ []) (λ text. Settles s text u)
-    (λ first last delivers none.
-    record { count = n; few = few; last = t; delivers = subst (λ (l : List ℕ). DeliversSome n s l t) (sym (append-nil first) ∙ ap (λ l. first ++ l) (sym none)) delivers; ends = inr settled })
-    some ([], refl, same)
+pub settled_before : (a b : Option (List ℕ)) (s t u : Stamp) (n : ℕ) → n ≤ most_deliveries → Prints a b (λ text. DeliversSome n s text t) → IsSettled t u
+    → Prints a b (λ text. Settles s text u)
+settled_before a b s t u n few some settled = (some.0, record { count = n; few = few; last = t; delivers = some.1; ends = inr settled }, some.2)
 
 -- a packet that is noted, whose event happens, and whose answer is printed
 pub handed_over : (a b c : Option (List ℕ)) (s r t : Stamp) (n : ℕ) (answer : Option Report) → Delivered s.noted n r.noted → r ≡ record s { noted = r.noted }
@@ -77,6 +84,37 @@ pub never_sent : (a : Option (List ℕ)) (s : Stamp) (n : ℕ) → length s.run.
 never_sent a s n past =
     subst (λ (o : Option Packet). Prints a a (λ text. DeliversIf s n o text s)) (sym (slice_get_past s.run.layer.post n past))
     (prints_nothing a (λ text. (text ≡ []) × (s ≡ s)) (refl, refl))
+
+-- a number that was sent: its packet is delivered, and brings its answer
+pub sent_before : (a b : Option (List ℕ)) (s t : Stamp) (n : ℕ) (post : List Packet) (p : Packet) (answer : Option Report) → post ≡ s.run.layer.post → n < length post
+    → p ≡ slice_index_or post n p → answer ≡ told_to p.to p.body → Prints a b (λ text. DeliversPacket s n answer text t) → Prints a b (λ text. Delivers s n text t)
+sent_before a b s t n post p answer is within here told one =
+    let found : slice_get s.run.layer.post n ≡ Some p = ap (λ (l : List Packet). slice_get l n) (sym is) ∙ slice_get_read post (length post) n p refl within here in
+    subst (λ (o : Option Packet). Prints a b (λ text. DeliversIf s n o text t)) (sym found)
+    (subst (λ (r : Option Report). Prints a b (λ text. DeliversPacket s n r text t)) told one)
+
+-- a request that a user sends under its next ticket
+pub submitted : (a b : Option (List ℕ)) (s v : Stamp) (user ticket : ℕ) (request : Request) (event : Event) (tickets : List (ℕ × ℕ)) (run : ClusterState)
+    → v ≡ s → Takes v.tickets user ticket tickets → event ≡ asked user (User user ticket) request → Prints a b (λ text. Tells v.run event text run)
+    → Prints a b (λ text. Submits s user request text (record v { run = run; tickets = tickets }))
+submitted a b s v user ticket request event tickets run same takes is told =
+    subst (λ (x : Stamp). Prints a b (λ text. Submits x user request text (record v { run = run; tickets = tickets }))) same
+    (told.0, record { ticket = ticket; takes = takes; tells = subst (λ (e : Event). Tells v.run e told.0 run) is told.1; is = refl }, told.2)
+
+-- what a line prints, by what the line is
+pub plays_as : (a b : Option (List ℕ)) (s t : Stamp) (line other : Line) → line ≡ other → Prints a b (λ text. Plays s other text t) → Prints a b (λ text. Plays s line text t)
+plays_as a b s t line other is one = subst (λ (l : Line). Prints a b (λ text. Plays s l text t)) (sym is) one
+
+-- a line that prints nothing
+pub plays_nothing : (a : Option (List ℕ)) (s t : Stamp) (line other : Line) → line ≡ other → Plays s other [] t → Prints a a (λ text. Plays s line text t)
+plays_nothing a s t line other is one = plays_as a a s t line other is (prints_nothing a (λ text. Plays s other text t) one)
+
+-- a line that shows what a node has
+pub shows : (a b : Option (List ℕ)) (s v : Stamp) (line : Line) (node extent : ℕ) (report : Report) → line ≡ Show node extent → v ≡ s
+    → report ≡ node_report node extent (running_at v.run.layer.nodes node) → Appends a b (report_text report ++ 10 ∷ []) → Prints a b (λ text. Plays s line text s)
+shows a b s v line node extent report is same told one =
+    let seen = told ∙ ap (λ (x : Stamp). node_report node extent (running_at x.run.layer.nodes node)) same in
+    plays_as a b s s line (Show node extent) is (report_text report ++ 10 ∷ [], (ap (λ (r : Report). report_text r ++ 10 ∷ []) seen, refl), one)
 
 -- the lowest packet, which is delivered once those below it were passed over
 pub lowest_delivered : (a b : Option (List ℕ)) (s r t : Stamp) (n : ℕ) → IsLowest s.cut s.run.layer.post s.noted n × Passed s.noted n r.noted → r ≡ record s { noted = r.noted }

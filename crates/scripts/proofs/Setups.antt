@@ -11,6 +11,12 @@ pub parts : (lines : List (Bor (List ℕ))) (first : Bor (List ℕ)) (below : Li
 parts lines first below text size plan is cut spelled =
     subst (λ (t : List (List ℕ)). SpellsPlan t size plan) (sym is ∙ ap texts cut) spelled
 
+-- and the first line and those below it are a plan
+pub whole : (lines : List (Bor (List ℕ))) (first : Bor (List ℕ)) (below : List (Bor (List ℕ))) (text : List (List ℕ)) (size : Size) (plan : List Line)
+    → texts lines ≡ text → lines ≡ first ∷ below → SpellsSetup (words_of first.now) size → SpellsAll size (texts below) plan → SpellsPlan text size plan
+whole lines first below text size plan is cut one all =
+    subst (λ (t : List (List ℕ)). SpellsPlan t size plan) (sym (ap texts cut) ∙ is) (one, all)
+
 word_same : (a b : List ℕ) (m n : ℕ) → a ≡ b → m ≡ digits_value 10 a → n ≡ digits_value 10 b → m ≡ n
 word_same a b m n same one other = one ∙ ap (digits_value 10) same ∙ sym other
 

@@ -6,7 +6,7 @@ use Rattle.std.specs.Str.Lines.{lines}
 use Rattle.std.specs.Str.Parse.{digits_value}
 use Rattle.layer.specs.declared.setup.Setup.{Setup}
 use Rattle.layer.specs.Limits.{IsWithinLimits}
-use Rattle.model_clusters.specs.Cluster.{first_cluster}
+use Rattle.model_tables.specs.Cluster.{first_cluster}
 use Rattle.script_lines.specs.declared.line.Line.{Line}
 use Rattle.script_lines.specs.declared.line.Line.TheVariants.{Show}
 use Rattle.script_lines.specs.Grammar.{Spells}

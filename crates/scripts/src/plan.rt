@@ -1,9 +1,10 @@
 //! A whole script, read before its first event runs.
-ghost use Rattle.std.specs.Prelude.{◌≡◌, IfErr, IfNone, IfOk, IfSome, List, false, filter, map, true};
+ghost use Rattle.std.specs.Prelude.{◌≡◌, ◌++◌, ◌∷◌, [], IfErr, IfNone, IfOk, IfSome, List, OnOk, false, filter, map, true};
 ghost use Rattle.std.specs.Str.Lines.{lines};
 ghost use Rattle.scripts.specs.Failures.{IsTextFailure};
+ghost use Rattle.script_lines.specs.Grammar.{Spells};
 ghost use Rattle.scripts.specs.Script.{IsScript, IsWithin, Size, SpellsAll, SpellsLine, SpellsSetup, is_some, size_of, words_of};
-ghost use Rattle.wire.specs.declared.refusal.Refusal.TheVariants.{BadScript};
+ghost use Rattle.wire.specs.declared.refusal.Refusal.TheVariants.{BadScript, Memory};
 
 use crate::error::Failure;
 use script_lines::Line;
@@ -65,17 +66,37 @@ fn is_within(line: &Line, setup: &Setup) -> bool
     }
 }
 
-/// Reads a line below the setup. An error is want of memory (22), or that it is no line (60).
-fn read_line(alloc: Global, line: &str, setup: &Setup) -> Result<Line, Failure>
-    ensures found { IfOk result (SpellsLine (size_of setup.now) line.now) }
+/// The line that this text spells, if it is one. An error is want of memory (22).
+fn parsed(alloc: Global, line: &str) -> Result<Option<Line>, AllocError>
+    ensures found { IfOk result (λ read. IfSome read (λ found. Spells found (words_of line.now))) }
+    ensures none { IfOk result (λ read. IfNone read ((found : Line) → Spells found (words_of line.now) → ⊥)) }
+{
+    match script_lines::words(alloc, line) {
+        Ok(words) => script_lines::parse(alloc, words.as_slice()),
+        Err(refused) => Err(refused),
+    }
+}
+
+/// Puts a line behind those before it. An error is want of memory (22).
+fn put(plan: &mut Vec<Line>, line: Line) -> Result<(), Failure>
+    ensures put { OnOk result (plan.new.items ≡ plan.old.items ++ line ∷ []) }
+    ensures failed { IfErr result (λ e. e ≡ Failure.Refused Memory) }
+{
+    plan.push(line)?;
+    Ok(())
+}
+
+/// Reads a line below the setup, and puts it behind those before it. An error is want of memory (22), or that it is no line (60).
+fn read_line(alloc: Global, text: &str, setup: &Setup, plan: &mut Vec<Line>) -> Result<(), Failure>
+    ensures found { OnOk result ((line : Line) × SpellsLine (size_of setup.now) text.now line × (plan.new.items ≡ plan.old.items ++ line ∷ [])) }
     ensures failed { IfErr result IsTextFailure }
     ensures refused { IfErr result (λ e. e ≡ Failure.Refused BadScript
-        → (found : Line) → SpellsLine (size_of setup.now) line.now found → ⊥) }
+        → (found : Line) → SpellsLine (size_of setup.now) text.now found → ⊥) }
 {
-    let words = script_lines::words(alloc, line)?;
-    match script_lines::parse(alloc, words.as_slice())? {
-        Some(line) if is_within(&line, setup) => Ok(line),
-        _ => Err(Failure::Refused(Refusal::BadScript)),
+    match parsed(alloc, text) {
+        Ok(Some(line)) if is_within(&line, setup) => put(plan, line),
+        Ok(_) => Err(Failure::Refused(Refusal::BadScript)),
+        Err(AllocError) => Err(Failure::Refused(Refusal::Memory)),
     }
 }
 
@@ -88,7 +109,7 @@ fn read_lines(alloc: Global, texts: &[&str], setup: &Setup) -> Result<Vec<Line>,
 {
     let mut plan = Vec::new(alloc);
     for text in texts {
-        plan.push(read_line(alloc, text, setup)?)?;
+        read_line(alloc, text, setup, &mut plan)?;
     }
     Ok(plan)
 }

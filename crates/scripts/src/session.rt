@@ -1,11 +1,10 @@
 //! A script as it runs.
-ghost use Rattle.std.specs.Prelude.{◌≡◌, ◌++◌, ◌∷◌, ◌-◌, [], IfErr, IfNone, IfOk, IfSome, OnOk, false, filter, length, not, true};
-ghost use Rattle.std.specs.Io.KnownBytes.{Appends};
-ghost use Rattle.model_clusters.specs.Cluster.{first_cluster};
+ghost use Rattle.std.specs.Prelude.{◌≡◌, ◌++◌, ◌∷◌, ◌-◌, [], IfErr, IfNone, IfOk, IfSome, OnOk, filter, length, not};
+ghost use Rattle.model_tables.specs.Cluster.{first_cluster};
 ghost use Rattle.scripts.specs.Deliveries.{Delivered, IsLowest, Passed, is_same};
 ghost use Rattle.scripts.specs.Failures.{IsRunFailure};
 ghost use Rattle.scripts.specs.Output.{Prints};
-ghost use Rattle.scripts.specs.Playing.{Delivers, DeliversLowest, DeliversPacket, Happens, IsFresh, IsSettled, Plays, Settles, Submits};
+ghost use Rattle.scripts.specs.Playing.{Delivers, DeliversPacket, Happens, IsFresh, IsSettled, Plays, Settles, Submits};
 ghost use Rattle.world.specs.Cluster.{ClusterMirrors};
 
 use crate::deliveries::{Deliveries, is_same};
@@ -186,32 +185,17 @@ impl Session {
         self.deliveries.next(self.cut.as_slice(), self.run.sent())
     }
 
-    /// Delivers the lowest packet that a settle takes; answers whether there was one.
-    fn deliver_lowest<W: Write>(&mut self, writer: &mut W) -> Result<bool, Failure>
-        ensures found { IfOk result (λ found. found ≡ true → Prints (W.contents writer.old) (W.contents writer.new)
-            (λ text. DeliversLowest self.old text self.new)) }
-        ensures none { IfOk result (λ found. found ≡ false → IsSettled self.old self.new
-            × Appends (W.contents writer.old) (W.contents writer.new) []) }
-        ensures failed { IfErr result IsRunFailure }
-    {
-        match self.lowest()? {
-            Some(number) => {
-                self.deliver(number, writer)?;
-                Ok(true)
-            }
-            None => Ok(false),
-        }
-    }
-
+    /// Delivers the lowest packet that a settle takes, again and again, until there is none or it has delivered the most.
     fn settle<W: Write>(&mut self, writer: &mut W) -> Result<(), Failure>
         ensures settles { OnOk result (Prints (W.contents writer.old) (W.contents writer.new)
             (λ text. Settles self.old text self.new)) }
         ensures failed { IfErr result IsRunFailure }
     {
         for _turn in 0..MOST_DELIVERIES {
-            if !self.deliver_lowest(writer)? {
+            let Some(number) = self.lowest()? else {
                 return Ok(());
-            }
+            };
+            self.deliver(number, writer)?;
         }
         Ok(())
     }

@@ -2,8 +2,7 @@
 use crate::cases::{Case, Tested, holds};
 use crate::records::{GAP, KEYS, groups};
 use bytes::Bytes;
-use cells::{Cell, Place};
-use memtable::MemTable;
+use cells::{Cell, MemTable, Place};
 use metadata::{KeyRange, Metadata, Region, copied_regions};
 use reload::{folded, open_region, replayed};
 use std::alloc::Global;

@@ -14,7 +14,7 @@ use Rattle.model.specs.Outcome.{packet}
 use Rattle.model.specs.World.{World, happens, delivered, delivered_if, sent_more}
 use Rattle.model.proofs.Tests.{if_elim}
 use Rattle.model_tables.specs.Servers.{Held, ServerCell, ServersOutcome, told_moment, with_told, server_takes, server_gives_up, server_stops, server_starts}
-use Rattle.model_clusters.specs.Cluster.{Cluster, goes_to, delivers, does, stops, restarts, assigns, renews, map_takes, map_stops, map_starts}
+use Rattle.model_tables.specs.Cluster.{Cluster, goes_to, delivers, does, stops, restarts, assigns, renews, map_takes, map_stops, map_starts}
 use Rattle.map_desk.specs.Seen.{MapSeen, WentOn, Steps, StepsAt}
 use Rattle.layer.specs.Run.{RunState, Mirrors}
 use Rattle.layer.specs.Told.{Ordered, Took, TookPacket}

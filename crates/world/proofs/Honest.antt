@@ -4,7 +4,7 @@ use Rattle.std.proofs.Math.Seq.{take-suc}
 use Rattle.model.specs.declared.event.Event.{Event}
 use Rattle.model.specs.Honest.{Agree, Kept}
 use Rattle.model_tables.specs.Servers.{Held}
-use Rattle.model_clusters.specs.Cluster.{Cluster, LeadTo, comes, first_cluster}
+use Rattle.model_tables.specs.Cluster.{Cluster, LeadTo, comes, first_cluster}
 use Rattle.model_tables.specs.Past.{Replays}
 use Rattle.laws_servers.proofs.Moving.{led_by, moves_agree, moves_keep}
 use Rattle.laws_clusters.proofs.Whole.{led_replays as all_replays}

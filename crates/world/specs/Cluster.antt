@@ -8,7 +8,7 @@ use Rattle.model.specs.declared.event.Event.{Event}
 use Rattle.model.specs.declared.event.Event.TheVariants.{Decide, GiveUp, Assign, Renew}
 use Rattle.model.specs.Maps.{entry_at}
 use Rattle.model_tables.specs.Servers.{Held, ServerCell, give_up_refusal}
-use Rattle.model_clusters.specs.Cluster.{Cluster, LeadTo, comes, first_cluster}
+use Rattle.model_tables.specs.Cluster.{Cluster, LeadTo, comes, first_cluster}
 use Rattle.map_desk.specs.Seen.{MapSeen, MapMirrors, assign_refusal, renew_refusal}
 use Rattle.layer.specs.Desk.{refusal_in}
 use Rattle.layer.specs.Run.{RunState, Mirrors}

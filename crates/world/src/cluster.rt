@@ -3,12 +3,12 @@ ghost use Rattle.std.specs.Prelude.{◌≡◌, [], None, Some, IfOk, IfSome, OnO
 ghost use Rattle.model.specs.declared.event.Event.TheVariants as events;
 ghost use Rattle.model.specs.Maps.{entry_at};
 ghost use Rattle.model_tables.specs.Servers.{give_up_refusal};
-ghost use Rattle.model_clusters.specs.Cluster.{first_cluster};
+ghost use Rattle.model_tables.specs.Cluster.{first_cluster};
 ghost use Rattle.layer.specs.Desk.{refusal_in};
 ghost use Rattle.layer.specs.Nodes.{seen_of, running_at};
 ghost use Rattle.wire.specs.declared.actor.ActorId.TheVariants as actors;
 ghost use Rattle.map_desk.specs.Seen.{Steps, assign_refusal, renew_refusal};
-ghost use Rattle.model_clusters.specs.Cluster.{map_starts};
+ghost use Rattle.model_tables.specs.Cluster.{map_starts};
 ghost use Rattle.world.specs.Cluster.{Came, ClusterMirrors, IsBelow, addressee_of, refusal_of};
 
 use blocks::Nodes;

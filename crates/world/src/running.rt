@@ -1,7 +1,7 @@
 //! A run: a cluster that events brought to where it is.
 ghost use Rattle.std.specs.Prelude.{◌≡◌, IfOk, OnOk, OnErr, option_map};
 ghost use Rattle.model.specs.Honest.{Agree, Kept};
-ghost use Rattle.model_clusters.specs.Cluster.{first_cluster};
+ghost use Rattle.model_tables.specs.Cluster.{first_cluster};
 ghost use Rattle.model_tables.specs.Past.{Replays};
 ghost use Rattle.layer.specs.Nodes.{seen_of, running_at};
 ghost use Rattle.world.specs.Cluster.{Came, ClusterMirrors, refusal_of};

@@ -1,7 +1,7 @@
 //! Whole runs.
 ghost use Rattle.std.specs.Prelude.{IfOk};
 ghost use Rattle.model.specs.Honest.{Agree, Kept};
-ghost use Rattle.model_clusters.specs.Cluster.{first_cluster};
+ghost use Rattle.model_tables.specs.Cluster.{first_cluster};
 ghost use Rattle.model_tables.specs.Past.{Replays};
 ghost use Rattle.world.specs.Cluster.{Led};
 

@@ -2,6 +2,7 @@
 use super::asking::Ask;
 use super::{ASKS, CREATES, Case, Event, FREEZES, OPENS, holds_of};
 use crate::answers::Answer;
+use crate::ledgers::disk_of;
 use crate::senders::Sender;
 use Answer::{Sends, Taken};
 use Ask::{Extend, Frozen};
@@ -10,9 +11,7 @@ use Event::{
     StopsNow, Takes, WouldSealAt,
 };
 use Sender::{Node, User};
-use blocks::{Record, Version};
-use bytes::Bytes;
-use disk::{Disk, FileFault, MemDisk, RecordFile};
+use disk::{Disk, FileFault, MemDisk};
 use manager::{Manager, ManagerFault};
 use std::alloc::Global;
 
@@ -101,26 +100,9 @@ fn refused_start(alloc: Global, disk: MemDisk) -> Option<(FileFault, usize)> {
     }
 }
 
-/// The disk of a file with one record of these bytes, at most 64 of them.
-fn disk_with(alloc: Global, text: &[u8]) -> Option<MemDisk> {
-    if text.len() > 64 {
-        return None;
-    }
-    let Ok(text) = Bytes::copy_from_slice(alloc, text) else {
-        return None;
-    };
-    let Ok(mut file) = RecordFile::format(Version::V1, MemDisk::new(alloc)) else {
-        return None;
-    };
-    match file.append(alloc, &Record::Manage { text }) {
-        Ok(()) => Some(file.into_disk()),
-        Err(_fault) => None,
-    }
-}
-
 /// Whether a start is refused from the disk of a file with one record of these bytes, if it can be made.
 fn refuses_record(alloc: Global, text: &[u8]) -> Option<bool> {
-    match disk_with(alloc, text) {
+    match disk_of(alloc, &[text]) {
         Some(disk) => Some(refused_start(alloc, disk).is_some()),
         None => None,
     }
@@ -128,9 +110,9 @@ fn refuses_record(alloc: Global, text: &[u8]) -> Option<bool> {
 
 /// Whether a start is refused from the disk of a file with no record, as damaged and with its five bytes.
 fn refuses_no_record(alloc: Global) -> bool {
-    match RecordFile::format(Version::V1, MemDisk::new(alloc)) {
-        Ok(file) => refused_start(alloc, file.into_disk()) == Some((FileFault::Damaged, 5)),
-        Err((_fault, _disk)) => false,
+    match disk_of(alloc, &[]) {
+        Some(disk) => refused_start(alloc, disk) == Some((FileFault::Damaged, 5)),
+        None => false,
     }
 }
 

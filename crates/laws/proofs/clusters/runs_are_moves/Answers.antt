@@ -1,4 +1,4 @@
-use Rattle.model_clusters.specs.Cluster.{first_cluster}
+use Rattle.model_tables.specs.Cluster.{first_cluster}
 use Rattle.laws_servers.proofs.Moving.{comes_by, led_by, moves_agree, moves_keep}
 use Rattle.laws.proofs.clusters.runs_are_moves.Goals as goal
 

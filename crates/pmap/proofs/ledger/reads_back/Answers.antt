@@ -1,7 +1,7 @@
 use Rattle.std.proofs.Common.{◌≡◌, ◌<◌, ◌^◌, Some, subst, sym, arith}
-use Rattle.model_map.specs.declared.map_record.MapRecord.{MapRecord}
-use Rattle.model_map.specs.Ledger.{spelled, record_of}
-use Rattle.model_map.proofs.Spelling.{assign_again, renew_again}
+use Rattle.model_tables.specs.declared.map_record.MapRecord.{MapRecord}
+use Rattle.model_tables.specs.Ledger.{spelled, record_of}
+use Rattle.model_tables.proofs.Spelling.{assign_again, renew_again}
 use Rattle.pmap.proofs.ledger.reads_back.Goals as goal
 
 abbrev Again : MapRecord → Type 0

@@ -1,5 +1,5 @@
 use Rattle.std.proofs.Common.{arith, ap, length}
-use Rattle.model_map.proofs.Spelling.{spelled_few}
+use Rattle.model_tables.proofs.Spelling.{spelled_few}
 use Rattle.pmap.proofs.performing.write.Goals as goal
 
 pub append-requires-clause-fits : goal.append-requires-clause-fits

@@ -1,7 +1,7 @@
 use Rattle.std.proofs.Common.{◌≡◌, ◌∙◌, ℕ, List, Err, None, ap, subst}
 use Rattle.blocks.specs.declared.fault.BlockFault.TheVariants as faults
 use Rattle.cells.specs.declared.cell.Cell.{Cell}
-use Rattle.memtable.specs.Entries.{Entries, put_all}
+use Rattle.cells.specs.Entries.{Entries, put_all}
 use Rattle.metadata.specs.declared.record.Region.{Region}
 use Rattle.model_tables.specs.Loading.{replayed}
 use Rattle.reload.proofs.groups.replayed.Goals as goal

@@ -1,7 +1,7 @@
 use Rattle.std.proofs.Common.{◌≡◌, drop}
 use Rattle.std.specs.List.{AllByRecursion}
 use Rattle.cells.specs.Cell.{IsEntry}
-use Rattle.memtable.specs.Entries.{Entries, put_all}
+use Rattle.cells.specs.Entries.{Entries, put_all}
 use Rattle.model_tables.specs.Loading.{replayed}
 use Rattle.reload.proofs.groups.take_groups.Given as goal
 

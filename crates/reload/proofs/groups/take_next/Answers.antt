@@ -1,6 +1,6 @@
 use Rattle.std.proofs.Common.{◌≡◌, Err, ap}
 use Rattle.blocks.specs.declared.fault.BlockFault.TheVariants as faults
-use Rattle.memtable.specs.Entries.{put_all}
+use Rattle.cells.specs.Entries.{put_all}
 use Rattle.reload.proofs.Taking.{is_damaged}
 use Rattle.reload.proofs.groups.take_next.Goals as goal
 

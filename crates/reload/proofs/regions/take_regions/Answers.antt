@@ -3,7 +3,7 @@ use Rattle.std.proofs.lemmas.Grind.{common_steps}
 use Rattle.std.specs.Vec.Iter.{into_iter_items}
 use Rattle.commitlog.specs.Reading.{each_of}
 use Rattle.commitlog.proofs.Loop.{with_done, each_goes_on}
-use Rattle.memtable.specs.Entries.{put_all}
+use Rattle.cells.specs.Entries.{put_all}
 use Rattle.metadata.specs.declared.record.Region.{Region}
 use Rattle.model_tables.specs.Loading.{region_takes}
 use Rattle.reload.proofs.regions.take_regions.Goals as goal

@@ -4,7 +4,7 @@ use Rattle.std.specs.Vec.Iter.{into_iter_items}
 use Rattle.cells.specs.Cell.{IsEntry}
 use Rattle.commitlog.specs.Reading.{each_of}
 use Rattle.commitlog.proofs.Loop.{with_done}
-use Rattle.memtable.specs.Entries.{Entries, put_all}
+use Rattle.cells.specs.Entries.{Entries, put_all}
 use Rattle.model_tables.specs.Loading.{region_takes}
 use Rattle.reload.proofs.regions.take_regions.Given as goal
 

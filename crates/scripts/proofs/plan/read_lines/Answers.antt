@@ -6,9 +6,9 @@ use Rattle.scripts.proofs.plan.read_lines.Goals as goal
 
 pub loop-text-preserved : goal.loop-text-preserved
 loop-text-preserved c =
-    rw c.in_ok-push.ensures.items
-    (each_step (λ line text. SpellsLine (size_of c.args.setup.now) text line) c.loop-text.plan.items c.args.texts.now c.loop-text.text-index _ c.in_ok-read_line.field-0 (omega arith)
-    c.loop-text.invariant c.in_ok-read_line.ensures.found)
+    let read = c.in_ok-read_line.ensures.found in
+    rw read.2
+    (each_step (λ line text. SpellsLine (size_of c.args.setup.now) text line) c.loop-text.plan.items c.args.texts.now c.loop-text.text-index _ read.0 (omega arith) c.loop-text.invariant read.1)
 
 pub returns-in_err-read_line-clause-refused : goal.returns-in_err-read_line-clause-refused
 returns-in_err-read_line-clause-refused c =

@@ -1,7 +1,8 @@
-use Rattle.std.proofs.Common.{◌∙◌, map, sym, subst}
+use Rattle.std.proofs.Common.{◌∙◌, map, rules, sym, subst}
+use Rattle.std.specs.Str.{IsUtf8}
 use Rattle.scripts.specs.Script.{Size, SpellsAll, size_of}
 use Rattle.scripts.proofs.Refusing.{passed_on}
-use Rattle.scripts.proofs.Setups.{one_setup, parts}
+use Rattle.scripts.proofs.Setups.{one_setup, parts, whole}
 use Rattle.scripts.proofs.plan.read_plan.Goals as goal
 
 pub returns-in_err-setup-clause-refused : goal.returns-in_err-setup-clause-refused
@@ -18,3 +19,10 @@ returns-in_err-lines-clause-refused c =
     let both = parts c.in_ok-texts.texts.items c.in-Some.first.now c.in-Some.below.now _ size plan c.in_ok-texts.ensures (sym c.as_slice.ensures.value ∙ c.in-Some.ensures.cases.0) h.1 in
     c.in_err-lines.ensures.refused e plan
     (subst (λ (s : Size). SpellsAll s (map (λ text. text.now) c.in-Some.below.now) plan) (one_setup _ size (size_of c.in_ok-setup.setup) both.0 c.in_ok-setup.ensures.found) both.1))
+
+pub returns-clause-found : goal.returns-clause-found
+returns-clause-found c =
+    let utf8 : IsUtf8 c.args.text.now = search rules in (
+      utf8,
+      whole c.in_ok-texts.texts.items c.in-Some.first.now c.in-Some.below.now _ _ _ c.in_ok-texts.ensures (sym c.as_slice.ensures.value ∙ c.in-Some.ensures.cases.0) c.in_ok-setup.ensures.found c.in_ok-lines.ensures.found,
+    )

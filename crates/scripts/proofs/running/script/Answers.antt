@@ -1,6 +1,8 @@
 use Rattle.std.proofs.Common.{ℕ, List, string_bytes, subst}
-use Rattle.std.proofs.lemmas.Result.{on_ok_weaker}
+use Rattle.std.proofs.lemmas.Result.{IfErr-weaker, on_ok_weaker}
+use Rattle.scripts.specs.Failures.{IsRunFailure}
 use Rattle.scripts.specs.Script.{IsScript, size_of}
+use Rattle.scripts.proofs.Refusing.{not_for_text}
 use Rattle.scripts.proofs.Writing.{writes}
 use Rattle.scripts.proofs.running.script.Goals as goal
 
@@ -12,3 +14,9 @@ returns-clause-written g c =
     (writes (g.R.Read.remaining c.args.reader) (string_bytes c.in_ok-text.text) _ _ size lines c.in_ok-session.session _ c.in_ok-text.ensures.text
     (subst (λ (t : List ℕ). IsScript t size lines) c.as_str.ensures.value c.in_ok-plan.ensures.found) c.in_ok-session.ensures.fresh c.in_ok-session.ensures.mirrors)
     c.play_all.ensures.played
+
+pub returns-clause-checked_first : goal.returns-clause-checked_first
+returns-clause-checked_first g c = IfErr-weaker c.play_all.result IsRunFailure _ (λ e failed not. absurd (not failed)) c.play_all.ensures.failed
+
+pub returns-clause-refused : goal.returns-clause-refused
+returns-clause-refused g c = not_for_text c.play_all.result _ c.play_all.ensures.failed

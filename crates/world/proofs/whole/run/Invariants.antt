@@ -1,5 +1,5 @@
 use Rattle.std.proofs.Common.{take}
-use Rattle.model_clusters.specs.Cluster.{first_cluster}
+use Rattle.model_tables.specs.Cluster.{first_cluster}
 use Rattle.world.specs.Cluster.{Led}
 use Rattle.world.proofs.whole.run.Given as goal
 

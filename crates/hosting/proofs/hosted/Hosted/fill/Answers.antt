@@ -1,11 +1,10 @@
-use Rattle.std.proofs.Common.{◌∙◌}
-use Rattle.hosting.proofs.Written.{fill_written}
+use Rattle.std.proofs.Common.{rules, ap, ◌∙◌}
+use Rattle.std.specs.Result.{result_from_control_flow}
+use Rattle.hosting.proofs.Written.{told_again}
 use Rattle.hosting.proofs.hosted.Hosted.fill.Goals as goal
 
-pub returns-in-Ok-clause-file : goal.returns-in-Ok-clause-file
-returns-in-Ok-clause-file g c = fill_written g.D.Disk.state _ _ c.args.extent c.args.from c.args.length c.args.groups.now c.in_ok-added.added c.write_fill.result _
-    (c.in_ok-added.ensures ∙ (c.deref-2.ensures.value ∙ c.groups.view_is)) c.in-Ok.is c.write_fill.ensures
+pub returns-in_err-write_fill-clause-file : goal.returns-in_err-write_fill-clause-file
+returns-in_err-write_fill-clause-file g c = search rules
 
-pub returns-in-Err-clause-file : goal.returns-in-Err-clause-file
-returns-in-Err-clause-file g c = fill_written g.D.Disk.state _ _ c.args.extent c.args.from c.args.length c.args.groups.now c.in_ok-added.added c.write_fill.result _
-    (c.in_ok-added.ensures ∙ (c.deref-2.ensures.value ∙ c.groups.view_is)) c.in-Err.is c.write_fill.ensures
+pub returns-clause-file : goal.returns-clause-file
+returns-clause-file g c = told_again g.D.Disk.state _ _ _ c.write_fill.result _ (c.branch-write_fill.ensures ∙ ap result_from_control_flow c.in_ok-write_fill.is) c.write_fill.ensures

@@ -1,5 +1,5 @@
 use Rattle.std.proofs.Common.{rules}
 use Rattle.hosting.proofs.hosted.Hosted.freeze.Goals as goal
 
-pub returns-in-Ok-clause-file : goal.returns-in-Ok-clause-file
-returns-in-Ok-clause-file g c = search rules
+pub returns-clause-file : goal.returns-clause-file
+returns-clause-file g c = search rules

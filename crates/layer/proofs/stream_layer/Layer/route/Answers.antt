@@ -1,6 +1,6 @@
 use Rattle.std.proofs.Common.{◌∙◌, ◌<◌, List, ap, length, slice_index_or, subst, sym}
 use Rattle.wire.specs.declared.packet.Packet.{Packet}
-use Rattle.model_clusters.specs.Cluster.{map_takes}
+use Rattle.model_tables.specs.Cluster.{map_takes}
 use Rattle.map_desk.specs.Seen.{Steps}
 use Rattle.layer.specs.Run.{RunState}
 use Rattle.layer.proofs.Telling.{routed}

@@ -1,6 +1,6 @@
 use Rattle.std.proofs.Common.{◌≡◌, false, IfOk, OnErr, sym, ◌∙◌, subst}
 use Rattle.disk.specs.declared.memory.MemDisk.{MemDisk}
-use Rattle.model_clusters.specs.Cluster.{assigns}
+use Rattle.model_tables.specs.Cluster.{assigns}
 use Rattle.pmap.specs.Held.{MapHeld}
 use Rattle.map_desk.specs.Seen.{MapSeen, StepsAt, assign_refusal, seen_of}
 use Rattle.map_desk.proofs.Calling.{assign_went, assign_short, assign_refused, if_packets, if_refusal, if_short}

@@ -1,6 +1,6 @@
 use Rattle.std.proofs.Common.{◌≡◌, false, IfOk, OnErr, sym, ◌∙◌, subst}
 use Rattle.disk.specs.declared.memory.MemDisk.{MemDisk}
-use Rattle.model_clusters.specs.Cluster.{renews}
+use Rattle.model_tables.specs.Cluster.{renews}
 use Rattle.pmap.specs.Held.{MapHeld}
 use Rattle.map_desk.specs.Seen.{MapSeen, Steps, renew_refusal, seen_of}
 use Rattle.map_desk.proofs.Calling.{renew_went, renew_short, renew_refused, if_packets, if_refusal, if_short}

@@ -1,7 +1,7 @@
 use Rattle.std.proofs.Common.{Result, sym, ◌∙◌, subst}
 use Rattle.disk.specs.declared.device.DiskFault.{DiskFault}
 use Rattle.wire.specs.declared.packet.Step.{Step}
-use Rattle.model_map.specs.Map.{range_at, assign_row}
+use Rattle.model_tables.specs.Map.{range_at, assign_row}
 use Rattle.pmap.specs.Held.{held_of, MakesMap}
 use Rattle.pmap.specs.Ruled.{Ruled}
 use Rattle.pmap.proofs.Keeping.{ruled, stays}

@@ -1,4 +1,0 @@
-pub mod Map
-pub mod Partition
-pub mod Ledger
-pub mod Replay
