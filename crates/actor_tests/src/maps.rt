@@ -107,11 +107,9 @@ fn knows_no_other(alloc: Global, map: &mut Held) -> bool {
     assigned == Some(MapFault::NotOwner) && renewed == Some(MapFault::NotOwner)
 }
 
+/// The holder's number, since a constant cannot hold the id.
 fn number(server: Option<ServerNo>) -> Option<u8> {
-    match server {
-        Some(server) => Some(server.0),
-        None => None,
-    }
+    server.map(|server| server.0)
 }
 
 fn has(map: &Held, generation: u64, holder: Option<u8>, until: u64) -> bool {
