@@ -1,10 +1,10 @@
 //! The check of what a long run shows.
 use crate::error::Failure;
-use blocks::Group;
-use checker::{acknowledged, check};
+use block_types::Group;
 use std::alloc::Global;
 use std::rt::Clock;
 use std::time::Instant;
+use world_checker::{acknowledged, check};
 
 /// The bytes of one append.
 const SIZE: usize = 1024;

@@ -1,9 +1,9 @@
 //! Appends to a record file over a file of the system, against plain writes of the same bytes.
 use crate::checking::group_of;
 use crate::error::Failure;
-use blocks::{Group, Record, Version};
+use block_types::{Group, Record, Version};
+use blocks::encode;
 use disk::{Disk, FileDisk, RecordFile};
-use formats::encode;
 use std::alloc::Global;
 use std::os::unix::fs::FileExt;
 use std::rt::{Clock, Files};

@@ -48,8 +48,8 @@ impl<D: Drop> From<(disk::FileFault, D)> for Failure {
     }
 }
 
-impl From<blocks::Memory> for Failure {
-    fn from(_refused: blocks::Memory) -> Self {
+impl From<block_types::Memory> for Failure {
+    fn from(_refused: block_types::Memory) -> Self {
         Failure::Step
     }
 }

@@ -1,6 +1,6 @@
 //! Appends to a node over a disk in memory.
 use crate::error::Failure;
-use blocks::{Nodes, Version};
+use block_types::{Nodes, Version};
 use bytes::Bytes;
 use disk::{DiskFault, MemDisk, RecordFile};
 use enode::Node;

@@ -4,6 +4,6 @@ use Rattle.wire.specs.declared.packet.Packet.{Packet}
 use Rattle.client.specs.Client.{ClientState, Outcome}
 use Rattle.client.specs.declared.fault.ClientFault.{ClientFault}
 
--- the row's one packet is handed out, and the state is the row's
+-- the rule's one packet is handed out, and the state is the rule's
 abbrev pub Begins : Result Outcome ClientFault → ClientState → Packet → Type 0
-Begins row after packet = row ≡ Ok (record { after = after; packet = Some packet; news = None })
+Begins rule after packet = rule ≡ Ok (record { after = after; packet = Some packet; news = None })

@@ -1,7 +1,7 @@
 -- The table of a server's work on one stream: what it sends, and what it does with an answer. An answer counts only
 -- where it repeats the number of the request that is out.
 use Rattle.std.specs.Prelude.{ℕ, ◌-◌, Bool, true, false, List, [], ◌∷◌, ◌++◌, length, Option, Some, None, Result, Ok, Err, slice_get, slice_set, if◌then◌else◌}
-use Rattle.blocks.specs.declared.record.Nodes.{Nodes}
+use Rattle.block_types.specs.declared.record.Nodes.{Nodes}
 use Rattle.wire.specs.declared.actor.ActorId.{ActorId}
 use Rattle.wire.specs.declared.actor.ActorId.TheVariants.{Node, Manager}
 use Rattle.wire.specs.declared.actor.ReqNo.{ReqNo}
@@ -158,8 +158,8 @@ abbrev pub append_at : ClientState → ReqNo → Option StreamExtent → Outcome
 append_at c q None = grows c None q
 append_at c q (Some x) = append_behind c q x x.length
 
-abbrev pub append_row : ClientState → ReqNo → List (List ℕ) → Result Outcome ClientFault
-append_row c q blocks =
+abbrev pub append_rule : ClientState → ReqNo → List (List ℕ) → Result Outcome ClientFault
+append_rule c q blocks =
     if is_idle c.job then Ok (append_at (record c { group = blocks }) q (last_extent c.extents)) else Err faults.Busy
 
 -- ---- the check of the last extent's length
@@ -172,8 +172,8 @@ abbrev pub check_at : ClientState → ReqNo → Option StreamExtent → Result O
 check_at c q None = Err faults.NoSuchExtent
 check_at c q (Some x) = check_behind c q x x.length
 
-abbrev pub check_row : ClientState → ReqNo → Result Outcome ClientFault
-check_row c q = if is_idle c.job then check_at c q (last_extent c.extents) else Err faults.Busy
+abbrev pub check_rule : ClientState → ReqNo → Result Outcome ClientFault
+check_rule c q = if is_idle c.job then check_at c q (last_extent c.extents) else Err faults.Busy
 
 -- ---- reading
 
@@ -186,8 +186,8 @@ read_at c q None = Err faults.NoSuchExtent
 read_at c q (Some x) = read_whole c q x x.length
 
 -- an extent that is sealed is read whole, at its first place
-abbrev pub read_sealed_row : ClientState → ReqNo → ℕ → Result Outcome ClientFault
-read_sealed_row c q position = if is_idle c.job then read_at c q (slice_get c.extents position) else Err faults.Busy
+abbrev pub read_sealed_rule : ClientState → ReqNo → ℕ → Result Outcome ClientFault
+read_sealed_rule c q position = if is_idle c.job then read_at c q (slice_get c.extents position) else Err faults.Busy
 
 abbrev pub read_open : ClientState → ReqNo → StreamExtent → Option ℕ → Option ℕ → Result Outcome ClientFault
 read_open c q x None (Some checked) = Ok (reads_groups c x.extent x.places checked false First q)
@@ -199,8 +199,8 @@ read_checked_at c q None = Err faults.NoSuchExtent
 read_checked_at c q (Some x) = read_open c q x x.length c.checked
 
 -- an open extent is read as far as it was checked, at its primary
-abbrev pub read_checked_row : ClientState → ReqNo → Result Outcome ClientFault
-read_checked_row c q = if is_idle c.job then read_checked_at c q (last_extent c.extents) else Err faults.Busy
+abbrev pub read_checked_rule : ClientState → ReqNo → Result Outcome ClientFault
+read_checked_rule c q = if is_idle c.job then read_checked_at c q (last_extent c.extents) else Err faults.Busy
 
 -- ---- answers
 
@@ -282,13 +282,13 @@ stream_reply c q (streams.Extended w e places) = if_awaited c w (extended_job c 
 stream_reply c q body = waits c
 
 -- what is done with an answer; q is the number of the request that may be sent next
-abbrev pub reply_row : ClientState → ReqNo → Body → Outcome
-reply_row c q (bodies.Append body) = append_reply c q body
-reply_row c q (bodies.Check body) = check_reply c q body
-reply_row c q (bodies.Seal body) = seal_reply c q body
-reply_row c q (bodies.Read body) = read_reply c body
-reply_row c q (bodies.Stream body) = stream_reply c q body
-reply_row c q body = waits c
+abbrev pub reply_rule : ClientState → ReqNo → Body → Outcome
+reply_rule c q (bodies.Append body) = append_reply c q body
+reply_rule c q (bodies.Check body) = check_reply c q body
+reply_rule c q (bodies.Seal body) = seal_reply c q body
+reply_rule c q (bodies.Read body) = read_reply c body
+reply_rule c q (bodies.Stream body) = stream_reply c q body
+reply_rule c q body = waits c
 
 -- whether an answer may take memory: only one that tells of a new extent
 abbrev pub stream_needs_memory : StreamBody → Bool
@@ -332,5 +332,5 @@ give_up_job c q (Shutting e w) = shuts c e w
 give_up_job c q (Reading e places upto true place w) = reads_groups c e places upto true (next_place place) w
 give_up_job c q (Reading e places upto false place w) = shuts c e q
 
-abbrev pub give_up_row : ClientState → ReqNo → Nodes → Outcome
-give_up_row c q pick = give_up_job (record c { pick = pick }) q c.job
+abbrev pub give_up_rule : ClientState → ReqNo → Nodes → Outcome
+give_up_rule c q pick = give_up_job (record c { pick = pick }) q c.job

@@ -1,6 +1,6 @@
 //! Appends, with what takes memory made beforehand.
 ghost use Rattle.std.specs.Prelude.{◌≡◌, ◌≢◌, Ok, Err, Some, None, IfOk, IfErr, OnErr};
-ghost use Rattle.client.specs.Client.{append_row, append_behind};
+ghost use Rattle.client.specs.Client.{append_rule, append_behind};
 ghost use Rattle.client.specs.Began.{Begins};
 ghost use Rattle.client.specs.declared.fault.ClientFault.{ClientFault};
 ghost use Rattle.client.specs.declared.fault.ClientFault.TheVariants as faults;
@@ -51,10 +51,10 @@ impl StreamClient {
         request: &ReqNo,
         blocks: &Blocks,
     ) -> Result<Packet, ClientFault>
-        ensures ok { IfOk result (λ p. Begins (append_row self.old request.now blocks.now) self.new p) }
+        ensures ok { IfOk result (λ p. Begins (append_rule self.old request.now blocks.now) self.new p) }
         ensures err { OnErr result (self.new ≡ self.old) }
-        ensures fault { IfErr result (λ f. f ≢ faults.Memory → append_row self.old request.now blocks.now ≡ Err f) }
-        ensures refused { (f : ClientFault) → append_row self.old request.now blocks.now ≡ Err f → result ≡ Err f }
+        ensures fault { IfErr result (λ f. f ≢ faults.Memory → append_rule self.old request.now blocks.now ≡ Err f) }
+        ensures refused { (f : ClientFault) → append_rule self.old request.now blocks.now ≡ Err f → result ≡ Err f }
     {
         if !is_idle(self.job) {
             return Err(ClientFault::Busy);
@@ -72,9 +72,9 @@ impl StreamClient {
         request: &ReqNo,
         appending: Appending,
     ) -> Result<Packet, ClientFault>
-        ensures ok { IfOk result (λ p. Begins (append_row self.old request.now appending) self.new p) }
+        ensures ok { IfOk result (λ p. Begins (append_rule self.old request.now appending) self.new p) }
         ensures err { OnErr result (self.new ≡ self.old) }
-        ensures fault { IfErr result (λ f. append_row self.old request.now appending ≡ Err f) }
+        ensures fault { IfErr result (λ f. append_rule self.old request.now appending ≡ Err f) }
     {
         if !is_idle(self.job) {
             return Err(ClientFault::Busy);

@@ -1,6 +1,6 @@
 //! A server's work on one stream.
 ghost use Rattle.std.specs.Prelude.{◌≡◌, Err, Some, None, [], true, IfOk, IfErr, IfSome, OnErr};
-ghost use Rattle.client.specs.Client.{last_extent, is_idle, new_client, check_row, read_sealed_row, read_checked_row, reply_row, give_up_row, content_of, content_told, needs_memory, ends, closes, shuts, grows, reads_groups};
+ghost use Rattle.client.specs.Client.{last_extent, is_idle, new_client, check_rule, read_sealed_rule, read_checked_rule, reply_rule, give_up_rule, content_of, content_told, needs_memory, ends, closes, shuts, grows, reads_groups};
 ghost use Rattle.client.specs.Began.{Begins};
 ghost use Rattle.client.specs.declared.fault.ClientFault.{ClientFault};
 ghost use Rattle.client.specs.declared.job.News.TheVariants as news;
@@ -9,7 +9,7 @@ use crate::fault::ClientFault;
 use crate::job::{Job, Place, Reaction};
 use crate::replies::reply;
 use crate::sending::{check_packet, extend_packet, next_place, node_at, read_packet, seal_packet};
-use blocks::Nodes;
+use block_types::Nodes;
 use std::alloc::{AllocError, Global};
 use std::marker::Model;
 use wire::{
@@ -115,9 +115,9 @@ impl StreamClient {
     /// Begins the check of the last extent's length. The packet bears this number. 1: the stream has no extent. 4: the last
     /// is sealed. 35: another request is out. After a refusal nothing has changed.
     pub fn check_length(&mut self, request: &ReqNo) -> Result<Packet, ClientFault>
-        ensures ok { IfOk result (λ p. Begins (check_row self.old request.now) self.new p) }
+        ensures ok { IfOk result (λ p. Begins (check_rule self.old request.now) self.new p) }
         ensures err { OnErr result (self.new ≡ self.old) }
-        ensures fault { IfErr result (λ f. check_row self.old request.now ≡ Err f) }
+        ensures fault { IfErr result (λ f. check_rule self.old request.now ≡ Err f) }
     {
         if !is_idle(self.job) {
             return Err(ClientFault::Busy);
@@ -147,9 +147,9 @@ impl StreamClient {
     /// packet bears this number. 1: the list is no longer than that. 9: the extent is not known to be sealed. 35: another
     /// request is out. After a refusal nothing has changed.
     pub fn read_sealed(&mut self, request: &ReqNo, position: usize) -> Result<Packet, ClientFault>
-        ensures ok { IfOk result (λ p. Begins (read_sealed_row self.old request.now position) self.new p) }
+        ensures ok { IfOk result (λ p. Begins (read_sealed_rule self.old request.now position) self.new p) }
         ensures err { OnErr result (self.new ≡ self.old) }
-        ensures fault { IfErr result (λ f. read_sealed_row self.old request.now position ≡ Err f) }
+        ensures fault { IfErr result (λ f. read_sealed_rule self.old request.now position ≡ Err f) }
     {
         if !is_idle(self.job) {
             return Err(ClientFault::Busy);
@@ -175,9 +175,9 @@ impl StreamClient {
     /// 1: the stream has no extent. 4: the last is sealed. 9: it was not checked. 35: another request is out. After a refusal
     /// nothing has changed.
     pub fn read_checked(&mut self, request: &ReqNo) -> Result<Packet, ClientFault>
-        ensures ok { IfOk result (λ p. Begins (read_checked_row self.old request.now) self.new p) }
+        ensures ok { IfOk result (λ p. Begins (read_checked_rule self.old request.now) self.new p) }
         ensures err { OnErr result (self.new ≡ self.old) }
-        ensures fault { IfErr result (λ f. read_checked_row self.old request.now ≡ Err f) }
+        ensures fault { IfErr result (λ f. read_checked_rule self.old request.now ≡ Err f) }
     {
         if !is_idle(self.job) {
             return Err(ClientFault::Busy);
@@ -210,7 +210,7 @@ impl StreamClient {
         request: &ReqNo,
         packet: &Packet,
     ) -> Result<Reaction, AllocError>
-        ensures ok { IfOk result (λ r. reply_row self.old request.now packet.now.body ≡ record { after = self.new; packet = r.packet; news = r.news }) }
+        ensures ok { IfOk result (λ r. reply_rule self.old request.now packet.now.body ≡ record { after = self.new; packet = r.packet; news = r.news }) }
         ensures content { IfOk result (λ r. content_told r.news ≡ content_of self.old.job packet.now.body) }
         ensures err { OnErr result (self.new ≡ self.old) }
         ensures needed { OnErr result (needs_memory packet.now.body ≡ true) }
@@ -225,7 +225,7 @@ impl StreamClient {
         request: &ReqNo,
         body: &Body,
     ) -> Result<Reaction, AllocError>
-        ensures ok { IfOk result (λ r. reply_row self.old request.now body.now ≡ record { after = self.new; packet = r.packet; news = r.news }) }
+        ensures ok { IfOk result (λ r. reply_rule self.old request.now body.now ≡ record { after = self.new; packet = r.packet; news = r.news }) }
         ensures content { IfOk result (λ r. content_told r.news ≡ content_of self.old.job body.now) }
         ensures err { OnErr result (self.new ≡ self.old) }
         ensures needed { OnErr result (needs_memory body.now ≡ true) }
@@ -240,7 +240,7 @@ impl StreamClient {
     /// read of a sealed extent goes to its next place, and all else is asked again, each under its own number. A new extent
     /// is asked for at these nodes from now on. Nothing is sent where nothing is out.
     pub fn give_up(&mut self, request: &ReqNo, pick: &Nodes) -> Option<Packet>
-        ensures { give_up_row self.old request.now pick.now ≡ record { after = self.new; packet = result; news = None } }
+        ensures { give_up_rule self.old request.now pick.now ≡ record { after = self.new; packet = result; news = None } }
     {
         self.pick = *pick;
         let job = self.job;

@@ -1,8 +1,8 @@
 //! Reads of groups, looked at before their answer is taken.
 ghost use Rattle.std.specs.Prelude.{◌≡◌, [], IfSome};
-ghost use Rattle.blocks.specs.declared.record.Nodes.{Nodes};
+ghost use Rattle.block_types.specs.declared.record.Nodes.{Nodes};
 ghost use Rattle.wire.specs.declared.actor.ReqNo.{ReqNo};
-ghost use Rattle.client.specs.Client.{content_of, reading_of, reply_row, ends};
+ghost use Rattle.client.specs.Client.{content_of, reading_of, reply_rule, ends};
 ghost use Rattle.client.specs.declared.job.Job.TheVariants as jobs;
 ghost use Rattle.client.specs.declared.job.News.TheVariants as news;
 
@@ -29,7 +29,7 @@ impl StreamClient {
         ensures value { result ≡ content_of self.now.job body.now }
 
         // All that is done with it is that nothing is waited for any more.
-        ensures told { IfSome result (λ x. (request : ReqNo) (pick : Nodes) → reply_row (record self.now { pick = pick }) request body.now
+        ensures told { IfSome result (λ x. (request : ReqNo) (pick : Nodes) → reply_rule (record self.now { pick = pick }) request body.now
             ≡ ends (record self.now { pick = pick }) (news.Content x.0 x.1)) }
     {
         match body {

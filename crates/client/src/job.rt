@@ -1,5 +1,5 @@
 //! What a client waits for, and what an answer brings.
-use blocks::Nodes;
+use block_types::Nodes;
 use wire::{ExtentId, Packet, ReqNo};
 
 /// A place of an extent, in the order in which replicas are read.

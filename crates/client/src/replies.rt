@@ -1,13 +1,13 @@
 //! What a client does with an answer.
 ghost use Rattle.std.specs.Prelude.{◌≡◌, Some, None, true, IfOk, OnOk, OnErr};
-ghost use Rattle.client.specs.Client.{awaits, needs_memory, stream_needs_memory, sealed_last, refused_job, append_reply, check_reply, seal_reply, read_reply, stream_reply, reply_row, appended_job, checked_job, sealed_job, groups_job, extended_job, appends_again, ends, waits};
+ghost use Rattle.client.specs.Client.{awaits, needs_memory, stream_needs_memory, sealed_last, refused_job, append_reply, check_reply, seal_reply, read_reply, stream_reply, reply_rule, appended_job, checked_job, sealed_job, groups_job, extended_job, appends_again, ends, waits};
 ghost use Rattle.wire.specs.declared.refusal.Refusal.TheVariants as refusals;
 
 use crate::client::StreamClient;
 use crate::job::{Job, News, Reaction};
 use crate::requests::is_same;
 use crate::sending::sent_append;
-use blocks::Nodes;
+use block_types::Nodes;
 use std::alloc::{AllocError, Global};
 use wire::{
     AppendBody, Blocks, Body, CheckBody, ExtentId, Packet, ReadBody, Refusal, ReqNo, SealBody,
@@ -356,14 +356,14 @@ fn stream_reply(
     }
 }
 
-/// The row of an answer.
+/// The rule of an answer.
 pub(crate) fn reply(
     client: &mut StreamClient,
     alloc: Global,
     request: &ReqNo,
     body: &Body,
 ) -> Result<Reaction, AllocError>
-    ensures ok { IfOk result (λ r. reply_row client.old request.now body.now ≡ record { after = client.new; packet = r.packet; news = r.news }) }
+    ensures ok { IfOk result (λ r. reply_rule client.old request.now body.now ≡ record { after = client.new; packet = r.packet; news = r.news }) }
     ensures err { OnErr result (client.new ≡ client.old) }
     ensures needed { OnErr result (needs_memory body.now ≡ true) }
 {

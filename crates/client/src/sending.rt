@@ -11,7 +11,7 @@ ghost use Rattle.client.specs.Client.{node_at, next_place};
 ghost use Rattle.client.specs.Requests.{from_server};
 
 use crate::job::Place;
-use blocks::Nodes;
+use block_types::Nodes;
 use wire::{
     ActorId, AppendBody, Blocks, Body, CheckBody, ExtentId, Fence, Packet, ReadBody, ReqNo,
     SealBody, ServerNo, StreamBody, StreamName,

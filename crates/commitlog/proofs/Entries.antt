@@ -3,11 +3,11 @@ use Rattle.std.proofs.Common.{◌≡◌, ℕ, ◌+◌, ◌<◌, ◌≤◌, true,
 use Rattle.std.specs.List.{flat_map, AllByRecursion}
 use Rattle.std.proofs.lemmas.Bool.{ltb-true, ltb-false}
 use Rattle.std.proofs.lemmas.List.Concat.{flat_map-cons}
-use Rattle.blocks.specs.Limits.{group_size}
+use Rattle.block_types.specs.Limits.{group_size}
 use Rattle.wire.specs.declared.transaction.Change.{Change}
-use Rattle.cells.specs.declared.cell.Cell.{Cell}
-use Rattle.cells.specs.Limits.{is_large}
-use Rattle.cells.specs.Cell.{IsCell, IsEntry}
+use Rattle.memtable.specs.declared.cell.Cell.{Cell}
+use Rattle.memtable.specs.Limits.{is_large}
+use Rattle.memtable.specs.Cell.{IsCell, IsEntry}
 use Rattle.commitlog.specs.Record.{change_values, transaction_values, HasValue, IsChange, IsTransaction}
 use Rattle.commitlog.specs.Places.{kept_cell, kept_changes, kept_transactions}
 

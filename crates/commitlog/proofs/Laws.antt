@@ -5,14 +5,14 @@ use Rattle.std.specs.Prelude.{IfOk, MatchResult}
 use Rattle.std.proofs.lemmas.List.{length-append, take_at, take-take, take-append-drop}
 use Rattle.std.proofs.lemmas.Bool.{ltb-true}
 use Rattle.std.proofs.lemmas.List.Concat.{flat_map-cons}
-use Rattle.cells.specs.Limits.{is_large}
+use Rattle.memtable.specs.Limits.{is_large}
 use Rattle.wire.specs.declared.transaction.Change.{Change}
-use Rattle.blocks.specs.Limits.{IsBlock, IsGroup}
-use Rattle.formats.specs.Record.{number}
-use Rattle.blocks.specs.declared.fault.BlockFault.{BlockFault}
-use Rattle.blocks.specs.declared.fault.BlockFault.TheVariants as faults
-use Rattle.formats.specs.Format.{Gives, ◌>>=◌, number_at}
-use Rattle.formats.proofs.Formats.{IsBytes, bind_some, some_is, number4, length-number}
+use Rattle.block_types.specs.Limits.{IsBlock, IsGroup}
+use Rattle.blocks.specs.Record.{number}
+use Rattle.block_types.specs.declared.fault.BlockFault.{BlockFault}
+use Rattle.block_types.specs.declared.fault.BlockFault.TheVariants as faults
+use Rattle.blocks.specs.Format.{Gives, ◌>>=◌, number_at}
+use Rattle.blocks.proofs.Formats.{IsBytes, bind_some, some_is, number4, length-number}
 use Rattle.commitlog.specs.declared.log_record.LogRecord.{LogRecord}
 use Rattle.commitlog.specs.declared.text_cell.TextCell.{TextCell}
 use Rattle.commitlog.specs.Record.{large, change_values, HasValue, IsChange, transaction_values, text_changes, text_transactions, body, text, cut, piece_count, pieces, spelling, IsTransaction, Fits}

@@ -1,9 +1,9 @@
 -- Reading one after the other, as a loop does, where each step leaves a state for the next.
 use Rattle.std.proofs.Common.{◌≡◌, ℕ, suc, ◌-◌, ◌+◌, ◌<◌, List, [], ◌∷◌, ◌++◌, length, get_or, drop, Option, Some, None, refl, sym, ap, ◌∙◌, append_assoc, arith}
 use Rattle.std.proofs.lemmas.List.{drop_more}
-use Rattle.blocks.specs.declared.fault.BlockFault.{BlockFault}
-use Rattle.blocks.specs.declared.fault.BlockFault.TheVariants as faults
-use Rattle.formats.specs.Format.{◌>>=◌, Fails}
+use Rattle.block_types.specs.declared.fault.BlockFault.{BlockFault}
+use Rattle.block_types.specs.declared.fault.BlockFault.TheVariants as faults
+use Rattle.blocks.specs.Format.{◌>>=◌, Fails}
 use Rattle.commitlog.specs.Reading.{each_of, piece_at, joined}
 
 -- what was read before, and what is still read

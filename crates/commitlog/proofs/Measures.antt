@@ -6,11 +6,11 @@ use Rattle.std.proofs.lemmas.Bool.{leb-true, leb-false}
 use Rattle.std.proofs.lemmas.List.{length-append, append-nil}
 use Rattle.std.proofs.lemmas.List.Concat.{flat_map-cons, flat_map-append}
 use Rattle.std.proofs.lemmas.List.Sums.{sum_by-cons, sum_by_push, sum_by-append}
-use Rattle.blocks.specs.Limits.{group_size}
-use Rattle.formats.specs.Record.{number}
-use Rattle.formats.proofs.Formats.{length-number}
+use Rattle.block_types.specs.Limits.{group_size}
+use Rattle.blocks.specs.Record.{number}
+use Rattle.blocks.proofs.Formats.{length-number}
 use Rattle.wire.specs.declared.transaction.Change.{Change}
-use Rattle.cells.specs.Limits.{is_large}
+use Rattle.memtable.specs.Limits.{is_large}
 use Rattle.commitlog.specs.declared.log_record.LogRecord.{LogRecord}
 use Rattle.commitlog.specs.Record.{change_values, transaction_values, text_cell, text_change, text_changes, text_transactions, cell_bytes, key_bytes, change_bytes, transaction_bytes, transactions_bytes, body, text, piece_count, pieces, spelling, Fits}
 use Rattle.commitlog.specs.Sizes.{cell_size, change_size, transaction_size, text_size, filling, HasRoom}

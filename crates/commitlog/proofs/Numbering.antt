@@ -6,9 +6,9 @@ use Rattle.std.proofs.lemmas.Bool.{and_parts, and_from, eqb-true, ltb-true, ltb-
 use Rattle.std.proofs.lemmas.List.{append-nil, length-append, nil_from_length}
 use Rattle.std.proofs.lemmas.List.Concat.{flat_map-cons}
 use Rattle.wire.specs.declared.transaction.Change.{Change}
-use Rattle.formats.specs.Format.{◌>>=◌}
-use Rattle.formats.proofs.Formats.{bind_some, if_some, some_is}
-use Rattle.cells.specs.Limits.{is_large}
+use Rattle.blocks.specs.Format.{◌>>=◌}
+use Rattle.blocks.proofs.Formats.{bind_some, if_some, some_is}
+use Rattle.memtable.specs.Limits.{is_large}
 use Rattle.commitlog.specs.declared.text_cell.TextCell.{TextCell}
 use Rattle.commitlog.specs.declared.text_cell.TextCell.TheVariants.{Deleted, Inline, Large}
 use Rattle.commitlog.specs.Running.{running}

@@ -5,9 +5,9 @@ use Rattle.std.specs.Prelude.{◌==◌}
 use Rattle.std.proofs.lemmas.Bool.{eqb-true, cases_lt}
 use Rattle.std.proofs.lemmas.List.{append-nil, length-append, length-take, length-drop, take_at, drop_at, take_all, drop_all, take-append-drop, nil_from_length}
 use Rattle.std.proofs.lemmas.List.Sums.{sum_by-cons}
-use Rattle.blocks.specs.Limits.{IsBlock, group_size}
-use Rattle.formats.specs.Format.{◌>>=◌}
-use Rattle.formats.proofs.Formats.{bind_some, if_some, some_is}
+use Rattle.block_types.specs.Limits.{IsBlock, group_size}
+use Rattle.blocks.specs.Format.{◌>>=◌}
+use Rattle.blocks.proofs.Formats.{bind_some, if_some, some_is}
 use Rattle.commitlog.specs.Record.{cut, piece_count, pieces}
 use Rattle.commitlog.specs.Reading.{piece_at, joined}
 

@@ -3,9 +3,9 @@ use Rattle.std.proofs.Common.{◌≡◌, ℕ, zero, suc, ◌+◌, List, [], ◌�
 use Rattle.std.specs.List.{flat_map, AllByRecursion}
 use Rattle.std.proofs.lemmas.List.{take-append-drop}
 use Rattle.std.proofs.lemmas.List.Concat.{flat_map-append}
-use Rattle.blocks.specs.Limits.{group_size}
+use Rattle.block_types.specs.Limits.{group_size}
 use Rattle.wire.specs.declared.transaction.Change.{Change}
-use Rattle.cells.specs.declared.cell.Cell.{Cell}
+use Rattle.memtable.specs.declared.cell.Cell.{Cell}
 use Rattle.commitlog.specs.declared.log_record.LogRecord.{LogRecord}
 use Rattle.commitlog.specs.Record.{transaction_values, text}
 use Rattle.commitlog.specs.Places.{kept_transactions, kept}

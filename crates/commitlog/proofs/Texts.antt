@@ -4,11 +4,11 @@ use Rattle.std.specs.List.{AllByRecursion}
 use Rattle.std.specs.Prelude.{nat_le, nat_lt, ◌==◌}
 use Rattle.std.proofs.lemmas.Bool.{and_parts, and_from, leb-true, le-leb, ltb-true, lt-ltb, eqb-true}
 use Rattle.std.proofs.lemmas.List.{length-append}
-use Rattle.formats.specs.Record.{number}
-use Rattle.formats.specs.Format.{◌>>=◌, number_at, bytes_at, only_at, whole}
-use Rattle.blocks.specs.Limits.{is_within}
-use Rattle.formats.proofs.Formats.{IsBytes, IsBytes-after, bind_some, some_is, IsFormat, number1, number2, number4, number8, length-number, within, within_again, bytes_takes, bytes_again, pair_format, only_format, counted_format, whole_takes, whole_again}
-use Rattle.cells.specs.Limits.{IsKey}
+use Rattle.blocks.specs.Record.{number}
+use Rattle.blocks.specs.Format.{◌>>=◌, number_at, bytes_at, only_at, whole}
+use Rattle.block_types.specs.Limits.{is_within}
+use Rattle.blocks.proofs.Formats.{IsBytes, IsBytes-after, bind_some, some_is, IsFormat, number1, number2, number4, number8, length-number, within, within_again, bytes_takes, bytes_again, pair_format, only_format, counted_format, whole_takes, whole_again}
+use Rattle.memtable.specs.Limits.{IsKey}
 use Rattle.commitlog.specs.declared.text_cell.TextCell.{TextCell}
 use Rattle.commitlog.specs.declared.text_cell.TextCell.TheVariants.{Deleted, Inline, Large}
 use Rattle.commitlog.specs.Record.{key_bytes, cell_bytes, change_bytes, transaction_bytes, transactions_bytes}

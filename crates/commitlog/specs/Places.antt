@@ -1,10 +1,10 @@
 -- Where the values of a record stand.
 use Rattle.std.specs.Prelude.{ℕ, ◌+◌, List, length, Option, Some, None, if◌then◌else◌}
-use Rattle.blocks.specs.Limits.{group_size}
+use Rattle.block_types.specs.Limits.{group_size}
 use Rattle.wire.specs.declared.transaction.Change.{Change}
-use Rattle.cells.specs.declared.cell.Cell.{Cell}
-use Rattle.cells.specs.declared.cell.Cell.TheVariants.{Deleted, Inline, Placed}
-use Rattle.cells.specs.Limits.{is_large}
+use Rattle.memtable.specs.declared.cell.Cell.{Cell}
+use Rattle.memtable.specs.declared.cell.Cell.TheVariants.{Deleted, Inline, Placed}
+use Rattle.memtable.specs.Limits.{is_large}
 use Rattle.commitlog.specs.declared.log_record.LogRecord.{LogRecord}
 use Rattle.commitlog.specs.Running.{running}
 use Rattle.commitlog.specs.Record.{change_values, transaction_values, text}

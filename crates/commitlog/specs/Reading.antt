@@ -1,8 +1,8 @@
 -- Reading a record.
 use Rattle.std.specs.Prelude.{ℕ, zero, suc, ◌+◌, ◌-◌, ◌^◌, min, Bool, ◌&&◌, nat_le, nat_lt, List, [], ◌∷◌, ◌++◌, length, Option, Some, None, ◌==◌, if◌then◌else◌}
 use Rattle.wire.specs.declared.transaction.Change.{Change}
-use Rattle.formats.specs.Format.{◌>>=◌, number_at, bytes_at, pair_at, only_at, many_at, whole}
-use Rattle.blocks.specs.Limits.{is_within}
+use Rattle.blocks.specs.Format.{◌>>=◌, number_at, bytes_at, pair_at, only_at, many_at, whole}
+use Rattle.block_types.specs.Limits.{is_within}
 use Rattle.commitlog.specs.declared.log_record.LogRecord.{LogRecord}
 use Rattle.commitlog.specs.declared.text_cell.TextCell.{TextCell}
 use Rattle.commitlog.specs.declared.text_cell.TextCell.TheVariants.{Deleted, Inline, Large}

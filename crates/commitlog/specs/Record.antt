@@ -1,9 +1,9 @@
 -- What the blocks of a record are.
 use Rattle.std.specs.Prelude.{ℕ, zero, suc, ◌+◌, ◌/◌, ◌^◌, ◌<◌, ◌≤◌, List, [], ◌∷◌, ◌++◌, length, take, drop, Option, Some, None, if◌then◌else◌}
 use Rattle.std.specs.List.{flat_map, AllByRecursion}
-use Rattle.formats.specs.Record.{number}
+use Rattle.blocks.specs.Record.{number}
 use Rattle.wire.specs.declared.transaction.Change.{Change}
-use Rattle.cells.specs.Limits.{IsKey, IsValue, is_large}
+use Rattle.memtable.specs.Limits.{IsKey, IsValue, is_large}
 use Rattle.commitlog.specs.declared.log_record.LogRecord.{LogRecord}
 use Rattle.commitlog.specs.declared.text_cell.TextCell.{TextCell}
 use Rattle.commitlog.specs.declared.text_cell.TextCell.TheVariants.{Deleted, Inline, Large}

@@ -2,7 +2,7 @@
 use Rattle.std.specs.Prelude.{ℕ, ◌+◌, ◌≤◌, List, length, Option, Some, None, if◌then◌else◌}
 use Rattle.std.specs.List.{flat_map, sum_by}
 use Rattle.wire.specs.declared.transaction.Change.{Change}
-use Rattle.cells.specs.Limits.{is_large}
+use Rattle.memtable.specs.Limits.{is_large}
 use Rattle.commitlog.specs.Record.{transaction_values, spelling}
 
 abbrev pub cell_size : Option (List ℕ) → ℕ

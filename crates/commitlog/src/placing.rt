@@ -1,15 +1,15 @@
 //! What rows keep of the changes of a record: small values themselves, large ones by the place of their block.
 ghost use Rattle.std.specs.Prelude.{◌≡◌, ◌+◌, ◌<◌, ◌≤◌, ◌^◌, ◌++◌, length, drop, IfOk, OnOk};
 ghost use Rattle.std.specs.List.{AllByRecursion, flat_map};
-ghost use Rattle.blocks.specs.Limits.{group_size};
-ghost use Rattle.cells.specs.Cell.{IsEntry};
+ghost use Rattle.block_types.specs.Limits.{group_size};
+ghost use Rattle.memtable.specs.Cell.{IsEntry};
 ghost use Rattle.commitlog.specs.Record.{large, change_values, transaction_values, spelling, HasValue, IsChange, IsTransaction, Fits};
 ghost use Rattle.commitlog.specs.Places as specs;
 
 use crate::log_record::LogRecord;
 use crate::sizes::text_size;
 use bytes::Bytes;
-use cells::{Cell, Place, is_large};
+use memtable::{Cell, Place, is_large};
 use std::alloc::{AllocError, Global};
 use wire::{Change, Changes, ExtentId};
 

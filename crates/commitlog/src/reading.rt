@@ -1,7 +1,7 @@
 //! Reading a record from a group. Each reader is the function on lists of specs/Reading.antt that its clause cites.
 ghost use Rattle.std.specs.Prelude.{◌≡◌, ◌<◌, ℕ, List, Some, slice_index, IfOk, MatchResult};
-ghost use Rattle.formats.specs.Format.{Gives, bytes_at, many_at};
-ghost use Rattle.blocks.specs.Limits.{is_within};
+ghost use Rattle.blocks.specs.Format.{Gives, bytes_at, many_at};
+ghost use Rattle.block_types.specs.Limits.{is_within};
 ghost use Rattle.commitlog.specs.declared.log_record.LogRecord.{LogRecord};
 ghost use Rattle.commitlog.specs.Record.{piece_count, spelling, Fits};
 ghost use Rattle.commitlog.specs.Reading.{counted_at, is_small, large_at, fields_at, cell_at, change_at, transaction_at, transactions_at, body_at, text_at, piece_at, joined, joined_at, record_at};
@@ -9,10 +9,10 @@ ghost use Rattle.commitlog.specs.Reading.{counted_at, is_small, large_at, fields
 use crate::log_record::{LogRecord, Transactions};
 use crate::text_cell::{TextCell, TextChanges};
 use crate::values::transactions_of;
-use blocks::{Block, BlockFault, Group, MAX_BLOCK};
+use block_types::{Block, BlockFault, Group, MAX_BLOCK};
+use blocks::reader::{ended, u8_at, u16_at, u32_at, u64_at};
 use bytes::Bytes;
-use cells::{MAX_BATCH, MAX_CHANGES, MAX_INLINE, MAX_KEY, MAX_VALUE};
-use formats::reader::{ended, u8_at, u16_at, u32_at, u64_at};
+use memtable::{MAX_BATCH, MAX_CHANGES, MAX_INLINE, MAX_KEY, MAX_VALUE};
 use std::alloc::Global;
 
 /// A copy of so many bytes, and the bytes behind them.

@@ -2,7 +2,7 @@
 ghost use Rattle.std.specs.Prelude.{◌≡◌, suc, ◌+◌, ◌-◌, ◌<◌, ◌≤◌, ◌^◌, ◌++◌, ◌⊎◌, List, ℕ, [], ◌∷◌, length, drop, min, MatchResult, IfOk, if◌then◌else◌};
 ghost use Rattle.commitlog.specs.Replay.{next_of, taken};
 
-use blocks::BlockFault;
+use block_types::BlockFault;
 use std::marker::Model;
 
 /// Which number of a log comes next. Its value is that number.

@@ -6,9 +6,9 @@ ghost use Rattle.commitlog.specs.Record.{transaction_values, piece_count, text a
 ghost use Rattle.commitlog.specs.Sizes as specs;
 
 use crate::log_record::LogRecord;
-use blocks::{MAX_BLOCK, MAX_BLOCKS};
+use block_types::{MAX_BLOCK, MAX_BLOCKS};
 use bytes::Bytes;
-use cells::is_large;
+use memtable::is_large;
 use std::marker::Model;
 use wire::{Change, Changes};
 

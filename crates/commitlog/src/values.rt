@@ -1,10 +1,10 @@
 //! The values of a record that is read: small ones from its text, large ones from the blocks behind it, which they share.
 ghost use Rattle.std.specs.Prelude.{length};
-ghost use Rattle.formats.specs.Format.{Gives};
+ghost use Rattle.blocks.specs.Format.{Gives};
 ghost use Rattle.commitlog.specs.Reading.{value_at, change_of as change_from, changes_of as changes_from, each_of, transactions_of as transactions_from};
 
 use crate::text_cell::{TextCell, TextChanges};
-use blocks::{Block, BlockFault};
+use block_types::{Block, BlockFault};
 use bytes::Bytes;
 use std::alloc::Global;
 use wire::{Change, Changes};

@@ -5,10 +5,10 @@ ghost use Rattle.commitlog.specs.Record.{large, change_values, transaction_value
 
 use crate::log_record::LogRecord;
 use crate::sizes::text_size;
-use blocks::{Block, Group, MAX_BLOCK};
+use block_types::{Block, Group, MAX_BLOCK};
+use blocks::writer::{put_bytes, put_u8, put_u16, put_u32, put_u64};
 use bytes::Bytes;
-use cells::is_large;
-use formats::writer::{put_bytes, put_u8, put_u16, put_u32, put_u64};
+use memtable::is_large;
 use std::alloc::{AllocError, Global};
 use wire::{Change, Changes};
 

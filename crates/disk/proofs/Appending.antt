@@ -1,9 +1,9 @@
 -- What an append leaves where one of its device calls fails, and where none does.
 use Rattle.std.proofs.Common.{◌≡◌, inl, inr, ℕ, ◌+◌, ◌-◌, ◌<◌, ◌≤◌, Bool, true, false, Some, None, refl, List, [], ◌∷◌, ◌++◌, length, Result, Ok, Err, sym, ap, subst, ◌∙◌, arith, length-append}
 use Rattle.std.specs.Prelude.{IsErrOf, ◌⊎◌}
-use Rattle.blocks.specs.declared.record.Version.{Version}
-use Rattle.blocks.specs.declared.record.Record.{Record}
-use Rattle.formats.specs.Record.{spelling, Fits}
+use Rattle.block_types.specs.declared.record.Version.{Version}
+use Rattle.block_types.specs.declared.record.Record.{Record}
+use Rattle.blocks.specs.Record.{spelling, Fits}
 use Rattle.disk.specs.declared.device.DiskFault.{DiskFault}
 use Rattle.disk.specs.declared.device.DiskFault.TheVariants.{Failed, Memory}
 use Rattle.disk.specs.Disk.{DiskState, IsUntouched, Writes, Syncs, OnlyNow, CountsNow, SeenIsThere, SyncedIsThere, IsSteady, LeavesOnly}

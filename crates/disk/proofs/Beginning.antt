@@ -1,7 +1,7 @@
 -- A crash while a file of records is made and gets its first record.
 use Rattle.std.proofs.Common.{◌≡◌, subst, inl, inr, ⊎_elim, ◌⊎◌, ℕ, List, [], Result, Ok, Err, MatchResult, arith}
-use Rattle.blocks.specs.declared.record.Record.{Record}
-use Rattle.blocks.specs.declared.record.Version.{Version}
+use Rattle.block_types.specs.declared.record.Record.{Record}
+use Rattle.block_types.specs.declared.record.Version.{Version}
 use Rattle.disk.specs.Disk.{DiskState, CountsNow, LeavesOnly}
 use Rattle.disk.specs.File.{IsBeforeOrAfter, HasNoRecord, HoldsAtMost}
 

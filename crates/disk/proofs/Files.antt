@@ -3,12 +3,12 @@ use Rattle.std.proofs.Common.{◌≡◌, ◌≢◌, ℕ, zero, suc, ◌≤◌, B
 use Rattle.std.specs.List.{AllByRecursion}
 use Rattle.std.proofs.lemmas.List.{take_at, drop_at, append-nil, nil_from_length}
 use Rattle.std.proofs.lemmas.Bool.Decides.{nat_tests}
-use Rattle.blocks.specs.declared.record.Version.{Version}
-use Rattle.blocks.specs.declared.record.Version.TheVariants.{V1, V2}
-use Rattle.blocks.specs.declared.record.Record.{Record}
-use Rattle.formats.specs.Record.{spelling, Fits, Begins}
-use Rattle.formats.specs.Reading.{record_at}
-use Rattle.formats.proofs.Laws.{record_again}
+use Rattle.block_types.specs.declared.record.Version.{Version}
+use Rattle.block_types.specs.declared.record.Version.TheVariants.{V1, V2}
+use Rattle.block_types.specs.declared.record.Record.{Record}
+use Rattle.blocks.specs.Record.{spelling, Fits, Begins}
+use Rattle.blocks.specs.Reading.{record_at}
+use Rattle.blocks.proofs.Laws.{record_again}
 use Rattle.disk.specs.Disk.{DiskState, Only}
 use Rattle.disk.specs.File.{header, opened, IsFileOf, IsOpen, IsKept, found, records_from, records_in, HasNoRecord}
 

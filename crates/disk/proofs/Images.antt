@@ -5,7 +5,7 @@ use Rattle.std.proofs.lemmas.Bool.{cases_lt, lt-leb, le-leb}
 use Rattle.std.proofs.lemmas.List.{take_at, drop_at, length-take-le}
 use Rattle.disk.specs.Disk.{Holds, Torn, Follows, Elapses, Spends}
 use Rattle.disk.specs.History.{Event, HeldSince}
-use Rattle.disk.specs.Image.{Held, KeepsRoom, IsThere, image_state}
+use Rattle.disk.specs.Image.{ImageBytes, KeepsRoom, IsThere, image_state}
 
 -- a write that is done is one that a crash may have cut short at its end
 pub torn_done : (at : ℕ) (old bytes new : List ℕ) → at ≤ length old → Holds old at bytes new → Torn at (length bytes) old new
@@ -25,15 +25,15 @@ torn_done at old bytes new within holds =
 pub torn_none : (at n : ℕ) (old : List ℕ) → Torn at n old old
 torn_none at n old = record { before = refl; after = refl; no_shorter = omega arith; no_longer = omega arith }
 
-pub crash_done : (old new : Held) (at : ℕ) (bytes : List ℕ) → at ≤ length old.seen → Holds old.seen at bytes new.seen → new.synced ≡ old.synced → Follows (Torn at (length bytes)) (IsThere old) (IsThere new)
+pub crash_done : (old new : ImageBytes) (at : ℕ) (bytes : List ℕ) → at ≤ length old.seen → Holds old.seen at bytes new.seen → new.synced ≡ old.synced → Follows (Torn at (length bytes)) (IsThere old) (IsThere new)
 crash_done old new at bytes within holds same c (inl seen) = (old.seen, inl refl, subst (Torn at (length bytes) old.seen) (sym seen) (torn_done at old.seen bytes new.seen within holds))
 crash_done old new at bytes within holds same c (inr synced) = (c, inr (synced ∙ same), torn_none at (length bytes) c)
 
-pub crash_none : (old new : Held) (at n : ℕ) → ((c : List ℕ) → IsThere new c → IsThere old c) → Follows (Torn at n) (IsThere old) (IsThere new)
+pub crash_none : (old new : ImageBytes) (at n : ℕ) → ((c : List ℕ) → IsThere new c → IsThere old c) → Follows (Torn at n) (IsThere old) (IsThere new)
 crash_none old new at n from c there = (c, from c there, torn_none at n c)
 
 -- A call goes by that notes what it takes away.
-pub goes_by : (old new : Held) (events later : List Event) (n : ℕ) (gone : List ℕ) (plan next : Option (ℕ × Bool)) (sure : Bool) → later ≡ (n, gone) ∷ events → IsThere old gone → ((c : List ℕ) → IsThere old c → (c ≡ gone) ⊎ IsThere new c) → Elapses (image_state old events plan sure) (image_state new later next sure)
+pub goes_by : (old new : ImageBytes) (events later : List Event) (n : ℕ) (gone : List ℕ) (plan next : Option (ℕ × Bool)) (sure : Bool) → later ≡ (n, gone) ∷ events → IsThere old gone → ((c : List ℕ) → IsThere old c → (c ≡ gone) ⊎ IsThere new c) → Elapses (image_state old events plan sure) (image_state new later next sure)
 goes_by old new events later n gone plan next sure is was splits = record {
   later = omega (arith, ap length is);
   nothing_else = λ t c le left. ⊎_elim (λ now. inr now) (λ had. inl (⊎_elim (λ here. inl (subst (IsThere old) (sym here.1) was)) (λ there. inr there) (subst (λ (es : List Event). HeldSince t es c) is had))) left;
@@ -53,7 +53,7 @@ room_none : (n room : ℕ) → room < n → roomy n room ≡ 0
 room_none n room lt = rw (lt-leb n room lt) refl
 
 -- a write within what is reserved leaves room
-pub spends_write : (old new : Held) (events later : List Event) (plan next : Option (ℕ × Bool)) (sure : Bool) (at : ℕ) (bytes : List ℕ) → at ≤ length old.seen → Holds old.seen at bytes new.seen → KeepsRoom old new → at + length bytes ≤ min old.seen_room old.synced_room → Spends (image_state old events plan sure) (image_state new later next sure)
+pub spends_write : (old new : ImageBytes) (events later : List Event) (plan next : Option (ℕ × Bool)) (sure : Bool) (at : ℕ) (bytes : List ℕ) → at ≤ length old.seen → Holds old.seen at bytes new.seen → KeepsRoom old new → at + length bytes ≤ min old.seen_room old.synced_room → Spends (image_state old events plan sure) (image_state new later next sure)
 spends_write old new events later plan next sure at bytes within holds keeps le = record {
   room = elim (cases_lt old.synced_room (length old.seen)) [
     | inl lt ↦ omega (arith, room_none (length old.seen) old.synced_room lt)

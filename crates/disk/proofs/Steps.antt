@@ -1,6 +1,6 @@
 -- What a file's records are after a step that may append one, whatever the step gives.
 use Rattle.std.proofs.Common.{◌≡◌, false, ◌++◌, Option, Some, None, Result, Ok, Err, ap, append-nil, refl, sym, ◌∙◌}
-use Rattle.blocks.specs.declared.record.Record.{Record}
+use Rattle.block_types.specs.declared.record.Record.{Record}
 use Rattle.disk.specs.Appends.{Appends, Records, listed}
 use Rattle.disk.specs.Disk.{DiskState}
 use Rattle.disk.specs.Filed.{Filed}

@@ -1,6 +1,6 @@
 -- What an append of one record leaves of a record file.
 use Rattle.std.specs.Prelude.{◌≡◌, ◌⊎◌, ◌<◌, ◌≤◌, ◌-◌, ℕ, Bool, true, false, List, [], ◌∷◌, ◌++◌, Option, Some, None, Result, IsErrOf, IsOk, OnOk}
-use Rattle.blocks.specs.declared.record.Record.{Record}
+use Rattle.block_types.specs.declared.record.Record.{Record}
 use Rattle.disk.specs.declared.device.DiskFault.{DiskFault}
 use Rattle.disk.specs.declared.device.DiskFault.TheVariants.{Failed, Memory}
 use Rattle.disk.specs.Disk.{DiskState, IsUntouched, IsSteady, LeavesOnly, Only}

@@ -1,6 +1,6 @@
 -- The faults of a file.
-use Rattle.blocks.specs.declared.fault.BlockFault.{BlockFault}
-use Rattle.blocks.specs.declared.fault.BlockFault.TheVariants as blocks
+use Rattle.block_types.specs.declared.fault.BlockFault.{BlockFault}
+use Rattle.block_types.specs.declared.fault.BlockFault.TheVariants as blocks
 use Rattle.disk.specs.declared.device.DiskFault.{DiskFault}
 use Rattle.disk.specs.declared.device.DiskFault.TheVariants as disks
 use Rattle.disk.specs.declared.fault.FileFault.{FileFault}

@@ -1,11 +1,11 @@
 -- What a file of records stands for.
 use Rattle.std.specs.Prelude.{◌≡◌, ◌≢◌, ◌⊎◌, ℕ, zero, suc, List, [], ◌∷◌, ◌++◌, length, drop, Option, Some, None, Bool, false, nat_le, ◌&&◌, if◌then◌else◌, ◌==◌}
 use Rattle.std.specs.List.{AllByRecursion}
-use Rattle.blocks.specs.declared.record.Version.{Version}
-use Rattle.blocks.specs.declared.record.Version.TheVariants.{V1, V2}
-use Rattle.blocks.specs.declared.record.Record.{Record}
-use Rattle.formats.specs.Record.{spelling, Fits}
-use Rattle.formats.specs.Reading.{record_at}
+use Rattle.block_types.specs.declared.record.Version.{Version}
+use Rattle.block_types.specs.declared.record.Version.TheVariants.{V1, V2}
+use Rattle.block_types.specs.declared.record.Record.{Record}
+use Rattle.blocks.specs.Record.{spelling, Fits}
+use Rattle.blocks.specs.Reading.{record_at}
 use Rattle.disk.specs.Disk.{DiskState, Only}
 
 -- "XRF1", "XRF2"

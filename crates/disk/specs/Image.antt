@@ -4,7 +4,7 @@ use Rattle.disk.specs.Disk.{DiskState}
 use Rattle.disk.specs.History.{Event, failures_in, HeldSince}
 
 -- the bytes that a read gives, those that the last sync has made sure of, and for how many each has room
-pub record Held : Type 0 where
+pub record ImageBytes : Type 0 where
   pub seen : List ℕ
   pub synced : List ℕ
   pub seen_room : ℕ
@@ -17,16 +17,16 @@ pub record IsClean (n : ℕ) (seen synced : List ℕ) : Type 0 where
   pub same : take n seen ≡ take n synced
 
 -- neither list has lost room
-pub record KeepsRoom (old new : Held) : Type 0 where
+pub record KeepsRoom (old new : ImageBytes) : Type 0 where
   pub seen : old.seen_room ≤ new.seen_room
   pub synced : old.synced_room ≤ new.synced_room
 
 -- a crash leaves what is there, or what the last sync has made sure of
-abbrev pub IsThere : Held → List ℕ → Type 0
+abbrev pub IsThere : ImageBytes → List ℕ → Type 0
 IsThere held c = (c ≡ held.seen) ⊎ (c ≡ held.synced)
 
 -- the disk with these bytes, these calls behind it, and this plan
-abbrev pub image_state : Held → List Event → Option (ℕ × Bool) → Bool → DiskState
+abbrev pub image_state : ImageBytes → List Event → Option (ℕ × Bool) → Bool → DiskState
 image_state held events stop sure = record {
   seen = held.seen;
   may_leave = λ c. IsThere held c;

@@ -4,7 +4,7 @@ use Rattle.std.proofs.Math.Nat.{le_refl, le_trans, le-suc, not-suc-le_self}
 use Rattle.std.specs.Prelude.{option_map}
 use Rattle.disk.specs.Disk.{CountsNow, OnlyNow}
 use Rattle.disk.specs.History.{Event, HeldSince}
-use Rattle.disk.specs.Image.{Held, image_state}
+use Rattle.disk.specs.Image.{ImageBytes, image_state}
 use Rattle.disk.specs.Memory.{memory_state}
 use Rattle.disk.specs.RealFile.{file_state}
 use Rattle.disk.specs.declared.memory.MemDisk.{MemDisk}
@@ -15,7 +15,7 @@ none_since t [] c le had = had
 none_since t (e ∷ es) c le (inl here) = not-suc-le_self (length es) (le_trans le here.0)
 none_since t (e ∷ es) c le (inr there) = none_since t es c (le_trans (le-suc (length es)) le) there
 
-image_only_now : (held : Held) (events : List Event) (stop : Option (ℕ × Bool)) (sure : Bool) → OnlyNow (image_state held events stop sure)
+image_only_now : (held : ImageBytes) (events : List Event) (stop : Option (ℕ × Bool)) (sure : Bool) → OnlyNow (image_state held events stop sure)
 image_only_now held events stop sure c left = ⊎_elim (λ now. now) (λ had. absurd (none_since (length events) events c (le_refl (length events)) had)) left
 
 pub memory_counts_now : (m : MemDisk) → CountsNow (memory_state m)

@@ -33,10 +33,10 @@ impl<T: Drop> From<AllocFailed<T>> for DiskFault {
     }
 }
 
-impl From<blocks::Memory> for DiskFault {
+impl From<block_types::Memory> for DiskFault {
     ghost from_gives = { λ _ e. e ≡ faults.Memory };
 
-    fn from(_: blocks::Memory) -> Self {
+    fn from(_: block_types::Memory) -> Self {
         DiskFault::Memory
     }
 }

@@ -3,7 +3,7 @@ ghost use Rattle.std.specs.Prelude.{◌≡◌};
 ghost use Rattle.disk.specs.Faults.{of_disk, of_block};
 
 use crate::device::DiskFault;
-use blocks::BlockFault;
+use block_types::BlockFault;
 use thiserror::Error;
 
 /// Why a record file could not be opened or read.

@@ -1,7 +1,7 @@
 //! A file of records: four letters, and then each record behind a gate. A gate of 1 is open. Any other byte is
 //! closed, and there the file ends for its reader (docs/FORMATS.md).
 ghost use Rattle.std.specs.Prelude.{◌≡◌, ◌≢◌, ◌<◌, ◌≤◌, [], List, IsErrOf, IfOk, IfErr, MatchResult, None, Some, false, true, option_map};
-ghost use Rattle.formats.specs.Record.{Fits};
+ghost use Rattle.blocks.specs.Record.{Fits};
 ghost use Rattle.disk.specs.Appends.{Appends};
 ghost use Rattle.disk.specs.Disk.{LeavesOnly, IsSame, IsUntouched, IsSteady, Only};
 ghost use Rattle.disk.specs.Memory.{memory_state};
@@ -12,8 +12,8 @@ use crate::fault::FileFault;
 use crate::memory::{MemDisk, Stop};
 use crate::opening::{find, write_header};
 use crate::scan::read_file;
-use blocks::{Record, Version};
-use formats::encode_as;
+use block_types::{Record, Version};
+use blocks::encode_as;
 use std::alloc::{AllocError, Global};
 use std::marker::Model;
 

@@ -27,9 +27,9 @@ impl Drop for Image {
 
 impl Model for Image {
     ghost use Rattle.std.specs.Prelude.{vec_capacity};
-    ghost use Rattle.disk.specs.Image.{Held, IsClean};
+    ghost use Rattle.disk.specs.Image.{ImageBytes, IsClean};
 
-    ghost Value = { Held };
+    ghost Value = { ImageBytes };
 
     ghost view = { λ i. record { seen = i.bytes.items; synced = i.synced.items; seen_room = vec_capacity i.bytes; synced_room = vec_capacity i.synced } };
 

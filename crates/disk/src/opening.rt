@@ -6,7 +6,7 @@ ghost use Rattle.disk.specs.File.{header, records_in, IsFileOf, IsOpen, HasNoRec
 use crate::device::{Disk, DiskFault};
 use crate::fault::FileFault;
 use crate::scan::read_file;
-use blocks::{Record, Version};
+use block_types::{Record, Version};
 use std::alloc::Global;
 
 /// The version of the file on a disk, and the place of its last gate. It syncs first.

@@ -1,5 +1,5 @@
-pub mod Made
-pub mod Rowing
-pub mod Stays
+pub mod NewReplica
+pub mod RulesOfNode
+pub mod ReplaysRecords
 pub mod Recovering
-pub mod Telling
+pub mod RulesWithoutReplica

@@ -5,15 +5,15 @@ use Rattle.disk.specs.Disk.{DiskState, CountsNow, IsSame, LeavesOnly}
 use Rattle.disk.proofs.Moments.{goes_on}
 use Rattle.disk.specs.declared.fault.FileFault.{FileFault}
 use Rattle.disk.specs.declared.fault.FileFault.TheVariants.{Damaged}
-use Rattle.blocks.specs.declared.record.Record.{Record}
+use Rattle.block_types.specs.declared.record.Record.{Record}
 use Rattle.replica.specs.Content.{Content}
 use Rattle.replica.specs.Replay.{applied, fits, fits_at, fit, replay, extent_of}
 use Rattle.replica.proofs.Replaying.{replay-here, replay-elsewhere, fit-push, fit-at}
-use Rattle.model.specs.Node.{Replica, contents, fresh}
-use Rattle.model.specs.Bounds.{FewWait}
+use Rattle.model_streams.specs.Node.{Replica, contents, fresh}
+use Rattle.model_streams.specs.Bounds.{FewWait}
 use Rattle.enode.specs.Node.{find, fresh_of, IsReplay, IsRestart}
 use Rattle.enode.specs.Recovery.{fits_among, Recovers}
-use Rattle.hosting.specs.Recovery.{Recovers as RecoversOne}
+use Rattle.enode_replica.specs.Recovery.{Recovers as RecoversOne}
 
 contents-fresh : (c : Option Content) → contents (fresh_of c) ≡ c
 contents-fresh None = refl

@@ -1,3 +1,3 @@
 pub mod Node
-pub mod Took
+pub mod Performs
 pub mod Recovery

@@ -3,12 +3,12 @@ use Rattle.std.specs.Prelude.{◌≡◌, ℕ, true, List, Option, Some, None}
 use Rattle.std.specs.Map.{lookup}
 use Rattle.std.specs.BTreeMap.{is_at}
 use Rattle.std.specs.Ordering.{nat_cmp}
-use Rattle.blocks.specs.declared.record.Record.{Record}
+use Rattle.block_types.specs.declared.record.Record.{Record}
 use Rattle.disk.specs.Filed.{Filed}
 use Rattle.replica.specs.Content.{Content}
 use Rattle.replica.specs.Replay.{replay, fit}
-use Rattle.model.specs.Node.{Replica, fresh, contents}
-use Rattle.model.specs.Bounds.{FewWait}
+use Rattle.model_streams.specs.Node.{Replica, fresh, contents}
+use Rattle.model_streams.specs.Bounds.{FewWait}
 
 -- the replica of an extent, among entries of a map
 abbrev pub find : List (ℕ × Replica) → ℕ → Option Replica

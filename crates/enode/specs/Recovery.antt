@@ -1,10 +1,10 @@
 -- One record more, when a node is made from its records.
 use Rattle.std.specs.Prelude.{◌≡◌, ◌≢◌, ℕ, Bool, true, false, List, Option, Some, None, Result, OnOk, IfErr}
-use Rattle.blocks.specs.declared.record.Record.{Record}
+use Rattle.block_types.specs.declared.record.Record.{Record}
 use Rattle.disk.specs.declared.fault.FileFault.{FileFault}
 use Rattle.disk.specs.declared.fault.FileFault.TheVariants.{Failed, Damaged}
 use Rattle.replica.specs.Replay.{extent_of, fits, applied}
-use Rattle.model.specs.Node.{Replica, contents}
+use Rattle.model_streams.specs.Node.{Replica, contents}
 use Rattle.enode.specs.Node.{find, fresh_of}
 
 -- whether a record fits what the replicas are

@@ -1,13 +1,13 @@
-//! The rows of a node's table for an extent of which it has no replica, but for those about the end of an extent.
+//! The rules of a node's table for an extent of which it has no replica, but for those about the end of an extent.
 ghost use Rattle.std.specs.Prelude.{None};
 ghost use Rattle.wire.specs.declared.actor.ActorId.TheVariants.{Node};
 ghost use Rattle.wire.specs.declared.refusal.Refusal.TheVariants.{NoSuchExtent};
-ghost use Rattle.model.specs.Outcome.{refused};
-ghost use Rattle.model.specs.Node.{append_body_row, check_body_row, missing as missing_row, read_body_row};
-ghost use Rattle.enode.specs.Took.{Absent};
+ghost use Rattle.model_streams.specs.Outcome.{refused};
+ghost use Rattle.model_streams.specs.Node.{append_body_rule, check_body_rule, missing as missing_rule, read_body_rule};
+ghost use Rattle.enode.specs.Performs.{AnswersWithoutReplica};
 
 use disk::DiskFault;
-use serving::{is_manager, refuse};
+use enode_rules::{is_manager, refuse};
 use std::alloc::Global;
 use wire::{AppendBody, CheckBody, Packet, ReadBody, Refusal, ReqNo, Step};
 
@@ -18,14 +18,14 @@ pub(crate) fn refuse_request(
     packet: &Packet,
     request: ReqNo,
 ) -> Result<Step, DiskFault>
-    ensures { Absent (refused None (Node number) packet.now request NoSuchExtent) result }
+    ensures { AnswersWithoutReplica (refused None (Node number) packet.now request NoSuchExtent) result }
 {
     refuse(alloc, number, packet.from, request, Refusal::NoSuchExtent)
 }
 
 /// The manager alone is told that there is no replica.
 pub(crate) fn missing(alloc: Global, number: u8, packet: &Packet) -> Result<Step, DiskFault>
-    ensures { Absent (missing_row number packet.now) result }
+    ensures { AnswersWithoutReplica (missing_rule number packet.now) result }
 {
     if is_manager(packet.from) {
         return refuse_request(alloc, number, packet, ReqNo::NoRequest);
@@ -39,7 +39,7 @@ pub(crate) fn take_append(
     packet: &Packet,
     body: &AppendBody,
 ) -> Result<Step, DiskFault>
-    ensures { Absent (append_body_row number None packet.now body.now) result }
+    ensures { AnswersWithoutReplica (append_body_rule number None packet.now body.now) result }
 {
     match body {
         AppendBody::Append { request, .. } => refuse_request(alloc, number, packet, *request),
@@ -55,7 +55,7 @@ pub(crate) fn take_check(
     packet: &Packet,
     body: &CheckBody,
 ) -> Result<Step, DiskFault>
-    ensures { Absent (check_body_row number None packet.now body.now) result }
+    ensures { AnswersWithoutReplica (check_body_rule number None packet.now body.now) result }
 {
     match body {
         CheckBody::Check { request, .. } => refuse_request(alloc, number, packet, *request),
@@ -71,7 +71,7 @@ pub(crate) fn take_read(
     packet: &Packet,
     body: &ReadBody,
 ) -> Result<Step, DiskFault>
-    ensures { Absent (read_body_row number None packet.now body.now) result }
+    ensures { AnswersWithoutReplica (read_body_rule number None packet.now body.now) result }
 {
     match body {
         ReadBody::ReadAt { request, .. } => refuse_request(alloc, number, packet, *request),

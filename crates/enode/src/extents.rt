@@ -1,6 +1,6 @@
 //! The extent that a packet is about.
 ghost use Rattle.std.specs.Prelude.{◌≡◌};
-ghost use Rattle.model.specs.Node.{append_extent, check_extent, extent_of, read_extent, seal_extent};
+ghost use Rattle.model_streams.specs.Node.{append_extent, check_extent, extent_of, read_extent, seal_extent};
 
 use wire::{AppendBody, Body, CheckBody, ReadBody, SealBody};
 

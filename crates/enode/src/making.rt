@@ -1,28 +1,28 @@
 //! A new replica at a node.
 ghost use Rattle.std.specs.Prelude.{◌≡◌, ◌≢◌, ℕ, Some, None, false, true, OnOk, OnErr, IfErr};
-ghost use Rattle.blocks.specs.Limits.{AreNodes, IsTarget};
-ghost use Rattle.blocks.specs.declared.record.Record.TheVariants as records;
+ghost use Rattle.block_types.specs.Limits.{AreNodes, IsTarget};
+ghost use Rattle.block_types.specs.declared.record.Record.TheVariants as records;
 ghost use Rattle.disk.specs.Appends.{Appends};
 ghost use Rattle.disk.specs.declared.device.DiskFault.TheVariants as faults;
 ghost use Rattle.replica.specs.Replay.{is_place as is_one_place};
-ghost use Rattle.model.specs.Outcome.{all_met};
-ghost use Rattle.model.specs.Node.{make_row, make_taken, make_tests};
+ghost use Rattle.model_streams.specs.Outcome.{all_met};
+ghost use Rattle.model_streams.specs.Node.{make_rule, make_taken, make_tests};
 ghost use Rattle.enode.specs.Node.{find};
-ghost use Rattle.enode.specs.Took.{Took};
+ghost use Rattle.enode.specs.Performs.{NodePerforms};
 
-use blocks::{Nodes, Record};
+use block_types::{Nodes, Record};
 use disk::{Disk, DiskFault, RecordFile};
-use hosting::Hosted;
-use serving::is_manager;
+use enode_replica::NodeReplica;
+use enode_rules::is_manager;
 use std::alloc::Global;
 use std::collections::BTreeMap;
 use wire::{ExtentId, Fence, Packet, Step};
 
 /// Puts a new replica into the map, whose growth may fail.
 pub(crate) fn insert_new(
-    replicas: &mut BTreeMap<u64, Hosted>,
+    replicas: &mut BTreeMap<u64, NodeReplica>,
     extent: ExtentId,
-    made: Hosted,
+    made: NodeReplica,
 ) -> Result<(), DiskFault>
     ensures here { OnOk result (find replicas.new.entries extent ≡ Some made) }
     ensures elsewhere { OnOk result ((f : ℕ) → f ≢ extent → find replicas.new.entries f ≡ find replicas.old.entries f) }
@@ -35,7 +35,7 @@ pub(crate) fn insert_new(
     }
 }
 
-fn remove_new(replicas: &mut BTreeMap<u64, Hosted>, extent: ExtentId)
+fn remove_new(replicas: &mut BTreeMap<u64, NodeReplica>, extent: ExtentId)
     ensures gone { find replicas.new.entries extent ≡ None }
     ensures elsewhere { (f : ℕ) → f ≢ extent → find replicas.new.entries f ≡ find replicas.old.entries f }
 {
@@ -67,7 +67,7 @@ fn write_make<D: Disk>(
 
 // The map grows first; where the record could not be written, the replica is taken out again.
 fn make_taken<D: Disk>(
-    replicas: &mut BTreeMap<u64, Hosted>,
+    replicas: &mut BTreeMap<u64, NodeReplica>,
     file: &mut RecordFile<D>,
     alloc: Global,
     extent: ExtentId,
@@ -79,10 +79,10 @@ fn make_taken<D: Disk>(
     requires absent { find replicas.old.entries extent ≡ None }
     requires target { IsTarget target }
     requires places { AreNodes places }
-    ensures { Took D.state replicas.old.entries replicas.new.entries file.old file.new extent
+    ensures { NodePerforms D.state replicas.old.entries replicas.new.entries file.old file.new extent
         (make_taken extent fence target places) result }
 {
-    let made = Hosted::new(alloc, places, target, fence);
+    let made = NodeReplica::new(alloc, places, target, fence);
     insert_new(replicas, extent, made)?;
     match write_make(alloc, file, extent, fence, target, places) {
         Ok(()) => Ok(Step::silent(alloc)),
@@ -126,7 +126,7 @@ fn may_make(number: u8, packet: &Packet, target: u32, places: &Nodes) -> bool
 
 /// A Make of an extent of which there is no replica: one is made, if it may be.
 pub(crate) fn make<D: Disk>(
-    replicas: &mut BTreeMap<u64, Hosted>,
+    replicas: &mut BTreeMap<u64, NodeReplica>,
     file: &mut RecordFile<D>,
     alloc: Global,
     number: u8,
@@ -138,8 +138,8 @@ pub(crate) fn make<D: Disk>(
 ) -> Result<Step, DiskFault>
     requires running { file.old.stopped ≡ false }
     requires absent { find replicas.old.entries extent ≡ None }
-    ensures { Took D.state replicas.old.entries replicas.new.entries file.old file.new extent
-        (make_row number packet.now extent fence target places.now) result }
+    ensures { NodePerforms D.state replicas.old.entries replicas.new.entries file.old file.new extent
+        (make_rule number packet.now extent fence target places.now) result }
 {
     if !may_make(number, packet, target, places) {
         return Ok(Step::silent(alloc));

@@ -1,21 +1,21 @@
 //! A node.
 ghost use Rattle.std.specs.Prelude.{◌≡◌, ◌≢◌, ◌<◌, ℕ, List, [], Some, None, false, true, IfOk, IfErr, MatchResult, option_map};
-ghost use Rattle.blocks.specs.declared.record.Record.{Record};
-ghost use Rattle.blocks.specs.declared.record.Version.{Version};
+ghost use Rattle.block_types.specs.declared.record.Record.{Record};
+ghost use Rattle.block_types.specs.declared.record.Version.{Version};
 ghost use Rattle.disk.specs.Disk.{IsSame, IsSteady, LeavesOnly};
 ghost use Rattle.disk.specs.File.{IsFileOf};
 ghost use Rattle.disk.specs.Memory.{memory_state};
 ghost use Rattle.replica.specs.State.{content_of};
 ghost use Rattle.replica.specs.Replay.{fit};
-ghost use Rattle.model.specs.Node.{node_row, extent_of, contents};
+ghost use Rattle.model_streams.specs.Node.{node_rule, extent_of, contents};
 ghost use Rattle.enode.specs.Node.{find, IsReplay, IsRestart};
-ghost use Rattle.enode.specs.Took.{Took};
-ghost use Rattle.model.specs.Bounds.{AreFew};
+ghost use Rattle.enode.specs.Performs.{NodePerforms};
+ghost use Rattle.model_streams.specs.Bounds.{AreFew};
 
 use crate::recovery::replicas_of;
-use crate::rows::take;
+use crate::rules::take;
 use disk::{Disk, DiskFault, FileFault, MemDisk, RecordFile};
-use hosting::Hosted;
+use enode_replica::NodeReplica;
 use replica::Replica;
 use std::alloc::Global;
 use std::collections::BTreeMap;
@@ -26,7 +26,7 @@ use wire::{ExtentId, Packet, Step};
 /// (after Calder et al., SOSP 2011, section 4.2).
 pub struct Node<D: Disk> {
     number: u8,
-    replicas: BTreeMap<u64, Hosted>,
+    replicas: BTreeMap<u64, NodeReplica>,
     file: RecordFile<D>,
 }
 
@@ -114,12 +114,12 @@ impl<D: Disk> Node<D> {
         }
     }
 
-    /// What the node does with a packet: the row of its table, exactly. The record, if there is one, is on the disk
+    /// What the node does with a packet: the rule of its table, exactly. The record, if there is one, is on the disk
     /// before the packets are handed out. A stopped node does nothing. 20: the disk failed, and the node is stopped
     /// until it is restarted; its records are the old ones, with the new one or without. 22: nothing has changed.
     pub fn handle(&mut self, alloc: Global, packet: &Packet) -> Result<Step, DiskFault>
-        ensures took { self.old.file.stopped ≡ false → Took D.state self.old.replicas self.new.replicas self.old.file self.new.file
-            (extent_of packet.now.body) (node_row self.old.number (find self.old.replicas (extent_of packet.now.body)) packet.now packet.now.body) result }
+        ensures performed { self.old.file.stopped ≡ false → NodePerforms D.state self.old.replicas self.new.replicas self.old.file self.new.file
+            (extent_of packet.now.body) (node_rule self.old.number (find self.old.replicas (extent_of packet.now.body)) packet.now packet.now.body) result }
         ensures number { self.new.number ≡ self.old.number }
         ensures stopped { self.old.file.stopped ≡ true → (self.new ≡ self.old) × (result ≡ Ok (record { packets = []; notes = [] })) }
 

@@ -1,15 +1,15 @@
 //! Replicas from the records of a node's file.
 ghost use Rattle.std.specs.Prelude.{◌≡◌, ◌<◌, ℕ, Some, None, true, false, IfOk, IsErrOf};
-ghost use Rattle.blocks.specs.declared.record.Record.TheVariants as records;
+ghost use Rattle.block_types.specs.declared.record.Record.TheVariants as records;
 ghost use Rattle.disk.specs.Disk.{IsSame, IsSteady};
 ghost use Rattle.replica.specs.Replay.{extent_of, fit};
 ghost use Rattle.enode.specs.Node.{find, IsRestart};
 ghost use Rattle.enode.specs.Recovery.{Recovers};
 
 use crate::making::{insert_new, is_place};
-use blocks::{Nodes, Record};
+use block_types::{Nodes, Record};
 use disk::{Disk, FileFault, RecordFile};
-use hosting::Hosted;
+use enode_replica::NodeReplica;
 use std::alloc::Global;
 use std::collections::BTreeMap;
 use wire::{ExtentId, Fence};
@@ -31,7 +31,7 @@ fn extent_of(added: &Record) -> Option<u64>
 
 /// The record of a new replica, where there is none of its extent: this node is one of its three places.
 fn recover_make(
-    replicas: &mut BTreeMap<u64, Hosted>,
+    replicas: &mut BTreeMap<u64, NodeReplica>,
     alloc: Global,
     number: u8,
     extent: ExtentId,
@@ -48,14 +48,14 @@ fn recover_make(
     if target < 4096 || target > 16777216 {
         return Err(FileFault::Damaged);
     }
-    let made = Hosted::new(alloc, *places, target, fence);
+    let made = NodeReplica::new(alloc, *places, target, fence);
     insert_new(replicas, extent, made)?;
     Ok(())
 }
 
 /// The first record of an extent: a replica is made by it.
 fn recover_first(
-    replicas: &mut BTreeMap<u64, Hosted>,
+    replicas: &mut BTreeMap<u64, NodeReplica>,
     alloc: Global,
     number: u8,
     record_read: Record,
@@ -89,7 +89,7 @@ fn recover_first(
 
 /// One record more.
 fn recover(
-    replicas: &mut BTreeMap<u64, Hosted>,
+    replicas: &mut BTreeMap<u64, NodeReplica>,
     alloc: Global,
     number: u8,
     record_read: Record,
@@ -110,7 +110,7 @@ pub(crate) fn replicas_of<D: Disk>(
     alloc: Global,
     number: u8,
     file: &mut RecordFile<D>,
-) -> Result<BTreeMap<u64, Hosted>, FileFault>
+) -> Result<BTreeMap<u64, NodeReplica>, FileFault>
     requires { file.old.stopped ≡ false }
     ensures ok { IfOk result (λ replicas. IsRestart number replicas.entries file.old.records) }
     ensures same { (file.new.stopped ≡ false) × (file.new.version ≡ file.old.version) × (file.new.records ≡ file.old.records) }

@@ -1,23 +1,23 @@
 //! The laws of whole runs with servers and the map.
 
 ghost use Rattle.std.specs.Prelude.{ℕ, List};
-ghost use Rattle.blocks.specs.declared.record.Nodes.{Nodes};
+ghost use Rattle.block_types.specs.declared.record.Nodes.{Nodes};
 ghost use Rattle.wire.specs.declared.packet.Packet.{Packet};
-ghost use Rattle.model.specs.Honest.{Agree, Kept};
-ghost use Rattle.model.specs.Maps.{entry_at};
-ghost use Rattle.model.specs.World.{start};
-ghost use Rattle.model.specs.declared.event.Event.{Event};
-ghost use Rattle.model_tables.specs.Past.{Replays};
-ghost use Rattle.model_tables.specs.Servers.{ArePlain, Held, ServerCell, ShowsLoad, server_gives_up, server_loads, server_takes};
-ghost use Rattle.model_tables.specs.Cluster.{Cluster, LeadTo, first_cluster, comes};
+ghost use Rattle.model_streams.specs.Honest.{Agree, Kept};
+ghost use Rattle.model_streams.specs.Maps.{entry_at};
+ghost use Rattle.model_streams.specs.StreamSystem.{start};
+ghost use Rattle.model_streams.specs.declared.event.Event.{Event};
+ghost use Rattle.model_partition.specs.Past.{Replays};
+ghost use Rattle.model_partition.specs.Servers.{ArePlain, CacheContent, ServerCell, ShowsLoad, server_gives_up, server_loads, server_takes};
+ghost use Rattle.model_partition.specs.Cluster.{Cluster, LeadTo, first_cluster, cluster_after};
 ghost use Rattle.laws_clusters.specs.Orders.{ComesOfStreams};
 ghost use Rattle.laws_servers.specs.Sending.{ByMoves, MaySendAll};
 
 /// A server sends nothing but what servers may ask of nodes and of the manager, and what no node takes. Of loaded tables it
 /// shows at most one, of the memory table that the range has when the answer comes that confirms its generation.
 pub fn servers_take_steps()
-    ensures sent { (servers : List ServerCell) (s : ℕ) (p : Packet) (held : Held) → MaySendAll (server_takes servers s p held).packets }
-    ensures shown { (servers : List ServerCell) (s : ℕ) (p : Packet) (held : Held) →
+    ensures sent { (servers : List ServerCell) (s : ℕ) (p : Packet) (held : CacheContent) → MaySendAll (server_takes servers s p held).packets }
+    ensures shown { (servers : List ServerCell) (s : ℕ) (p : Packet) (held : CacheContent) →
         ShowsLoad (server_loads (entry_at servers s) p.body) (server_takes servers s p held).notes }
     ensures sent_again { (servers : List ServerCell) (s range : ℕ) (pick : Nodes) → MaySendAll (server_gives_up servers s range pick).packets }
     ensures shown_again { (servers : List ServerCell) (s range : ℕ) (pick : Nodes) → ArePlain (server_gives_up servers s range pick).notes }
@@ -26,7 +26,7 @@ pub fn servers_take_steps()
 /// Whatever servers and the map do, each event is some moves of the stream layer. So in every run with servers all that is
 /// shown of an extent agrees, and what is acknowledged is kept where it was acknowledged.
 pub fn runs_are_moves()
-    ensures event { (c : Cluster) (event : Event) (held : Held) → ByMoves c.world (comes c event held).world }
+    ensures event { (c : Cluster) (event : Event) (held : CacheContent) → ByMoves c.world (cluster_after c event held).world }
     ensures agree { (nodes servers target batch : ℕ) (events : List Event) (c : Cluster) →
         LeadTo events (first_cluster nodes servers target batch) c → Agree c.world.notes }
     ensures kept { (nodes servers target batch : ℕ) (events : List Event) (c : Cluster) →

@@ -2,9 +2,9 @@
 //! ask, and where nodes and the manager stop and come back.
 
 ghost use Rattle.std.specs.Prelude.{ℕ, List, ◌++◌, ◌<◌};
-ghost use Rattle.model.specs.Honest.{Agree, Kept};
-ghost use Rattle.model.specs.World.{run, start, Move, moved, run_moves};
-ghost use Rattle.model.specs.declared.event.Event.{Event};
+ghost use Rattle.model_streams.specs.Honest.{Agree, Kept};
+ghost use Rattle.model_streams.specs.StreamSystem.{run, start, Move, moved, run_moves};
+ghost use Rattle.model_streams.specs.declared.event.Event.{Event};
 ghost use Rattle.laws_streams.specs.Answers.{OpeningsAnswered, ConfirmationsAnswered, ExtensionsAnswered, SealsAnswered, ContentAnswered};
 ghost use Rattle.laws_streams.specs.Fences.{FencesRise, MadeWithFences, Confirms, OpensIn, Settles, FencesHold};
 ghost use Rattle.laws_streams.specs.Listings.{ListsGrow};
@@ -58,7 +58,7 @@ pub fn answers()
     ensures content { (nodes target : ℕ) (before after : List Move) → ContentAnswered before after (start nodes target) }
 {}
 
-/// Whatever is lost, repeated, reordered or stopped: each extent of a stream is in the manager's book and stands in one list,
+/// Whatever is lost, repeated, reordered or stopped: each extent of a stream is in the manager's catalog and stands in one list,
 /// once, in the order in which extents are made; each but the last of its list is sealed; and a list only grows.
 pub fn listed()
     ensures grow { (nodes target : ℕ) (before after : List Move) → ListsGrow before after (start nodes target) }

@@ -1,18 +1,18 @@
 -- What stands in a stream, and what a check has found there, is of groups that were formed.
 use Rattle.std.proofs.Common.{◌≡◌, ℕ, zero, suc, Bool, true, false, List, [], ◌∷◌, ◌++◌, length, map, Option, Some, None, refl, sym, subst, inl, inr, if◌then◌else◌, ◌==◌}
 use Rattle.replica.specs.Groups.{Group}
-use Rattle.model_tables.specs.Story.{Copy, StreamEvent, Made, Story, event_at}
-use Rattle.model_tables.specs.Extents.{In, Shut, Live, Core, all_shut, all_copies, shut_at, Fact, Checked as Found_there, State, Step, TakesOpen, TakesExtend, TakesConfirm, TakesCheck, AnswersCheck, AnswersLate, TakesAppend, Keeps, AnswersAppend, Seals, Opens, Checks, ReadsSealed, ReadsChecked, Begins, Appends, Extends, TakesConfirmed, TakesAppended, Extended, extend_facts, May, next}
-use Rattle.model_tables.specs.Turns.{Phase, Idle, Opening, Checking, Sealing, Confirming, Serving, Sent, Closing, Growing, Turn, Assigned, AllSealed, LastOpen, Found, Fails, IsShut, ConfirmedIs, Forms, AppendedAt, ExtendedTo, IsTurn, does, forms, all_next, Whole, Move, Below, Above, is_layer, moved, after_all, AreMoves}
+use Rattle.model_partition.specs.Story.{Copy, StreamEvent, Made, Story, event_at}
+use Rattle.model_partition.specs.StreamMachine.{In, SealedExtent, OpenExtent, StreamCore, all_shut, all_copies, shut_at, Fact, Checked as Found_there, MachineState, MachineStep, TakesOpen, TakesExtend, TakesConfirm, TakesCheck, AnswersCheck, AnswersLate, TakesAppend, Keeps, AnswersAppend, Seals, Opens, Checks, ReadsSealed, ReadsChecked, Begins, Appends, Extends, TakesConfirmed, TakesAppended, Extended, extend_facts, May, next}
+use Rattle.model_partition.specs.ServerTurns.{Phase, Idle, Opening, Checking, Sealing, Confirming, Serving, Sent, Closing, Growing, Turn, Assigned, AllSealed, LastOpen, Found, Fails, IsShut, ConfirmedIs, Forms, AppendedAt, ExtendedTo, IsTurn, does, forms, all_next, Whole, Move, Below, Above, is_layer, moved, after_all, AreMoves}
 use Rattle.laws_tables.proofs.Range.{older}
 use Rattle.laws_tables.proofs.Fenced.{sound}
 use Rattle.laws_tables.proofs.Extents.{Inv, followed}
 use Rattle.laws_tables.proofs.Members.{in_left, in_right}
 use Rattle.laws_tables.proofs.Turns.{all_good}
-use Rattle.laws_runs.proofs.Asking.{turn_upper}
-use Rattle.laws_runs.proofs.Kept.{in_shut}
-use Rattle.laws_serving.proofs.Moves.{moves_of}
-use Rattle.laws_serving.specs.Serves.{IsUnformed, AreUnformed}
+use Rattle.laws_stream_machine.proofs.ServerRequests.{turn_upper}
+use Rattle.laws_stream_machine.proofs.NodeAnswers.{in_shut}
+use Rattle.laws_ranges.proofs.TurnsAsMoves.{moves_of}
+use Rattle.laws_ranges.specs.Serves.{IsUnformed, AreUnformed}
 use Rattle.laws_clusters.specs.Fitting.{AreUnformedMoves}
 
 abbrev pub IsMade : Story Group → Copy Group → Type 0
@@ -22,15 +22,15 @@ abbrev pub AllMade : Story Group → List (Copy Group) → Type 0
 AllMade story cs = (c : Copy Group) → In c cs → IsMade story c
 
 module _ (generation : ℕ → ℕ) where
-  in_all : (k : Core Group) (o : Option (Live Group)) (c : Copy Group) → In c (all_shut k.shut) → In c (all_copies Group generation k o)
+  in_all : (k : StreamCore Group) (o : Option (OpenExtent Group)) (c : Copy Group) → In c (all_shut k.shut) → In c (all_copies Group generation k o)
   in_all k None c there = there
   in_all k (Some v) c there = in_left c (all_shut k.shut) v.kept there
 
   -- what stands in the stream
-  pub record Stands (s : State Group) : Type 0 where
+  pub record Stands (s : MachineState Group) : Type 0 where
     pub all : AllMade s.story (all_copies Group generation s.core s.core.live)
 
-  stands_of : (s : State Group) (run : _) → Inv Group generation s run → Stands s
+  stands_of : (s : MachineState Group) (run : _) → Inv Group generation s run → Stands s
   stands_of s run v = record {
     all = λ c there.
         let k = sound Group run v.is_run c (subst (In c) (sym v.kept) there) in
@@ -43,23 +43,23 @@ module _ (generation : ℕ → ℕ) where
       let f = followed Group generation ran.0 ran.1 in
       subst Stands (sym ran.2) (stands_of _ f.0 f.1)
 
-  pub shut_made : (s : State Group) → Stands s → (e : ℕ) (y : Shut Group) → shut_at e s.core.shut ≡ Some y → AllMade s.story y.copies
+  pub shut_made : (s : MachineState Group) → Stands s → (e : ℕ) (y : SealedExtent Group) → shut_at e s.core.shut ≡ Some y → AllMade s.story y.copies
   shut_made s k e y is c there = k.all c (in_all s.core s.core.live c (in_shut s.core.shut e y c is there))
 
   -- what checks have found
-  abbrev CheckedMade : State Group → Type 0
+  abbrev CheckedMade : MachineState Group → Type 0
   CheckedMade s = (i e : ℕ) (stood : List (Copy Group)) (end : ℕ) → In (Found_there i e stood end) s.facts → AllMade s.story stood
 
-  live_made : (s : State Group) (v : Live Group) → Stands s → s.core.live ≡ Some v → AllMade s.story v.kept
+  live_made : (s : MachineState Group) (v : OpenExtent Group) → Stands s → s.core.live ≡ Some v → AllMade s.story v.kept
   live_made s v k is c there = k.all c (subst (λ o. In c (all_copies Group generation s.core o)) (sym is) (in_right c (all_shut s.core.shut) v.kept there))
 
   -- a fact that is none of a check
-  one_more : (s : State Group) (f : Fact Group) → ((i e : ℕ) (stood : List (Copy Group)) (end : ℕ) → Found_there i e stood end ≡ f → ⊥) → CheckedMade s →
+  one_more : (s : MachineState Group) (f : Fact Group) → ((i e : ℕ) (stood : List (Copy Group)) (end : ℕ) → Found_there i e stood end ≡ f → ⊥) → CheckedMade s →
       (i e : ℕ) (stood : List (Copy Group)) (end : ℕ) → In (Found_there i e stood end) (f ∷ s.facts) → AllMade s.story stood
   one_more s f other old i e stood end (inl is) = absurd (other i e stood end is)
   one_more s f other old i e stood end (inr there) = old i e stood end there
 
-  extend_made : (s : State Group) (j n : ℕ) (o : Option (Live Group)) → CheckedMade s → (i e : ℕ) (stood : List (Copy Group)) (end : ℕ) →
+  extend_made : (s : MachineState Group) (j n : ℕ) (o : Option (OpenExtent Group)) → CheckedMade s → (i e : ℕ) (stood : List (Copy Group)) (end : ℕ) →
       In (Found_there i e stood end) (extend_facts Group generation j n s.core o s.facts) → AllMade s.story stood
   extend_made s j n None old i e stood end there = one_more s (Extended j n (if n == length s.core.shut then suc n else length s.core.shut)) (λ i e stood end is. cc) old i e stood end there
   extend_made s j n (Some v) old i e stood end there = go (n == suc (length s.core.shut)) there
@@ -68,7 +68,7 @@ module _ (generation : ℕ → ℕ) where
       go true m = old i e stood end m
       go false m = one_more s (Extended j n (suc (length s.core.shut))) (λ i e stood end is. cc) old i e stood end m
 
-  below_made : (s : State Group) (x : Step Group) → is_layer Group generation x ≡ true → May Group generation s x → Stands s → CheckedMade s → CheckedMade (next Group generation s x)
+  below_made : (s : MachineState Group) (x : MachineStep Group) → is_layer Group generation x ≡ true → May Group generation s x → Stands s → CheckedMade s → CheckedMade (next Group generation s x)
   below_made s (TakesOpen j) t may k old = one_more s _ (λ i e stood end is. cc) old
   below_made s (TakesExtend j n) t may k old = extend_made s j n s.core.live old
   below_made s (TakesConfirm j read end) t may k old = one_more s _ (λ i e stood end is. cc) old
@@ -102,12 +102,12 @@ module _ (generation : ℕ → ℕ) where
   abbrev pub Longer : Story Group → Story Group → Type 0
   Longer old new = (n : ℕ) (x : StreamEvent Group) → event_at old n ≡ Some x → event_at new n ≡ Some x
 
-  forms_longer : (s : State Group) (i n append : ℕ) (group : Group) (live : Bool) → Longer s.story (all_next Group generation s (forms Group generation i n append group live ++ Begins i group ∷ [])).story
+  forms_longer : (s : MachineState Group) (i n append : ℕ) (group : Group) (live : Bool) → Longer s.story (all_next Group generation s (forms Group generation i n append group live ++ Begins i group ∷ [])).story
   forms_longer s i zero append group live k x at = older Group _ s.story k x at
   forms_longer s i (suc e) append group true k x at = older Group _ s.story k x at
   forms_longer s i (suc e) append group false k x at = older Group _ s.story k x at
 
-  pub turn_longer : (s : State Group) (i : ℕ) (p : Phase Group) (t : Turn Group) → IsTurn Group generation s i p t → Longer s.story (all_next Group generation s (does Group generation s i p t)).story
+  pub turn_longer : (s : MachineState Group) (i : ℕ) (p : Phase Group) (t : Turn Group) → IsTurn Group generation s i p t → Longer s.story (all_next Group generation s (does Group generation s i p t)).story
   turn_longer s i Idle Assigned may k x at = at
   turn_longer s i Opening (AllSealed m) may k x at = at
   turn_longer s i Opening (LastOpen e) may k x at = at
@@ -125,7 +125,7 @@ module _ (generation : ℕ → ℕ) where
   made_longer : (old new : Story Group) → Longer old new → (cs : List (Copy Group)) → AllMade old cs → AllMade new cs
   made_longer old new more cs made c there = let k = made c there in (k.0, more c.append (Made k.0 c.group) k.1)
 
-  pub layer_same : (s : State Group) (x : Step Group) → is_layer Group generation x ≡ true → (next Group generation s x).story ≡ s.story
+  pub layer_same : (s : MachineState Group) (x : MachineStep Group) → is_layer Group generation x ≡ true → (next Group generation s x).story ≡ s.story
   layer_same s (TakesOpen i) t = refl
   layer_same s (TakesExtend i n) t = refl
   layer_same s (TakesConfirm i read end) t = refl
@@ -150,7 +150,7 @@ module _ (generation : ℕ → ℕ) where
   pub checked_made : (moves : List (Move Group generation)) → AreMoves Group generation moves → CheckedMade (after_all Group generation moves).state
   checked_made [] ok i e stood end there = absurd there
   checked_made (Below x ∷ earlier) ok i e stood end there =
-      let s : State Group = (after_all Group generation earlier).state in
+      let s : MachineState Group = (after_all Group generation earlier).state in
       subst (λ z. AllMade z stood) (sym (layer_same s x ok.0.0))
       (subst (λ z. AllMade z stood) (layer_same s x ok.0.0) (below_made s x ok.0.0 ok.0.1 (stands earlier ok.1) (checked_made earlier ok.1) i e stood end there))
   checked_made (Above j t ∷ earlier) ok i e stood end there =
@@ -171,7 +171,7 @@ module _ (generation : ℕ → ℕ) where
       go true t = let same : e ≡ Made g group = cc in other g group same
       go false t = none n g group t
 
-  none_turn : (s : State Group) (i : ℕ) (p : Phase Group) (t : Turn Group) → IsTurn Group generation s i p t → IsUnformed t → NoneMade s.story → NoneMade (all_next Group generation s (does Group generation s i p t)).story
+  none_turn : (s : MachineState Group) (i : ℕ) (p : Phase Group) (t : Turn Group) → IsTurn Group generation s i p t → IsUnformed t → NoneMade s.story → NoneMade (all_next Group generation s (does Group generation s i p t)).story
   none_turn s i Idle Assigned may un none = none
   none_turn s i Opening (AllSealed m) may un none = none
   none_turn s i Opening (LastOpen e) may un none = none
@@ -189,7 +189,7 @@ module _ (generation : ℕ → ℕ) where
   none_made : (moves : List (Move Group generation)) → AreMoves Group generation moves → AreUnformedMoves generation moves → NoneMade (after_all Group generation moves).state.story
   none_made [] ok un = λ n g group at. cc
   none_made (Below x ∷ earlier) ok un =
-      let s : State Group = (after_all Group generation earlier).state in
+      let s : MachineState Group = (after_all Group generation earlier).state in
       subst NoneMade (sym (layer_same s x ok.0.0)) (none_made earlier ok.1 un)
   none_made (Above j t ∷ earlier) ok un =
       let w : Whole Group generation = after_all Group generation earlier in
@@ -200,10 +200,10 @@ module _ (generation : ℕ → ℕ) where
   empty_of story none (c ∷ cs) made = let k = made c (inl refl) in absurd (none c.append k.0 c.group k.1)
 
   -- nothing stands there, and no check finds anything
-  pub shut_empty : (moves : List (Move Group generation)) → AreMoves Group generation moves → AreUnformedMoves generation moves → (e : ℕ) (y : Shut Group) →
+  pub shut_empty : (moves : List (Move Group generation)) → AreMoves Group generation moves → AreUnformedMoves generation moves → (e : ℕ) (y : SealedExtent Group) →
       shut_at e (after_all Group generation moves).state.core.shut ≡ Some y → y.copies ≡ []
   shut_empty moves ok un e y is =
-      let s : State Group = (after_all Group generation moves).state in
+      let s : MachineState Group = (after_all Group generation moves).state in
       empty_of s.story (none_made moves ok un) y.copies (shut_made s (stands moves ok) e y is)
 
   pub checked_empty : (moves : List (Move Group generation)) → AreMoves Group generation moves → AreUnformedMoves generation moves → (i e : ℕ) (stood : List (Copy Group)) (end : ℕ) →
@@ -216,6 +216,6 @@ module _ (generation : ℕ → ℕ) where
   unformed_moves i [] earlier un old = old
   unformed_moves i (t ∷ ts) earlier un old = (un.0, unformed_moves i ts earlier un.1 old)
 
-  pub unformed_below : (steps : List (Step Group)) (earlier : List (Move Group generation)) → AreUnformedMoves generation earlier → AreUnformedMoves generation (map Below steps ++ earlier)
+  pub unformed_below : (steps : List (MachineStep Group)) (earlier : List (Move Group generation)) → AreUnformedMoves generation earlier → AreUnformedMoves generation (map Below steps ++ earlier)
   unformed_below [] earlier un = un
   unformed_below (x ∷ steps) earlier un = unformed_below steps earlier un

@@ -1,8 +1,8 @@
 -- Moves of a log's machine whose groups have the numbers that come next, and whose loads show all that stands.
 use Rattle.std.specs.Prelude.{ℕ, List, [], ◌∷◌}
 use Rattle.replica.specs.Groups.{Group}
-use Rattle.model_tables.specs.Turns.{Turn, ConfirmedIs, Move, Below, Above, after_all}
-use Rattle.laws_serving.specs.Serves.{IsFit, IsUnformed}
+use Rattle.model_partition.specs.ServerTurns.{Turn, ConfirmedIs, Move, Below, Above, after_all}
+use Rattle.laws_ranges.specs.Serves.{IsFit, IsUnformed}
 
 abbrev pub AreFitMoves : (generation : ℕ → ℕ) → List (Move Group generation) → Type 0
 AreFitMoves generation [] = Unit {0}

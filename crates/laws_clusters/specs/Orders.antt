@@ -3,9 +3,9 @@ use Rattle.std.specs.Prelude.{◌≡◌, ℕ, List}
 use Rattle.wire.specs.declared.note.Note.{Note}
 use Rattle.wire.specs.declared.rows.Row.{Row}
 use Rattle.replica.specs.Groups.{Group}
-use Rattle.model_tables.specs.Log.{observed}
-use Rattle.model_tables.specs.Past.{table_notes}
-use Rattle.model_tables.specs.Story.{KeepsOrder, Story}
+use Rattle.model_partition.specs.Log.{observed}
+use Rattle.model_partition.specs.Past.{table_notes}
+use Rattle.model_partition.specs.Story.{KeepsOrder, Story}
 use Rattle.laws_loads.specs.Renaming.{renamed, decoded}
 
 -- the stories of a range's metadata and log keep their order, and what is observed of its tables is what the log's groups spell

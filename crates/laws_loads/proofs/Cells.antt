@@ -8,18 +8,18 @@ use Rattle.std.specs.declared.cmp.Ordering.TheVariants.{Less, Equal, Greater}
 use Rattle.std.proofs.lemmas.Map.Text.{is_eq-slice_cmp}
 use Rattle.std.proofs.lemmas.Slice.Eq.{bytes_eq-Decides}
 use Rattle.wire.specs.declared.transaction.Change.{Change}
-use Rattle.blocks.specs.Limits.{group_size}
-use Rattle.cells.specs.declared.cell.Cell.{Cell}
-use Rattle.cells.specs.declared.cell.Cell.TheVariants.{Inline, Placed}
-use Rattle.cells.specs.Limits.{is_large}
-use Rattle.cells.specs.Entries.{Entries, key_cmp, found, put_all}
+use Rattle.block_types.specs.Limits.{group_size}
+use Rattle.memtable.specs.declared.cell.Cell.{Cell}
+use Rattle.memtable.specs.declared.cell.Cell.TheVariants.{Inline, Placed}
+use Rattle.memtable.specs.Limits.{is_large}
+use Rattle.memtable.specs.Entries.{Entries, key_cmp, found, put_all}
 use Rattle.std.proofs.lemmas.List.Concat.{flat_map-cons}
 use Rattle.replica.specs.Groups.{Group, joined}
 use Rattle.replica.proofs.Lengths.{group_size-size}
 use Rattle.commitlog.specs.Record.{large, change_values, transaction_values}
 use Rattle.commitlog.specs.Places.{kept_cell, kept_changes, kept_transactions}
-use Rattle.model_tables.specs.Past.{Bytes, Table, after_change, after_transaction, after_line}
-use Rattle.laws_loads.specs.Standing.{StandsAt, value_in, value_of, table_in}
+use Rattle.model_partition.specs.Past.{Bytes, Table, after_change, after_transaction, after_line}
+use Rattle.laws_loads.specs.TableContents.{StandsAt, value_in, value_of, table_in}
 
 -- ---- texts
 

@@ -4,11 +4,11 @@ use Rattle.std.specs.Prelude.{◌&&◌, filter}
 use Rattle.std.specs.List.{flat_map}
 use Rattle.std.proofs.lemmas.List.{length-append}
 use Rattle.std.proofs.lemmas.Bool.{ltb-true}
-use Rattle.formats.specs.Format.{◌>>=◌}
-use Rattle.blocks.specs.Limits.{group_size}
+use Rattle.blocks.specs.Format.{◌>>=◌}
+use Rattle.block_types.specs.Limits.{group_size}
 use Rattle.streams.specs.declared.table.Position.{Position}
-use Rattle.cells.specs.declared.cell.Cell.{Cell}
-use Rattle.cells.specs.Entries.{Entries, put_all}
+use Rattle.memtable.specs.declared.cell.Cell.{Cell}
+use Rattle.memtable.specs.Entries.{Entries, put_all}
 use Rattle.metadata.specs.declared.record.KeyRange.{KeyRange}
 use Rattle.metadata.specs.declared.record.Region.{Region}
 use Rattle.metadata.specs.Fold.{all_keys}
@@ -22,10 +22,10 @@ use Rattle.commitlog.specs.Replay.{Numbered, taken}
 use Rattle.commitlog.specs.Replay as line_specs
 use Rattle.commitlog.specs.Places.{kept, kept_transactions}
 use Rattle.commitlog.proofs.Measures.{group_size-append, size-spelling}
-use Rattle.model_tables.specs.Loading.{replayed, region_takes, holds}
-use Rattle.model_tables.specs.Past.{Bytes, Table, Transaction, after_transaction, after_line, empty_table}
+use Rattle.model_partition.specs.Loading.{replayed, region_takes, holds}
+use Rattle.model_partition.specs.Past.{Bytes, Table, Transaction, after_transaction, after_line, empty_table}
 use Rattle.laws_loads.specs.Renaming.{numbered}
-use Rattle.laws_loads.specs.Standing.{StandsAt, table_in}
+use Rattle.laws_loads.specs.TableContents.{StandsAt, table_in}
 use Rattle.laws_loads.proofs.Cells.{Says, all_transactions, Behind, behind, stands_first, stands_second, joined_both, size_is}
 
 -- ---- lines

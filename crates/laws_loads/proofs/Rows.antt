@@ -11,14 +11,14 @@ use Rattle.std.proofs.lemmas.Map.Text.{is_eq-slice_cmp}
 use Rattle.wire.specs.declared.note.Note.{Note}
 use Rattle.wire.specs.declared.note.Note.TheVariants.{Acked, SealedAt, Content, Seen, Began, Done, Loaded, Split, Merged}
 use Rattle.wire.specs.declared.rows.Row.{Row}
-use Rattle.cells.specs.declared.cell.Cell.{Cell}
-use Rattle.cells.specs.declared.cell.Cell.TheVariants.{Deleted, Inline, Placed}
-use Rattle.cells.specs.declared.cell.Place.{Place}
-use Rattle.cells.specs.Entries.{Entries, key_cmp, found, put_all}
+use Rattle.memtable.specs.declared.cell.Cell.{Cell}
+use Rattle.memtable.specs.declared.cell.Cell.TheVariants.{Deleted, Inline, Placed}
+use Rattle.memtable.specs.declared.cell.Place.{Place}
+use Rattle.memtable.specs.Entries.{Entries, key_cmp, found, put_all}
 use Rattle.replica.specs.Groups.{joined, text}
-use Rattle.model_tables.specs.Servers.{part, shown_in, first_shown, or_later, row_if, row_of, rows_of}
-use Rattle.model_tables.specs.Past.{Bytes, stored}
-use Rattle.laws_loads.specs.Standing.{StandsAt, value_in, value_of, table_in}
+use Rattle.model_partition.specs.Servers.{part, shown_in, first_shown, or_later, row_if, row_of, rows_of}
+use Rattle.model_partition.specs.Past.{Bytes, stored}
+use Rattle.laws_loads.specs.TableContents.{StandsAt, value_in, value_of, table_in}
 use Rattle.laws_loads.proofs.Cells.{same_key}
 
 -- ---- keys in order

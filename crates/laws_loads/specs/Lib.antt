@@ -1,2 +1,2 @@
 pub mod Renaming
-pub mod Standing
+pub mod TableContents

@@ -4,8 +4,8 @@ use Rattle.replica.specs.Groups.{Group}
 use Rattle.commitlog.specs.declared.log_record.LogRecord.{LogRecord}
 use Rattle.commitlog.specs.Reading.{record_at}
 use Rattle.commitlog.specs.Replay.{Numbered}
-use Rattle.model_tables.specs.Past.{Transaction}
-use Rattle.model_tables.specs.Story.{Placed, StreamEvent, Made, Answered, Showed, Story, Copy}
+use Rattle.model_partition.specs.Past.{Transaction}
+use Rattle.model_partition.specs.Story.{Placed, StreamEvent, Made, Answered, Showed, Story, Copy}
 
 module _ {A B : Type 0} (f : A → B) where
   abbrev pub renamed_copy : Copy A → Copy B

@@ -1,4 +1,4 @@
-pub mod Calling
-pub mod Stepping
-pub mod Serving
-pub mod Moving
+pub mod ClientPackets
+pub mod RangeSteps
+pub mod ServerSteps
+pub mod EventsAsMoves

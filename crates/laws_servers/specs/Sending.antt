@@ -2,7 +2,7 @@
 use Rattle.std.specs.Prelude.{◌≡◌, ◌⊎◌, ℕ, true, List, [], ◌∷◌}
 use Rattle.wire.specs.declared.actor.ActorId.TheVariants.{Server}
 use Rattle.wire.specs.declared.packet.Packet.{Packet}
-use Rattle.model.specs.World.{World, Move, run_moves, is_server_call, is_told}
+use Rattle.model_streams.specs.StreamSystem.{StreamSystem, Move, run_moves, is_server_call, is_told}
 
 -- a server asks what servers may ask
 pub record Asked (p : Packet) : Type 0 where
@@ -27,6 +27,6 @@ AllFromServers [] = Unit {0}
 AllFromServers (p ∷ packets) = IsFromServer p × AllFromServers packets
 
 -- some moves lead from one world to the other
-pub record ByMoves (v w : World) : Type 0 where
+pub record ByMoves (v w : StreamSystem) : Type 0 where
   pub moves : List Move
   pub is : run_moves moves v ≡ w

@@ -1,6 +1,6 @@
 //! The laws of the stream layer, below servers and the map.
 //!
-//! This crate has no code, and touches nothing. Its lemmas prove of the table of a server (`model_tables`) that a server asks
+//! This crate has no code, and touches nothing. Its lemmas prove of the table of a server (`model_partition`) that a server asks
 //! only what servers may ask, and else tells what no node takes; so each event of a run with servers is some moves of the
 //! stream layer, and what holds of all moves (`laws_streams`) holds of that run. The crate `laws` states them as the contracts
 //! of two functions:

@@ -1,6 +1,6 @@
 -- Whoever the manager remembers as the one who asked for a seal has asked for it.
 use Rattle.std.proofs.Common.{◌≡◌, ◌⊎◌, ℕ, suc, Bool, not, ◌||◌, ◌==◌, List, [], ◌∷◌, Option, Some, None, Result, Ok, Err, slice_get, Contains, refl, ap, ◌∙◌, inl, inr, subst}
-use Rattle.blocks.specs.declared.record.Nodes.{Nodes}
+use Rattle.block_types.specs.declared.record.Nodes.{Nodes}
 use Rattle.wire.specs.declared.actor.ActorId.{ActorId}
 use Rattle.wire.specs.declared.actor.ActorId.TheVariants.{Node, Manager, Map, Server, User}
 use Rattle.wire.specs.declared.actor.ReqNo.{ReqNo}
@@ -15,33 +15,33 @@ use Rattle.wire.specs.declared.refusal.Refusal.{Refusal}
 use Rattle.wire.specs.declared.refusal.Refusal.TheVariants.{Stale, BadPick}
 use Rattle.wire.specs.declared.streams.StreamName.{StreamName}
 use Rattle.streams.specs.Streams.{stream_of, extending}
-use Rattle.model.specs.declared.event.Event.{Event}
-use Rattle.model.specs.declared.event.Event.TheVariants.{Submit, Deliver, Stop, Restart, Decide, GiveUp, Assign, Renew, Moment}
-use Rattle.model.specs.declared.extent.Asker.{Asker}
-use Rattle.model.specs.declared.extent.Extent.{Extent}
-use Rattle.model.specs.declared.extent.PlaceReport.{PlaceReport}
-use Rattle.model.specs.Actors.{is_node, is_user, generation_of}
-use Rattle.model.specs.Manager.{Book, is_there, forgotten_if, book_stopped, new_extent, with_extent, extended, create_refusal, create_taken, open_refusal, open_taken, confirm_refusal, answer, is_foreign, is_pick, sealed_lengths, extend_made, last_told, extend_answered, extend_row, no_users, seal_asked, seal_extent_row, with_report, noted, frozen_to, frozen_row, known_sealed, is_sealed_row, place_of, first_sealed, asks_tail, short_row, decided_if, least_told, decide_row, stream_body_row, seal_body_row, manager_row, reminders}
-use Rattle.model.specs.Node.{extent_of, node_row}
-use Rattle.model.specs.Outcome.{Outcome, packet, silent, sends, refused, or_refused}
-use Rattle.model.specs.World.{World, stops_in, stands_in, halted, node_does, desk_halted, manager_does, delivered, delivered_if, is_request, node_stops, manager_stops, stop, is_present, restart, happens, is_server_call, is_told, is_table_note, start, Move, moved, run_moves}
-use Rattle.model.specs.World.Move.{Happens, Asks, Says, Observes}
-use Rattle.model.proofs.Tests.{if_elim}
-use Rattle.laws_streams.proofs.Tests.{changed_elim, contains_get}
-use Rattle.laws_streams.proofs.Sending.{post_stays}
+use Rattle.model_streams.specs.declared.event.Event.{Event}
+use Rattle.model_streams.specs.declared.event.Event.TheVariants.{Submit, Deliver, Stop, Restart, Decide, GiveUp, Assign, Renew, Moment}
+use Rattle.model_streams.specs.declared.extent.Asker.{Asker}
+use Rattle.model_streams.specs.declared.extent.Extent.{Extent}
+use Rattle.model_streams.specs.declared.extent.PlaceReport.{PlaceReport}
+use Rattle.model_streams.specs.Actors.{is_node, is_user, generation_of}
+use Rattle.model_streams.specs.Manager.{Catalog, is_there, forgotten_if, catalog_stopped, new_extent, with_extent, extended, create_refusal, create_taken, open_refusal, open_taken, confirm_refusal, answer, is_foreign, is_pick, sealed_lengths, extend_made, last_told, extend_answered, extend_rule, no_users, seal_asked, seal_extent_rule, with_report, noted, frozen_to, frozen_rule, known_sealed, is_sealed_rule, place_of, first_sealed, asks_tail, short_rule, decided_if, least_told, decide_rule, stream_body_rule, seal_body_rule, manager_rule, reminders}
+use Rattle.model_streams.specs.Node.{extent_of, node_rule}
+use Rattle.model_streams.specs.Outcome.{Outcome, packet, silent, sends, refused, or_refused}
+use Rattle.model_streams.specs.StreamSystem.{StreamSystem, stops_in, stands_in, node_halted, node_performs, manager_halted, manager_performs, delivered, delivered_if, is_request, node_stops, manager_stops, stop, is_present, restart, happens, is_server_call, is_told, is_table_note, start, Move, moved, run_moves}
+use Rattle.model_streams.specs.StreamSystem.Move.{Happens, Asks, Says, Observes}
+use Rattle.model_streams.proofs.Tests.{if_elim}
+use Rattle.laws_streams.proofs.Choices.{changed_elim, contains_get}
+use Rattle.laws_streams.proofs.PacketSources.{post_stays}
 use Rattle.laws_streams.proofs.StreamAnswers.{same_packet}
 
--- ---- books
+-- ---- catalogs
 
 -- the extent has this asker
-abbrev HasAsker : Book → ℕ → Asker → Type 0
+abbrev HasAsker : Catalog → ℕ → Asker → Type 0
 HasAsker b e a = (x : Extent) × (b.extent e ≡ Some x) × (x.asker ≡ Some a)
 
--- each asker of the second book is one of the first, or the packet asks for the seal in its name
-abbrev Askers : Packet → Book → Book → Type 0
+-- each asker of the second catalog is one of the first, or the packet asks for the seal in its name
+abbrev Askers : Packet → Catalog → Catalog → Type 0
 Askers p b c = (e : ℕ) (a : Asker) → HasAsker c e a → HasAsker b e a ⊎ ((p.body ≡ bodies.Seal (SealExtent e a.request)) × (p.from ≡ a.who))
 
-module _ (p : Packet) (b : Book) where
+module _ (p : Packet) (b : Catalog) where
   same_askers : Askers p b b
   same_askers e a has = inl has
 
@@ -56,7 +56,7 @@ module _ (p : Packet) (b : Book) where
   refused_askers : (q : ReqNo) (refusal : Refusal) → Askers p b (refused b Manager p q refusal).after
   refused_askers q refusal = same_askers
 
-  unless_askers : (q : ReqNo) (x : Option Refusal) (o : Outcome Book) → Askers p b o.after → Askers p b (or_refused b Manager p q x o).after
+  unless_askers : (q : ReqNo) (x : Option Refusal) (o : Outcome Catalog) → Askers p b o.after → Askers p b (or_refused b Manager p q x o).after
   unless_askers q (Some refusal) o taken = same_askers
   unless_askers q None o taken = taken
 
@@ -70,7 +70,7 @@ module _ (p : Packet) (b : Book) where
   answered_askers : (s : StreamName) (fence : ℕ) (pick : Nodes) (q : ReqNo) (x : Result (Option ℕ) Refusal) → Askers p b (extend_answered b p s fence pick q x).after
   answered_askers s fence pick q (Err refusal) = same_askers
   answered_askers s fence pick q (Ok None) =
-      if_elim (λ (o : Outcome Book). Askers p b o.after) (is_pick b.nodes pick) (extend_made b p s fence pick q) (refused b Manager p q BadPick)
+      if_elim (λ (o : Outcome Catalog). Askers p b o.after) (is_pick b.nodes pick) (extend_made b p s fence pick q) (refused b Manager p q BadPick)
       (λ t. made_askers s fence pick) (λ t. same_askers)
   answered_askers s fence pick q (Ok (Some e)) = by_extent (b.extent e)
     where
@@ -78,17 +78,17 @@ module _ (p : Packet) (b : Book) where
       by_extent None = same_askers
       by_extent (Some x) = same_askers
 
-  extend_askers : (s : StreamName) (fence : ℕ) (last : Option ℕ) (pick : Nodes) (q : ReqNo) → Askers p b (extend_row b p s fence last pick q).after
+  extend_askers : (s : StreamName) (fence : ℕ) (last : Option ℕ) (pick : Nodes) (q : ReqNo) → Askers p b (extend_rule b p s fence last pick q).after
   extend_askers s fence last pick q =
-      if_elim (λ (o : Outcome Book). Askers p b o.after) (is_foreign p.from s.range) (refused b Manager p q Stale)
+      if_elim (λ (o : Outcome Catalog). Askers p b o.after) (is_foreign p.from s.range) (refused b Manager p q Stale)
       (extend_answered b p s fence pick q (extending (sealed_lengths b) (stream_of b.stream s) fence last))
       (λ t. same_askers) (λ t. answered_askers s fence pick q (extending (sealed_lengths b) (stream_of b.stream s) fence last))
 
   no_users_askers : (q : ReqNo) → Askers p b (no_users b p q).after
   no_users_askers q =
-      if_elim (λ (o : Outcome Book). Askers p b o.after) (is_user p.from) (refused b Manager p q Stale) (silent b) (λ t. same_askers) (λ t. same_askers)
+      if_elim (λ (o : Outcome Catalog). Askers p b o.after) (is_user p.from) (refused b Manager p q Stale) (silent b) (λ t. same_askers) (λ t. same_askers)
 
-  stream_askers : (body : StreamBody) → Askers p b (stream_body_row b p body).after
+  stream_askers : (body : StreamBody) → Askers p b (stream_body_rule b p body).after
   stream_askers (CreateStream s fence q) = unless_askers q (create_refusal b p s) (create_taken b p s (generation_of p.from fence) q) same_askers
   stream_askers (OpenStreams range generation q) = unless_askers q (open_refusal b p range generation) (open_taken b p range generation q) same_askers
   stream_askers (Confirm range generation q) = unless_askers q (confirm_refusal b p range generation) (answer b p (Confirmed q)) same_askers
@@ -107,7 +107,7 @@ module _ (p : Packet) (b : Book) where
       (λ _. if_elim (λ o. Askers p b (noted b e o).after) (is_node x.places.third from) (Some (record x { third = news x.third })) None
       (λ t. extent_askers e _ (λ a k. inl (x, is, k))) (λ _. same_askers)))
 
-  seal_extent_askers : (e : ℕ) (q : ReqNo) → p.body ≡ bodies.Seal (SealExtent e q) → (o : Option Extent) → Askers p b (seal_extent_row b p e q o).after
+  seal_extent_askers : (e : ℕ) (q : ReqNo) → p.body ≡ bodies.Seal (SealExtent e q) → (o : Option Extent) → Askers p b (seal_extent_rule b p e q o).after
   seal_extent_askers e q is None = same_askers
   seal_extent_askers e q is (Some x) = by_length x.sealed
     where
@@ -117,13 +117,13 @@ module _ (p : Packet) (b : Book) where
           inr (is ∙ ap (λ (z : Asker). bodies.Seal (SealExtent e z.request)) c, ap (λ (z : Asker). z.who) c))
       by_length (Some l) = same_askers
 
-  frozen_askers : (e l : ℕ) (o : Option Extent) → b.extent e ≡ o → Askers p b (frozen_row b p e l o).after
+  frozen_askers : (e l : ℕ) (o : Option Extent) → b.extent e ≡ o → Askers p b (frozen_rule b p e l o).after
   frozen_askers e l None is = same_askers
   frozen_askers e l (Some x) is =
-      if_elim (λ (o : Outcome Book). Askers p b o.after) (is_there x.sealed) (silent b) (noted b e (with_report x p.from (frozen_to l)))
+      if_elim (λ (o : Outcome Catalog). Askers p b o.after) (is_there x.sealed) (silent b) (noted b e (with_report x p.from (frozen_to l)))
       (λ t. same_askers) (λ f. reported_askers e p.from (frozen_to l) x is)
 
-  is_sealed_askers : (e : ℕ) (o : Option Extent) → b.extent e ≡ o → Askers p b (is_sealed_row b p e o).after
+  is_sealed_askers : (e : ℕ) (o : Option Extent) → b.extent e ≡ o → Askers p b (is_sealed_rule b p e o).after
   is_sealed_askers e None is = same_askers
   is_sealed_askers e (Some x) is = reported_askers e p.from known_sealed x is
 
@@ -133,48 +133,48 @@ module _ (p : Packet) (b : Book) where
   tail_askers e l None (Some n) = same_askers
   tail_askers e l None None = same_askers
 
-  short_askers : (e l : ℕ) (o : Option Extent) → Askers p b (short_row b p e l o).after
+  short_askers : (e l : ℕ) (o : Option Extent) → Askers p b (short_rule b p e l o).after
   short_askers e l None = same_askers
   short_askers e l (Some x) =
-      if_elim (λ (o : Outcome Book). Askers p b o.after) (is_there x.sealed) (asks_tail b e l (place_of x.places p.from) (first_sealed x)) (silent b)
+      if_elim (λ (o : Outcome Catalog). Askers p b o.after) (is_there x.sealed) (asks_tail b e l (place_of x.places p.from) (first_sealed x)) (silent b)
       (λ t. tail_askers e l (place_of x.places p.from) (first_sealed x)) (λ f. same_askers)
 
-  seal_askers : (body : SealBody) → p.body ≡ bodies.Seal body → Askers p b (seal_body_row b p body).after
+  seal_askers : (body : SealBody) → p.body ≡ bodies.Seal body → Askers p b (seal_body_rule b p body).after
   seal_askers (SealExtent e q) is = seal_extent_askers e q is (b.extent e)
   seal_askers (Frozen e l) is = frozen_askers e l (b.extent e) refl
   seal_askers (IsSealed e) is = is_sealed_askers e (b.extent e) refl
   seal_askers (Short e l) is = short_askers e l (b.extent e)
   seal_askers body is = same_askers
 
-  row_askers : (body : Body) → p.body ≡ body → Askers p b (manager_row b p body).after
-  row_askers (bodies.Stream body) is = stream_askers body
-  row_askers (bodies.Seal body) is = seal_askers body is
-  row_askers body is = same_askers
+  rule_askers : (body : Body) → p.body ≡ body → Askers p b (manager_rule b p body).after
+  rule_askers (bodies.Stream body) is = stream_askers body
+  rule_askers (bodies.Seal body) is = seal_askers body is
+  rule_askers body is = same_askers
 
 -- ---- moves
 
--- each asker of the book has asked, in this post
-abbrev HaveAsked : List Packet → Book → Type 0
+-- each asker of the catalog has asked, in this post
+abbrev HaveAsked : List Packet → Catalog → Type 0
 HaveAsked post b = (e : ℕ) (a : Asker) → HasAsker b e a → Contains post (packet a.who Manager (bodies.Seal (SealExtent e a.request)))
 
 module _ (post : List Packet) where
-  forgotten_asked : (b : Book) → HaveAsked post (book_stopped b)
+  forgotten_asked : (b : Catalog) → HaveAsked post (catalog_stopped b)
   forgotten_asked b e a (x, there, asker) = by_extent (b.extent e) there
     where
       by_extent : (o : Option Extent) → forgotten_if o ≡ Some x → Contains post (packet a.who Manager (bodies.Seal (SealExtent e a.request)))
       by_extent None is = absurd cc
       by_extent (Some y) is = absurd (let c : None ≡ x.asker = cc in let d : None ≡ Some a = c ∙ asker in cc)
 
-  manager_asked : (w : World) (o : Outcome Book) → HaveAsked post o.after → HaveAsked post (manager_does w o).book
+  manager_asked : (w : StreamSystem) (o : Outcome Catalog) → HaveAsked post o.after → HaveAsked post (manager_performs w o).catalog
   manager_asked w o now =
-      if_elim (λ (v : World). HaveAsked post v.book) (stops_in w.desk o.written) _ _
-      (λ s. if_elim (λ (v : World). HaveAsked post v.book) (stands_in w.desk) _ _ (λ t. forgotten_asked o.after) (λ t. forgotten_asked w.book))
+      if_elim (λ (v : StreamSystem). HaveAsked post v.catalog) (stops_in w.manager_cell o.written) _ _
+      (λ s. if_elim (λ (v : StreamSystem). HaveAsked post v.catalog) (stands_in w.manager_cell) _ _ (λ t. forgotten_asked o.after) (λ t. forgotten_asked w.catalog))
       (λ s. now)
 
-  decide_asked : (b : Book) (e : ℕ) (o : Option Extent) → HaveAsked post b → HaveAsked post (decide_row b e o).after
+  decide_asked : (b : Catalog) (e : ℕ) (o : Option Extent) → HaveAsked post b → HaveAsked post (decide_rule b e o).after
   decide_asked b e None asked = asked
   decide_asked b e (Some x) asked =
-      if_elim (λ (o : Outcome Book). HaveAsked post o.after) (is_there x.sealed) (sends b (reminders b e x)) (decided_if b e x (least_told x))
+      if_elim (λ (o : Outcome Catalog). HaveAsked post o.after) (is_there x.sealed) (sends b (reminders b e x)) (decided_if b e x (least_told x))
       (λ t. asked) (λ t. by_least (least_told x))
     where
       by_least : (o : Option ℕ) → HaveAsked post (decided_if b e x o).after
@@ -184,78 +184,78 @@ module _ (post : List Packet) where
           (λ q is. absurd (let c : None ≡ y.asker = cc in let d : None ≡ Some a = c ∙ asker in cc))
           (λ q is. asked k a (y, is, asker)) there
 
-  module _ (w : World) (old : (p : Packet) → Contains w.post p → Contains post p) (asked : HaveAsked post w.book) where
-    row_asked : (p : Packet) → p.to ≡ Manager → Contains w.post p → HaveAsked post (manager_row w.book p p.body).after
-    row_asked p to stood e a has = elim (row_askers p w.book p.body refl e a has) [
+  module _ (w : StreamSystem) (old : (p : Packet) → Contains w.post p → Contains post p) (asked : HaveAsked post w.catalog) where
+    rule_asked : (p : Packet) → p.to ≡ Manager → Contains w.post p → HaveAsked post (manager_rule w.catalog p p.body).after
+    rule_asked p to stood e a has = elim (rule_askers p w.catalog p.body refl e a has) [
       | inl x ↦ asked e a x
       | inr x ↦ subst (Contains post) (same_packet p a.who Manager (bodies.Seal (SealExtent e a.request)) x.1 to x.0) (old p stood)
     ]
 
-    delivered_asked : (p : Packet) (to : ActorId) → p.to ≡ to → Contains w.post p → HaveAsked post (delivered w p to).book
+    delivered_asked : (p : Packet) (to : ActorId) → p.to ≡ to → Contains w.post p → HaveAsked post (delivered w p to).catalog
     delivered_asked p (Node n) to stood =
         let e = extent_of p.body in
-        let o = node_row n (w.replica n e) p p.body in
-        if_elim (λ (v : World). HaveAsked post v.book) (w.cell n).up (node_does w n e o) w
-        (λ t. if_elim (λ (v : World). HaveAsked post v.book) (stops_in (w.cell n) o.written) _ _
-        (λ s. if_elim (λ (v : World). HaveAsked post v.book) (stands_in (w.cell n)) _ _ (λ _. asked) (λ _. asked)) (λ s. asked))
+        let o = node_rule n (w.replica n e) p p.body in
+        if_elim (λ (v : StreamSystem). HaveAsked post v.catalog) (w.cell n).up (node_performs w n e o) w
+        (λ t. if_elim (λ (v : StreamSystem). HaveAsked post v.catalog) (stops_in (w.cell n) o.written) _ _
+        (λ s. if_elim (λ (v : StreamSystem). HaveAsked post v.catalog) (stands_in (w.cell n)) _ _ (λ _. asked) (λ _. asked)) (λ s. asked))
         (λ t. asked)
     delivered_asked p Manager to stood =
-        if_elim (λ (v : World). HaveAsked post v.book) w.desk.up (manager_does w (manager_row w.book p p.body)) w
-        (λ t. manager_asked w (manager_row w.book p p.body) (row_asked p to stood)) (λ t. asked)
+        if_elim (λ (v : StreamSystem). HaveAsked post v.catalog) w.manager_cell.up (manager_performs w (manager_rule w.catalog p p.body)) w
+        (λ t. manager_asked w (manager_rule w.catalog p p.body) (rule_asked p to stood)) (λ t. asked)
     delivered_asked p Map to stood = asked
     delivered_asked p (Server s) to stood = asked
     delivered_asked p (User u) to stood = asked
 
-    delivered_if_asked : (number : ℕ) (o : Option Packet) → slice_get w.post number ≡ o → HaveAsked post (delivered_if w o).book
+    delivered_if_asked : (number : ℕ) (o : Option Packet) → slice_get w.post number ≡ o → HaveAsked post (delivered_if w o).catalog
     delivered_if_asked number None is = asked
     delivered_if_asked number (Some p) is = delivered_asked p p.to refl (contains_get w.post number p is)
 
-    stop_asked : (actor : ActorId) (call : ℕ) (keep : Bool) → HaveAsked post (stop w actor call keep).book
+    stop_asked : (actor : ActorId) (call : ℕ) (keep : Bool) → HaveAsked post (stop w actor call keep).catalog
     stop_asked (Node n) call keep =
-        if_elim (λ (v : World). HaveAsked post v.book) (w.cell n).up (node_stops w n call keep) w
-        (λ t. if_elim (λ (v : World). HaveAsked post v.book) (call == 0) (halted w n) _ (λ _. asked) (λ _. asked)) (λ f. asked)
+        if_elim (λ (v : StreamSystem). HaveAsked post v.catalog) (w.cell n).up (node_stops w n call keep) w
+        (λ t. if_elim (λ (v : StreamSystem). HaveAsked post v.catalog) (call == 0) (node_halted w n) _ (λ _. asked) (λ _. asked)) (λ f. asked)
     stop_asked Manager call keep =
-        if_elim (λ (v : World). HaveAsked post v.book) w.desk.up (manager_stops w call keep) w
-        (λ t. if_elim (λ (v : World). HaveAsked post v.book) (call == 0) (desk_halted w) _ (λ _. forgotten_asked w.book) (λ _. asked)) (λ f. asked)
+        if_elim (λ (v : StreamSystem). HaveAsked post v.catalog) w.manager_cell.up (manager_stops w call keep) w
+        (λ t. if_elim (λ (v : StreamSystem). HaveAsked post v.catalog) (call == 0) (manager_halted w) _ (λ _. forgotten_asked w.catalog) (λ _. asked)) (λ f. asked)
     stop_asked Map call keep = asked
     stop_asked (Server s) call keep = asked
     stop_asked (User u) call keep = asked
 
-    restart_asked : (actor : ActorId) → HaveAsked post (restart w actor).book
-    restart_asked (Node n) = if_elim (λ (v : World). HaveAsked post v.book) ((w.cell n).up || not (is_present w n)) w _ (λ _. asked) (λ _. asked)
-    restart_asked Manager = if_elim (λ (v : World). HaveAsked post v.book) w.desk.up w _ (λ _. asked) (λ _. asked)
+    restart_asked : (actor : ActorId) → HaveAsked post (restart w actor).catalog
+    restart_asked (Node n) = if_elim (λ (v : StreamSystem). HaveAsked post v.catalog) ((w.cell n).up || not (is_present w n)) w _ (λ _. asked) (λ _. asked)
+    restart_asked Manager = if_elim (λ (v : StreamSystem). HaveAsked post v.catalog) w.manager_cell.up w _ (λ _. asked) (λ _. asked)
     restart_asked Map = asked
     restart_asked (Server s) = asked
     restart_asked (User u) = asked
 
-    happens_asked : (event : Event) → HaveAsked post (happens w event).book
-    happens_asked (Submit user to body) = if_elim (λ (v : World). HaveAsked post v.book) (is_request body) _ w (λ _. asked) (λ _. asked)
+    happens_asked : (event : Event) → HaveAsked post (happens w event).catalog
+    happens_asked (Submit user to body) = if_elim (λ (v : StreamSystem). HaveAsked post v.catalog) (is_request body) _ w (λ _. asked) (λ _. asked)
     happens_asked (Deliver number) = delivered_if_asked number (slice_get w.post number) refl
     happens_asked (Stop actor call keep) = stop_asked actor call keep
     happens_asked (Restart actor) = restart_asked actor
     happens_asked (Decide e) =
-        if_elim (λ (v : World). HaveAsked post v.book) w.desk.up (manager_does w (decide_row w.book e (w.book.extent e))) w
-        (λ t. manager_asked w (decide_row w.book e (w.book.extent e)) (decide_asked w.book e (w.book.extent e) asked)) (λ t. asked)
+        if_elim (λ (v : StreamSystem). HaveAsked post v.catalog) w.manager_cell.up (manager_performs w (decide_rule w.catalog e (w.catalog.extent e))) w
+        (λ t. manager_asked w (decide_rule w.catalog e (w.catalog.extent e)) (decide_asked w.catalog e (w.catalog.extent e) asked)) (λ t. asked)
     happens_asked (GiveUp server range pick) = asked
     happens_asked (Assign range server until) = asked
     happens_asked (Renew range server until) = asked
     happens_asked (Moment now) = asked
 
-    moved_asked : (move : Move) → HaveAsked post (moved w move).book
+    moved_asked : (move : Move) → HaveAsked post (moved w move).catalog
     moved_asked (Happens event) = happens_asked event
-    moved_asked (Asks server to body) = if_elim (λ (v : World). HaveAsked post v.book) (is_server_call body) _ w (λ _. asked) (λ _. asked)
-    moved_asked (Says from to body) = if_elim (λ (v : World). HaveAsked post v.book) (is_told body) _ w (λ _. asked) (λ _. asked)
-    moved_asked (Observes note) = if_elim (λ (v : World). HaveAsked post v.book) (is_table_note note) _ w (λ _. asked) (λ _. asked)
+    moved_asked (Asks server to body) = if_elim (λ (v : StreamSystem). HaveAsked post v.catalog) (is_server_call body) _ w (λ _. asked) (λ _. asked)
+    moved_asked (Says from to body) = if_elim (λ (v : StreamSystem). HaveAsked post v.catalog) (is_told body) _ w (λ _. asked) (λ _. asked)
+    moved_asked (Observes note) = if_elim (λ (v : StreamSystem). HaveAsked post v.catalog) (is_table_note note) _ w (λ _. asked) (λ _. asked)
 
-  run_asked : (moves : List Move) (w : World) → ((p : Packet) → Contains (run_moves moves w).post p → Contains post p) → HaveAsked post w.book →
-      HaveAsked post (run_moves moves w).book
+  run_asked : (moves : List Move) (w : StreamSystem) → ((p : Packet) → Contains (run_moves moves w).post p → Contains post p) → HaveAsked post w.catalog →
+      HaveAsked post (run_moves moves w).catalog
   run_asked [] w old asked = asked
   run_asked (move ∷ moves) w old asked =
       run_asked moves (moved w move) old (moved_asked w (λ p c. old p (post_stays (move ∷ moves) w p c)) asked move)
 
 -- whoever the manager remembers has asked
 pub askers_asked : (nodes target : ℕ) (moves : List Move) (e : ℕ) (x : Extent) (a : Asker) →
-    (run_moves moves (start nodes target)).book.extent e ≡ Some x → x.asker ≡ Some a →
+    (run_moves moves (start nodes target)).catalog.extent e ≡ Some x → x.asker ≡ Some a →
     Contains (run_moves moves (start nodes target)).post (packet a.who Manager (bodies.Seal (SealExtent e a.request)))
 askers_asked nodes target moves e x a there asker =
     run_asked (run_moves moves (start nodes target)).post moves (start nodes target) (λ p c. c) (λ k b has. absurd cc) e a (x, there, asker)

@@ -8,11 +8,11 @@ use Rattle.wire.specs.declared.body.CheckBody.TheVariants.{Check, Checked}
 use Rattle.wire.specs.declared.body.StreamBody.TheVariants.{OpenStreams, Confirm, Confirmed}
 use Rattle.wire.specs.declared.body.Body.TheVariants as bodies
 use Rattle.wire.specs.declared.refusal.Refusal.TheVariants.{Stale}
-use Rattle.model.specs.declared.event.Event.TheVariants.{Deliver}
-use Rattle.model.specs.Outcome.{packet}
-use Rattle.model.specs.World.{start, Move, run_moves}
-use Rattle.model.specs.World.Move.{Happens, Asks}
-use Rattle.blocks.specs.Limits as tests
+use Rattle.model_streams.specs.declared.event.Event.TheVariants.{Deliver}
+use Rattle.model_streams.specs.Outcome.{packet}
+use Rattle.model_streams.specs.StreamSystem.{start, Move, run_moves}
+use Rattle.model_streams.specs.StreamSystem.Move.{Happens, Asks}
+use Rattle.block_types.specs.Limits as tests
 use Rattle.laws_streams.specs.Fences.{Opens, Confirms}
 use Rattle.laws_streams.proofs.Examples.{asked, delivered, begun, append, abc}
 

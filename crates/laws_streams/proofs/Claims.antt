@@ -5,14 +5,14 @@ use Rattle.wire.specs.declared.note.Note.{Note}
 use Rattle.wire.specs.declared.note.Note.TheVariants.{Acked, SealedAt, Content, Seen}
 use Rattle.replica.specs.Groups.{Group, joined, text, size, text_length}
 use Rattle.replica.proofs.Lengths.{text-append}
-use Rattle.model.specs.Honest.{Stands, Apart, Agree, Kept}
-use Rattle.model.specs.World.{World}
-use Rattle.laws_streams.specs.Origins.{Begins, Shows, Origin, Course, Came, Decided, OriginsOf}
+use Rattle.model_streams.specs.Honest.{Stands, Apart, Agree, Kept}
+use Rattle.model_streams.specs.StreamSystem.{StreamSystem}
+use Rattle.laws_streams.specs.Origins.{Begins, Shows, Origin, Course, DeliveredAppend, DecidedSeal, OriginsOf}
 use Rattle.laws_streams.proofs.Lists.{shows_both, shows_within, same_beginning, stands_back}
-use Rattle.laws_streams.proofs.Tests.{each-contains, all_pairs}
+use Rattle.laws_streams.proofs.Choices.{each-contains, all_pairs}
 use Rattle.laws_streams.proofs.Ground.{Ground, FineAck, FineContent, FineNote}
-use Rattle.laws_streams.proofs.Holding.{Holds}
-use Rattle.laws_streams.proofs.Dates.{Dated, each_of-get, pair-get}
+use Rattle.laws_streams.proofs.RestsOnGround.{Holds}
+use Rattle.laws_streams.proofs.GroupOrigins.{Dated, each_of-get, pair-get}
 
 -- a beginning of the script shows its text
 content_shows : {c s : List Group} → Begins c s → Shows 0 (text c) (text s)
@@ -22,7 +22,7 @@ group_shows : {group : Group} {o : ℕ} {s : List Group} → Stands group o s �
 group_shows {group} {o} {s} h =
     rw (h.split, text-append h.before (group ∷ h.after), ← h.place) (shows_within (text h.before) (joined group) (text h.after))
 
-module _ (w : World) (g : Ground) (holds : Holds w g) where
+module _ (w : StreamSystem) (g : Ground) (holds : Holds w g) where
   pub told : (x : Note) → Contains w.notes x → FineNote g x
   told x h = each-contains (FineNote g) w.notes x holds.notes h
 
@@ -71,13 +71,13 @@ module _ (w : World) (g : Ground) (holds : Holds w g) where
             ]
           ]
 
-module _ (k : ℕ) (c : Course) (g : Ground) (holds : Holds c.last g) (dated : Dated (Came c) (Decided c) k g) where
+module _ (k : ℕ) (c : Course) (g : Ground) (holds : Holds c.last g) (dated : Dated (DeliveredAppend c) (DecidedSeal c) k g) where
   abbrev pub origins : OriginsOf c
   origins = record {
     script = g.script;
     origin = g.origin;
     one_each = holds.sound.aged;
-    came = λ e i group o p q. each_of-get (Came c e) (g.script e) (g.origin e) i group o (dated.came e) p q;
+    came = λ e i group o p q. each_of-get (DeliveredAppend c e) (g.script e) (g.origin e) i group o (dated.came e) p q;
     in_order = λ e i j o p l a b. pair-get (λ x y. x.event < y.event) (g.origin e) i j o p (dated.in_order e) l a b;
     acked = λ e o group p. (told c.last g holds (Acked e o group) p).stands;
     content = λ e n groups p. (told c.last g holds (Content e n groups) p).begins;
@@ -88,7 +88,7 @@ module _ (k : ℕ) (c : Course) (g : Ground) (holds : Holds c.last g) (dated : D
 -- ---- a course that is told in another way
 
 module _ (c d : Course) (event : (n : ℕ) → d.event n ≡ c.event n) (before : (n : ℕ) → d.before n ≡ c.before n) (last : d.last ≡ c.last) where
-  same_came : (e : ℕ) (group : Group) (o : Origin) → Came c e group o → Came d e group o
+  same_came : (e : ℕ) (group : Group) (o : Origin) → DeliveredAppend c e group o → DeliveredAppend d e group o
   same_came e group o a = record {
     number = a.number;
     packet = a.packet;
@@ -99,7 +99,7 @@ module _ (c d : Course) (event : (n : ℕ) → d.event n ≡ c.event n) (before 
     counted = a.counted;
   }
 
-  same_decided : (e l : ℕ) → Decided c e l → Decided d e l
+  same_decided : (e l : ℕ) → DecidedSeal c e l → DecidedSeal d e l
   same_decided e l a = record {
     number = a.number;
     extent = a.extent;

@@ -10,32 +10,32 @@ use Rattle.wire.specs.declared.body.Body.TheVariants as bodies
 use Rattle.wire.specs.declared.note.Note.TheVariants.{Acked, SealedAt}
 use Rattle.wire.specs.declared.packet.Packet.{Packet}
 use Rattle.replica.specs.Groups.{Group, text_length}
-use Rattle.model.specs.declared.waiting.Waiting.{Waiting}
-use Rattle.model.specs.Actors.{generation_of}
-use Rattle.model.specs.Node.{Replica, extent_of, node_row}
-use Rattle.model.specs.Outcome.{packet}
-use Rattle.model.specs.World.{World, Move, moved, run_moves, start}
+use Rattle.model_streams.specs.declared.waiting.Waiting.{Waiting}
+use Rattle.model_streams.specs.Actors.{generation_of}
+use Rattle.model_streams.specs.Node.{Replica, extent_of, node_rule}
+use Rattle.model_streams.specs.Outcome.{packet}
+use Rattle.model_streams.specs.StreamSystem.{StreamSystem, Move, moved, run_moves, start}
 use Rattle.laws_streams.specs.Answers.{SealedIn, ReadBy, AppendedBy, ContentAnswered}
 use Rattle.laws_streams.proofs.Lists.{begins_trans, begins_length}
-use Rattle.laws_streams.proofs.Tests.{each-contains}
+use Rattle.laws_streams.proofs.Choices.{each-contains}
 use Rattle.laws_streams.proofs.Ground.{Ground, FineAck, FineWaiting, FineOne, FineReplica}
-use Rattle.laws_streams.proofs.Growing.{waiting_later, waiting_generation}
-use Rattle.laws_streams.proofs.Readings.{prefix_fine, sealed_length}
+use Rattle.laws_streams.proofs.MoreKnown.{waiting_later, waiting_generation}
+use Rattle.laws_streams.proofs.ReadRules.{prefix_fine, sealed_length}
 use Rattle.laws_streams.proofs.Claims.{told}
-use Rattle.laws_streams.proofs.Law.{AfterMore}
-use Rattle.laws_streams.proofs.Rising.{run_more}
-use Rattle.laws_streams.proofs.Lasting.{AllHad, sealed_beyond, held_at}
-use Rattle.laws_streams.proofs.Covering.{hold}
-use Rattle.laws_streams.proofs.Tracing.{Traced, traced, known_then}
+use Rattle.laws_streams.proofs.Invariant.{AfterMore}
+use Rattle.laws_streams.proofs.RisingFences.{run_more}
+use Rattle.laws_streams.proofs.LastingLengths.{AllHad, sealed_beyond, held_at}
+use Rattle.laws_streams.proofs.AnsweredChecks.{hold}
+use Rattle.laws_streams.proofs.Traces.{Traced, traced, known_then}
 use Rattle.laws_streams.proofs.ManagerAnswers as manager
 use Rattle.laws_streams.proofs.NodeAnswers as node
 use Rattle.laws_streams.proofs.DecisionAnswers as decision
 use Rattle.laws_streams.proofs.StreamAnswers.{same_packet, stays_in}
 use Rattle.laws_streams.proofs.SealAnswers.{sealed_known, known_sealed, sealed_stays}
-use Rattle.laws_streams.proofs.Sending.{NodeSends, SentIn, sent_first, notes_stay}
+use Rattle.laws_streams.proofs.PacketSources.{NodeSends, SentIn, sent_first, notes_stay}
 
 module _ (nodes target : ℕ) (before after : List Move) where
-  abbrev first : World
+  abbrev first : StreamSystem
   first = start nodes target
 
   abbrev moves : List Move
@@ -57,12 +57,12 @@ module _ (nodes target : ℕ) (before after : List Move) where
   module _ (n : ℕ) (to : ActorId) (q : ReqNo) (e : ℕ) (groups : List Group) (past rest : List Move) (move : Move) (split : before ≡ past ++ move ∷ rest)
       (taken : Packet) (stood : Contains (run_moves past first).post taken) (at : taken.to ≡ Node n)
       (f : node.FromReading ((run_moves past first).replica n e) e taken to q e groups) where
-    sealed_whole : (g : Ground) → FineOne g n e f.replica → (known : (l : ℕ) → g.sealed e ≡ Some l → SealedIn (run_moves past first).book e l) →
-        f.sealed ≡ true → (l : ℕ) × SealedIn (run_moves before first).book e l × SealedIn (run_moves moves first).book e l × (f.upto ≤ l)
+    sealed_whole : (g : Ground) → FineOne g n e f.replica → (known : (l : ℕ) → g.sealed e ≡ Some l → SealedIn (run_moves past first).catalog e l) →
+        f.sealed ≡ true → (l : ℕ) × SealedIn (run_moves before first).catalog e l × SealedIn (run_moves moves first).catalog e l × (f.upto ≤ l)
     sealed_whole g fine known closed =
         let l = text_length f.replica.content.groups in
         let is = sealed_length g n e f.replica.content.places f.replica.content.groups f.replica.content.phase (f.closed closed) fine.phase in
-        let now : SealedIn (run_moves before first).book e l = rw split (sealed_stays nodes target past (move ∷ rest) e l (known l is)) in
+        let now : SealedIn (run_moves before first).catalog e l = rw split (sealed_stays nodes target past (move ∷ rest) e l (known l is)) in
         let prefix = prefix_fine f.upto f.replica.content.groups groups f.found in
         (l, now, sealed_stays nodes target before after e l now, omega (arith, prefix.length, begins_length prefix.begins))
 
@@ -80,7 +80,7 @@ module _ (nodes target : ℕ) (before after : List Move) where
               (stays_in before past rest move first split taken stood);
           begins = begins_trans prefix.begins (begins_trans fine.begins (later.script e));
           ends = prefix.length;
-          whole = sealed_whole early.ground fine (λ l is. known_sealed early.ground (run_moves past first).book early.holds.book e l is);
+          whole = sealed_whole early.ground fine (λ l is. known_sealed early.ground (run_moves past first).catalog early.holds.catalog e l is);
         }
 
   -- ---- groups that were appended
@@ -120,7 +120,7 @@ module _ (nodes target : ℕ) (before after : List Move) where
               omega (arith, k, ack.within);
           sealed = λ l s.
               let k = sealed_beyond ground e (ground.acked e) (acked_had e) trace.now.holds.sound l
-              (sealed_known ground (run_moves moves first).book trace.now.holds.book e l s) in
+              (sealed_known ground (run_moves moves first).catalog trace.now.holds.catalog e l s) in
               omega (arith, k, ack.within);
           shown = λ l s.
               let k = sealed_beyond ground e (ground.acked e) (acked_had e) trace.now.holds.sound l
@@ -150,10 +150,10 @@ module _ (nodes target : ℕ) (before after : List Move) where
         | inr x ↦ elim x [
           | inl m ↦ by_node m
           | inr y ↦ elim y [
-            | inl m ↦ absurd (each-contains (manager.ManagerTells (run_moves a.past first).book m.taken) _ reading
-                (manager.manager_tells (run_moves a.past first).book m.taken) m.row).1
-            | inr d ↦ absurd (each-contains (decision.DecisionTells (run_moves a.past first).book d.extent _) _ reading
-                (decision.decision_tells (run_moves a.past first).book d.extent) d.row).1
+            | inl m ↦ absurd (each-contains (manager.ManagerTells (run_moves a.past first).catalog m.taken) _ reading
+                (manager.manager_tells (run_moves a.past first).catalog m.taken) m.rule).1
+            | inr d ↦ absurd (each-contains (decision.DecisionTells (run_moves a.past first).catalog d.extent _) _ reading
+                (decision.decision_tells (run_moves a.past first).catalog d.extent) d.rule).1
           ]
         ]
       ]
@@ -163,8 +163,8 @@ module _ (nodes target : ℕ) (before after : List Move) where
           by_node m =
               let v = run_moves a.past first in
               let k = extent_of m.taken.body in
-              let (teller, f) = each-contains (node.NodeTells m.node (v.replica m.node k) k m.taken (node_row m.node (v.replica m.node k) m.taken m.taken.body).notes) _
-              reading (node.node_tells m.node (v.replica m.node k) m.taken) m.row in
+              let (teller, f) = each-contains (node.NodeTells m.node (v.replica m.node k) k m.taken (node_rule m.node (v.replica m.node k) m.taken m.taken.body).notes) _
+              reading (node.node_tells m.node (v.replica m.node k) m.taken) m.rule in
               let here = subst (λ j. node.FromReading (v.replica m.node k) k m.taken to q j groups) f.extent f in
               read_of from to q e k m.node groups teller f.extent
               (read_so m.node to q k groups a.past a.rest a.move a.split m.taken m.stood m.to here)
@@ -179,10 +179,10 @@ module _ (nodes target : ℕ) (before after : List Move) where
         | inr x ↦ elim x [
           | inl m ↦ by_node m
           | inr y ↦ elim y [
-            | inl m ↦ absurd (each-contains (manager.ManagerTells (run_moves a.past first).book m.taken) _ answer
-                (manager.manager_tells (run_moves a.past first).book m.taken) m.row).1
-            | inr d ↦ absurd (each-contains (decision.DecisionTells (run_moves a.past first).book d.extent _) _ answer
-                (decision.decision_tells (run_moves a.past first).book d.extent) d.row).1
+            | inl m ↦ absurd (each-contains (manager.ManagerTells (run_moves a.past first).catalog m.taken) _ answer
+                (manager.manager_tells (run_moves a.past first).catalog m.taken) m.rule).1
+            | inr d ↦ absurd (each-contains (decision.DecisionTells (run_moves a.past first).catalog d.extent _) _ answer
+                (decision.decision_tells (run_moves a.past first).catalog d.extent) d.rule).1
           ]
         ]
       ]
@@ -192,11 +192,11 @@ module _ (nodes target : ℕ) (before after : List Move) where
           by_node m =
               let v = run_moves a.past first in
               let k = extent_of m.taken.body in
-              let row = node_row m.node (v.replica m.node k) m.taken m.taken.body in
-              let (teller, f) = each-contains (node.NodeTells m.node (v.replica m.node k) k m.taken row.notes) _
-              answer (node.node_tells m.node (v.replica m.node k) m.taken) m.row in
+              let rule = node_rule m.node (v.replica m.node k) m.taken m.taken.body in
+              let (teller, f) = each-contains (node.NodeTells m.node (v.replica m.node k) k m.taken rule.notes) _
+              answer (node.node_tells m.node (v.replica m.node k) m.taken) m.rule in
               let x = Acked k f.waiting.offset f.waiting.group in
-              let now : Contains (moved v a.move).notes x = subst (λ xs. Contains xs x) (sym m.notes) (Contains-append_right v.notes row.notes x f.noted) in
+              let now : Contains (moved v a.move).notes x = subst (λ xs. Contains xs x) (sym m.notes) (Contains-append_right v.notes rule.notes x f.noted) in
               let noted : Contains (run_moves before first).notes x =
               rw (a.split, run_more a.past (a.move ∷ a.rest) first) (notes_stay a.rest (moved v a.move) x now) in
               appended_of from to f.waiting.asker q f.waiting.request e k o f.waiting.offset m.node teller f.asker f.request f.extent f.offset

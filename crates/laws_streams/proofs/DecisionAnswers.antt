@@ -8,15 +8,15 @@ use Rattle.wire.specs.declared.body.SealBody.TheVariants as seals
 use Rattle.wire.specs.declared.body.Body.{Body}
 use Rattle.wire.specs.declared.body.Body.TheVariants as bodies
 use Rattle.wire.specs.declared.packet.Packet.{Packet}
-use Rattle.model.specs.declared.extent.Asker.{Asker}
-use Rattle.model.specs.declared.extent.Extent.{Extent}
-use Rattle.model.specs.Manager.{Book, each_place, closes, reminders, tells_asker, sealed_to, with_extent, decided_if, least_told, decide_row, is_there}
-use Rattle.model.specs.Outcome.{Outcome, sends}
-use Rattle.model.proofs.Tests.{if_elim}
-use Rattle.laws_streams.proofs.Tests.{Each, each-append}
+use Rattle.model_streams.specs.declared.extent.Asker.{Asker}
+use Rattle.model_streams.specs.declared.extent.Extent.{Extent}
+use Rattle.model_streams.specs.Manager.{Catalog, each_place, closes, reminders, tells_asker, sealed_to, with_extent, decided_if, least_told, decide_rule, is_there}
+use Rattle.model_streams.specs.Outcome.{Outcome, sends}
+use Rattle.model_streams.proofs.Tests.{if_elim}
+use Rattle.laws_streams.proofs.Choices.{Each, each-append}
 
 -- the extent is sealed at this length now, and this one had asked for it
-pub record FromDecision (b : Book) (decides : ℕ) (after : Book) (to : ActorId) (q : ReqNo) (e l : ℕ) : Type 0 where
+pub record FromDecision (b : Catalog) (decides : ℕ) (after : Catalog) (to : ActorId) (q : ReqNo) (e l : ℕ) : Type 0 where
   pub which : e ≡ decides
   pub extent : Extent
   pub there : b.extent e ≡ Some extent
@@ -26,24 +26,24 @@ pub record FromDecision (b : Book) (decides : ℕ) (after : Book) (to : ActorId)
   pub request : q ≡ asker.request
   pub left : after ≡ with_extent b e (sealed_to extent l)
 
-abbrev pub SealTells : Book → ℕ → Book → ActorId → SealBody → Type 0
+abbrev pub SealTells : Catalog → ℕ → Catalog → ActorId → SealBody → Type 0
 SealTells b e after to (seals.SealedIs q k l) = FromDecision b e after to q k l
 SealTells b e after to (seals.SealExtent k q) = ⊥
 SealTells b e after to _ = Unit {0}
 
-abbrev pub BodyTells : Book → ℕ → Book → ActorId → Body → Type 0
+abbrev pub BodyTells : Catalog → ℕ → Catalog → ActorId → Body → Type 0
 BodyTells b e after to (bodies.Seal body) = SealTells b e after to body
 BodyTells b e after to _ = ⊥
 
 -- what the manager sends, having decided on extent e
-abbrev pub DecisionTells : Book → ℕ → Book → Packet → Type 0
+abbrev pub DecisionTells : Catalog → ℕ → Catalog → Packet → Type 0
 DecisionTells b e after p = (p.from ≡ Manager) × BodyTells b e after p.to p.body
 
-abbrev Tells : Book → ℕ → Outcome Book → Type 0
+abbrev Tells : Catalog → ℕ → Outcome Catalog → Type 0
 Tells b e o = Each (DecisionTells b e o.after) o.packets
 
-module _ (b : Book) (e : ℕ) (x : Extent) where
-  reminders_tell : (after : Book) (y : Extent) → Each (DecisionTells b e after) (reminders b e y)
+module _ (b : Catalog) (e : ℕ) (x : Extent) where
+  reminders_tell : (after : Catalog) (y : Extent) → Each (DecisionTells b e after) (reminders b e y)
   reminders_tell after y = by_length y.sealed
     where
       by_length : (o : Option ℕ) → Each (DecisionTells b e after)
@@ -64,12 +64,12 @@ module _ (b : Book) (e : ℕ) (x : Extent) where
       each-append (DecisionTells b e after) (reminders b e (sealed_to x l)) (tells_asker e l x.asker)
       (reminders_tell after (sealed_to x l)) (asker_tells l there x.asker refl)
 
-decide_tells : (b : Book) (e : ℕ) (o : Option Extent) → b.extent e ≡ o → Tells b e (decide_row b e o)
+decide_tells : (b : Catalog) (e : ℕ) (o : Option Extent) → b.extent e ≡ o → Tells b e (decide_rule b e o)
 decide_tells b e None there = tt
 decide_tells b e (Some x) there =
     if_elim (Tells b e) (is_there x.sealed) (sends b (reminders b e x)) (decided_if b e x (least_told x))
     (λ t. reminders_tell b e x b x) (λ f. decided_tells b e x there (least_told x))
 
 -- whatever the manager sends, having decided
-pub decision_tells : (b : Book) (e : ℕ) → Each (DecisionTells b e (decide_row b e (b.extent e)).after) (decide_row b e (b.extent e)).packets
+pub decision_tells : (b : Catalog) (e : ℕ) → Each (DecisionTells b e (decide_rule b e (b.extent e)).after) (decide_rule b e (b.extent e)).packets
 decision_tells b e = decide_tells b e (b.extent e) refl

@@ -1,6 +1,6 @@
 -- Some whole runs of the model, by computing.
 use Rattle.std.proofs.Common.{◌≡◌, ℕ, List, [], ◌∷◌, ◌++◌, None, refl}
-use Rattle.blocks.specs.declared.record.Nodes.{Nodes}
+use Rattle.block_types.specs.declared.record.Nodes.{Nodes}
 use Rattle.wire.specs.declared.actor.ActorId.TheVariants.{Node, Manager}
 use Rattle.wire.specs.declared.actor.ReqNo.{ReqNo}
 use Rattle.wire.specs.declared.actor.ReqNo.TheVariants as numbers
@@ -12,10 +12,10 @@ use Rattle.wire.specs.declared.note.Note.TheVariants.{Acked, Seen}
 use Rattle.wire.specs.declared.streams.StreamName.{StreamName}
 use Rattle.wire.specs.declared.streams.StreamKind.TheVariants.{Metadata}
 use Rattle.replica.specs.Groups.{Group}
-use Rattle.model.specs.declared.event.Event.{Event}
-use Rattle.model.specs.declared.event.Event.TheVariants.{Submit, Deliver}
-use Rattle.model.specs.World.{run, start}
-use Rattle.blocks.specs.Limits as tests
+use Rattle.model_streams.specs.declared.event.Event.{Event}
+use Rattle.model_streams.specs.declared.event.Event.TheVariants.{Submit, Deliver}
+use Rattle.model_streams.specs.StreamSystem.{run, start}
+use Rattle.block_types.specs.Limits as tests
 
 abbrev pub asked : ℕ → ReqNo
 asked ticket = numbers.User 1 ticket

@@ -1,6 +1,6 @@
 -- What is known for good of each extent, and how packets, observations and replicas rest on it.
 use Rattle.std.proofs.Common.{◌≡◌, ℕ, ◌+◌, ◌<◌, ◌≤◌, Bool, true, false, List, [], ◌∷◌, ◌++◌, length, take, Option, Some, None, slice_get, Contains}
-use Rattle.blocks.specs.declared.record.Nodes.{Nodes}
+use Rattle.block_types.specs.declared.record.Nodes.{Nodes}
 use Rattle.wire.specs.declared.actor.ActorId.{ActorId}
 use Rattle.wire.specs.declared.actor.ActorId.TheVariants.{Node}
 use Rattle.wire.specs.declared.actor.ReqNo.{ReqNo}
@@ -19,15 +19,15 @@ use Rattle.replica.specs.declared.phase.Phase.{Phase}
 use Rattle.replica.specs.declared.phase.Phase.TheVariants as phases
 use Rattle.replica.specs.Groups.{Group, text, size, text_length}
 use Rattle.replica.specs.Replay.{is_place}
-use Rattle.model.specs.declared.checking.Checking.{Checking}
-use Rattle.model.specs.declared.waiting.Waiting.{Waiting}
-use Rattle.model.specs.Actors.{is_node, generation_of}
-use Rattle.model.specs.Honest.{Stands}
-use Rattle.model.specs.Node.{Replica}
-use Rattle.model.specs.Outcome.{packet}
+use Rattle.model_streams.specs.declared.checking.Checking.{Checking}
+use Rattle.model_streams.specs.declared.waiting.Waiting.{Waiting}
+use Rattle.model_streams.specs.Actors.{is_node, generation_of}
+use Rattle.model_streams.specs.Honest.{Stands}
+use Rattle.model_streams.specs.Node.{Replica}
+use Rattle.model_streams.specs.Outcome.{packet}
 use Rattle.laws_streams.specs.Origins.{Begins, Shows, Origin}
 use Rattle.laws_streams.proofs.Lists.{NoneEmpty}
-use Rattle.laws_streams.proofs.Tests.{Each}
+use Rattle.laws_streams.proofs.Choices.{Each}
 
 -- What never turns false again, by extent, and by node and extent. A node's last length is the one that it has while it
 -- is not sealed.

@@ -2,28 +2,28 @@
 use Rattle.std.proofs.Common.{◌≡◌, ◌⊎◌, ℕ, zero, suc, ◌<◌, ◌≤◌, ◌&&◌, ◌==◌, nat_le, List, [], ◌∷◌, ◌++◌, length, Option, Some, None, slice_get, refl, sym, ap, ◌∙◌, inl, inr, arith, subst, Bool, not, ◌||◌}
 use Rattle.wire.specs.declared.streams.StreamName.{StreamName}
 use Rattle.streams.specs.Streams.{Stream, stream_of, last_of, empty_stream, kind_number}
-use Rattle.model.specs.declared.extent.Extent.{Extent}
-use Rattle.model.specs.Manager.{Book, sealed_in, sealed_lengths, forgotten, forgotten_if, book_stopped, decide_row, manager_row}
-use Rattle.model.specs.World.{World, start, Move, moved, run_moves, stops_in, stands_in, halted, node_does, node_takes, desk_halted, manager_does, delivered, delivered_if, is_request, node_stops, manager_stops, stop, is_present, restart, happens, is_server_call, is_told, is_table_note}
-use Rattle.model.proofs.Tests.{if_elim}
+use Rattle.model_streams.specs.declared.extent.Extent.{Extent}
+use Rattle.model_streams.specs.Manager.{Catalog, sealed_in, sealed_lengths, forgotten, forgotten_if, catalog_stopped, decide_rule, manager_rule}
+use Rattle.model_streams.specs.StreamSystem.{StreamSystem, start, Move, moved, run_moves, stops_in, stands_in, node_halted, node_performs, node_takes, manager_halted, manager_performs, delivered, delivered_if, is_request, node_stops, manager_stops, stop, is_present, restart, happens, is_server_call, is_told, is_table_note}
+use Rattle.model_streams.proofs.Tests.{if_elim}
 use Rattle.laws_streams.specs.Answers.{SealedIn}
 use Rattle.laws_streams.specs.Listings.{Listed, Longer, ListsGrow}
 use Rattle.laws_streams.proofs.Lists.{begins_refl, begins_trans}
-use Rattle.laws_streams.proofs.Rising.{run_more}
-use Rattle.laws_streams.proofs.Listing.{Goes, Grown, goes_refl, row_goes, decide_goes}
+use Rattle.laws_streams.proofs.RisingFences.{run_more}
+use Rattle.laws_streams.proofs.ListRules.{Goes, Grown, goes_refl, rule_goes, decide_goes}
 use Rattle.wire.specs.declared.actor.ActorId.{ActorId}
 use Rattle.wire.specs.declared.actor.ActorId.TheVariants.{Node, Manager, Map, Server, User}
 use Rattle.wire.specs.declared.packet.Packet.{Packet}
-use Rattle.model.specs.declared.event.Event.{Event}
-use Rattle.model.specs.declared.event.Event.TheVariants.{Submit, Deliver, Stop, Restart, Decide, GiveUp, Assign, Renew, Moment}
-use Rattle.model.specs.Node.{extent_of, node_row}
-use Rattle.model.specs.Outcome.{Outcome}
-use Rattle.model.specs.World.Move.{Happens, Asks, Says, Observes}
+use Rattle.model_streams.specs.declared.event.Event.{Event}
+use Rattle.model_streams.specs.declared.event.Event.TheVariants.{Submit, Deliver, Stop, Restart, Decide, GiveUp, Assign, Renew, Moment}
+use Rattle.model_streams.specs.Node.{extent_of, node_rule}
+use Rattle.model_streams.specs.Outcome.{Outcome}
+use Rattle.model_streams.specs.StreamSystem.Move.{Happens, Asks, Says, Observes}
 
 -- ---- moves
 
--- what a stop leaves of a later book
-stopped_goes : (b c : Book) → Goes b c → Goes b (book_stopped c)
+-- what a stop leaves of a later catalog
+stopped_goes : (b c : Catalog) → Goes b c → Goes b (catalog_stopped c)
 stopped_goes b c a = record {
   name = a.name;
   kept = λ e y is. let k = a.kept e y is in record { now = forgotten k.now; is = ap forgotten_if k.is; sealed = k.sealed };
@@ -36,7 +36,7 @@ stopped_goes b c a = record {
   numbered = λ e y is. by_extent e (c.extent e) refl y is;
 }
   where
-    still_grown : {s : StreamName} {z : Stream} → Grown b c.extent s z → Grown b (book_stopped c).extent s z
+    still_grown : {s : StreamName} {z : Stream} → Grown b c.extent s z → Grown b (catalog_stopped c).extent s z
     still_grown {s} {z} g = record {
       was = g.was;
       there = g.there;
@@ -52,24 +52,24 @@ stopped_goes b c a = record {
     by_extent e None there y is = absurd cc
     by_extent e (Some x) there y is = a.numbered e x there
 
-module _ (w : World) (fresh : w.book.extent (suc w.book.count) ≡ None) where
-  abbrev GoesTo : World → Type 0
-  GoesTo v = Goes w.book v.book
+module _ (w : StreamSystem) (fresh : w.catalog.extent (suc w.catalog.count) ≡ None) where
+  abbrev GoesTo : StreamSystem → Type 0
+  GoesTo v = Goes w.catalog v.catalog
 
   same_goes : GoesTo w
-  same_goes = goes_refl w.book
+  same_goes = goes_refl w.catalog
 
-  manager_goes : (o : Outcome Book) → Goes w.book o.after → GoesTo (manager_does w o)
+  manager_goes : (o : Outcome Catalog) → Goes w.catalog o.after → GoesTo (manager_performs w o)
   manager_goes o a =
-      if_elim GoesTo (stops_in w.desk o.written) _ _
-      (λ s. if_elim GoesTo (stands_in w.desk) _ _ (λ t. stopped_goes w.book o.after a) (λ f. stopped_goes w.book w.book same_goes))
+      if_elim GoesTo (stops_in w.manager_cell o.written) _ _
+      (λ s. if_elim GoesTo (stands_in w.manager_cell) _ _ (λ t. stopped_goes w.catalog o.after a) (λ f. stopped_goes w.catalog w.catalog same_goes))
       (λ r. a)
 
   node_goes : (n : ℕ) (p : Packet) → GoesTo (node_takes w n p)
   node_goes n p =
       let e = extent_of p.body in
-      let o = node_row n (w.replica n e) p p.body in
-      if_elim GoesTo (w.cell n).up (node_does w n e o) w
+      let o = node_rule n (w.replica n e) p p.body in
+      if_elim GoesTo (w.cell n).up (node_performs w n e o) w
       (λ t. if_elim GoesTo (stops_in (w.cell n) o.written) _ _
       (λ s. if_elim GoesTo (stands_in (w.cell n)) _ _ (λ _. same_goes) (λ _. same_goes)) (λ r. same_goes))
       (λ f. same_goes)
@@ -77,8 +77,8 @@ module _ (w : World) (fresh : w.book.extent (suc w.book.count) ≡ None) where
   delivered_goes : (p : Packet) (to : ActorId) → GoesTo (delivered w p to)
   delivered_goes p (Node n) = node_goes n p
   delivered_goes p Manager =
-      if_elim GoesTo w.desk.up (manager_does w (manager_row w.book p p.body)) w
-      (λ t. manager_goes (manager_row w.book p p.body) (row_goes w.book p fresh p.body)) (λ f. same_goes)
+      if_elim GoesTo w.manager_cell.up (manager_performs w (manager_rule w.catalog p p.body)) w
+      (λ t. manager_goes (manager_rule w.catalog p p.body) (rule_goes w.catalog p fresh p.body)) (λ f. same_goes)
   delivered_goes p Map = same_goes
   delivered_goes p (Server s) = same_goes
   delivered_goes p (User u) = same_goes
@@ -90,17 +90,17 @@ module _ (w : World) (fresh : w.book.extent (suc w.book.count) ≡ None) where
   stop_goes : (actor : ActorId) (call : ℕ) (keep : Bool) → GoesTo (stop w actor call keep)
   stop_goes (Node n) call keep =
       if_elim GoesTo (w.cell n).up (node_stops w n call keep) w
-      (λ t. if_elim GoesTo (call == 0) (halted w n) _ (λ _. same_goes) (λ _. same_goes)) (λ f. same_goes)
+      (λ t. if_elim GoesTo (call == 0) (node_halted w n) _ (λ _. same_goes) (λ _. same_goes)) (λ f. same_goes)
   stop_goes Manager call keep =
-      if_elim GoesTo w.desk.up (manager_stops w call keep) w
-      (λ t. if_elim GoesTo (call == 0) (desk_halted w) _ (λ _. stopped_goes w.book w.book same_goes) (λ _. same_goes)) (λ f. same_goes)
+      if_elim GoesTo w.manager_cell.up (manager_stops w call keep) w
+      (λ t. if_elim GoesTo (call == 0) (manager_halted w) _ (λ _. stopped_goes w.catalog w.catalog same_goes) (λ _. same_goes)) (λ f. same_goes)
   stop_goes Map call keep = same_goes
   stop_goes (Server s) call keep = same_goes
   stop_goes (User u) call keep = same_goes
 
   restart_goes : (actor : ActorId) → GoesTo (restart w actor)
   restart_goes (Node n) = if_elim GoesTo ((w.cell n).up || not (is_present w n)) w _ (λ _. same_goes) (λ _. same_goes)
-  restart_goes Manager = if_elim GoesTo w.desk.up w _ (λ _. same_goes) (λ _. same_goes)
+  restart_goes Manager = if_elim GoesTo w.manager_cell.up w _ (λ _. same_goes) (λ _. same_goes)
   restart_goes Map = same_goes
   restart_goes (Server s) = same_goes
   restart_goes (User u) = same_goes
@@ -111,8 +111,8 @@ module _ (w : World) (fresh : w.book.extent (suc w.book.count) ≡ None) where
   happens_goes (Stop actor call keep) = stop_goes actor call keep
   happens_goes (Restart actor) = restart_goes actor
   happens_goes (Decide e) =
-      if_elim GoesTo w.desk.up (manager_does w (decide_row w.book e (w.book.extent e))) w
-      (λ t. manager_goes (decide_row w.book e (w.book.extent e)) (decide_goes w.book e (w.book.extent e) refl)) (λ f. same_goes)
+      if_elim GoesTo w.manager_cell.up (manager_performs w (decide_rule w.catalog e (w.catalog.extent e))) w
+      (λ t. manager_goes (decide_rule w.catalog e (w.catalog.extent e)) (decide_goes w.catalog e (w.catalog.extent e) refl)) (λ f. same_goes)
   happens_goes (GiveUp server range pick) = same_goes
   happens_goes (Assign range server until) = same_goes
   happens_goes (Renew range server until) = same_goes
@@ -146,26 +146,26 @@ last_at (x ∷ y ∷ xs) (suc i) e is end = last_at (y ∷ xs) i e is (omega (ar
 
 -- ---- one step
 
--- what holds of a book
-record Fit (b : Book) : Type 0 where
+-- what holds of a catalog
+record Fit (b : Catalog) : Type 0 where
   listed : (s : StreamName) (x : Stream) → stream_of b.stream s ≡ Some x → Listed b s x
   numbered : (e : ℕ) (y : Extent) → b.extent e ≡ Some y → e ≤ b.count
 
-fresh_next : (b : Book) → Fit b → b.extent (suc b.count) ≡ None
+fresh_next : (b : Catalog) → Fit b → b.extent (suc b.count) ≡ None
 fresh_next b fit = by_extent (b.extent (suc b.count)) refl
   where
     by_extent : (o : Option Extent) → b.extent (suc b.count) ≡ o → o ≡ None
     by_extent None is = refl
     by_extent (Some y) is = absurd (let m = fit.numbered (suc b.count) y is in omega (arith, m))
 
-sealed_so : (b : Book) (e l : ℕ) → sealed_lengths b e ≡ Some l → SealedIn b e l
+sealed_so : (b : Catalog) (e l : ℕ) → sealed_lengths b e ≡ Some l → SealedIn b e l
 sealed_so b e l is = by_extent (b.extent e) refl is
   where
     by_extent : (o : Option Extent) → b.extent e ≡ o → sealed_in o ≡ Some l → SealedIn b e l
     by_extent None there is = absurd cc
     by_extent (Some x) there is = record { extent = x; there = there; sealed = is }
 
-module _ (b c : Book) (goes : Goes b c) (fit : Fit b) where
+module _ (b c : Catalog) (goes : Goes b c) (fit : Fit b) where
   -- it stood there before
   record Stood (s : StreamName) (i e : ℕ) : Type 0 where
     was : Stream
@@ -279,29 +279,29 @@ module _ (b c : Book) (goes : Goes b c) (fit : Fit b) where
 
 -- ---- runs
 
-run_fit : (moves : List Move) (w : World) → Fit w.book → Fit (run_moves moves w).book
+run_fit : (moves : List Move) (w : StreamSystem) → Fit w.catalog → Fit (run_moves moves w).catalog
 run_fit [] w fit = fit
-run_fit (move ∷ moves) w fit = run_fit moves (moved w move) (fit_next w.book (moved w move).book (moved_goes w (fresh_next w.book fit) move) fit)
+run_fit (move ∷ moves) w fit = run_fit moves (moved w move) (fit_next w.catalog (moved w move).catalog (moved_goes w (fresh_next w.catalog fit) move) fit)
 
 longer_trans : (x : Stream) (o p : Option Stream) → Longer x o → ((y : Stream) → o ≡ Some y → Longer y p) → Longer x p
 longer_trans x o p a next =
     let d = next a.now a.is in
     record { now = d.now; is = d.is; begins = begins_trans a.begins d.begins }
 
-run_longer : (moves : List Move) (w : World) → Fit w.book → (s : StreamName) (x : Stream) → stream_of w.book.stream s ≡ Some x →
-    Longer x (stream_of (run_moves moves w).book.stream s)
+run_longer : (moves : List Move) (w : StreamSystem) → Fit w.catalog → (s : StreamName) (x : Stream) → stream_of w.catalog.stream s ≡ Some x →
+    Longer x (stream_of (run_moves moves w).catalog.stream s)
 run_longer [] w fit s x is = record { now = x; is = is; begins = begins_refl x.extents }
 run_longer (move ∷ moves) w fit s x is =
-    let goes = moved_goes w (fresh_next w.book fit) move in
-    longer_trans x (stream_of (moved w move).book.stream s) (stream_of (run_moves moves (moved w move)).book.stream s) (goes.grows s x is)
-    (λ y there. run_longer moves (moved w move) (fit_next w.book (moved w move).book goes fit) s y there)
+    let goes = moved_goes w (fresh_next w.catalog fit) move in
+    longer_trans x (stream_of (moved w move).catalog.stream s) (stream_of (run_moves moves (moved w move)).catalog.stream s) (goes.grows s x is)
+    (λ y there. run_longer moves (moved w move) (fit_next w.catalog (moved w move).catalog goes fit) s y there)
 
 -- at first the four streams of range 1 are empty
-first_fit : (nodes target : ℕ) → Fit (start nodes target).book
+first_fit : (nodes target : ℕ) → Fit (start nodes target).catalog
 first_fit nodes target = record {
   listed = λ s z is.
-      if_elim (λ o. o ≡ Some z → Listed (start nodes target).book s z) ((s.range == 1) && nat_le (kind_number s.kind) 3) (Some (empty_stream 0)) None
-      (λ t k. let c : empty_stream 0 ≡ z = cc in subst (Listed (start nodes target).book s) c (record {
+      if_elim (λ o. o ≡ Some z → Listed (start nodes target).catalog s z) ((s.range == 1) && nat_le (kind_number s.kind) 3) (Some (empty_stream 0)) None
+      (λ t k. let c : empty_stream 0 ≡ z = cc in subst (Listed (start nodes target).catalog s) c (record {
         base = refl;
         there = λ i e at. absurd cc;
         closed = λ i e f at next. absurd cc;
@@ -318,5 +318,5 @@ lists_grow nodes target before after =
     let fit = run_fit before w (first_fit nodes target) in
     record {
       listed = fit.listed;
-      longer = λ s x is. subst (λ (v : World). Longer x (stream_of v.book.stream s)) (sym (run_more before after w)) (run_longer after (run_moves before w) fit s x is);
+      longer = λ s x is. subst (λ (v : StreamSystem). Longer x (stream_of v.catalog.stream s)) (sym (run_more before after w)) (run_longer after (run_moves before w) fit s x is);
     }

@@ -4,7 +4,7 @@ use Rattle.std.proofs.lemmas.Grind.{common_steps}
 use Rattle.replica.specs.Groups.{Group, size, text_length}
 use Rattle.replica.proofs.Lengths.{text_length-append}
 use Rattle.replica.proofs.Placing.{length-cons}
-use Rattle.model.specs.Honest.{Stands}
+use Rattle.model_streams.specs.Honest.{Stands}
 use Rattle.laws_streams.specs.Origins.{Begins, Shows}
 
 pub begins_refl : {A : Type 0} (xs : List A) → Begins xs xs

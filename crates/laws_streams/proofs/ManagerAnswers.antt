@@ -1,6 +1,6 @@
--- What each row of the manager's table sends: an answer to the packet that asked, or to the one who asked for a seal before.
+-- What each rule of the manager's table sends: an answer to the packet that asked, or to the one who asked for a seal before.
 use Rattle.std.proofs.Common.{◌≡◌, ℕ, suc, true, false, ◌++◌, Option, Some, None, Result, Ok, Err, refl, sym, subst}
-use Rattle.blocks.specs.declared.record.Nodes.{Nodes}
+use Rattle.block_types.specs.declared.record.Nodes.{Nodes}
 use Rattle.wire.specs.declared.actor.ActorId.{ActorId}
 use Rattle.wire.specs.declared.actor.ActorId.TheVariants.{Manager}
 use Rattle.wire.specs.declared.actor.ReqNo.{ReqNo}
@@ -20,17 +20,17 @@ use Rattle.wire.specs.declared.refusal.Refusal.TheVariants.{Stale, BadPick}
 use Rattle.wire.specs.declared.streams.StreamLists.{StreamLists}
 use Rattle.wire.specs.declared.streams.StreamName.{StreamName}
 use Rattle.streams.specs.Streams.{stream_of, extending}
-use Rattle.model.specs.declared.extent.Extent.{Extent}
-use Rattle.model.specs.Actors.{is_user, generation_of}
-use Rattle.model.specs.Manager.{Book, each_place, create_refusal, create_taken, told_streams, open_refusal, open_taken, confirm_refusal, answer, is_foreign, is_pick, sealed_lengths, extend_made, last_told, extend_answered, extend_row, no_users, closes, reminders, told_sealed, seal_asked, seal_extent_row, with_report, noted, frozen_to, frozen_row, known_sealed, is_sealed_row, place_of, first_sealed, asks_tail, short_row, stream_body_row, seal_body_row, manager_row, is_there}
-use Rattle.model.specs.Outcome.{Outcome, packet, silent, refused, or_refused}
-use Rattle.model.proofs.Tests.{if_elim}
-use Rattle.laws_streams.proofs.Tests.{Each, each-append}
+use Rattle.model_streams.specs.declared.extent.Extent.{Extent}
+use Rattle.model_streams.specs.Actors.{is_user, generation_of}
+use Rattle.model_streams.specs.Manager.{Catalog, each_place, create_refusal, create_taken, told_streams, open_refusal, open_taken, confirm_refusal, answer, is_foreign, is_pick, sealed_lengths, extend_made, last_told, extend_answered, extend_rule, no_users, closes, reminders, told_sealed, seal_asked, seal_extent_rule, with_report, noted, frozen_to, frozen_rule, known_sealed, is_sealed_rule, place_of, first_sealed, asks_tail, short_rule, stream_body_rule, seal_body_rule, manager_rule, is_there}
+use Rattle.model_streams.specs.Outcome.{Outcome, packet, silent, refused, or_refused}
+use Rattle.model_streams.proofs.Tests.{if_elim}
+use Rattle.laws_streams.proofs.Choices.{Each, each-append}
 
 -- ---- what an answer comes from
 
 -- the streams were opened by the packet
-pub record FromOpening (b : Book) (taken : Packet) (to : ActorId) (q : ReqNo) (lists : StreamLists) : Type 0 where
+pub record FromOpening (b : Catalog) (taken : Packet) (to : ActorId) (q : ReqNo) (lists : StreamLists) : Type 0 where
   pub range : ℕ
   pub generation : ℕ
   pub body : taken.body ≡ bodies.Stream (OpenStreams range generation q)
@@ -39,7 +39,7 @@ pub record FromOpening (b : Book) (taken : Packet) (to : ActorId) (q : ReqNo) (l
   pub told : lists ≡ told_streams b range
 
 -- the packet confirmed a generation
-pub record FromConfirm (b : Book) (taken : Packet) (to : ActorId) (q : ReqNo) : Type 0 where
+pub record FromConfirm (b : Catalog) (taken : Packet) (to : ActorId) (q : ReqNo) : Type 0 where
   pub range : ℕ
   pub generation : ℕ
   pub body : taken.body ≡ bodies.Stream (Confirm range generation q)
@@ -47,12 +47,12 @@ pub record FromConfirm (b : Book) (taken : Packet) (to : ActorId) (q : ReqNo) : 
   pub none : confirm_refusal b taken range generation ≡ None
 
 -- the extent is the next one, or the last one of the stream
-abbrev pub FromEnd : Book → Nodes → Result (Option ℕ) Refusal → ℕ → Nodes → Type 0
+abbrev pub FromEnd : Catalog → Nodes → Result (Option ℕ) Refusal → ℕ → Nodes → Type 0
 FromEnd b pick (Err refusal) e places = ⊥
 FromEnd b pick (Ok None) e places = (e ≡ suc b.count) × (places ≡ pick) × (is_pick b.nodes pick ≡ true)
 FromEnd b pick (Ok (Some f)) e places = (e ≡ f) × ((x : Extent) × (b.extent f ≡ Some x) × (places ≡ x.places))
 
-pub record FromExtend (b : Book) (taken : Packet) (to : ActorId) (q : ReqNo) (e : ℕ) (places : Nodes) : Type 0 where
+pub record FromExtend (b : Catalog) (taken : Packet) (to : ActorId) (q : ReqNo) (e : ℕ) (places : Nodes) : Type 0 where
   pub name : StreamName
   pub generation : ℕ
   pub last : Option ℕ
@@ -63,14 +63,14 @@ pub record FromExtend (b : Book) (taken : Packet) (to : ActorId) (q : ReqNo) (e 
   pub end : FromEnd b pick (extending (sealed_lengths b) (stream_of b.stream name) (generation_of taken.from generation) last) e places
 
 -- the extent was sealed when the packet asked
-pub record FromSealed (b : Book) (taken : Packet) (to : ActorId) (q : ReqNo) (e l : ℕ) : Type 0 where
+pub record FromSealed (b : Catalog) (taken : Packet) (to : ActorId) (q : ReqNo) (e l : ℕ) : Type 0 where
   pub body : taken.body ≡ bodies.Seal (seals.SealExtent e q)
   pub asker : to ≡ taken.from
   pub extent : Extent
   pub there : b.extent e ≡ Some extent
   pub sealed : extent.sealed ≡ Some l
 
-abbrev pub StreamTells : Book → Packet → ActorId → StreamBody → Type 0
+abbrev pub StreamTells : Catalog → Packet → ActorId → StreamBody → Type 0
 StreamTells b taken to (Opened q lists) = FromOpening b taken to q lists
 StreamTells b taken to (Confirmed q) = FromConfirm b taken to q
 StreamTells b taken to (Extended q e places) = FromExtend b taken to q e places
@@ -80,7 +80,7 @@ StreamTells b taken to (Confirm range generation q) = ⊥
 StreamTells b taken to (Extend s generation last pick q) = ⊥
 StreamTells b taken to _ = Unit {0}
 
-abbrev pub SealTells : Book → Packet → ActorId → SealBody → Type 0
+abbrev pub SealTells : Catalog → Packet → ActorId → SealBody → Type 0
 SealTells b taken to (seals.SealedIs q e l) = FromSealed b taken to q e l
 SealTells b taken to (seals.SealExtent e q) = ⊥
 SealTells b taken to _ = Unit {0}
@@ -97,7 +97,7 @@ ReadTells (ReadAt e offset l q) = ⊥
 ReadTells (ReadGroups e upto sealed q) = ⊥
 ReadTells _ = Unit {0}
 
-abbrev pub BodyTells : Book → Packet → ActorId → Body → Type 0
+abbrev pub BodyTells : Catalog → Packet → ActorId → Body → Type 0
 BodyTells b taken to (bodies.Stream body) = StreamTells b taken to body
 BodyTells b taken to (bodies.Seal body) = SealTells b taken to body
 BodyTells b taken to (bodies.Append body) = AppendTells body
@@ -106,15 +106,15 @@ BodyTells b taken to (bodies.Check body) = ⊥
 BodyTells b taken to _ = Unit {0}
 
 -- what the manager sends, having taken a packet
-abbrev pub ManagerTells : Book → Packet → Packet → Type 0
+abbrev pub ManagerTells : Catalog → Packet → Packet → Type 0
 ManagerTells b taken p = (p.from ≡ Manager) × BodyTells b taken p.to p.body
 
-abbrev Tells : Book → Packet → Outcome Book → Type 0
+abbrev Tells : Catalog → Packet → Outcome Catalog → Type 0
 Tells b taken o = Each (ManagerTells b taken) o.packets
 
 -- ---- streams
 
-module _ (b : Book) (p : Packet) where
+module _ (b : Catalog) (p : Packet) where
   refused_tells : (q : ReqNo) (refusal : Refusal) → Tells b p (refused b Manager p q refusal)
   refused_tells q refusal = ((refl, tt), tt)
 
@@ -164,7 +164,7 @@ module _ (b : Book) (p : Packet) where
         by_extent (Some x) there = (extended_tells (Ok (Some e)) k e x.places (refl, (x, there, refl)), tt)
 
   extend_tells : (s : StreamName) (generation : ℕ) (last : Option ℕ) (pick : Nodes) (q : ReqNo) → p.body ≡ bodies.Stream (Extend s generation last pick q) →
-      Tells b p (extend_row b p s (generation_of p.from generation) last pick q)
+      Tells b p (extend_rule b p s (generation_of p.from generation) last pick q)
   extend_tells s generation last pick q is =
       let x = extending (sealed_lengths b) (stream_of b.stream s) (generation_of p.from generation) last in
       if_elim (Tells b p) (is_foreign p.from s.range) (refused b Manager p q Stale) (extend_answered b p s (generation_of p.from generation) pick q x)
@@ -173,7 +173,7 @@ module _ (b : Book) (p : Packet) where
   no_users_tells : (q : ReqNo) → Tells b p (no_users b p q)
   no_users_tells q = if_elim (Tells b p) (is_user p.from) (refused b Manager p q Stale) (silent b) (λ t. refused_tells q Stale) (λ t. tt)
 
-  stream_tells : (body : StreamBody) → p.body ≡ bodies.Stream body → Tells b p (stream_body_row b p body)
+  stream_tells : (body : StreamBody) → p.body ≡ bodies.Stream body → Tells b p (stream_body_rule b p body)
   stream_tells (CreateStream s fence q) is = create_tells s (generation_of p.from fence) q (create_refusal b p s)
   stream_tells (OpenStreams range generation q) is = open_tells range generation q is (open_refusal b p range generation) refl
   stream_tells (Confirm range generation q) is = confirm_tells range generation q is (confirm_refusal b p range generation) refl
@@ -192,7 +192,7 @@ module _ (b : Book) (p : Packet) where
       by_length None = ((refl, tt), ((refl, tt), ((refl, tt), ((refl, tt), ((refl, tt), ((refl, tt), tt))))))
       by_length (Some l) = ((refl, tt), ((refl, tt), ((refl, tt), ((refl, tt), ((refl, tt), ((refl, tt), tt))))))
 
-  seal_extent_tells : (e : ℕ) (q : ReqNo) → p.body ≡ bodies.Seal (seals.SealExtent e q) → (o : Option Extent) → b.extent e ≡ o → Tells b p (seal_extent_row b p e q o)
+  seal_extent_tells : (e : ℕ) (q : ReqNo) → p.body ≡ bodies.Seal (seals.SealExtent e q) → (o : Option Extent) → b.extent e ≡ o → Tells b p (seal_extent_rule b p e q o)
   seal_extent_tells e q is None there = ((refl, tt), tt)
   seal_extent_tells e q is (Some x) there = by_length x.sealed refl
     where
@@ -205,11 +205,11 @@ module _ (b : Book) (p : Packet) where
   noted_tells e None = tt
   noted_tells e (Some x) = tt
 
-  frozen_tells : (e l : ℕ) (o : Option Extent) → Tells b p (frozen_row b p e l o)
+  frozen_tells : (e l : ℕ) (o : Option Extent) → Tells b p (frozen_rule b p e l o)
   frozen_tells e l None = tt
   frozen_tells e l (Some x) = if_elim (Tells b p) (is_there x.sealed) (silent b) _ (λ t. tt) (λ f. noted_tells e (with_report x p.from (frozen_to l)))
 
-  is_sealed_tells : (e : ℕ) (o : Option Extent) → Tells b p (is_sealed_row b p e o)
+  is_sealed_tells : (e : ℕ) (o : Option Extent) → Tells b p (is_sealed_rule b p e o)
   is_sealed_tells e None = tt
   is_sealed_tells e (Some x) = noted_tells e (with_report x p.from known_sealed)
 
@@ -219,23 +219,23 @@ module _ (b : Book) (p : Packet) where
   tail_tells e l None (Some n) = tt
   tail_tells e l None None = tt
 
-  short_tells : (e l : ℕ) (o : Option Extent) → Tells b p (short_row b p e l o)
+  short_tells : (e l : ℕ) (o : Option Extent) → Tells b p (short_rule b p e l o)
   short_tells e l None = tt
   short_tells e l (Some x) = if_elim (Tells b p) (is_there x.sealed) (asks_tail b e l (place_of x.places p.from) (first_sealed x)) (silent b)
       (λ t. tail_tells e l (place_of x.places p.from) (first_sealed x)) (λ f. tt)
 
-  seal_tells : (body : SealBody) → p.body ≡ bodies.Seal body → Tells b p (seal_body_row b p body)
+  seal_tells : (body : SealBody) → p.body ≡ bodies.Seal body → Tells b p (seal_body_rule b p body)
   seal_tells (seals.SealExtent e q) is = seal_extent_tells e q is (b.extent e) refl
   seal_tells (seals.Frozen e l) is = frozen_tells e l (b.extent e)
   seal_tells (seals.IsSealed e) is = is_sealed_tells e (b.extent e)
   seal_tells (seals.Short e l) is = short_tells e l (b.extent e)
   seal_tells body is = tt
 
-  row_tells : (body : Body) → p.body ≡ body → Tells b p (manager_row b p body)
-  row_tells (bodies.Stream body) is = stream_tells body is
-  row_tells (bodies.Seal body) is = seal_tells body is
-  row_tells body is = tt
+  rule_tells : (body : Body) → p.body ≡ body → Tells b p (manager_rule b p body)
+  rule_tells (bodies.Stream body) is = stream_tells body is
+  rule_tells (bodies.Seal body) is = seal_tells body is
+  rule_tells body is = tt
 
 -- whatever the manager sends, having taken a packet
-pub manager_tells : (b : Book) (p : Packet) → Each (ManagerTells b p) (manager_row b p p.body).packets
-manager_tells b p = row_tells b p p.body refl
+pub manager_tells : (b : Catalog) (p : Packet) → Each (ManagerTells b p) (manager_rule b p p.body).packets
+manager_tells b p = rule_tells b p p.body refl

@@ -1,7 +1,7 @@
--- What each row of a node's table sends: an answer to the packet that asked, or to those whose appends wait.
+-- What each rule of a node's table sends: an answer to the packet that asked, or to those whose appends wait.
 use Rattle.std.proofs.Common.{◌≡◌, ℕ, suc, zero, Bool, true, false, not, ◌&&◌, ◌==◌, nat_lt, List, [], ◌∷◌, take, Option, Some, None, Contains, refl, sym, ap, arith, subst}
 use Rattle.std.proofs.lemmas.Bool.{and_parts}
-use Rattle.blocks.specs.declared.record.Nodes.{Nodes}
+use Rattle.block_types.specs.declared.record.Nodes.{Nodes}
 use Rattle.wire.specs.declared.actor.ActorId.{ActorId}
 use Rattle.wire.specs.declared.actor.ActorId.TheVariants.{Node}
 use Rattle.wire.specs.declared.actor.ReqNo.{ReqNo}
@@ -24,14 +24,14 @@ use Rattle.replica.specs.declared.phase.Phase.{Phase}
 use Rattle.replica.specs.declared.phase.Phase.TheVariants as phases
 use Rattle.replica.specs.Groups.{Group, text_length}
 use Rattle.replica.specs.Reading.{groups_to, groups_from}
-use Rattle.model.specs.declared.checking.Checking.{Checking}
-use Rattle.model.specs.declared.waiting.Waiting.{Waiting}
-use Rattle.model.specs.Actors.{is_node, is_manager, generation_of}
-use Rattle.model.specs.Node as table
-use Rattle.model.specs.Node.{Replica, is_open, is_sealed}
-use Rattle.model.specs.Outcome.{Outcome, all_met, silent, or_refused}
-use Rattle.model.proofs.Tests.{if_elim, none_met}
-use Rattle.laws_streams.proofs.Tests.{Each}
+use Rattle.model_streams.specs.declared.checking.Checking.{Checking}
+use Rattle.model_streams.specs.declared.waiting.Waiting.{Waiting}
+use Rattle.model_streams.specs.Actors.{is_node, is_manager, generation_of}
+use Rattle.model_streams.specs.Node as table
+use Rattle.model_streams.specs.Node.{Replica, is_open, is_sealed}
+use Rattle.model_streams.specs.Outcome.{Outcome, all_met, silent, or_refused}
+use Rattle.model_streams.proofs.Tests.{if_elim, none_met}
+use Rattle.laws_streams.proofs.Choices.{Each}
 
 -- ---- what an answer comes from
 
@@ -146,7 +146,7 @@ module _ (n : ℕ) (k : ℕ) (p : Packet) (r : Replica) where
       let ws = take (table.covered (table.lesser now.second_has now.third_has) now.waiting) now.waiting in
       answers_tell (table.acked k ws) ws (λ w c. subst (λ xs. Contains xs w) same (contains_first _ now.waiting w c)) (λ x c. c)
 
--- ---- the rows
+-- ---- the rules
 
 module _ (n : ℕ) (s : Option Replica) (k : ℕ) (p : Packet) where
   unless_tells : (q : ReqNo) (x : Option Refusal) (after : Option Replica) (o : Outcome (Option Replica)) → (x ≡ None → Tells n s k p o) →
@@ -161,14 +161,14 @@ module _ (n k : ℕ) (p : Packet) (r : Replica) where
   silent_told : Told (silent (Some r))
   silent_told = tt
 
-  put_told : (e offset : ℕ) (group : Group) → Told (table.put_row n r p e offset group)
+  put_told : (e offset : ℕ) (group : Group) → Told (table.put_rule n r p e offset group)
   put_told e offset group =
       if_elim Told (is_node r.content.places.primary p.from) _ (silent (Some r))
       (λ t. unless_tells n (Some r) k p NoRequest (table.put_refusal r) (Some r) (table.put_taken n r e offset group)
       (λ none. if_elim Told (table.put_fits r offset) (table.put_added n r e offset group) (table.put_passed n r e) (λ f. ((refl, tt), tt)) (λ f. ((refl, tt), tt))))
       (λ t. tt)
 
-  have_told : (l : ℕ) → Told (table.have_row n r p k l)
+  have_told : (l : ℕ) → Told (table.have_rule n r p k l)
   have_told l =
       if_elim Told ((n == r.content.places.primary) && is_open r.content.phase) (table.answered_if n r k (table.with_length r p.from l)) (silent (Some r))
       (λ t. if_elim (λ o. Told (table.answered_if n r k o)) (is_node r.content.places.second p.from) _ _
@@ -178,12 +178,12 @@ module _ (n k : ℕ) (p : Packet) (r : Replica) where
       (λ b. tt)))
       (λ t. tt)
 
-  check_told : (e generation : ℕ) (q : ReqNo) → Told (table.check_row n r p e generation q)
+  check_told : (e generation : ℕ) (q : ReqNo) → Told (table.check_rule n r p e generation q)
   check_told e generation q =
       unless_tells n (Some r) k p q (table.check_refusal n r generation) (Some r) (table.check_taken n r p e generation q)
       (λ none. if_elim Told (is_open r.content.phase) (table.check_begun n r p e generation q) _ (λ t. ((refl, tt), ((refl, tt), tt))) (λ t. ((refl, tt), tt)))
 
-  probe_told : (e generation : ℕ) → Told (table.probe_row n r p e generation)
+  probe_told : (e generation : ℕ) → Told (table.probe_rule n r p e generation)
   probe_told e generation =
       if_elim Told (is_node r.content.places.primary p.from) _ (silent (Some r))
       (λ t. unless_tells n (Some r) k p NoRequest (table.probe_refusal r generation) (Some r) (table.probe_taken n r e generation) (λ none. ((refl, tt), tt)))
@@ -234,7 +234,7 @@ module _ (n k : ℕ) (p : Packet) (r : Replica) where
       if_elim Told (c.generation == generation) (table.probed_by n r (table.with_probed c r.content.places p.from l)) (silent (Some r))
       (λ t. probed_by_told generation l is c checks (table.with_probed c r.content.places p.from l) (with_probed_same generation l is c checks p.from r.content.places)) (λ t. tt)
 
-  read_told : (e offset l : ℕ) (q : ReqNo) → Told (table.read_row n r p e offset l q)
+  read_told : (e offset l : ℕ) (q : ReqNo) → Told (table.read_rule n r p e offset l q)
   read_told e offset l q =
       unless_tells n (Some r) k p q (table.read_refusal r offset l) (Some r) (table.read_taken n r p e offset l q) (λ none. ((refl, tt), tt))
 
@@ -243,7 +243,7 @@ module _ (n k : ℕ) (p : Packet) (r : Replica) where
   asked_sealed true false t is = absurd cc
   asked_sealed false phase t is = absurd cc
 
-  groups_told : (upto : ℕ) (sealed : Bool) (q : ReqNo) → p.body ≡ bodies.Read (reads.ReadGroups k upto sealed q) → Told (table.groups_row n r p k upto sealed q)
+  groups_told : (upto : ℕ) (sealed : Bool) (q : ReqNo) → p.body ≡ bodies.Read (reads.ReadGroups k upto sealed q) → Told (table.groups_rule n r p k upto sealed q)
   groups_told upto sealed q is =
       unless_tells n (Some r) k p q (table.groups_refusal r sealed) (Some r) (table.groups_taken n r p k upto q (groups_to upto r.content.groups))
       (λ none. by_found (none_met (table.groups_tests r sealed) none).0 (groups_to upto r.content.groups) refl)
@@ -269,7 +269,7 @@ module _ (n k : ℕ) (p : Packet) (r : Replica) where
         tt,
       )
 
-  freeze_told : (e : ℕ) → Told (table.freeze_row n r p e)
+  freeze_told : (e : ℕ) → Told (table.freeze_rule n r p e)
   freeze_told e = if_elim Told (is_manager p.from) (table.freezes n r e r.content.phase) (silent (Some r)) (λ t. by_phase r.content.phase) (λ t. tt)
     where
       by_phase : (phase : Phase) → Told (table.freezes n r e phase)
@@ -286,7 +286,7 @@ module _ (n k : ℕ) (p : Packet) (r : Replica) where
   cuts_told e l None = ((refl, tt), tt)
   cuts_told e l (Some groups) = ((refl, tt), tt)
 
-  seal_told : (e l : ℕ) → Told (table.seal_row n r p e l)
+  seal_told : (e l : ℕ) → Told (table.seal_rule n r p e l)
   seal_told e l =
       if_elim Told (is_manager p.from) (table.seals n r p e l) (silent (Some r))
       (λ t. if_elim Told (is_sealed r.content.phase) (table.seals_again n r p e l) _
@@ -299,21 +299,21 @@ module _ (n k : ℕ) (p : Packet) (r : Replica) where
   tail_sent_told e from to None = ((refl, tt), tt)
   tail_sent_told e from to (Some groups) = ((refl, tt), tt)
 
-  send_tail_told : (e from to : ℕ) → Told (table.send_tail_row n r p e from to)
+  send_tail_told : (e from to : ℕ) → Told (table.send_tail_rule n r p e from to)
   send_tail_told e from to =
       if_elim Told (is_manager p.from) _ (silent (Some r))
       (λ t. unless_tells n (Some r) k p NoRequest (table.send_tail_refusal r) (Some r) (table.tail_sent n r p e from to (groups_from from r.content.groups))
       (λ none. tail_sent_told e from to (groups_from from r.content.groups)))
       (λ t. tt)
 
-  tail_told : (e from l : ℕ) (groups : List Group) → Told (table.tail_row n r p e from l groups)
+  tail_told : (e from l : ℕ) (groups : List Group) → Told (table.tail_rule n r p e from l groups)
   tail_told e from l groups =
       if_elim Told (table.tail_fits r p.from from l groups) (table.tail_taken n r e from l groups) (silent (Some r)) (λ t. ((refl, tt), tt)) (λ t. tt)
 
 -- ---- the table
 
 module _ (n : ℕ) (p : Packet) where
-  append_tells : (s : Option Replica) (b : AppendBody) → Tells n s (table.append_extent b) p (table.append_body_row n s p b)
+  append_tells : (s : Option Replica) (b : AppendBody) → Tells n s (table.append_extent b) p (table.append_body_rule n s p b)
   append_tells (Some r) (Append e generation blocks q) =
       unless_tells n (Some r) e p q (table.append_refusal n r p generation blocks) (Some r) (table.append_taken n r p e blocks q) (λ none. ((refl, tt), ((refl, tt), tt)))
   append_tells None (Append e generation blocks q) = ((refl, tt), tt)
@@ -323,7 +323,7 @@ module _ (n : ℕ) (p : Packet) where
   append_tells None (Have e l) = ((refl, tt), tt)
   append_tells s b = tt
 
-  check_tells : (s : Option Replica) (b : CheckBody) → p.body ≡ bodies.Check b → Tells n s (table.check_extent b) p (table.check_body_row n s p b)
+  check_tells : (s : Option Replica) (b : CheckBody) → p.body ≡ bodies.Check b → Tells n s (table.check_extent b) p (table.check_body_rule n s p b)
   check_tells (Some r) (Check e generation q) is = check_told n e p r e (generation_of p.from generation) q
   check_tells None (Check e generation q) is = ((refl, tt), tt)
   check_tells (Some r) (Probe e generation) is = probe_told n e p r e generation
@@ -335,11 +335,11 @@ module _ (n : ℕ) (p : Packet) where
   missing_tells : (k : ℕ) → Tells n None k p (table.missing n p)
   missing_tells k = if_elim (Tells n None k p) (is_manager p.from) _ (silent None) (λ t. ((refl, tt), tt)) (λ t. tt)
 
-  make_tells : (k fence target : ℕ) (places : Nodes) → Tells n None k p (table.make_row n p k fence target places)
+  make_tells : (k fence target : ℕ) (places : Nodes) → Tells n None k p (table.make_rule n p k fence target places)
   make_tells k fence target places =
       if_elim (Tells n None k p) (all_met (table.make_tests n p target places)) (table.make_taken k fence target places) (silent None) (λ t. tt) (λ t. tt)
 
-  seal_tells : (s : Option Replica) (b : SealBody) → Tells n s (table.seal_extent b) p (table.seal_body_row n s p b)
+  seal_tells : (s : Option Replica) (b : SealBody) → Tells n s (table.seal_extent b) p (table.seal_body_rule n s p b)
   seal_tells None (seals.Make e fence target places) = make_tells e fence target places
   seal_tells (Some r) (seals.Freeze e) = freeze_told n e p r e
   seal_tells None (seals.Freeze e) = missing_tells e
@@ -351,21 +351,21 @@ module _ (n : ℕ) (p : Packet) where
   seal_tells None (seals.Tail e from l groups) = ((refl, tt), tt)
   seal_tells s b = tt
 
-  read_tells : (s : Option Replica) (b : ReadBody) → p.body ≡ bodies.Read b → Tells n s (table.read_extent b) p (table.read_body_row n s p b)
+  read_tells : (s : Option Replica) (b : ReadBody) → p.body ≡ bodies.Read b → Tells n s (table.read_extent b) p (table.read_body_rule n s p b)
   read_tells (Some r) (reads.ReadAt e offset l q) is = read_told n e p r e offset l q
   read_tells None (reads.ReadAt e offset l q) is = ((refl, tt), tt)
   read_tells (Some r) (reads.ReadGroups e upto sealed q) is = groups_told n e p r upto sealed q is
   read_tells None (reads.ReadGroups e upto sealed q) is = ((refl, tt), tt)
   read_tells s b is = tt
 
-  row_tells : (s : Option Replica) (b : Body) → p.body ≡ b → Tells n s (table.extent_of b) p (table.node_row n s p b)
-  row_tells s (bodies.Append b) is = append_tells s b
-  row_tells s (bodies.Check b) is = check_tells s b is
-  row_tells s (bodies.Seal b) is = seal_tells s b
-  row_tells s (bodies.Read b) is = read_tells s b is
-  row_tells s b is = tt
+  rule_tells : (s : Option Replica) (b : Body) → p.body ≡ b → Tells n s (table.extent_of b) p (table.node_rule n s p b)
+  rule_tells s (bodies.Append b) is = append_tells s b
+  rule_tells s (bodies.Check b) is = check_tells s b is
+  rule_tells s (bodies.Seal b) is = seal_tells s b
+  rule_tells s (bodies.Read b) is = read_tells s b is
+  rule_tells s b is = tt
 
 -- whatever a node sends, having taken a packet
 pub node_tells : (n : ℕ) (s : Option Replica) (p : Packet) →
-    Each (NodeTells n s (table.extent_of p.body) p (table.node_row n s p p.body).notes) (table.node_row n s p p.body).packets
-node_tells n s p = row_tells n p s p.body refl
+    Each (NodeTells n s (table.extent_of p.body) p (table.node_rule n s p p.body).notes) (table.node_rule n s p p.body).packets
+node_tells n s p = rule_tells n p s p.body refl

@@ -8,11 +8,11 @@ use Rattle.wire.specs.declared.body.SealBody.TheVariants.{SealExtent}
 use Rattle.wire.specs.declared.body.Body.TheVariants as bodies
 use Rattle.wire.specs.declared.note.Note.TheVariants.{Acked, SealedAt, Content, Seen}
 use Rattle.wire.specs.declared.refusal.Refusal.TheVariants.{NotOpen, PastEnd}
-use Rattle.model.specs.declared.event.Event.{Event}
-use Rattle.model.specs.declared.event.Event.TheVariants.{Submit, Deliver, Stop, Restart, Decide}
-use Rattle.model.specs.Outcome.{packet}
-use Rattle.model.specs.World.{run, start}
-use Rattle.blocks.specs.Limits as tests
+use Rattle.model_streams.specs.declared.event.Event.{Event}
+use Rattle.model_streams.specs.declared.event.Event.TheVariants.{Submit, Deliver, Stop, Restart, Decide}
+use Rattle.model_streams.specs.Outcome.{packet}
+use Rattle.model_streams.specs.StreamSystem.{run, start}
+use Rattle.block_types.specs.Limits as tests
 use Rattle.laws_streams.proofs.Examples.{asked, delivered, begun, append, abc, def}
 
 abbrev seal : ℕ → Event

@@ -1,7 +1,7 @@
 -- What fences are for: once a generation has opened a range and has checked an extent, nothing that a lower one ever has
 -- acknowledged stands behind the checked length, and no lower one adds to it.
 use Rattle.std.specs.Prelude.{◌≡◌, ℕ, suc, ◌+◌, ◌<◌, ◌≤◌, Bool, true, not, ◌||◌, List, [], ◌∷◌, ◌++◌, length, take, Option, Some, None, slice_get, Contains}
-use Rattle.blocks.specs.declared.record.Record.{Record}
+use Rattle.block_types.specs.declared.record.Record.{Record}
 use Rattle.wire.specs.declared.actor.ActorId.TheVariants.{Node, Manager}
 use Rattle.wire.specs.declared.actor.ReqNo.{ReqNo}
 use Rattle.wire.specs.declared.body.CheckBody.TheVariants.{Check, Checked}
@@ -13,15 +13,15 @@ use Rattle.wire.specs.declared.streams.StreamName.{StreamName}
 use Rattle.replica.specs.Groups.{Group, size, text_length}
 use Rattle.replica.specs.Replay.{is_place}
 use Rattle.streams.specs.Streams.{Stream, stream_of, longer}
-use Rattle.model.specs.declared.event.Event.TheVariants.{Deliver}
-use Rattle.model.specs.declared.extent.Extent.{Extent}
-use Rattle.model.specs.declared.manager_record.ManagerRecord.TheVariants as ledger
-use Rattle.model.specs.Actors.{generation_of}
-use Rattle.model.specs.Manager.{writes, open_refusal, confirm_refusal}
-use Rattle.model.specs.Node.{Replica}
-use Rattle.model.specs.Outcome.{packet}
-use Rattle.model.specs.World.{Cell, World, stops_in, stands_in, Move, run_moves}
-use Rattle.model.specs.World.Move.{Happens}
+use Rattle.model_streams.specs.declared.event.Event.TheVariants.{Deliver}
+use Rattle.model_streams.specs.declared.extent.Extent.{Extent}
+use Rattle.model_streams.specs.declared.manager_record.ManagerRecord.TheVariants as manager_records
+use Rattle.model_streams.specs.Actors.{generation_of}
+use Rattle.model_streams.specs.Manager.{writes, open_refusal, confirm_refusal}
+use Rattle.model_streams.specs.Node.{Replica}
+use Rattle.model_streams.specs.Outcome.{packet}
+use Rattle.model_streams.specs.StreamSystem.{ActorCell, StreamSystem, stops_in, stands_in, Move, run_moves}
+use Rattle.model_streams.specs.StreamSystem.Move.{Happens}
 use Rattle.laws_streams.specs.Origins.{Origin, Begins, OriginsOfMoves}
 
 -- ---- fences of streams
@@ -33,54 +33,54 @@ pub record Risen (x : Stream) (found : Option Stream) : Type 0 where
   pub fence : x.fence ≤ now.fence
 
 -- each stream of the first world is there in the second, with a fence that is no lower
-abbrev pub FencesRise : World → World → Type 0
-FencesRise w v = (s : StreamName) (x : Stream) → stream_of w.book.stream s ≡ Some x → Risen x (stream_of v.book.stream s)
+abbrev pub FencesRise : StreamSystem → StreamSystem → Type 0
+FencesRise w v = (s : StreamName) (x : Stream) → stream_of w.catalog.stream s ≡ Some x → Risen x (stream_of v.catalog.stream s)
 
 -- the extent was added at the end of a stream, with the fence that the stream had
-pub record MadeUnder (w v : World) (e : ℕ) (x : Extent) : Type 0 where
+pub record MadeUnder (w v : StreamSystem) (e : ℕ) (x : Extent) : Type 0 where
   pub name : StreamName
   pub stream : Stream
-  pub there : stream_of w.book.stream name ≡ Some stream
+  pub there : stream_of w.catalog.stream name ≡ Some stream
   pub fence : x.fence ≡ stream.fence
-  pub last : stream_of v.book.stream name ≡ Some (longer e stream)
+  pub last : stream_of v.catalog.stream name ≡ Some (longer e stream)
 
 -- so was each extent that is in the second world and not in the first
-abbrev pub MadeWithFences : World → World → Type 0
-MadeWithFences w v = (e : ℕ) (x : Extent) → w.book.extent e ≡ None → v.book.extent e ≡ Some x → MadeUnder w v e x
+abbrev pub MadeWithFences : StreamSystem → StreamSystem → Type 0
+MadeWithFences w v = (e : ℕ) (x : Extent) → w.catalog.extent e ≡ None → v.catalog.extent e ≡ Some x → MadeUnder w v e x
 
 -- ---- openings and confirmations
 
 -- the move delivers this packet to the manager, which runs
-pub record Reaches (w : World) (move : Move) (p : Packet) : Type 0 where
+pub record Reaches (w : StreamSystem) (move : Move) (p : Packet) : Type 0 where
   pub number : ℕ
   pub delivered : move ≡ Happens (Deliver number)
   pub sent : slice_get w.post number ≡ Some p
   pub to : p.to ≡ Manager
-  pub up : w.desk.up ≡ true
+  pub up : w.manager_cell.up ≡ true
 
 -- the record stands, also where its writer stops
-abbrev pub is_kept : Cell → Option Record → Bool
+abbrev pub is_kept : ActorCell → Option Record → Bool
 is_kept c written = not (stops_in c written) || stands_in c
 
 -- with this move the manager opens the streams of the range for the generation, and its record of that stands
-pub record Opens (w : World) (move : Move) (range generation : ℕ) : Type 0 where
+pub record Opens (w : StreamSystem) (move : Move) (range generation : ℕ) : Type 0 where
   pub packet : Packet
   pub request : ReqNo
   pub reaches : Reaches w move packet
   pub body : packet.body ≡ bodies.Stream (OpenStreams range generation request)
-  pub taken : open_refusal w.book packet range generation ≡ None
-  pub stands : is_kept w.desk (writes (ledger.OpenStreams range generation)) ≡ true
+  pub taken : open_refusal w.catalog packet range generation ≡ None
+  pub stands : is_kept w.manager_cell (writes (manager_records.OpenStreams range generation)) ≡ true
 
 -- with this move the manager answers that the generation is confirmed
-pub record Confirms (w : World) (move : Move) (range generation : ℕ) : Type 0 where
+pub record Confirms (w : StreamSystem) (move : Move) (range generation : ℕ) : Type 0 where
   pub packet : Packet
   pub request : ReqNo
   pub reaches : Reaches w move packet
   pub body : packet.body ≡ bodies.Stream (Confirm range generation request)
-  pub taken : confirm_refusal w.book packet range generation ≡ None
+  pub taken : confirm_refusal w.catalog packet range generation ≡ None
 
 -- one of these moves, from w on, opens the range for the generation
-pub record OpensIn (moves : List Move) (w : World) (range generation : ℕ) : Type 0 where
+pub record OpensIn (moves : List Move) (w : StreamSystem) (range generation : ℕ) : Type 0 where
   pub past : List Move
   pub opening : Move
   pub rest : List Move
@@ -89,7 +89,7 @@ pub record OpensIn (moves : List Move) (w : World) (range generation : ℕ) : Ty
 
 -- between these moves the generation is confirmed: what opened the range before is no higher, and what opens it after is
 -- higher
-pub record Settles (before after : List Move) (confirming : Move) (w : World) (range generation : ℕ) : Type 0 where
+pub record Settles (before after : List Move) (confirming : Move) (w : StreamSystem) (range generation : ℕ) : Type 0 where
   pub earlier : (other : ℕ) → OpensIn before w range other → other ≤ generation
   pub later : (other : ℕ) → OpensIn after (run_moves (before ++ confirming ∷ []) w) range other → generation < other
 
@@ -114,7 +114,7 @@ pub record EndsWithin (script : List Group) (origin : List Origin) (generation e
 -- What the answer to a check says for good: it answers a check that was asked; its length covers each group that is ever
 -- acknowledged under a lower generation; no place has less, and it is never sealed at less; and no lower generation adds a
 -- group later.
-pub record Answers (before after : List Move) (w : World) (script : ℕ → List Group) (origin : ℕ → List Origin)
+pub record Answers (before after : List Move) (w : StreamSystem) (script : ℕ → List Group) (origin : ℕ → List Origin)
     (answer : Packet) (request : ReqNo) (end : ℕ) : Type 0 where
   pub node : ℕ
   pub from : answer.from ≡ Node node
@@ -139,10 +139,10 @@ pub record Stays (x : Extent) (found : Option Extent) : Type 0 where
 
 -- What holds of the scripts of a run, in its later part: each extent keeps its fence, and each of its groups was appended
 -- under that generation or a higher one; and each check that was answered before holds.
-pub record FencesHold (before after : List Move) (w : World) : Type 0 where
+pub record FencesHold (before after : List Move) (w : StreamSystem) : Type 0 where
   pub origins : OriginsOfMoves (before ++ after) w
-  pub stays : (e : ℕ) (x : Extent) → (run_moves before w).book.extent e ≡ Some x → Stays x ((run_moves (before ++ after) w).book.extent e)
-  pub above : (e : ℕ) (x : Extent) (i : ℕ) (o : Origin) → (run_moves before w).book.extent e ≡ Some x → slice_get (origins.origin e) i ≡ Some o →
+  pub stays : (e : ℕ) (x : Extent) → (run_moves before w).catalog.extent e ≡ Some x → Stays x ((run_moves (before ++ after) w).catalog.extent e)
+  pub above : (e : ℕ) (x : Extent) (i : ℕ) (o : Origin) → (run_moves before w).catalog.extent e ≡ Some x → slice_get (origins.origin e) i ≡ Some o →
       x.fence ≤ o.generation
   pub checked : (answer : Packet) (request : ReqNo) (end : ℕ) → Contains (run_moves before w).post answer →
       answer.body ≡ bodies.Check (Checked request (Some end)) → Answers before after w origins.script origins.origin answer request end

@@ -2,14 +2,14 @@
 use Rattle.std.specs.Prelude.{◌≡◌, ℕ, suc, ◌<◌, List, ◌++◌, Option, Some, slice_get}
 use Rattle.wire.specs.declared.streams.StreamName.{StreamName}
 use Rattle.streams.specs.Streams.{Stream, stream_of}
-use Rattle.model.specs.declared.extent.Extent.{Extent}
-use Rattle.model.specs.Manager.{Book}
-use Rattle.model.specs.World.{World, Move, run_moves}
+use Rattle.model_streams.specs.declared.extent.Extent.{Extent}
+use Rattle.model_streams.specs.Manager.{Catalog}
+use Rattle.model_streams.specs.StreamSystem.{StreamSystem, Move, run_moves}
 use Rattle.laws_streams.specs.Origins.{Begins}
 use Rattle.laws_streams.specs.Answers.{SealedIn}
 
--- the list of a stream: from its first extent on, all in the book, in the order in which they were made
-pub record Listed (b : Book) (s : StreamName) (x : Stream) : Type 0 where
+-- the list of a stream: from its first extent on, all in the catalog, in the order in which they were made
+pub record Listed (b : Catalog) (s : StreamName) (x : Stream) : Type 0 where
   pub base : x.base ≡ 0
   pub there : (i e : ℕ) → slice_get x.extents i ≡ Some e → (y : Extent) × (b.extent e ≡ Some y)
   pub closed : (i e f : ℕ) → slice_get x.extents i ≡ Some e → slice_get x.extents (suc i) ≡ Some f → (length : ℕ) × SealedIn b e length
@@ -24,7 +24,7 @@ pub record Longer (x : Stream) (found : Option Stream) : Type 0 where
   pub begins : Begins x.extents now.extents
 
 -- the lists of a run, and how each goes on later
-pub record ListsGrow (before after : List Move) (w : World) : Type 0 where
-  pub listed : (s : StreamName) (x : Stream) → stream_of (run_moves before w).book.stream s ≡ Some x → Listed (run_moves before w).book s x
-  pub longer : (s : StreamName) (x : Stream) → stream_of (run_moves before w).book.stream s ≡ Some x →
-      Longer x (stream_of (run_moves (before ++ after) w).book.stream s)
+pub record ListsGrow (before after : List Move) (w : StreamSystem) : Type 0 where
+  pub listed : (s : StreamName) (x : Stream) → stream_of (run_moves before w).catalog.stream s ≡ Some x → Listed (run_moves before w).catalog s x
+  pub longer : (s : StreamName) (x : Stream) → stream_of (run_moves before w).catalog.stream s ≡ Some x →
+      Longer x (stream_of (run_moves (before ++ after) w).catalog.stream s)

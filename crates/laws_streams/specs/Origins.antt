@@ -7,13 +7,13 @@ use Rattle.wire.specs.declared.body.Body.TheVariants as bodies
 use Rattle.wire.specs.declared.note.Note.TheVariants.{Acked, SealedAt, Content, Seen}
 use Rattle.wire.specs.declared.packet.Packet.{Packet}
 use Rattle.replica.specs.Groups.{Group, text}
-use Rattle.model.specs.declared.event.Event.{Event}
-use Rattle.model.specs.declared.event.Event.TheVariants.{Deliver, Decide}
-use Rattle.model.specs.declared.extent.Extent.{Extent}
-use Rattle.model.specs.Actors.{generation_of}
-use Rattle.model.specs.Honest.{Stands}
-use Rattle.model.specs.World.{World, run, Move, run_moves}
-use Rattle.model.specs.World.Move.{Happens, Asks, Says, Observes}
+use Rattle.model_streams.specs.declared.event.Event.{Event}
+use Rattle.model_streams.specs.declared.event.Event.TheVariants.{Deliver, Decide}
+use Rattle.model_streams.specs.declared.extent.Extent.{Extent}
+use Rattle.model_streams.specs.Actors.{generation_of}
+use Rattle.model_streams.specs.Honest.{Stands}
+use Rattle.model_streams.specs.StreamSystem.{StreamSystem, run, Move, run_moves}
+use Rattle.model_streams.specs.StreamSystem.Move.{Happens, Asks, Says, Observes}
 
 -- for which generation and with which request a group was appended, and by which event of the run, or which move, counted
 -- from 0
@@ -35,10 +35,10 @@ pub record Shows (o : ℕ) (bytes whole : List ℕ) : Type 0 where
 -- a whole run: its events by number, the world before each, and the last world
 pub record Course : Type 0 where
   pub event : ℕ → Option Event
-  pub before : ℕ → World
-  pub last : World
+  pub before : ℕ → StreamSystem
+  pub last : StreamSystem
 
-abbrev pub course : List Event → World → Course
+abbrev pub course : List Event → StreamSystem → Course
 course events w = record { event = slice_get events; before = λ n. run (take n events) w; last = run events w }
 
 -- what a server asks, tells or shows is no event
@@ -49,12 +49,12 @@ event_of (Some (Asks server to body)) = None
 event_of (Some (Says from to body)) = None
 event_of (Some (Observes note)) = None
 
-abbrev pub course_of_moves : List Move → World → Course
+abbrev pub course_of_moves : List Move → StreamSystem → Course
 course_of_moves moves w =
     record { event = λ n. event_of (slice_get moves n); before = λ n. run_moves (take n moves) w; last = run_moves moves w }
 
 -- the event of this number delivered an append of the group to the extent, which had been sent before
-pub record Came (c : Course) (e : ℕ) (group : Group) (origin : Origin) : Type 0 where
+pub record DeliveredAppend (c : Course) (e : ℕ) (group : Group) (origin : Origin) : Type 0 where
   pub number : ℕ
   pub packet : Packet
   pub generation : ℕ
@@ -74,11 +74,11 @@ pub record LeastTold (x : Extent) (length : ℕ) : Type 0 where
 
 -- the event of this number was the decision on the extent, which was unsealed then, and this was the least length that its
 -- places had told
-pub record Decided (c : Course) (e length : ℕ) : Type 0 where
+pub record DecidedSeal (c : Course) (e length : ℕ) : Type 0 where
   pub number : ℕ
   pub extent : Extent
   pub decided : c.event number ≡ Some (Decide e)
-  pub there : (c.before number).book.extent e ≡ Some extent
+  pub there : (c.before number).catalog.extent e ≡ Some extent
   pub unsealed : extent.sealed ≡ None
   pub least : LeastTold extent length
 
@@ -89,7 +89,7 @@ pub record OriginsOf (c : Course) : Type 0 where
   pub origin : ℕ → List Origin
   pub one_each : (e : ℕ) → length (origin e) ≡ length (script e)
   pub came : (e i : ℕ) (group : Group) (o : Origin) →
-      slice_get (script e) i ≡ Some group → slice_get (origin e) i ≡ Some o → Came c e group o
+      slice_get (script e) i ≡ Some group → slice_get (origin e) i ≡ Some o → DeliveredAppend c e group o
   pub in_order : (e i j : ℕ) (o p : Origin) → i < j →
       slice_get (origin e) i ≡ Some o → slice_get (origin e) j ≡ Some p → o.event < p.event
   pub acked : (e o : ℕ) (group : Group) →
@@ -98,11 +98,11 @@ pub record OriginsOf (c : Course) : Type 0 where
       Contains c.last.notes (Content e n groups) → Begins groups (script e)
   pub seen : (e n o : ℕ) (bytes : List ℕ) →
       Contains c.last.notes (Seen e n o bytes) → Shows o bytes (text (script e))
-  pub sealed : (e length : ℕ) → Contains c.last.notes (SealedAt e length) → Decided c e length
+  pub sealed : (e length : ℕ) → Contains c.last.notes (SealedAt e length) → DecidedSeal c e length
 
-abbrev pub Origins : List Event → World → Type 0
+abbrev pub Origins : List Event → StreamSystem → Type 0
 Origins events w = OriginsOf (course events w)
 
 -- the same of moves, each of which has a number
-abbrev pub OriginsOfMoves : List Move → World → Type 0
+abbrev pub OriginsOfMoves : List Move → StreamSystem → Type 0
 OriginsOfMoves moves w = OriginsOf (course_of_moves moves w)

@@ -3,27 +3,27 @@ use Rattle.std.proofs.Common.{◌≡◌, ℕ, suc, ◌+◌, ◌<◌, ◌≤◌, 
 use Rattle.std.proofs.lemmas.List.{append-nil}
 use Rattle.std.proofs.lemmas.Bool.{cases_lt}
 use Rattle.std.proofs.lemmas.Bool.Decides.{nat_tests}
-use Rattle.model_tables.specs.Story.{StreamEvent, Made, Answered, Showed, event_at, Copy, placed, from_place, KeepsOrder}
+use Rattle.model_partition.specs.Story.{StreamEvent, Made, Answered, Showed, event_at, Copy, placed, from_place, KeepsOrder}
 use Rattle.laws_tables.specs.Fenced.{Seen, Landed, Fenced, LogRun, visible, landed, fence, end_of, IsLogRun}
 use Rattle.laws_tables.specs.Fenced.{May as Allows}
 use Rattle.laws_tables.proofs.Range.{older, newest}
 use Rattle.laws_tables.proofs.Fenced.{keeps_order}
 use Rattle.laws_tables.proofs.Members.{contains_in, in_left}
-use Rattle.model_tables.specs.Extents.{In, Shut, Live, Core, base, one_if_live, count, all_shut, last_end, first, shut_at, Chain, Fact, AsksOpen, Opened, AsksCheck, Checked, AsksConfirm, Confirmed, Serves, Begun, AsksAppend, Appended, AsksExtend, Extended, State, Step, TakesOpen, TakesExtend, TakesConfirm, TakesCheck, AnswersCheck, AnswersLate, TakesAppend, Keeps, AnswersAppend, Seals, Opens, Checks, ReadsSealed, ReadsChecked, Begins, Appends, Extends, TakesConfirmed, TakesAppended, knows, sees, with_live, new_live, extended, new_copy, NotYet, all_copies, May, extend_facts, next, nothing, after, IsRun}
+use Rattle.model_partition.specs.StreamMachine.{In, SealedExtent, OpenExtent, StreamCore, base, one_if_live, count, all_shut, last_end, first, shut_at, Chain, Fact, AsksOpen, Opened, AsksCheck, Checked, AsksConfirm, Confirmed, Serves, Begun, AsksAppend, Appended, AsksExtend, Extended, MachineState, MachineStep, TakesOpen, TakesExtend, TakesConfirm, TakesCheck, AnswersCheck, AnswersLate, TakesAppend, Keeps, AnswersAppend, Seals, Opens, Checks, ReadsSealed, ReadsChecked, Begins, Appends, Extends, TakesConfirmed, TakesAppended, knows, sees, with_live, new_live, extended, new_copy, NotYet, all_copies, May, extend_facts, next, nothing, after, IsRun}
 
 module _ (A : Type 0) (gen : ℕ → ℕ) where
   -- ---------------------------------------------------------------- the invariant
 
   -- what was read is all that stands, and nothing of a lower generation comes behind it
-  abbrev pub Whole : Core A → ℕ → List (Copy A) → ℕ → Type 0
+  abbrev pub Whole : StreamCore A → ℕ → List (Copy A) → ℕ → Type 0
   Whole c g read end =
       ((c.live ≡ None) × (read ≡ all_shut c.shut) × (end ≡ last_end c.shut))
-      ⊎ ((v : Live A) × (c.live ≡ Some v) × (v.loose ≡ []) × (read ≡ all_shut c.shut ++ v.kept) × (end ≡ v.sure) × (g ≤ v.fence))
+      ⊎ ((v : OpenExtent A) × (c.live ≡ Some v) × (v.loose ≡ []) × (read ≡ all_shut c.shut ++ v.kept) × (end ≡ v.sure) × (g ≤ v.fence))
 
   -- what a check found of an extent
-  abbrev pub Stood : Core A → ℕ → ℕ → List (Copy A) → ℕ → Type 0
+  abbrev pub Stood : StreamCore A → ℕ → ℕ → List (Copy A) → ℕ → Type 0
   Stood c g e stood end =
-      ((v : Live A) × (c.live ≡ Some v) × (e ≡ length c.shut) × (v.loose ≡ []) × (v.kept ≡ stood) × (v.sure ≡ end) × (g ≤ v.fence))
+      ((v : OpenExtent A) × (c.live ≡ Some v) × (e ≡ length c.shut) × (v.loose ≡ []) × (v.kept ≡ stood) × (v.sure ≡ end) × (g ≤ v.fence))
       ⊎ (shut_at e c.shut ≡ Some (record { copies = stood; end = end }))
 
   -- the log was read under a generation
@@ -31,7 +31,7 @@ module _ (A : Type 0) (gen : ℕ → ℕ) where
   Read run g read end = (more : LogRun A) × (before : LogRun A) × (run ≡ more ++ Fenced g end ∷ before) × (read ≡ landed before)
 
   -- what each packet and each piece of knowledge says
-  abbrev pub Ok : Core A → LogRun A → Fact A → Type 0
+  abbrev pub Ok : StreamCore A → LogRun A → Fact A → Type 0
   Ok c run (AsksOpen i) = Unit {0}
   -- while the generation is the newest and not confirmed, the stream has no more extents
   Ok c run (Opened i n) = (0 < gen i) × (gen i ≤ c.fence) × (gen i ≡ c.fence → fence run < gen i → count c ≡ n)
@@ -50,7 +50,7 @@ module _ (A : Type 0) (gen : ℕ → ℕ) where
 
   -- ---------------------------------------------------------------- what never turns false
 
-  pub record Grows (c : Core A) (run : LogRun A) (d : Core A) (run' : LogRun A) : Type 0 where
+  pub record Grows (c : StreamCore A) (run : LogRun A) (d : StreamCore A) (run' : LogRun A) : Type 0 where
     pub fence_core : c.fence ≤ d.fence
     pub fence_run : fence run ≤ fence run'
     pub known : (n : ℕ) (x : StreamEvent A) → event_at (visible run) n ≡ Some x → event_at (visible run') n ≡ Some x
@@ -65,7 +65,7 @@ module _ (A : Type 0) (gen : ℕ → ℕ) where
   read_longer run run' (m, e) g read end r =
       (m ++ r.0, r.1, e ∙ ap (λ z. m ++ z) r.2 ∙ sym (append_assoc m r.0 (Fenced g end ∷ r.1)), r.3)
 
-  ok_grows : (c : Core A) (run : LogRun A) (d : Core A) (run' : LogRun A) → Grows c run d run' → (f : Fact A) → Ok c run f → Ok d run' f
+  ok_grows : (c : StreamCore A) (run : LogRun A) (d : StreamCore A) (run' : LogRun A) → Grows c run d run' → (f : Fact A) → Ok c run f → Ok d run' f
   ok_grows c run d run' w (AsksOpen i) ok = tt
   ok_grows c run d run' w (Opened i n) (pos, low, is) =
       let up : c.fence ≤ d.fence = w.fence_core in
@@ -110,11 +110,11 @@ module _ (A : Type 0) (gen : ℕ → ℕ) where
   Young run [] = Unit {0}
   Young run (x ∷ xs) = ((g : ℕ) × (event_at (visible run) x.append ≡ Some (Made g x.group)) × (fence run ≤ g)) × Young run xs
 
-  abbrev pub Shape : LogRun A → List (Shut A) → Option (Live A) → Type 0
+  abbrev pub Shape : LogRun A → List (SealedExtent A) → Option (OpenExtent A) → Type 0
   Shape run shut None = end_of run ≤ last_end shut
   Shape run shut (Some v) = (end_of run ≤ v.sure) × (fence run ≤ v.fence) × Chain v.sure v.loose v.end × (v.end ≤ base (suc (length shut))) × Young run v.loose
 
-  pub record Inv (s : State A) (run : LogRun A) : Type 0 where
+  pub record Inv (s : MachineState A) (run : LogRun A) : Type 0 where
     pub is_run : IsLogRun run
     pub seen : visible run ≡ s.story
     pub kept : landed run ≡ all_copies A gen s.core s.core.live
@@ -128,12 +128,12 @@ module _ (A : Type 0) (gen : ℕ → ℕ) where
     -- the last that is confirmed had asked for it
     pub taken : 0 < fence run → (j : ℕ) × (read : List (Copy A)) × (end : ℕ) × In (AsksConfirm j read end) s.facts × (gen j ≡ fence run)
 
-  abbrev pub Follows : State A → Type 0
+  abbrev pub Follows : MachineState A → Type 0
   Follows s = (run : LogRun A) × Inv s run
 
   -- ---------------------------------------------------------------- one more piece of knowledge
 
-  know : (s : State A) (run : LogRun A) → Inv s run → (f : Fact A) → Ok s.core run f →
+  know : (s : MachineState A) (run : LogRun A) → Inv s run → (f : Fact A) → Ok s.core run f →
       ((i n : ℕ) → Opened i n ≡ f → ⊥) → ((i : ℕ) (read : List (Copy A)) (end : ℕ) → AsksConfirm i read end ≡ f → ⊥) → Inv (knows A gen s f) run
   know s run v f ok not_open not_asked = record {
     is_run = v.is_run;
@@ -150,7 +150,7 @@ module _ (A : Type 0) (gen : ℕ → ℕ) where
     taken = λ p. let t : (j : ℕ) × (read : List (Copy A)) × (end : ℕ) × In (AsksConfirm j read end) s.facts × (gen j ≡ fence run) = v.taken p in (t.0, t.1, t.2, inr t.3, t.4);
   }
 
-  know_asked : (s : State A) (run : LogRun A) → Inv s run → (i n : ℕ) (read : List (Copy A)) (end : ℕ) → Ok s.core run (AsksConfirm i read end) →
+  know_asked : (s : MachineState A) (run : LogRun A) → Inv s run → (i n : ℕ) (read : List (Copy A)) (end : ℕ) → Ok s.core run (AsksConfirm i read end) →
       In (Opened i n) s.facts → Inv (knows A gen s (AsksConfirm i read end)) run
   know_asked s run v i n read end ok open_i = record {
     is_run = v.is_run;
@@ -174,11 +174,11 @@ module _ (A : Type 0) (gen : ℕ → ℕ) where
   young_seen run e [] y = tt
   young_seen run e (x ∷ xs) ((g, made, le), more) = ((g, older A e (visible run) x.append (Made g x.group) made, le), young_seen run e xs more)
 
-  shape_seen : (run : LogRun A) (e : StreamEvent A) (shut : List (Shut A)) (o : Option (Live A)) → Shape run shut o → Shape (Seen e ∷ run) shut o
+  shape_seen : (run : LogRun A) (e : StreamEvent A) (shut : List (SealedExtent A)) (o : Option (OpenExtent A)) → Shape run shut o → Shape (Seen e ∷ run) shut o
   shape_seen run e shut None h = h
   shape_seen run e shut (Some v) (a, b, c, d, y) = (a, b, c, d, young_seen run e v.loose y)
 
-  seen_grows : (c : Core A) (run : LogRun A) (e : StreamEvent A) → Grows c run c (Seen e ∷ run)
+  seen_grows : (c : StreamCore A) (run : LogRun A) (e : StreamEvent A) → Grows c run c (Seen e ∷ run)
   seen_grows c run e = record {
     fence_core = omega arith;
     fence_run = omega arith;
@@ -191,7 +191,7 @@ module _ (A : Type 0) (gen : ℕ → ℕ) where
     confirms = λ g read end at lt. absurd (omega arith);
   }
 
-  see : (s : State A) (run : LogRun A) → Inv s run → (e : StreamEvent A) → Allows run (Seen e) → Inv (sees A gen s e) (Seen e ∷ run)
+  see : (s : MachineState A) (run : LogRun A) → Inv s run → (e : StreamEvent A) → Allows run (Seen e) → Inv (sees A gen s e) (Seen e ∷ run)
   see s run v e may = record {
     is_run = (may, v.is_run);
     seen = ap (λ z. e ∷ z) v.seen;
@@ -223,7 +223,7 @@ module _ (A : Type 0) (gen : ℕ → ℕ) where
   young_landed run c [] y = tt
   young_landed run c (x ∷ xs) (a, y) = (a, young_landed run c xs y)
 
-  first_all : (n : ℕ) (shut : List (Shut A)) → length shut ≤ n → first n shut ≡ shut
+  first_all : (n : ℕ) (shut : List (SealedExtent A)) → length shut ≤ n → first n shut ≡ shut
   first_all n [] h = refl
   first_all n (x ∷ older) h = go (nat_le n (length older)) refl
     where
@@ -231,21 +231,21 @@ module _ (A : Type 0) (gen : ℕ → ℕ) where
       go true e = let le : n ≤ length older = grind (arith, nat_tests) in absurd (omega arith)
       go false e = refl
 
-  at_newest : (x : Shut A) (older : List (Shut A)) (e : ℕ) → e ≡ length older → shut_at e (x ∷ older) ≡ Some x
+  at_newest : (x : SealedExtent A) (older : List (SealedExtent A)) (e : ℕ) → e ≡ length older → shut_at e (x ∷ older) ≡ Some x
   at_newest x older e h = go (e == length older) refl
     where
       go : (b : Bool) → (e == length older) ≡ b → (if b then Some x else shut_at e older) ≡ Some x
       go true q = refl
       go false q = absurd (grind (arith, nat_tests))
 
-  at_older : (x : Shut A) (older : List (Shut A)) (e : ℕ) → e < length older → shut_at e (x ∷ older) ≡ shut_at e older
+  at_older : (x : SealedExtent A) (older : List (SealedExtent A)) (e : ℕ) → e < length older → shut_at e (x ∷ older) ≡ shut_at e older
   at_older x older e h = go (e == length older) refl
     where
       go : (b : Bool) → (e == length older) ≡ b → (if b then Some x else shut_at e older) ≡ shut_at e older
       go true q = let same : e ≡ length older = grind (arith, nat_tests) in absurd (omega arith)
       go false q = refl
 
-  at_below : (shut : List (Shut A)) (e : ℕ) (y : Shut A) → shut_at e shut ≡ Some y → e < length shut
+  at_below : (shut : List (SealedExtent A)) (e : ℕ) (y : SealedExtent A) → shut_at e shut ≡ Some y → e < length shut
   at_below [] e y h = absurd (cc)
   at_below (x ∷ older) e y h = go (λ r. at_below older e y r) (e == length older) refl h
     where
@@ -253,18 +253,18 @@ module _ (A : Type 0) (gen : ℕ → ℕ) where
       go f true q r = let same : e ≡ length older = grind (arith, nat_tests) in omega arith
       go f false q r = let l : e < length older = f r in omega arith
 
-  same_live : (c : Core A) (v w : Live A) → c.live ≡ Some v → c.live ≡ Some w → v ≡ w
+  same_live : (c : StreamCore A) (v w : OpenExtent A) → c.live ≡ Some v → c.live ≡ Some w → v ≡ w
   same_live c v w a b = let e : Some v ≡ Some w = sym a ∙ b in cc
 
-  not_none : (c : Core A) (v : Live A) → c.live ≡ Some v → c.live ≡ None → ⊥
+  not_none : (c : StreamCore A) (v : OpenExtent A) → c.live ≡ Some v → c.live ≡ None → ⊥
   not_none c v a b = let e : Some v ≡ None = sym a ∙ b in cc
 
   -- ---------------------------------------------------------------- what the manager and the primaries do
 
-  abbrev pub fenced : Core A → ℕ → Core A
+  abbrev pub fenced : StreamCore A → ℕ → StreamCore A
   fenced c g = record c { fence = g }
 
-  open_grows : (c : Core A) (run : LogRun A) (g : ℕ) → c.fence < g → Grows c run (record c { fence = g }) run
+  open_grows : (c : StreamCore A) (run : LogRun A) (g : ℕ) → c.fence < g → Grows c run (record c { fence = g }) run
   open_grows c run g lt = record {
     fence_core = omega arith;
     fence_run = omega arith;
@@ -277,7 +277,7 @@ module _ (A : Type 0) (gen : ℕ → ℕ) where
     confirms = λ k read end at l. absurd (omega arith);
   }
 
-  opening : (s : State A) (run : LogRun A) → Inv s run → (i : ℕ) → s.core.fence < gen i → Inv (next A gen s (TakesOpen i)) run
+  opening : (s : MachineState A) (run : LogRun A) → Inv s run → (i : ℕ) → s.core.fence < gen i → Inv (next A gen s (TakesOpen i)) run
   opening s run v i lt = record {
     is_run = v.is_run;
     seen = v.seen;
@@ -305,12 +305,12 @@ module _ (A : Type 0) (gen : ℕ → ℕ) where
     taken = λ p. let t : (j : ℕ) × (read : List (Copy A)) × (end : ℕ) × In (AsksConfirm j read end) s.facts × (gen j ≡ fence run) = v.taken p in (t.0, t.1, t.2, inr t.3, t.4);
   }
     where
-      kept_same : (o : Option (Live A)) → landed run ≡ all_copies A gen s.core o → landed run ≡ all_copies A gen (record s.core { fence = gen i }) o
+      kept_same : (o : Option (OpenExtent A)) → landed run ≡ all_copies A gen s.core o → landed run ≡ all_copies A gen (record s.core { fence = gen i }) o
       kept_same None h = h
       kept_same (Some w) h = h
 
   -- the same knowledge about a core that has grown
-  moved : (s : State A) (run : LogRun A) → Inv s run → (d : Core A) → Grows s.core run d run → landed run ≡ all_copies A gen d d.live → fence run ≤ d.fence →
+  moved : (s : MachineState A) (run : LogRun A) → Inv s run → (d : StreamCore A) → Grows s.core run d run → landed run ≡ all_copies A gen d d.live → fence run ≤ d.fence →
       Shape run d.shut d.live → last_end d.shut ≤ base (length d.shut) → Inv (record s { core = d }) run
   moved s run v d w kept low shape room = record {
     is_run = v.is_run;
@@ -325,16 +325,16 @@ module _ (A : Type 0) (gen : ℕ → ℕ) where
     taken = v.taken;
   }
 
-  live_shape : (s : State A) (run : LogRun A) → Inv s run → (v : Live A) → s.core.live ≡ Some v → Shape run s.core.shut (Some v)
+  live_shape : (s : MachineState A) (run : LogRun A) → Inv s run → (v : OpenExtent A) → s.core.live ≡ Some v → Shape run s.core.shut (Some v)
   live_shape s run inv v e = subst (Shape run s.core.shut) e inv.shape
 
-  live_kept : (s : State A) (run : LogRun A) → Inv s run → (v : Live A) → s.core.live ≡ Some v → landed run ≡ all_shut s.core.shut ++ v.kept
+  live_kept : (s : MachineState A) (run : LogRun A) → Inv s run → (v : OpenExtent A) → s.core.live ≡ Some v → landed run ≡ all_shut s.core.shut ++ v.kept
   live_kept s run inv v e = inv.kept ∙ ap (λ o. all_copies A gen s.core o) e
 
-  pub live_count : (c : Core A) (v w : Live A) → c.live ≡ Some v → count (with_live A gen c w) ≡ count c
+  pub live_count : (c : StreamCore A) (v w : OpenExtent A) → c.live ≡ Some v → count (with_live A gen c w) ≡ count c
   live_count c v w e = sym (ap (λ o. length c.shut + one_if_live o) e)
 
-  checking : (s : State A) (run : LogRun A) → Inv s run → (g : ℕ) (v : Live A) → s.core.live ≡ Some v → v.fence ≤ g → Inv (record s { core = with_live A gen s.core (record v { fence = g }) }) run
+  checking : (s : MachineState A) (run : LogRun A) → Inv s run → (g : ℕ) (v : OpenExtent A) → s.core.live ≡ Some v → v.fence ≤ g → Inv (record s { core = with_live A gen s.core (record v { fence = g }) }) run
   checking s run inv g v e le =
       let sh : Shape run s.core.shut (Some v) = live_shape s run inv v e in
       moved s run inv (with_live A gen s.core (record v { fence = g }))
@@ -347,13 +347,13 @@ module _ (A : Type 0) (gen : ℕ → ℕ) where
         counts = λ k p q l. live_count s.core v (record v { fence = g }) e;
         whole = λ k read end l h p q. ⊎_elim {C = Whole (with_live A gen s.core (record v { fence = g })) k read end}
             (λ (a : (s.core.live ≡ None) × (read ≡ all_shut s.core.shut) × (end ≡ last_end s.core.shut)). absurd (not_none s.core v e a.0))
-            (λ (a : (w : Live A) × (s.core.live ≡ Some w) × (w.loose ≡ []) × (read ≡ all_shut s.core.shut ++ w.kept) × (end ≡ w.sure) × (k ≤ w.fence)).
+            (λ (a : (w : OpenExtent A) × (s.core.live ≡ Some w) × (w.loose ≡ []) × (read ≡ all_shut s.core.shut ++ w.kept) × (end ≡ w.sure) × (k ≤ w.fence)).
             let same : a.0 ≡ v = same_live s.core a.0 v a.1 e in
             let f : (a.0).fence ≡ v.fence = ap (λ z. z.fence) same in
             let lw : k ≤ (a.0).fence = a.5 in
             inr (record v { fence = g }, refl, sym (ap (λ z. z.loose) same) ∙ a.2, a.3 ∙ ap (λ z. all_shut s.core.shut ++ z.kept) same, a.4 ∙ ap (λ z. z.sure) same, omega arith)) h;
         stood = λ k e' st end l h. ⊎_elim {C = Stood (with_live A gen s.core (record v { fence = g })) k e' st end}
-            (λ (a : (w : Live A) × (s.core.live ≡ Some w) × (e' ≡ length s.core.shut) × (w.loose ≡ []) × (w.kept ≡ st) × (w.sure ≡ end) × (k ≤ w.fence)).
+            (λ (a : (w : OpenExtent A) × (s.core.live ≡ Some w) × (e' ≡ length s.core.shut) × (w.loose ≡ []) × (w.kept ≡ st) × (w.sure ≡ end) × (k ≤ w.fence)).
             let same : a.0 ≡ v = same_live s.core a.0 v a.1 e in
             let f : (a.0).fence ≡ v.fence = ap (λ z. z.fence) same in
             let lw : k ≤ (a.0).fence = a.6 in
@@ -366,7 +366,7 @@ module _ (A : Type 0) (gen : ℕ → ℕ) where
       inv.room
 
   -- a new extent, by the generation that is the manager's fence and is confirmed
-  extending : (s : State A) (run : LogRun A) → Inv s run → (g n : ℕ) → g ≤ fence run → g ≡ s.core.fence → (o : Option (Live A)) → s.core.live ≡ o →
+  extending : (s : MachineState A) (run : LogRun A) → Inv s run → (g n : ℕ) → g ≤ fence run → g ≡ s.core.fence → (o : Option (OpenExtent A)) → s.core.live ≡ o →
       Inv (record s { core = extended A gen s.core g n o }) run
   extending s run inv g n served at (Some v) e = inv
   extending s run inv g n served at None e = go (n == length s.core.shut)
@@ -392,7 +392,7 @@ module _ (A : Type 0) (gen : ℕ → ℕ) where
             counts = λ k p q l. let a : fence run ≤ s.core.fence = low in absurd (omega arith);
             whole = λ k read end l h p q. let a : fence run ≤ s.core.fence = low in absurd (omega arith);
             stood = λ k e' st end l h. ⊎_elim {C = Stood (with_live A gen s.core (new_live A gen s.core g)) k e' st end}
-                (λ (a : (w : Live A) × (s.core.live ≡ Some w) × (e' ≡ length s.core.shut) × (w.loose ≡ []) × (w.kept ≡ st) × (w.sure ≡ end) × (k ≤ w.fence)). absurd (not_none s.core a.0 a.1 e))
+                (λ (a : (w : OpenExtent A) × (s.core.live ≡ Some w) × (e' ≡ length s.core.shut) × (w.loose ≡ []) × (w.kept ≡ st) × (w.sure ≡ end) × (k ≤ w.fence)). absurd (not_none s.core a.0 a.1 e))
                 (λ a. inr a) h;
             confirms = λ k read end p l. absurd (omega arith);
           })
@@ -402,13 +402,13 @@ module _ (A : Type 0) (gen : ℕ → ℕ) where
           room
 
   -- the primary of the last extent takes an append
-  appending : (s : State A) (run : LogRun A) → Inv s run → (g append : ℕ) (group : A) (to : ℕ) (v : Live A) → g ≤ fence run → event_at (visible run) append ≡ Some (Made g group) →
+  appending : (s : MachineState A) (run : LogRun A) → Inv s run → (g append : ℕ) (group : A) (to : ℕ) (v : OpenExtent A) → g ≤ fence run → event_at (visible run) append ≡ Some (Made g group) →
       s.core.live ≡ Some v → v.fence ≤ g → v.end < to → to ≤ base (suc (length s.core.shut)) →
       Inv (record s { core = with_live A gen s.core (record v { loose = v.loose ++ new_copy A gen v to append group ∷ []; end = to }) }) run
   appending s run inv g append group to v served made e le lt fits =
       let sh : Shape run s.core.shut (Some v) = live_shape s run inv v e in
       let low : fence run ≤ v.fence = sh.1 in
-      let w : Live A = record v { loose = v.loose ++ new_copy A gen v to append group ∷ []; end = to } in
+      let w : OpenExtent A = record v { loose = v.loose ++ new_copy A gen v to append group ∷ []; end = to } in
       moved s run inv (with_live A gen s.core w)
       (record {
         fence_core = omega arith;
@@ -419,12 +419,12 @@ module _ (A : Type 0) (gen : ℕ → ℕ) where
         counts = λ k p q l. live_count s.core v w e;
         whole = λ k read end l h p q. ⊎_elim {C = Whole (with_live A gen s.core w) k read end}
             (λ (a : (s.core.live ≡ None) × (read ≡ all_shut s.core.shut) × (end ≡ last_end s.core.shut)). absurd (not_none s.core v e a.0))
-            (λ (a : (u : Live A) × (s.core.live ≡ Some u) × (u.loose ≡ []) × (read ≡ all_shut s.core.shut ++ u.kept) × (end ≡ u.sure) × (k ≤ u.fence)).
+            (λ (a : (u : OpenExtent A) × (s.core.live ≡ Some u) × (u.loose ≡ []) × (read ≡ all_shut s.core.shut ++ u.kept) × (end ≡ u.sure) × (k ≤ u.fence)).
             let same : (a.0).fence ≡ v.fence = ap (λ z. z.fence) (same_live s.core a.0 v a.1 e) in
             let lw : k ≤ (a.0).fence = a.5 in
             absurd (omega arith)) h;
         stood = λ k e' st end l h. ⊎_elim {C = Stood (with_live A gen s.core w) k e' st end}
-            (λ (a : (u : Live A) × (s.core.live ≡ Some u) × (e' ≡ length s.core.shut) × (u.loose ≡ []) × (u.kept ≡ st) × (u.sure ≡ end) × (k ≤ u.fence)).
+            (λ (a : (u : OpenExtent A) × (s.core.live ≡ Some u) × (e' ≡ length s.core.shut) × (u.loose ≡ []) × (u.kept ≡ st) × (u.sure ≡ end) × (k ≤ u.fence)).
             let same : (a.0).fence ≡ v.fence = ap (λ z. z.fence) (same_live s.core a.0 v a.1 e) in
             let lw : k ≤ (a.0).fence = a.6 in
             absurd (omega arith))
@@ -436,14 +436,14 @@ module _ (A : Type 0) (gen : ℕ → ℕ) where
       inv.room
 
   -- one more copy is there for good: now it lands
-  keeping : (s : State A) (run : LogRun A) → Inv s run → (c : Copy A) (rest : List (Copy A)) (v : Live A) → s.core.live ≡ Some v → v.loose ≡ c ∷ rest →
+  keeping : (s : MachineState A) (run : LogRun A) → Inv s run → (c : Copy A) (rest : List (Copy A)) (v : OpenExtent A) → s.core.live ≡ Some v → v.loose ≡ c ∷ rest →
       Inv (next A gen s (Keeps c rest v)) (Landed c ∷ run)
   keeping s run inv c rest v e head =
       let sh : Shape run s.core.shut (Some v) = live_shape s run inv v e in
       let chain : Chain v.sure (c ∷ rest) v.end = subst (λ z. Chain v.sure z v.end) head sh.2 in
       let young : Young run (c ∷ rest) = subst (Young run) head sh.4 in
-      let w : Live A = record v { kept = v.kept ++ c ∷ []; sure = c.to; loose = rest } in
-      let d : Core A = with_live A gen s.core w in
+      let w : OpenExtent A = record v { kept = v.kept ++ c ∷ []; sure = c.to; loose = rest } in
+      let d : StreamCore A = with_live A gen s.core w in
       let ends : end_of run ≤ v.sure = sh.0 in
       let from : c.from ≡ v.sure = chain.0 in
       let grows : Grows s.core run d (Landed c ∷ run) = record {
@@ -455,10 +455,10 @@ module _ (A : Type 0) (gen : ℕ → ℕ) where
         counts = λ k p q l. live_count s.core v w e;
         whole = λ k read end l h p q. ⊎_elim {C = Whole d k read end}
             (λ (a : (s.core.live ≡ None) × (read ≡ all_shut s.core.shut) × (end ≡ last_end s.core.shut)). absurd (not_none s.core v e a.0))
-            (λ (a : (u : Live A) × (s.core.live ≡ Some u) × (u.loose ≡ []) × (read ≡ all_shut s.core.shut ++ u.kept) × (end ≡ u.sure) × (k ≤ u.fence)).
+            (λ (a : (u : OpenExtent A) × (s.core.live ≡ Some u) × (u.loose ≡ []) × (read ≡ all_shut s.core.shut ++ u.kept) × (end ≡ u.sure) × (k ≤ u.fence)).
             let no_more : [] ≡ c ∷ rest = sym a.2 ∙ ap (λ z. z.loose) (same_live s.core a.0 v a.1 e) ∙ head in absurd (cc)) h;
         stood = λ k e' st end l h. ⊎_elim {C = Stood d k e' st end}
-            (λ (a : (u : Live A) × (s.core.live ≡ Some u) × (e' ≡ length s.core.shut) × (u.loose ≡ []) × (u.kept ≡ st) × (u.sure ≡ end) × (k ≤ u.fence)).
+            (λ (a : (u : OpenExtent A) × (s.core.live ≡ Some u) × (e' ≡ length s.core.shut) × (u.loose ≡ []) × (u.kept ≡ st) × (u.sure ≡ end) × (k ≤ u.fence)).
             let no_more : [] ≡ c ∷ rest = sym a.3 ∙ ap (λ z. z.loose) (same_live s.core a.0 v a.1 e) ∙ head in absurd (cc))
             (λ a. inr a) h;
         confirms = λ k read end p l. absurd (omega arith);
@@ -477,11 +477,11 @@ module _ (A : Type 0) (gen : ℕ → ℕ) where
       }
 
   -- the last extent is sealed
-  sealing : (s : State A) (run : LogRun A) → Inv s run → (v : Live A) → s.core.live ≡ Some v → Inv (next A gen s (Seals v)) run
+  sealing : (s : MachineState A) (run : LogRun A) → Inv s run → (v : OpenExtent A) → s.core.live ≡ Some v → Inv (next A gen s (Seals v)) run
   sealing s run inv v e =
       let sh : Shape run s.core.shut (Some v) = live_shape s run inv v e in
-      let x : Shut A = record { copies = v.kept; end = v.sure } in
-      let d : Core A = record s.core { shut = x ∷ s.core.shut; live = None } in
+      let x : SealedExtent A = record { copies = v.kept; end = v.sure } in
+      let d : StreamCore A = record s.core { shut = x ∷ s.core.shut; live = None } in
       let le : v.sure ≤ v.end = chain_le v.sure v.loose v.end sh.2 in
       let fits : v.end ≤ base (suc (length s.core.shut)) = sh.3 in
       let edge : end_of run ≤ v.sure = sh.0 in
@@ -495,13 +495,13 @@ module _ (A : Type 0) (gen : ℕ → ℕ) where
         counts = λ k p q l. let one : count s.core ≡ length s.core.shut + 1 = ap (λ o. length s.core.shut + one_if_live o) e in omega arith;
         whole = λ k read end l h p q. ⊎_elim {C = Whole d k read end}
             (λ (a : (s.core.live ≡ None) × (read ≡ all_shut s.core.shut) × (end ≡ last_end s.core.shut)). absurd (not_none s.core v e a.0))
-            (λ (a : (u : Live A) × (s.core.live ≡ Some u) × (u.loose ≡ []) × (read ≡ all_shut s.core.shut ++ u.kept) × (end ≡ u.sure) × (k ≤ u.fence)).
+            (λ (a : (u : OpenExtent A) × (s.core.live ≡ Some u) × (u.loose ≡ []) × (read ≡ all_shut s.core.shut ++ u.kept) × (end ≡ u.sure) × (k ≤ u.fence)).
             let same : a.0 ≡ v = same_live s.core a.0 v a.1 e in
             inl (refl, a.3 ∙ ap (λ z. all_shut s.core.shut ++ z.kept) same, a.4 ∙ ap (λ z. z.sure) same)) h;
         stood = λ k e' st end l h. ⊎_elim {C = Stood d k e' st end}
-            (λ (a : (u : Live A) × (s.core.live ≡ Some u) × (e' ≡ length s.core.shut) × (u.loose ≡ []) × (u.kept ≡ st) × (u.sure ≡ end) × (k ≤ u.fence)).
+            (λ (a : (u : OpenExtent A) × (s.core.live ≡ Some u) × (e' ≡ length s.core.shut) × (u.loose ≡ []) × (u.kept ≡ st) × (u.sure ≡ end) × (k ≤ u.fence)).
             let same : v ≡ a.0 = same_live s.core v a.0 e a.1 in
-            inr (at_newest x s.core.shut e' a.2 ∙ ap (λ (z : Live A). Some (record { copies = z.kept; end = z.sure })) same ∙ ap (λ z. Some (record { copies = z; end = (a.0).sure })) a.4 ∙ ap (λ z. Some (record { copies = st; end = z })) a.5))
+            inr (at_newest x s.core.shut e' a.2 ∙ ap (λ (z : OpenExtent A). Some (record { copies = z.kept; end = z.sure })) same ∙ ap (λ z. Some (record { copies = z; end = (a.0).sure })) a.4 ∙ ap (λ z. Some (record { copies = st; end = z })) a.5))
             (λ (a : shut_at e' s.core.shut ≡ Some (record { copies = st; end = end })). inr (at_older x s.core.shut e' (at_below s.core.shut e' (record { copies = st; end = end }) a) ∙ a)) h;
         confirms = λ k read end p l. absurd (omega arith);
       })
@@ -509,18 +509,18 @@ module _ (A : Type 0) (gen : ℕ → ℕ) where
 
   -- ---------------------------------------------------------------- what is read and confirmed
 
-  whole_end : (c : Core A) (g k : ℕ) (xs ys : List (Copy A)) (a b : ℕ) → Whole c g xs a → Whole c k ys b → a ≡ b
+  whole_end : (c : StreamCore A) (g k : ℕ) (xs ys : List (Copy A)) (a b : ℕ) → Whole c g xs a → Whole c k ys b → a ≡ b
   whole_end c g k xs ys a b (inl (no_live, is, at)) (inl (no_live', is', at')) = at ∙ sym at'
   whole_end c g k xs ys a b (inl (no_live, is, at)) (inr (v, e, loose', is', at', le')) = absurd (not_none c v e no_live)
   whole_end c g k xs ys a b (inr (v, e, loose, is', at', le)) (inl (no_live, is, at)) = absurd (not_none c v e no_live)
   whole_end c g k xs ys a b (inr (v, e, loose, is, at, le)) (inr (w, e', loose', is', at', le')) = at ∙ ap (λ z. z.sure) (same_live c v w e e') ∙ sym at'
 
-  whole_read : (c : Core A) (g : ℕ) (xs : List (Copy A)) (a : ℕ) → Whole c g xs a → xs ≡ all_copies A gen c c.live
+  whole_read : (c : StreamCore A) (g : ℕ) (xs : List (Copy A)) (a : ℕ) → Whole c g xs a → xs ≡ all_copies A gen c c.live
   whole_read c g xs a (inl (no_live, is, at)) = is ∙ sym (ap (λ o. all_copies A gen c o) no_live)
   whole_read c g xs a (inr (v, e, loose, is, at, le)) = is ∙ sym (ap (λ o. all_copies A gen c o) e)
 
   -- no copy is loose where all was read, and the primary of the last extent takes nothing older
-  whole_shape : (c : Core A) (run : LogRun A) (g : ℕ) (xs : List (Copy A)) (a : ℕ) → Whole c g xs a → Shape run c.shut c.live → Shape (Fenced g a ∷ run) c.shut c.live × (end_of run ≤ a)
+  whole_shape : (c : StreamCore A) (run : LogRun A) (g : ℕ) (xs : List (Copy A)) (a : ℕ) → Whole c g xs a → Shape run c.shut c.live → Shape (Fenced g a ∷ run) c.shut c.live × (end_of run ≤ a)
   whole_shape c run g xs a (inl (no_live, is, at)) sh =
       let old : end_of run ≤ last_end c.shut = subst (Shape run c.shut) no_live sh in
       let new : Shape (Fenced g a ∷ run) c.shut None = omega arith in
@@ -532,7 +532,7 @@ module _ (A : Type 0) (gen : ℕ → ℕ) where
       let new : Shape (Fenced g a ∷ run) c.shut (Some v) = (omega arith, le, old.2, old.3, subst (Young (Fenced g a ∷ run)) (sym loose) none_young) in
       (subst (Shape (Fenced g a ∷ run) c.shut) (sym e) new, omega arith)
 
-  confirming : (s : State A) (run : LogRun A) → Inv s run → (i : ℕ) (read : List (Copy A)) (end : ℕ) → In (AsksConfirm i read end) s.facts → gen i ≡ s.core.fence →
+  confirming : (s : MachineState A) (run : LogRun A) → Inv s run → (i : ℕ) (read : List (Copy A)) (end : ℕ) → In (AsksConfirm i read end) s.facts → gen i ≡ s.core.fence →
       Follows (knows A gen s (Confirmed i read end))
   confirming s run inv i read end asked at =
       let ok : Ok s.core run (AsksConfirm i read end) = inv.facts (AsksConfirm i read end) asked in
@@ -578,7 +578,7 @@ module _ (A : Type 0) (gen : ℕ → ℕ) where
       (cases_lt (fence run) (gen i))
 
   -- an incarnation that has not asked is not confirmed
-  not_confirmed : (s : State A) (run : LogRun A) → Inv s run → (i n : ℕ) → In (Opened i n) s.facts → NotYet A gen i s.facts → gen i ≡ fence run → ⊥
+  not_confirmed : (s : MachineState A) (run : LogRun A) → Inv s run → (i n : ℕ) → In (Opened i n) s.facts → NotYet A gen i s.facts → gen i ≡ fence run → ⊥
   not_confirmed s run inv i n open_i not_yet at =
       let ok : Ok s.core run (Opened i n) = inv.facts (Opened i n) open_i in
       let some : 0 < gen i = ok.0 in
@@ -587,30 +587,30 @@ module _ (A : Type 0) (gen : ℕ → ℕ) where
       let same : t.0 ≡ i = inv.unique t.0 i o.0 n o.1 open_i (t.4 ∙ sym at) in
       not_yet t.1 t.2 (subst (λ z. In (AsksConfirm z t.1 t.2) s.facts) same t.3)
 
-  no_live_left : (c : Core A) (n : ℕ) → count c ≡ n → n ≤ length c.shut → (c.live ≡ None) × (length c.shut ≡ n)
+  no_live_left : (c : StreamCore A) (n : ℕ) → count c ≡ n → n ≤ length c.shut → (c.live ≡ None) × (length c.shut ≡ n)
   no_live_left c n is le = go c.live refl
     where
-      go : (o : Option (Live A)) → c.live ≡ o → (c.live ≡ None) × (length c.shut ≡ n)
+      go : (o : Option (OpenExtent A)) → c.live ≡ o → (c.live ≡ None) × (length c.shut ≡ n)
       go None e = let one : count c ≡ length c.shut + 0 = ap (λ z. length c.shut + one_if_live z) e in (e, omega arith)
       go (Some v) e = let one : count c ≡ length c.shut + 1 = ap (λ z. length c.shut + one_if_live z) e in absurd (omega arith)
 
   -- the last of the sealed extents
-  newest_is : (shut : List (Shut A)) (e : ℕ) (y : Shut A) → shut_at e shut ≡ Some y → length shut ≡ suc e → (all_shut (first e shut) ++ y.copies ≡ all_shut shut) × (y.end ≡ last_end shut)
+  newest_is : (shut : List (SealedExtent A)) (e : ℕ) (y : SealedExtent A) → shut_at e shut ≡ Some y → length shut ≡ suc e → (all_shut (first e shut) ++ y.copies ≡ all_shut shut) × (y.end ≡ last_end shut)
   newest_is [] e y h l = absurd (cc)
   newest_is (x ∷ older) e y h l =
       let at : e ≡ length older = omega arith in
       let same : Some x ≡ Some y = sym (at_newest x older e at) ∙ h in
       let xy : x ≡ y = cc in
-      (ap (λ z. all_shut z ++ y.copies) (skip older e at x) ∙ ap (λ (z : Shut A). all_shut older ++ z.copies) (sym xy), ap (λ (z : Shut A). z.end) (sym xy))
+      (ap (λ z. all_shut z ++ y.copies) (skip older e at x) ∙ ap (λ (z : SealedExtent A). all_shut older ++ z.copies) (sym xy), ap (λ (z : SealedExtent A). z.end) (sym xy))
     where
-      skip : (older : List (Shut A)) (e : ℕ) → e ≡ length older → (x : Shut A) → first e (x ∷ older) ≡ older
+      skip : (older : List (SealedExtent A)) (e : ℕ) → e ≡ length older → (x : SealedExtent A) → first e (x ∷ older) ≡ older
       skip older e at x = go (nat_le e (length older)) refl
         where
           go : (b : Bool) → nat_le e (length older) ≡ b → (if b then first e older else x ∷ older) ≡ older
           go true q = first_all e older (omega arith)
           go false q = let lt : length older < e = grind (arith, nat_tests) in absurd (omega arith)
 
-  reads_sealed : (s : State A) (run : LogRun A) → Inv s run → (i n : ℕ) → May A gen s (ReadsSealed i n) → Inv (next A gen s (ReadsSealed i n)) run
+  reads_sealed : (s : MachineState A) (run : LogRun A) → Inv s run → (i n : ℕ) → May A gen s (ReadsSealed i n) → Inv (next A gen s (ReadsSealed i n)) run
   reads_sealed s run inv i n (open_i, le, not_yet) =
       let ok : Ok s.core run (Opened i n) = inv.facts (Opened i n) open_i in
       know_asked s run inv i n (all_shut (first n s.core.shut)) (last_end (first n s.core.shut)) (
@@ -624,14 +624,14 @@ module _ (A : Type 0) (gen : ℕ → ℕ) where
       )
       open_i
 
-  reads_checked : (s : State A) (run : LogRun A) → Inv s run → (i e : ℕ) (stood : List (Copy A)) (end : ℕ) → May A gen s (ReadsChecked i e stood end) → Inv (next A gen s (ReadsChecked i e stood end)) run
+  reads_checked : (s : MachineState A) (run : LogRun A) → Inv s run → (i e : ℕ) (stood : List (Copy A)) (end : ℕ) → May A gen s (ReadsChecked i e stood end) → Inv (next A gen s (ReadsChecked i e stood end)) run
   reads_checked s run inv i e stood end (open_i, checked, not_yet) =
       let ok : Ok s.core run (Opened i (suc e)) = inv.facts (Opened i (suc e)) open_i in
       let found : Ok s.core run (Checked i e stood end) = inv.facts (Checked i e stood end) checked in
       know_asked s run inv i (suc e) (all_shut (first e s.core.shut) ++ stood) end (
         ok.1,
         (λ at lt. ⊎_elim {C = Whole s.core (gen i) (all_shut (first e s.core.shut) ++ stood) end}
-            (λ (a : (v : Live A) × (s.core.live ≡ Some v) × (e ≡ length s.core.shut) × (v.loose ≡ []) × (v.kept ≡ stood) × (v.sure ≡ end) × (gen i ≤ v.fence)).
+            (λ (a : (v : OpenExtent A) × (s.core.live ≡ Some v) × (e ≡ length s.core.shut) × (v.loose ≡ []) × (v.kept ≡ stood) × (v.sure ≡ end) × (gen i ≤ v.fence)).
             let len : e ≡ length s.core.shut = a.2 in
             let all : first e s.core.shut ≡ s.core.shut = first_all e s.core.shut (omega arith) in
             inr (a.0, a.1, a.3, ap (λ z. all_shut z ++ stood) all ∙ ap (λ z. all_shut s.core.shut ++ z) (sym a.4), sym a.5, a.6))
@@ -647,14 +647,14 @@ module _ (A : Type 0) (gen : ℕ → ℕ) where
 
   -- ---------------------------------------------------------------- every step is followed
 
-  step : (s : State A) (x : Step A) → May A gen s x → Follows s → Follows (next A gen s x)
+  step : (s : MachineState A) (x : MachineStep A) → May A gen s x → Follows s → Follows (next A gen s x)
   step s (TakesOpen i) (asked, lt) (run, inv) = (run, opening s run inv i lt)
   step s (TakesExtend i n) (asked, at) (run, inv) =
       let served : gen i ≤ fence run = inv.facts (AsksExtend i n) asked in
-      let d : State A = record s { core = extended A gen s.core (gen i) n s.core.live } in
+      let d : MachineState A = record s { core = extended A gen s.core (gen i) n s.core.live } in
       (run, answer s.core.live d (extending s run inv (gen i) n served at s.core.live refl))
     where
-      answer : (o : Option (Live A)) (d : State A) → Inv d run → Inv (record d { facts = extend_facts A gen i n s.core o d.facts }) run
+      answer : (o : Option (OpenExtent A)) (d : MachineState A) → Inv d run → Inv (record d { facts = extend_facts A gen i n s.core o d.facts }) run
       answer None d v = know d run v (Extended i n (if n == length s.core.shut then suc n else length s.core.shut)) tt (λ j k e. cc) (λ j r e q. cc)
       answer (Some w) d v = go (n == suc (length s.core.shut))
         where
@@ -691,7 +691,7 @@ module _ (A : Type 0) (gen : ℕ → ℕ) where
       let ok : Ok s.core run (Confirmed i read end) = inv.facts (Confirmed i read end) confirmed in
       let r : Read run (gen i) read end = ok.1 in
       let e : StreamEvent A = Showed (gen i) start end (map placed (from_place start read)) in
-      let s' : State A = knows A gen s (Serves i) in
+      let s' : MachineState A = knows A gen s (Serves i) in
       let inv' : Inv s' run = know s run inv (Serves i) ok.0 (λ j k q. cc) (λ j r k q. cc) in
       (Seen e ∷ run, see s' run inv' e (r.1, r.0, r.2, ap (λ z. map placed (from_place start z)) r.3))
   step s (TakesAppended i append from to) appended (run, inv) =
@@ -715,12 +715,12 @@ module _ (A : Type 0) (gen : ℕ → ℕ) where
     },
   )
 
-  pub followed : (steps : List (Step A)) → IsRun A gen steps → Follows (after A gen steps)
+  pub followed : (steps : List (MachineStep A)) → IsRun A gen steps → Follows (after A gen steps)
   followed [] ok = start
   followed (x ∷ earlier) ok = step (after A gen earlier) x ok.0 (followed earlier ok.1)
 
   -- THE THEOREM: what users see of a stream keeps its order
-  pub stream_keeps_order : (steps : List (Step A)) → IsRun A gen steps → KeepsOrder (after A gen steps).story
+  pub stream_keeps_order : (steps : List (MachineStep A)) → IsRun A gen steps → KeepsOrder (after A gen steps).story
   stream_keeps_order steps ok =
       let f : Follows (after A gen steps) = followed steps ok in
       subst KeepsOrder (f.1).seen (keeps_order A f.0 (f.1).is_run)

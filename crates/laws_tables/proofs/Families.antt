@@ -4,7 +4,7 @@ use Rattle.wire.specs.declared.note.Note.{Note}
 use Rattle.wire.specs.declared.note.Note.TheVariants.{Began, Done, Loaded, Split, Merged}
 use Rattle.wire.specs.declared.rows.Row.{Row}
 use Rattle.wire.specs.declared.transaction.Change.{Change}
-use Rattle.model_tables.specs.Past.{Bytes, Transaction, Past, From_nothing, From_pair, owners, kin, table_of, begun, Begins}
+use Rattle.model_partition.specs.Past.{Bytes, Transaction, Past, From_nothing, From_pair, owners, kin, table_of, begun, Begins}
 
 abbrev put : Bytes → Bytes → Change
 put key value = record { key = key; value = Some value }

@@ -3,8 +3,8 @@ use Rattle.std.proofs.Common.{◌≡◌, ℕ, zero, suc, ◌+◌, ◌<◌, ◌�
 use Rattle.std.proofs.lemmas.Bool.Decides.{nat_tests}
 use Rattle.std.proofs.lemmas.Bool.{cases_lt}
 use Rattle.laws_tables.specs.Fenced.{LogRun}
-use Rattle.model_tables.specs.Extents.{In, Live, Core, one_if_live, count, all_shut, last_end, first, Fact, AsksOpen, Opened, AsksCheck, Checked, AsksConfirm, Confirmed, Serves, Begun, AsksAppend, Appended, AsksExtend, Extended, State, Step, TakesOpen, TakesExtend, TakesConfirm, TakesCheck, AnswersCheck, AnswersLate, TakesAppend, Keeps, AnswersAppend, Seals, Opens, Checks, ReadsSealed, ReadsChecked, Begins, Appends, Extends, TakesConfirmed, TakesAppended, with_live, new_copy, new_live, extended, May, extend_facts, next, after}
-use Rattle.model_tables.specs.Turns.{Phase, Idle, Opening, Checking, Sealing, Confirming, Serving, Sent, Closing, Growing, Turn, Assigned, AllSealed, LastOpen, Found, Fails, IsShut, ConfirmedIs, Forms, AppendedAt, ExtendedTo, IsTurn, becomes, does, forms, formed, all_next, Below, Above, Move, is_layer, after_all, AreMoves}
+use Rattle.model_partition.specs.StreamMachine.{In, OpenExtent, StreamCore, one_if_live, count, all_shut, last_end, first, Fact, AsksOpen, Opened, AsksCheck, Checked, AsksConfirm, Confirmed, Serves, Begun, AsksAppend, Appended, AsksExtend, Extended, MachineState, MachineStep, TakesOpen, TakesExtend, TakesConfirm, TakesCheck, AnswersCheck, AnswersLate, TakesAppend, Keeps, AnswersAppend, Seals, Opens, Checks, ReadsSealed, ReadsChecked, Begins, Appends, Extends, TakesConfirmed, TakesAppended, with_live, new_copy, new_live, extended, May, extend_facts, next, after}
+use Rattle.model_partition.specs.ServerTurns.{Phase, Idle, Opening, Checking, Sealing, Confirming, Serving, Sent, Closing, Growing, Turn, Assigned, AllSealed, LastOpen, Found, Fails, IsShut, ConfirmedIs, Forms, AppendedAt, ExtendedTo, IsTurn, becomes, does, forms, formed, all_next, Below, Above, Move, is_layer, after_all, AreMoves}
 use Rattle.laws_tables.proofs.Extents.{Inv, followed, live_count}
 use Rattle.laws_tables.proofs.Turns.{Good, all_good}
 
@@ -21,13 +21,13 @@ module _ (A : Type 0) (gen : ℕ → ℕ) where
   known (Closing n append group) = n
   known (Growing n append group) = suc n
 
-  abbrev Early : State A → ℕ → Type 0
+  abbrev Early : MachineState A → ℕ → Type 0
   Early s i = (n : ℕ) → In (Opened i n) s.facts → gen i ≡ s.core.fence → count s.core ≡ n
 
-  abbrev Holds : State A → ℕ → ℕ → Type 0
+  abbrev Holds : MachineState A → ℕ → ℕ → Type 0
   Holds s i n = ((k : ℕ) × In (Opened i k) s.facts) × (gen i ≡ s.core.fence → count s.core ≡ n)
 
-  abbrev Counted : State A → ℕ → Phase A → Type 0
+  abbrev Counted : MachineState A → ℕ → Phase A → Type 0
   Counted s i Idle = Early s i
   Counted s i Opening = Early s i
   Counted s i (Checking e) = Early s i
@@ -39,13 +39,13 @@ module _ (A : Type 0) (gen : ℕ → ℕ) where
   Counted s i (Growing n append group) =
       ((k : ℕ) × In (Opened i k) s.facts) × (gen i ≡ s.core.fence → (count s.core ≡ n) ⊎ (count s.core ≡ suc n)) × ((m : ℕ) → In (Extended i n m) s.facts → m ≡ suc n)
 
-  record Fits (s : State A) (i : ℕ) (p : Phase A) : Type 0 where
+  record Fits (s : MachineState A) (i : ℕ) (p : Phase A) : Type 0 where
     pub asked : (n : ℕ) → In (AsksExtend i n) s.facts → n < known p
     pub told : (n m : ℕ) → In (Extended i n m) s.facts → (n < known p) × (m ≤ count s.core) × (suc n ≤ m)
     pub counted : Counted s i p
 
   -- nothing happens that this incarnation's count rests on
-  record Quiet (i : ℕ) (s t : State A) : Type 0 where
+  record Quiet (i : ℕ) (s t : MachineState A) : Type 0 where
     pub fence : t.core.fence ≡ s.core.fence
     pub counts : count t.core ≡ count s.core
     pub asked : (n : ℕ) → In (AsksExtend i n) t.facts → In (AsksExtend i n) s.facts
@@ -53,13 +53,13 @@ module _ (A : Type 0) (gen : ℕ → ℕ) where
     pub opened : (n : ℕ) → In (Opened i n) t.facts → In (Opened i n) s.facts
     pub stays : (n : ℕ) → In (Opened i n) s.facts → In (Opened i n) t.facts
 
-  early_quiet : (i : ℕ) (s t : State A) → Quiet i s t → Early s i → Early t i
+  early_quiet : (i : ℕ) (s t : MachineState A) → Quiet i s t → Early s i → Early t i
   early_quiet i s t q h = λ n m at. q.counts ∙ h n (q.opened n m) (at ∙ q.fence)
 
-  holds_quiet : (i : ℕ) (s t : State A) (n : ℕ) → Quiet i s t → Holds s i n → Holds t i n
+  holds_quiet : (i : ℕ) (s t : MachineState A) (n : ℕ) → Quiet i s t → Holds s i n → Holds t i n
   holds_quiet i s t n q h = ((h.0.0, q.stays h.0.0 h.0.1), λ at. q.counts ∙ h.1 (at ∙ q.fence))
 
-  counted_quiet : (i : ℕ) (s t : State A) (p : Phase A) → Quiet i s t → Counted s i p → Counted t i p
+  counted_quiet : (i : ℕ) (s t : MachineState A) (p : Phase A) → Quiet i s t → Counted s i p → Counted t i p
   counted_quiet i s t Idle q h = early_quiet i s t q h
   counted_quiet i s t Opening q h = early_quiet i s t q h
   counted_quiet i s t (Checking e) q h = early_quiet i s t q h
@@ -74,34 +74,34 @@ module _ (A : Type 0) (gen : ℕ → ℕ) where
     λ m there. h.2 m (q.told n m there),
   )
 
-  fits_quiet : (i : ℕ) (s t : State A) (p : Phase A) → Quiet i s t → Fits s i p → Fits t i p
+  fits_quiet : (i : ℕ) (s t : MachineState A) (p : Phase A) → Quiet i s t → Fits s i p → Fits t i p
   fits_quiet i s t p q f = record {
     asked = λ n m. f.asked n (q.asked n m);
     told = λ n m there. let r : (n < known p) × (m ≤ count s.core) × (suc n ≤ m) = f.told n m (q.told n m there) in let same : count t.core ≡ count s.core = q.counts in let le : m ≤ count s.core = r.1 in (r.0, omega arith, r.2);
     counted = counted_quiet i s t p q f.counted;
   }
 
-  abbrev IsQuiet : ℕ → Step A → Type 0
+  abbrev IsQuiet : ℕ → MachineStep A → Type 0
   IsQuiet j (TakesOpen i) = ⊥
   IsQuiet j (TakesExtend i n) = ⊥
   IsQuiet j (Extends i n) = j ≡ i → ⊥
   IsQuiet j _ = Unit {0}
 
-  abbrev NeedsLive : State A → Step A → Type 0
+  abbrev NeedsLive : MachineState A → MachineStep A → Type 0
   NeedsLive s (TakesCheck i v) = s.core.live ≡ Some v
   NeedsLive s (TakesAppend i append group to v) = s.core.live ≡ Some v
   NeedsLive s (Keeps c rest v) = s.core.live ≡ Some v
   NeedsLive s (Seals v) = s.core.live ≡ Some v
   NeedsLive s _ = Unit {0}
 
-  needs : (s : State A) (x : Step A) → May A gen s x → NeedsLive s x
+  needs : (s : MachineState A) (x : MachineStep A) → May A gen s x → NeedsLive s x
   needs s (TakesCheck i v) may = may.1
   needs s (TakesAppend i append group to v) may = may.1
   needs s (Keeps c rest v) may = may.0
   needs s (Seals v) may = may
   needs s x may = tt
 
-  quiet_step : (j : ℕ) (s : State A) (x : Step A) → IsQuiet j x → NeedsLive s x → Quiet j s (next A gen s x)
+  quiet_step : (j : ℕ) (s : MachineState A) (x : MachineStep A) → IsQuiet j x → NeedsLive s x → Quiet j s (next A gen s x)
   quiet_step j s (TakesOpen i) q may = absurd q
   quiet_step j s (TakesExtend i n) q may = absurd q
   quiet_step j s (Extends i n) q may = record {
@@ -212,10 +212,10 @@ module _ (A : Type 0) (gen : ℕ → ℕ) where
 
   -- ---------------------------------------------------------------- OpenStreams
 
-  is_low : (s : State A) (run : LogRun A) → Inv A gen s run → (i n : ℕ) → In (Opened i n) s.facts → gen i ≤ s.core.fence
+  is_low : (s : MachineState A) (run : LogRun A) → Inv A gen s run → (i n : ℕ) → In (Opened i n) s.facts → gen i ≤ s.core.fence
   is_low s run inv i n m = (inv.facts (Opened i n) m).1
 
-  open_fits : (s : State A) (j i : ℕ) (p : Phase A) → ((k n : ℕ) → In (Opened k n) s.facts → gen k ≤ s.core.fence) → s.core.fence < gen j → Fits s i p → Fits (next A gen s (TakesOpen j)) i p
+  open_fits : (s : MachineState A) (j i : ℕ) (p : Phase A) → ((k n : ℕ) → In (Opened k n) s.facts → gen k ≤ s.core.fence) → s.core.fence < gen j → Fits s i p → Fits (next A gen s (TakesOpen j)) i p
   open_fits s j i p low lt f = record {
     asked = λ n m. f.asked n (⊎_elim {C = In (AsksExtend i n) s.facts} (λ (e : AsksExtend i n ≡ Opened j (count s.core)). absurd (cc)) (λ z. z) m);
     told = λ n k m. f.told n k (old_told n k m);
@@ -247,14 +247,14 @@ module _ (A : Type 0) (gen : ℕ → ℕ) where
 
   -- ---------------------------------------------------------------- Extend
 
-  -- what the manager's row does: a new extent, or an answer, or 13
-  abbrev Outcome : Core A → ℕ → ℕ → ℕ → List (Fact A) → Option (Live A) → Type 0
+  -- what the manager's rule does: a new extent, or an answer, or 13
+  abbrev Outcome : StreamCore A → ℕ → ℕ → ℕ → List (Fact A) → Option (OpenExtent A) → Type 0
   Outcome c g j n facts o =
       ((count c ≡ n) × (count (extended A gen c g n o) ≡ suc n) × (extend_facts A gen j n c o facts ≡ Extended j n (suc n) ∷ facts))
       ⊎ (((count c ≡ n → ⊥) × (count (extended A gen c g n o) ≡ count c) × (extend_facts A gen j n c o facts ≡ Extended j n (count c) ∷ facts))
       ⊎ ((count (extended A gen c g n o) ≡ count c) × (extend_facts A gen j n c o facts ≡ facts)))
 
-  outcome : (c : Core A) (g j n : ℕ) (facts : List (Fact A)) (o : Option (Live A)) → c.live ≡ o → Outcome c g j n facts o
+  outcome : (c : StreamCore A) (g j n : ℕ) (facts : List (Fact A)) (o : Option (OpenExtent A)) → c.live ≡ o → Outcome c g j n facts o
   outcome c g j n facts None e = go (n == length c.shut) refl
     where
       none : count c ≡ length c.shut + 0
@@ -284,7 +284,7 @@ module _ (A : Type 0) (gen : ℕ → ℕ) where
           let is : suc (length c.shut) ≡ count c = omega arith in
           inr (inl ((λ e'. let same : n ≡ suc (length c.shut) = omega arith in grind (arith, nat_tests)), refl, ap (λ z. Extended j n z ∷ facts) is))
 
-  same_fence : (c : Core A) (g n : ℕ) (o : Option (Live A)) → (extended A gen c g n o).fence ≡ c.fence
+  same_fence : (c : StreamCore A) (g n : ℕ) (o : Option (OpenExtent A)) → (extended A gen c g n o).fence ≡ c.fence
   same_fence c g n (Some v) = refl
   same_fence c g n None = go (n == length c.shut)
     where
@@ -292,7 +292,7 @@ module _ (A : Type 0) (gen : ℕ → ℕ) where
       go true = refl
       go false = refl
 
-  has_opened : (s : State A) (i n : ℕ) (p : Phase A) → Counted s i p → n < known p → (k : ℕ) × In (Opened i k) s.facts
+  has_opened : (s : MachineState A) (i n : ℕ) (p : Phase A) → Counted s i p → n < known p → (k : ℕ) × In (Opened i k) s.facts
   has_opened s i n Idle h lt = absurd (omega arith)
   has_opened s i n Opening h lt = absurd (omega arith)
   has_opened s i n (Checking e) h lt = absurd (omega arith)
@@ -304,7 +304,7 @@ module _ (A : Type 0) (gen : ℕ → ℕ) where
   has_opened s i n (Growing k append group) h lt = h.0
 
   -- the one that extends knows how many there are, or one less
-  count_near : (s : State A) (i n : ℕ) (p : Phase A) → Counted s i p → gen i ≡ s.core.fence → n < known p → (count s.core ≡ n) ⊎ (suc n ≤ count s.core)
+  count_near : (s : MachineState A) (i n : ℕ) (p : Phase A) → Counted s i p → gen i ≡ s.core.fence → n < known p → (count s.core ≡ n) ⊎ (suc n ≤ count s.core)
   count_near s i n Idle h at lt = absurd (omega arith)
   count_near s i n Opening h at lt = absurd (omega arith)
   count_near s i n (Checking e) h at lt = absurd (omega arith)
@@ -318,11 +318,11 @@ module _ (A : Type 0) (gen : ℕ → ℕ) where
       (λ (c : count s.core ≡ k). ⊎_elim {C = (count s.core ≡ n) ⊎ (suc n ≤ count s.core)} (λ (l : n < k). inr (omega arith)) (λ (l : k ≤ n). inl (omega arith)) (cases_lt n k))
       (λ (c : count s.core ≡ suc k). inr (omega arith)) (h.1 at)
 
-  abbrev Moves : State A → State A → ℕ → ℕ → Type 0
+  abbrev Moves : MachineState A → MachineState A → ℕ → ℕ → Type 0
   Moves s t n m =
       ((count s.core ≡ n) × (count t.core ≡ suc n) × (m ≡ suc n)) ⊎ ((count s.core ≡ n → ⊥) × (count t.core ≡ count s.core) × (m ≡ count s.core))
 
-  answered_fits : (s t : State A) (j n m i : ℕ) (p : Phase A) → t.core.fence ≡ s.core.fence → t.facts ≡ Extended j n m ∷ s.facts → Moves s t n m →
+  answered_fits : (s t : MachineState A) (j n m i : ℕ) (p : Phase A) → t.core.fence ≡ s.core.fence → t.facts ≡ Extended j n m ∷ s.facts → Moves s t n m →
       (count s.core ≡ n) ⊎ (suc n ≤ count s.core) → (i ≡ j → n < known p) → ((k : ℕ) → In (Opened i k) s.facts → gen i ≡ s.core.fence → i ≡ j) → (i ≡ j → gen i ≡ s.core.fence) → Fits s i p → Fits t i p
   answered_fits s t j n m i p fence facts moves near asked_j same at_j f = record {
     asked = λ k q. f.asked k (⊎_elim {C = In (AsksExtend i k) s.facts} (λ (e : AsksExtend i k ≡ Extended j n m). absurd (cc)) (λ z. z) (subst (In (AsksExtend i k)) facts q));
@@ -399,10 +399,10 @@ module _ (A : Type 0) (gen : ℕ → ℕ) where
             (λ z. h.2 b z) (new_told k b q),
       )
 
-  abbrev AllFit : State A → (ℕ → Phase A) → Type 0
+  abbrev AllFit : MachineState A → (ℕ → Phase A) → Type 0
   AllFit s phase = (i : ℕ) → Fits s i (phase i)
 
-  extend_fits : (s : State A) (run : LogRun A) → Inv A gen s run → (phase : ℕ → Phase A) → AllFit s phase → (j n : ℕ) → In (AsksExtend j n) s.facts → gen j ≡ s.core.fence →
+  extend_fits : (s : MachineState A) (run : LogRun A) → Inv A gen s run → (phase : ℕ → Phase A) → AllFit s phase → (j n : ℕ) → In (AsksExtend j n) s.facts → gen j ≡ s.core.fence →
       AllFit (next A gen s (TakesExtend j n)) phase
   extend_fits s run inv phase fits j n sent at i =
       let fj : Fits s j (phase j) = fits j in
@@ -427,7 +427,7 @@ module _ (A : Type 0) (gen : ℕ → ℕ) where
       ]
 
   -- what the manager and the nodes do
-  layer_fits : (s : State A) (run : LogRun A) → Inv A gen s run → (phase : ℕ → Phase A) → AllFit s phase → (x : Step A) → is_layer A gen x ≡ true → May A gen s x → AllFit (next A gen s x) phase
+  layer_fits : (s : MachineState A) (run : LogRun A) → Inv A gen s run → (phase : ℕ → Phase A) → AllFit s phase → (x : MachineStep A) → is_layer A gen x ≡ true → May A gen s x → AllFit (next A gen s x) phase
   layer_fits s run inv phase fits (TakesOpen j) layer may i = open_fits s j i (phase i) (λ k n m. is_low s run inv k n m) may.1 (fits i)
   layer_fits s run inv phase fits (TakesExtend j n) layer may i = extend_fits s run inv phase fits j n may.0 may.1 i
   layer_fits s run inv phase fits (Extends j n) layer may i = absurd (cc)
@@ -435,24 +435,24 @@ module _ (A : Type 0) (gen : ℕ → ℕ) where
 
   -- ---------------------------------------------------------------- turns
 
-  rephase : (t : State A) (i : ℕ) (p q : Phase A) → Fits t i p → known p ≤ known q → Counted t i q → Fits t i q
+  rephase : (t : MachineState A) (i : ℕ) (p q : Phase A) → Fits t i p → known p ≤ known q → Counted t i q → Fits t i q
   rephase t i p q f le c = record {
     asked = λ n m. let l : n < known p = f.asked n m in omega arith;
     told = λ n m there. let r : (n < known p) × (m ≤ count t.core) × (suc n ≤ m) = f.told n m there in let l : n < known p = r.0 in (omega arith, r.1, r.2);
     counted = c;
   }
 
-  settled : (t : State A) (phase : ℕ → Phase A) (i : ℕ) (p : Phase A) → Fits t i p → ((k : ℕ) → (k ≡ i → ⊥) → Fits t k (phase k)) → AllFit t (λ k. if k == i then p else phase k)
+  settled : (t : MachineState A) (phase : ℕ → Phase A) (i : ℕ) (p : Phase A) → Fits t i p → ((k : ℕ) → (k ≡ i → ⊥) → Fits t k (phase k)) → AllFit t (λ k. if k == i then p else phase k)
   settled t phase i p mine others k = go (k == i) refl
     where
       go : (b : Bool) → (k == i) ≡ b → Fits t k (if b then p else phase k)
       go true e = let same : i ≡ k = grind (arith, nat_tests) in subst (λ z. Fits t z p) same mine
       go false e = others k (λ q. grind (arith, nat_tests))
 
-  on_quiet : (s : State A) (i : ℕ) (x : Step A) (p : Phase A) → IsQuiet i x → NeedsLive s x → Fits s i p → Fits (next A gen s x) i p
+  on_quiet : (s : MachineState A) (i : ℕ) (x : MachineStep A) (p : Phase A) → IsQuiet i x → NeedsLive s x → Fits s i p → Fits (next A gen s x) i p
   on_quiet s i x p q need f = fits_quiet i s (next A gen s x) p (quiet_step i s x q need) f
 
-  grown : (s : State A) (i n append : ℕ) (group : A) (p : Phase A) → Fits s i p → known p ≡ n → Holds s i n → Fits (next A gen s (Extends i n)) i (Growing n append group)
+  grown : (s : MachineState A) (i n append : ℕ) (group : A) (p : Phase A) → Fits s i p → known p ≡ n → Holds s i n → Fits (next A gen s (Extends i n)) i (Growing n append group)
   grown s i n append group p f is h = record {
     asked = λ k m. ⊎_elim {C = k < suc n} (λ (e : AsksExtend i k ≡ AsksExtend i n). let same : k ≡ n = cc in omega arith) (λ z. let l : k < known p = f.asked k z in omega arith) m;
     told = λ k m there. let r : (k < known p) × (m ≤ count s.core) × (suc k ≤ m) = f.told k m (old k m there) in let l : k < known p = r.0 in (omega arith, r.1, r.2);
@@ -462,33 +462,33 @@ module _ (A : Type 0) (gen : ℕ → ℕ) where
       old : (k m : ℕ) → In (Extended i k m) (AsksExtend i n ∷ s.facts) → In (Extended i k m) s.facts
       old k m there = ⊎_elim {C = In (Extended i k m) s.facts} (λ (e : Extended i k m ≡ AsksExtend i n). absurd (cc)) (λ z. z) there
 
-  formed_fits : (s : State A) (phase : ℕ → Phase A) (i n : ℕ) (group : A) (live : Bool) → AllFit s phase → Fits s i (Serving n live) →
+  formed_fits : (s : MachineState A) (phase : ℕ → Phase A) (i n : ℕ) (group : A) (live : Bool) → AllFit s phase → Fits s i (Serving n live) →
       AllFit (all_next A gen s (forms A gen i n (length s.story) group live ++ Begins i group ∷ [])) (λ k. if k == i then formed A gen n (length s.story) group live else phase k)
   formed_fits s phase i zero group live fits f =
-      let s1 : State A = next A gen s (Begins i group) in
+      let s1 : MachineState A = next A gen s (Begins i group) in
       let f1 : Fits s1 i (Serving 0 live) = on_quiet s i (Begins i group) (Serving 0 live) tt tt f in
       settled (next A gen s1 (Extends i 0)) phase i (Growing 0 (length s.story) group) (grown s1 i 0 (length s.story) group (Serving 0 live) f1 refl f1.counted)
       (λ k o. on_quiet s1 k (Extends i 0) (phase k) o tt (on_quiet s k (Begins i group) (phase k) tt tt (fits k)))
   formed_fits s phase i (suc e) group true fits f =
-      let s1 : State A = next A gen s (Begins i group) in
-      let x : Step A = Appends i e (length s.story) group in
+      let s1 : MachineState A = next A gen s (Begins i group) in
+      let x : MachineStep A = Appends i e (length s.story) group in
       let f2 : Fits (next A gen s1 x) i (Serving (suc e) true) = on_quiet s1 i x (Serving (suc e) true) tt tt (on_quiet s i (Begins i group) (Serving (suc e) true) tt tt f) in
       settled (next A gen s1 x) phase i (Sent (suc e) (length s.story) group) (rephase (next A gen s1 x) i (Serving (suc e) true) (Sent (suc e) (length s.story) group) f2 (omega arith) f2.counted)
       (λ k o. on_quiet s1 k x (phase k) tt tt (on_quiet s k (Begins i group) (phase k) tt tt (fits k)))
   formed_fits s phase i (suc e) group false fits f =
-      let s1 : State A = next A gen s (Begins i group) in
+      let s1 : MachineState A = next A gen s (Begins i group) in
       let f1 : Fits s1 i (Serving (suc e) false) = on_quiet s i (Begins i group) (Serving (suc e) false) tt tt f in
       settled (next A gen s1 (Extends i (suc e))) phase i (Growing (suc e) (length s.story) group) (grown s1 i (suc e) (length s.story) group (Serving (suc e) false) f1 refl f1.counted)
       (λ k o. on_quiet s1 k (Extends i (suc e)) (phase k) o tt (on_quiet s k (Begins i group) (phase k) tt tt (fits k)))
 
   -- a turn of one step that is quiet
-  single_fits : (s : State A) (phase : ℕ → Phase A) (i : ℕ) (x : Step A) (p q : Phase A) → AllFit s phase → Fits s i p → ((k : ℕ) → IsQuiet k x) → NeedsLive s x → known p ≤ known q →
+  single_fits : (s : MachineState A) (phase : ℕ → Phase A) (i : ℕ) (x : MachineStep A) (p q : Phase A) → AllFit s phase → Fits s i p → ((k : ℕ) → IsQuiet k x) → NeedsLive s x → known p ≤ known q →
       (Fits (next A gen s x) i p → Counted (next A gen s x) i q) → AllFit (next A gen s x) (λ k. if k == i then q else phase k)
   single_fits s phase i x p q fits f quiet need le count_it =
       let f1 : Fits (next A gen s x) i p = on_quiet s i x p (quiet i) need f in
       settled (next A gen s x) phase i q (rephase (next A gen s x) i p q f1 le (count_it f1)) (λ k o. on_quiet s k x (phase k) (quiet k) need (fits k))
 
-  turned_fits : (s : State A) (phase : ℕ → Phase A) (i : ℕ) (p : Phase A) (turn : Turn A) → AllFit s phase → Fits s i p → IsTurn A gen s i p turn →
+  turned_fits : (s : MachineState A) (phase : ℕ → Phase A) (i : ℕ) (p : Phase A) (turn : Turn A) → AllFit s phase → Fits s i p → IsTurn A gen s i p turn →
       AllFit (all_next A gen s (does A gen s i p turn)) (λ k. if k == i then becomes A gen s p turn else phase k)
   turned_fits s phase i Idle Assigned fits f may = single_fits s phase i (Opens i) Idle Opening fits f (λ k. tt) tt (omega arith) (λ g. g.counted)
   turned_fits s phase i Opening (AllSealed n) fits f may = single_fits s phase i (ReadsSealed i n) Opening (Confirming n false) fits f (λ k. tt) tt (omega arith) (λ g. ((n, inr may.0), λ at. g.counted n (inr may.0) at))

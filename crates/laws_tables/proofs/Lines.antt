@@ -3,8 +3,8 @@ use Rattle.std.proofs.Common.{◌≡◌, ℕ, zero, suc, ◌+◌, ◌-◌, ◌<�
 use Rattle.std.proofs.lemmas.List.{append-nil, drop_all}
 use Rattle.std.proofs.lemmas.Bool.{cases_lt, cases_eq}
 use Rattle.commitlog.specs.Replay.{Numbered as Group, taken}
-use Rattle.model_tables.specs.Extents.{In}
-use Rattle.model_tables.specs.Lines.{next_after, StandsIn}
+use Rattle.model_partition.specs.StreamMachine.{In}
+use Rattle.model_partition.specs.Lines.{next_after, StandsIn}
 use Rattle.laws_tables.proofs.Members.{in_left, in_middle, in_cases, in_split}
 
 pub in_or_not : (a : ℕ) (xs : List ℕ) → In a xs ⊎ (In a xs → ⊥)

@@ -3,9 +3,9 @@ use Rattle.std.proofs.Common.{◌≡◌, ℕ, suc, ◌<◌, ◌≤◌, List, [],
 use Rattle.std.proofs.lemmas.Bool.{cases_eq}
 use Rattle.std.proofs.lemmas.Bool.Decides.{nat_tests}
 use Rattle.commitlog.specs.Replay.{Numbered as Group}
-use Rattle.model_tables.specs.Lines.{next_after}
-use Rattle.model_tables.specs.Story.{Placed, StreamEvent, Made, Answered, Showed, Story, event_at}
-use Rattle.model_tables.specs.Log.{line_shown, next_number, Allowed, IsServed}
+use Rattle.model_partition.specs.Lines.{next_after}
+use Rattle.model_partition.specs.Story.{Placed, StreamEvent, Made, Answered, Showed, Story, event_at}
+use Rattle.model_partition.specs.Log.{line_shown, next_number, Allowed, IsServed}
 
 module _ (A : Type 0) where
   pub eq_test : (n : ℕ) → eqb n n ≡ true

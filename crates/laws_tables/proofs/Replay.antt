@@ -4,10 +4,10 @@ use Rattle.std.specs.Prelude.{Contains}
 use Rattle.std.proofs.lemmas.List.{map-append}
 use Rattle.std.proofs.lemmas.Bool.Decides.{nat_tests}
 use Rattle.commitlog.specs.Replay.{Numbered as Group, taken, replayed as replay}
-use Rattle.model_tables.specs.Extents.{In}
-use Rattle.model_tables.specs.Lines.{next_after}
-use Rattle.model_tables.specs.Story.{Placed, StreamEvent, Made, Answered, Showed, Story, event_at, Copy, placed, from_place, Ascending, KeepsOrder}
-use Rattle.model_tables.specs.Log.{line_shown, IsServed}
+use Rattle.model_partition.specs.StreamMachine.{In}
+use Rattle.model_partition.specs.Lines.{next_after}
+use Rattle.model_partition.specs.Story.{Placed, StreamEvent, Made, Answered, Showed, Story, event_at, Copy, placed, from_place, Ascending, KeepsOrder}
+use Rattle.model_partition.specs.Log.{line_shown, IsServed}
 use Rattle.laws_tables.proofs.Lines.{along, Rules}
 use Rattle.laws_tables.proofs.Members.{in_contains, contains_in, in_right, in_cases, in_split}
 use Rattle.laws_tables.proofs.Range.{IsMadeAt, IsShownAt, Origin, Kept, EndedAt, eq_test, ne_test, made_shown, answered_shown, shown_cases, event_cases, kept_by_servers}

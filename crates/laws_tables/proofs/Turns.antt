@@ -1,13 +1,13 @@
 -- The stream layer under servers that follow their table keeps the order of their stream.
 use Rattle.std.proofs.Common.{◌≡◌, ℕ, zero, suc, List, [], ◌∷◌, ◌++◌, length, Bool, true, false, Option, Some, None, refl, sym, ap, subst, inl, inr, ⊎_elim, arith, if◌then◌else◌, ◌==◌}
 use Rattle.std.proofs.lemmas.Bool.Decides.{nat_tests}
-use Rattle.model_tables.specs.Story.{KeepsOrder}
-use Rattle.model_tables.specs.Extents.{In, Live, Core, count, Fact, AsksOpen, Opened, AsksCheck, Checked, AsksConfirm, Confirmed, Serves, Begun, AsksAppend, Appended, AsksExtend, Extended, State, Step, TakesOpen, TakesExtend, TakesConfirm, TakesCheck, AnswersCheck, AnswersLate, TakesAppend, Keeps, AnswersAppend, Seals, Opens, Checks, ReadsSealed, ReadsChecked, Begins, Appends, Extends, TakesConfirmed, TakesAppended, NotYet, May, extend_facts, next, after, IsRun}
-use Rattle.model_tables.specs.Turns.{Phase, Idle, Opening, Checking, Sealing, Confirming, Serving, Sent, Closing, Growing, Turn, Assigned, AllSealed, LastOpen, Found, Fails, IsShut, ConfirmedIs, Forms, AppendedAt, ExtendedTo, IsTurn, becomes, does, forms, formed, all_next, Whole, Below, Above, Move, is_layer, MayMove, moved, after_all, AreMoves}
+use Rattle.model_partition.specs.Story.{KeepsOrder}
+use Rattle.model_partition.specs.StreamMachine.{In, OpenExtent, StreamCore, count, Fact, AsksOpen, Opened, AsksCheck, Checked, AsksConfirm, Confirmed, Serves, Begun, AsksAppend, Appended, AsksExtend, Extended, MachineState, MachineStep, TakesOpen, TakesExtend, TakesConfirm, TakesCheck, AnswersCheck, AnswersLate, TakesAppend, Keeps, AnswersAppend, Seals, Opens, Checks, ReadsSealed, ReadsChecked, Begins, Appends, Extends, TakesConfirmed, TakesAppended, NotYet, May, extend_facts, next, after, IsRun}
+use Rattle.model_partition.specs.ServerTurns.{Phase, Idle, Opening, Checking, Sealing, Confirming, Serving, Sent, Closing, Growing, Turn, Assigned, AllSealed, LastOpen, Found, Fails, IsShut, ConfirmedIs, Forms, AppendedAt, ExtendedTo, IsTurn, becomes, does, forms, formed, all_next, Whole, Below, Above, Move, is_layer, MayMove, moved, after_all, AreMoves}
 use Rattle.laws_tables.proofs.Extents.{stream_keeps_order}
 
 module _ (A : Type 0) (gen : ℕ → ℕ) where
-  extend_stays : (i n : ℕ) (c : Core A) (o : Option (Live A)) (facts : List (Fact A)) (f : Fact A) → In f facts → In f (extend_facts A gen i n c o facts)
+  extend_stays : (i n : ℕ) (c : StreamCore A) (o : Option (OpenExtent A)) (facts : List (Fact A)) (f : Fact A) → In f facts → In f (extend_facts A gen i n c o facts)
   extend_stays i n c None facts f m = inr m
   extend_stays i n c (Some v) facts f m = go (n == suc (length c.shut))
     where
@@ -15,7 +15,7 @@ module _ (A : Type 0) (gen : ℕ → ℕ) where
       go true = m
       go false = inr m
 
-  extend_not : (i n j : ℕ) (c : Core A) (o : Option (Live A)) (facts : List (Fact A)) → NotYet A gen j facts → NotYet A gen j (extend_facts A gen i n c o facts)
+  extend_not : (i n j : ℕ) (c : StreamCore A) (o : Option (OpenExtent A)) (facts : List (Fact A)) → NotYet A gen j facts → NotYet A gen j (extend_facts A gen i n c o facts)
   extend_not i n j c None facts none = λ r t m. ⊎_elim {C = ⊥} (λ (q : AsksConfirm j r t ≡ Extended i n (if n == length c.shut then suc n else length c.shut)). cc) (λ m'. none r t m') m
   extend_not i n j c (Some v) facts none = go (n == suc (length c.shut))
     where
@@ -24,7 +24,7 @@ module _ (A : Type 0) (gen : ℕ → ℕ) where
       go false = λ r t m. ⊎_elim {C = ⊥} (λ (q : AsksConfirm j r t ≡ Extended i n (suc (length c.shut))). cc) (λ m'. none r t m') m
 
   -- what is known stays known
-  pub stays : (s : State A) (x : Step A) (f : Fact A) → In f s.facts → In f (next A gen s x).facts
+  pub stays : (s : MachineState A) (x : MachineStep A) (f : Fact A) → In f s.facts → In f (next A gen s x).facts
   stays s (TakesOpen i) f m = inr m
   stays s (TakesExtend i n) f m = extend_stays i n s.core s.core.live s.facts f m
   stays s (TakesConfirm i read end) f m = inr m
@@ -46,17 +46,17 @@ module _ (A : Type 0) (gen : ℕ → ℕ) where
   stays s (TakesAppended i append from to) f m = m
 
   -- no step by which this incarnation asks for its confirmation
-  abbrev Other : ℕ → Step A → Type 0
+  abbrev Other : ℕ → MachineStep A → Type 0
   Other j (ReadsSealed i n) = j ≡ i → ⊥
   Other j (ReadsChecked i e stood end) = j ≡ i → ⊥
   Other j _ = Unit {0}
 
-  layer_other : (j : ℕ) (x : Step A) → is_layer A gen x ≡ true → Other j x
+  layer_other : (j : ℕ) (x : MachineStep A) → is_layer A gen x ≡ true → Other j x
   layer_other j (ReadsSealed i n) t = absurd (cc)
   layer_other j (ReadsChecked i e stood end) t = absurd (cc)
   layer_other j x t = tt
 
-  not_yet_stays : (s : State A) (x : Step A) (j : ℕ) → Other j x → NotYet A gen j s.facts → NotYet A gen j (next A gen s x).facts
+  not_yet_stays : (s : MachineState A) (x : MachineStep A) (j : ℕ) → Other j x → NotYet A gen j s.facts → NotYet A gen j (next A gen s x).facts
   not_yet_stays s (TakesOpen i) j other none = λ r t m. ⊎_elim {C = ⊥} (λ (q : AsksConfirm j r t ≡ Opened i (count s.core)). cc) (λ m'. none r t m') m
   not_yet_stays s (TakesExtend i n) j other none = extend_not i n j s.core s.core.live s.facts none
   not_yet_stays s (TakesConfirm i read end) j other none = λ r t m. ⊎_elim {C = ⊥} (λ (q : AsksConfirm j r t ≡ Confirmed i read end). cc) (λ m'. none r t m') m
@@ -78,7 +78,7 @@ module _ (A : Type 0) (gen : ℕ → ℕ) where
   not_yet_stays s (TakesAppended i append from to) j other none = none
 
   -- what an incarnation in a phase knows
-  abbrev pub Knows : State A → ℕ → Phase A → Type 0
+  abbrev pub Knows : MachineState A → ℕ → Phase A → Type 0
   Knows s i Idle = NotYet A gen i s.facts
   Knows s i Opening = NotYet A gen i s.facts
   Knows s i (Checking e) = NotYet A gen i s.facts
@@ -89,7 +89,7 @@ module _ (A : Type 0) (gen : ℕ → ℕ) where
   Knows s i (Closing n append group) = In (Serves i) s.facts × In (Begun i append group) s.facts
   Knows s i (Growing n append group) = In (Serves i) s.facts × In (Begun i append group) s.facts
 
-  knows_on : (s : State A) (x : Step A) (j : ℕ) (p : Phase A) → Other j x → Knows s j p → Knows (next A gen s x) j p
+  knows_on : (s : MachineState A) (x : MachineStep A) (j : ℕ) (p : Phase A) → Other j x → Knows s j p → Knows (next A gen s x) j p
   knows_on s x j Idle o k = not_yet_stays s x j o k
   knows_on s x j Opening o k = not_yet_stays s x j o k
   knows_on s x j (Checking e) o k = not_yet_stays s x j o k
@@ -100,16 +100,16 @@ module _ (A : Type 0) (gen : ℕ → ℕ) where
   knows_on s x j (Closing n append group) o k = (stays s x (Serves j) k.0, stays s x (Begun j append group) k.1)
   knows_on s x j (Growing n append group) o k = (stays s x (Serves j) k.0, stays s x (Begun j append group) k.1)
 
-  abbrev pub Ran : State A → Type 0
-  Ran s = (steps : List (Step A)) × IsRun A gen steps × (s ≡ after A gen steps)
+  abbrev pub Ran : MachineState A → Type 0
+  Ran s = (steps : List (MachineStep A)) × IsRun A gen steps × (s ≡ after A gen steps)
 
   abbrev pub Good : Whole A gen → Type 0
   Good w = Ran w.state × ((i : ℕ) → Knows w.state i (w.phase i))
 
-  ran_on : (s : State A) (x : Step A) → May A gen s x → Ran s → Ran (next A gen s x)
+  ran_on : (s : MachineState A) (x : MachineStep A) → May A gen s x → Ran s → Ran (next A gen s x)
   ran_on s x may (steps, ok, e) = (x ∷ steps, (subst (λ z. May A gen z x) e may, ok), ap (λ z. next A gen z x) e)
 
-  settle : (s : State A) (phase : ℕ → Phase A) (i : ℕ) (p : Phase A) → Knows s i p → ((j : ℕ) → (j ≡ i → ⊥) → Knows s j (phase j)) →
+  settle : (s : MachineState A) (phase : ℕ → Phase A) (i : ℕ) (p : Phase A) → Knows s i p → ((j : ℕ) → (j ≡ i → ⊥) → Knows s j (phase j)) →
       (j : ℕ) → Knows s j (if j == i then p else phase j)
   settle s phase i p mine others j = go (j == i) refl
     where
@@ -118,41 +118,41 @@ module _ (A : Type 0) (gen : ℕ → ℕ) where
       go false e = others j (λ q. grind (arith, nat_tests))
 
   -- a turn of one step
-  single : (s : State A) (phase : ℕ → Phase A) (i : ℕ) (x : Step A) (p : Phase A) → Ran s → ((j : ℕ) → Knows s j (phase j)) → May A gen s x → ((j : ℕ) → (j ≡ i → ⊥) → Other j x) →
+  single : (s : MachineState A) (phase : ℕ → Phase A) (i : ℕ) (x : MachineStep A) (p : Phase A) → Ran s → ((j : ℕ) → Knows s j (phase j)) → May A gen s x → ((j : ℕ) → (j ≡ i → ⊥) → Other j x) →
       Knows (next A gen s x) i p → Good (record { state = next A gen s x; phase = λ j. if j == i then p else phase j })
   single s phase i x p ran knows may other mine =
       (ran_on s x may ran, settle (next A gen s x) phase i p mine (λ j o. knows_on s x j (phase j) (other j o) (knows j)))
 
   -- a turn of none
-  still : (s : State A) (phase : ℕ → Phase A) (i : ℕ) (p : Phase A) → Ran s → ((j : ℕ) → Knows s j (phase j)) → Knows s i p → Good (record { state = s; phase = λ j. if j == i then p else phase j })
+  still : (s : MachineState A) (phase : ℕ → Phase A) (i : ℕ) (p : Phase A) → Ran s → ((j : ℕ) → Knows s j (phase j)) → Knows s i p → Good (record { state = s; phase = λ j. if j == i then p else phase j })
   still s phase i p ran knows mine = (ran, settle s phase i p mine (λ j o. knows j))
 
   -- a group is formed: the job begins and its first packet leaves
-  forming : (s : State A) (phase : ℕ → Phase A) (i n : ℕ) (group : A) (live : Bool) → Ran s → ((j : ℕ) → Knows s j (phase j)) → In (Serves i) s.facts →
+  forming : (s : MachineState A) (phase : ℕ → Phase A) (i n : ℕ) (group : A) (live : Bool) → Ran s → ((j : ℕ) → Knows s j (phase j)) → In (Serves i) s.facts →
       Good (record { state = all_next A gen s (forms A gen i n (length s.story) group live ++ Begins i group ∷ []); phase = λ j. if j == i then formed A gen n (length s.story) group live else phase j })
   forming s phase i zero group live ran knows mine =
-      let s1 : State A = next A gen s (Begins i group) in
+      let s1 : MachineState A = next A gen s (Begins i group) in
       let r1 : Ran s1 = ran_on s (Begins i group) mine ran in (
         ran_on s1 (Extends i 0) (inr mine) r1,
         settle (next A gen s1 (Extends i 0)) phase i (Growing 0 (length s.story) group) (inr (inr mine), inr (inl refl))
             (λ j o. knows_on s1 (Extends i 0) j (phase j) tt (knows_on s (Begins i group) j (phase j) tt (knows j))),
       )
   forming s phase i (suc e) group true ran knows mine =
-      let s1 : State A = next A gen s (Begins i group) in
+      let s1 : MachineState A = next A gen s (Begins i group) in
       let r1 : Ran s1 = ran_on s (Begins i group) mine ran in (
         ran_on s1 (Appends i e (length s.story) group) (inl refl) r1,
         settle (next A gen s1 (Appends i e (length s.story) group)) phase i (Sent (suc e) (length s.story) group) (inr (inr mine), inr (inl refl))
             (λ j o. knows_on s1 (Appends i e (length s.story) group) j (phase j) tt (knows_on s (Begins i group) j (phase j) tt (knows j))),
       )
   forming s phase i (suc e) group false ran knows mine =
-      let s1 : State A = next A gen s (Begins i group) in
+      let s1 : MachineState A = next A gen s (Begins i group) in
       let r1 : Ran s1 = ran_on s (Begins i group) mine ran in (
         ran_on s1 (Extends i (suc e)) (inr mine) r1,
         settle (next A gen s1 (Extends i (suc e))) phase i (Growing (suc e) (length s.story) group) (inr (inr mine), inr (inl refl))
             (λ j o. knows_on s1 (Extends i (suc e)) j (phase j) tt (knows_on s (Begins i group) j (phase j) tt (knows j))),
       )
 
-  turned : (s : State A) (phase : ℕ → Phase A) (i : ℕ) (p : Phase A) (turn : Turn A) → Ran s → ((j : ℕ) → Knows s j (phase j)) → Knows s i p → IsTurn A gen s i p turn →
+  turned : (s : MachineState A) (phase : ℕ → Phase A) (i : ℕ) (p : Phase A) (turn : Turn A) → Ran s → ((j : ℕ) → Knows s j (phase j)) → Knows s i p → IsTurn A gen s i p turn →
       Good (record { state = all_next A gen s (does A gen s i p turn); phase = λ j. if j == i then becomes A gen s p turn else phase j })
   turned s phase i Idle Assigned ran knows mine may = single s phase i (Opens i) Opening ran knows tt (λ j o. tt) (not_yet_stays s (Opens i) i tt mine)
   turned s phase i Opening (AllSealed n) ran knows mine may = single s phase i (ReadsSealed i n) (Confirming n false) ran knows (may.0, may.1, mine) (λ j o. o) tt

@@ -1,6 +1,6 @@
 //! Laws of tables, and of the streams that they are loaded from.
 //!
-//! This crate has no code, and touches nothing. Its lemmas are said of the definitions of `model_tables` alone, and the crate
+//! This crate has no code, and touches nothing. Its lemmas are said of the definitions of `model_partition` alone, and the crate
 //! `laws` states them as the contracts of two functions:
 //! - `streams_keep_order`: whatever is late, lost or repeated, and whoever seals, what the loads of one stream show keeps the
 //!   order that the story of a stream promises (`KeepsOrder`).

@@ -1,3 +1,3 @@
-pub mod Rowing
-pub mod Keeping
-pub mod Deciding
+pub mod RecordedPlans
+pub mod ReplaysRecords
+pub mod Decisions

@@ -1,3 +1,3 @@
 pub mod Manager
-pub mod Ruled
-pub mod Done
+pub mod Performs
+pub mod PlanPerformed

@@ -1,28 +1,28 @@
 //! The manager.
 ghost use Rattle.std.specs.Prelude.{◌≡◌, ◌≢◌, ◌<◌, ◌≤◌, ◌⊎◌, List, [], ◌∷◌, Ok, Err, Some, None, false, true, IfOk, IfErr, MatchResult};
-ghost use Rattle.blocks.specs.Limits.{IsTarget};
-ghost use Rattle.blocks.specs.declared.record.Record.{Record};
-ghost use Rattle.blocks.specs.declared.record.Version.{Version};
+ghost use Rattle.block_types.specs.Limits.{IsTarget};
+ghost use Rattle.block_types.specs.declared.record.Record.{Record};
+ghost use Rattle.block_types.specs.declared.record.Version.{Version};
 ghost use Rattle.disk.specs.Disk.{IsSame, IsSteady, LeavesOnly, Only};
 ghost use Rattle.disk.specs.File.{IsFileOf, IsBeforeOrAfter, HoldsAtMost};
 ghost use Rattle.disk.specs.Memory.{memory_state};
 ghost use Rattle.wire.specs.declared.refusal.Refusal.{Refusal};
-ghost use Rattle.model.specs.Bounds.{AreFew};
-ghost use Rattle.model.specs.Maps.{entry_at};
-ghost use Rattle.model.specs.Manager.{Book, first_book, manager_row, decide_row, decide_refusal};
-ghost use Rattle.model.specs.Replay.{book_fits};
-ghost use Rattle.directory.specs.Table.{plain, first_table};
-ghost use Rattle.manager.specs.Manager.{Shows, IsLedger, first_record, forgotten_state, state_of};
-ghost use Rattle.manager.specs.Ruled.{Ruled, as_row, fault_of, sealing_at};
+ghost use Rattle.model_streams.specs.Bounds.{AreFew};
+ghost use Rattle.model_streams.specs.Maps.{entry_at};
+ghost use Rattle.model_streams.specs.Manager.{Catalog, first_catalog, manager_rule, decide_rule, decide_refusal};
+ghost use Rattle.model_streams.specs.Replay.{catalog_fits};
+ghost use Rattle.manager_state.specs.Table.{plain, first_table};
+ghost use Rattle.manager.specs.Manager.{ShowsCatalog, ManagerIsReplay, first_record, forgotten_state, state_of};
+ghost use Rattle.manager.specs.Performs.{ManagerPerforms, as_rule, fault_of, sealing_at};
 
 use crate::fault::ManagerFault;
 use crate::performing::{decide_on, handle_on, write};
 use crate::recovery::table_of;
 use crate::sealing::{answer, refusal, sealing_of};
-use blocks::Version;
-use directory::{Table, reads_back};
+use block_types::Version;
 use disk::{Disk, DiskFault, FileFault, MemDisk, RecordFile};
-use model::ManagerRecord;
+use manager_state::{ManagerTable, reads_back};
+use model_streams::ManagerRecord;
 use std::alloc::Global;
 use std::marker::Model;
 use wire::{ExtentId, Packet, Step};
@@ -30,7 +30,7 @@ use wire::{ExtentId, Packet, Step};
 /// The stream manager: which nodes there are, the streams of all ranges, the extents in the order of their numbers from 1
 /// on, and the file of records that they come from (after Calder et al., SOSP 2011, section 4).
 pub struct Manager<D: Disk> {
-    table: Table,
+    table: ManagerTable,
     file: RecordFile<D>,
 }
 
@@ -44,15 +44,15 @@ impl<D: Disk + Drop> Drop for Manager<D> {
 /// While it runs, its table is what its records make of it, but for what a stop drops.
 impl<D: Disk> Model for Manager<D> {
     ghost use Rattle.std.specs.Prelude.{◌≡◌, false};
-    ghost use Rattle.directory.specs.Replay.{Ledgered};
-    ghost use Rattle.directory.specs.Table.{plain};
+    ghost use Rattle.manager_state.specs.Replay.{TableIsReplay};
+    ghost use Rattle.manager_state.specs.Table.{plain};
     ghost use Rattle.manager.specs.Manager.{ManagerState, state_of};
 
     ghost Value = { ManagerState D };
 
     ghost view = { λ m. state_of m.table m.file };
 
-    ghost invariant = { λ m. m.file.stopped ≡ false → Ledgered (plain m.table) m.file.records };
+    ghost invariant = { λ m. m.file.stopped ≡ false → TableIsReplay (plain m.table) m.file.records };
 }
 
 /// The manager of a file without a record and of the first table: its first record is written.
@@ -60,7 +60,7 @@ fn begin<D: Disk>(
     alloc: Global,
     nodes: u8,
     target: u32,
-    table: Table,
+    table: ManagerTable,
     file: RecordFile<D>,
 ) -> Result<Manager<D>, (DiskFault, D)>
     requires nodes { (3 ≤ nodes) × (nodes ≤ 12) }
@@ -69,10 +69,10 @@ fn begin<D: Disk>(
     requires running { file.stopped ≡ false }
     requires empty { file.records ≡ [] }
     ensures running { IfOk result (λ m. m.file.stopped ≡ false) }
-    ensures shows { IfOk result (λ m. Shows m (first_book nodes target)) }
+    ensures shows { IfOk result (λ m. ShowsCatalog m (first_catalog nodes target)) }
     ensures records { IfOk result (λ m. m.file.records ≡ first_record nodes target ∷ []) }
     ensures version { IfOk result (λ m. m.file.version ≡ file.version) }
-    ensures replays { IfOk result (λ m. IsLedger m m.file.records) }
+    ensures replays { IfOk result (λ m. ManagerIsReplay m m.file.records) }
     ensures failed { IfErr result (λ e. e.0 ≡ DiskFault.Failed → (D.state file.disk).failures < (D.state e.1).failures) }
     ensures any_moment { MatchResult result
         (λ m. LeavesOnly (D.state file.disk) (D.state m.file.disk)
@@ -96,9 +96,9 @@ fn begin<D: Disk>(
 fn recovered<D: Disk>(alloc: Global, file: RecordFile<D>) -> Result<Manager<D>, (FileFault, D)>
     requires { file.stopped ≡ false }
     ensures same { IfOk result (λ m. (m.file.stopped ≡ false) × (m.file.version ≡ file.version) × (m.file.records ≡ file.records)) }
-    ensures replays { IfOk result (λ m. IsLedger m file.records) }
+    ensures replays { IfOk result (λ m. ManagerIsReplay m file.records) }
     ensures fresh { IfOk result (λ m. m ≡ forgotten_state m) }
-    ensures damaged { file.records ≢ [] → book_fits file.records ≡ true → IfErr result (λ e. e.0 ≢ FileFault.Damaged) }
+    ensures damaged { file.records ≢ [] → catalog_fits file.records ≡ true → IfErr result (λ e. e.0 ≢ FileFault.Damaged) }
     ensures failed { IfErr result (λ e. e.0 ≡ FileFault.Failed → (D.state file.disk).failures < (D.state e.1).failures) }
     ensures steady { IsSteady (D.state file.disk) → IfOk result (λ m. IsSteady (D.state m.file.disk)) }
     ensures disk { MatchResult result
@@ -131,10 +131,10 @@ impl<D: Disk> Manager<D> {
         requires empty { (D.state disk).seen ≡ [] }
         requires durable { Only (D.state disk).seen (D.state disk).may_leave }
         ensures running { IfOk result (λ m. m.file.stopped ≡ false) }
-        ensures shows { IfOk result (λ m. Shows m (first_book nodes target)) }
+        ensures shows { IfOk result (λ m. ShowsCatalog m (first_catalog nodes target)) }
         ensures records { IfOk result (λ m. m.file.records ≡ first_record nodes target ∷ []) }
         ensures version { IfOk result (λ m. m.file.version ≡ Version.V1) }
-        ensures replays { IfOk result (λ m. IsLedger m m.file.records) }
+        ensures replays { IfOk result (λ m. ManagerIsReplay m m.file.records) }
         ensures failed { IfErr result (λ e. e.0 ≡ DiskFault.Failed → (D.state disk).failures < (D.state e.1).failures) }
         ensures steady { IsSteady (D.state disk) → MatchResult result
             (λ m. IsSteady (D.state m.file.disk))
@@ -145,7 +145,7 @@ impl<D: Disk> Manager<D> {
             (λ m. LeavesOnly (D.state disk) (D.state m.file.disk) (HoldsAtMost Version.V1 (first_record nodes target)))
             (λ e. LeavesOnly (D.state disk) (D.state e.1) (HoldsAtMost Version.V1 (first_record nodes target))) }
     {
-        let Ok(table) = Table::new(alloc, nodes, target) else {
+        let Ok(table) = ManagerTable::new(alloc, nodes, target) else {
             return Err((DiskFault::Memory, disk));
         };
         match RecordFile::format(Version::V1, disk) {
@@ -160,11 +160,11 @@ impl<D: Disk> Manager<D> {
     pub fn restart(alloc: Global, disk: D) -> Result<Manager<D>, (FileFault, D)>
         ensures running { IfOk result (λ m. m.file.stopped ≡ false) }
         ensures file { IfOk result (λ m. IsFileOf m.file.version m.file.records (D.state disk).seen) }
-        ensures replays { IfOk result (λ m. IsLedger m m.file.records) }
+        ensures replays { IfOk result (λ m. ManagerIsReplay m m.file.records) }
         ensures fresh { IfOk result (λ m. m ≡ forgotten_state m) }
 
         // 21 only where the bytes are no file of records that fit, the first of them among them.
-        ensures damaged { (v : Version) (rs : List Record) → IsFileOf v rs (D.state disk).seen → rs ≢ [] → book_fits rs ≡ true
+        ensures damaged { (v : Version) (rs : List Record) → IsFileOf v rs (D.state disk).seen → rs ≢ [] → catalog_fits rs ≡ true
             → IfErr result (λ e. e.0 ≢ FileFault.Damaged) }
         ensures failed { IfErr result (λ e. e.0 ≡ FileFault.Failed → (D.state disk).failures < (D.state e.1).failures) }
 
@@ -186,19 +186,19 @@ impl<D: Disk> Manager<D> {
         }
     }
 
-    /// What the manager does with a packet: the row of its table, exactly. The record, if there is one, is on the disk
+    /// What the manager does with a packet: the rule of its table, exactly. The record, if there is one, is on the disk
     /// before the packets are handed out. A stopped manager does nothing. 20: the disk failed, and the manager is stopped
     /// until it is restarted; its records are the old ones, with the new one or without. 22: nothing has changed.
     pub fn handle(&mut self, alloc: Global, packet: &Packet) -> Result<Step, DiskFault>
-        ensures took { self.old.file.stopped ≡ false → (b : Book) → Shows self.old b
-            → Ruled D.state self.old self.new (manager_row b packet.now packet.now.body) result }
+        ensures performed { self.old.file.stopped ≡ false → (b : Catalog) → ShowsCatalog self.old b
+            → ManagerPerforms D.state self.old self.new (manager_rule b packet.now packet.now.body) result }
         ensures stopped { self.old.file.stopped ≡ true → (self.new ≡ self.old) × (result ≡ Ok (record { packets = []; notes = [] })) }
 
         // A step sends no more than a caller can make room for beforehand.
         ensures few { IfOk result (λ step. AreFew step.packets step.notes) }
 
         // While the manager runs, its state is what its records make of it.
-        ensures ledger { self.old.file.stopped ≡ false → IsLedger self.old self.old.file.records }
+        ensures replays { self.old.file.stopped ≡ false → ManagerIsReplay self.old self.old.file.records }
     {
         if self.file.is_stopped() {
             return Ok(Step::silent(alloc));
@@ -207,19 +207,19 @@ impl<D: Disk> Manager<D> {
     }
 
     /// Has an extent sealed at the least length that a place has told, or has its places told again where it is sealed: the
-    /// row of the table, exactly. A stopped manager does nothing. 1: there is no such extent. 10: it is not sealed, and no
+    /// rule of the table, exactly. A stopped manager does nothing. 1: there is no such extent. 10: it is not sealed, and no
     /// place has told a length. 20: the disk failed, and the manager is stopped until it is restarted; its records are the
     /// old ones, with the new one or without. 22: no memory. After 1, 10 and 22 nothing has changed.
     pub fn decide(&mut self, alloc: Global, extent: ExtentId) -> Result<Step, ManagerFault>
         ensures refused { self.old.file.stopped ≡ false → (r : Refusal) → decide_refusal (entry_at self.old.extents extent) ≡ Some r
             → (self.new ≡ self.old) × (result ≡ Err (fault_of r)) }
-        ensures ruled { self.old.file.stopped ≡ false → decide_refusal (entry_at self.old.extents extent) ≡ None
-            → (b : Book) → Shows self.old b → Ruled D.state self.old self.new (decide_row b extent (b.extent extent)) (as_row result) }
+        ensures performed { self.old.file.stopped ≡ false → decide_refusal (entry_at self.old.extents extent) ≡ None
+            → (b : Catalog) → ShowsCatalog self.old b → ManagerPerforms D.state self.old self.new (decide_rule b extent (b.extent extent)) (as_rule result) }
         ensures taken { decide_refusal (entry_at self.old.extents extent) ≡ None
             → IfErr result (λ e. (e ≢ ManagerFault.NoSuchExtent) × (e ≢ ManagerFault.NoReply)) }
         ensures stopped { self.old.file.stopped ≡ true → (self.new ≡ self.old) × (result ≡ Ok (record { packets = []; notes = [] })) }
         ensures few { IfOk result (λ step. AreFew step.packets step.notes) }
-        ensures ledger { self.old.file.stopped ≡ false → IsLedger self.old self.old.file.records }
+        ensures replays { self.old.file.stopped ≡ false → ManagerIsReplay self.old self.old.file.records }
     {
         if self.file.is_stopped() {
             return Ok(Step::silent(alloc));
@@ -246,7 +246,7 @@ impl<D: Disk> Manager<D> {
 
     /// What its records make of it, to look at: how many nodes there are, the target of each extent that it makes, the
     /// streams and the extents.
-    pub fn table(&self) -> &Table
+    pub fn table(&self) -> &ManagerTable
         ensures { state_of result.now self.now.file ≡ self.now }
     {
         &self.table
@@ -296,7 +296,7 @@ impl Manager<MemDisk> {
         ensures disk { self.new.file.disk ≡ record self.old.file.disk { stop = None } }
         ensures file { (self.new.file.version ≡ self.old.file.version) × (self.new.file.records ≡ self.old.file.records) }
         ensures same { self.new ≡ record self.old { file = self.new.file } }
-        ensures ledger { self.old.file.stopped ≡ false → IsLedger self.old self.old.file.records }
+        ensures replays { self.old.file.stopped ≡ false → ManagerIsReplay self.old self.old.file.records }
     {
         self.file.cancel_stop();
         self.file.halt();

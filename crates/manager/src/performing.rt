@@ -1,18 +1,18 @@
 //! What a step is about to do is done: the record is written first, and then the table changes.
 ghost use Rattle.std.specs.Prelude.{◌≡◌, false, OnOk, OnErr};
-ghost use Rattle.blocks.specs.declared.record.Record.TheVariants as records;
+ghost use Rattle.block_types.specs.declared.record.Record.TheVariants as records;
 ghost use Rattle.disk.specs.Appends.{Appends};
-ghost use Rattle.model.specs.Ledger.{spelled};
-ghost use Rattle.model.specs.Maps.{entry_at};
-ghost use Rattle.directory.specs.Table.{plain, table_after};
-ghost use Rattle.planning.specs.Plan.{IsReadAgain, planned, decide};
-ghost use Rattle.manager.specs.Done.{Done};
+ghost use Rattle.model_streams.specs.RecordBytes.{spelled};
+ghost use Rattle.model_streams.specs.Maps.{entry_at};
+ghost use Rattle.manager_state.specs.Table.{plain, table_after};
+ghost use Rattle.manager_rules.specs.Plan.{IsReadAgain, planned, decide};
+ghost use Rattle.manager.specs.PlanPerformed.{PlanPerformed};
 
-use blocks::Record;
-use directory::{Table, encode};
+use block_types::Record;
 use disk::{Disk, DiskFault, RecordFile};
-use model::ManagerRecord;
-use planning::{Change, Plan, decide, plan_for};
+use manager_rules::{Change, Plan, decide, plan_for};
+use manager_state::{ManagerTable, encode};
+use model_streams::ManagerRecord;
 use std::alloc::Global;
 use wire::{Packet, Step};
 
@@ -20,32 +20,32 @@ use wire::{Packet, Step};
 pub(crate) fn write<D: Disk>(
     alloc: Global,
     file: &mut RecordFile<D>,
-    ruling: &ManagerRecord,
+    new_record: &ManagerRecord,
 ) -> Result<(), DiskFault>
     requires running { file.old.stopped ≡ false }
-    ensures { Appends D.state file.old file.new (records.Manage (spelled ruling.now)) result }
+    ensures { Appends D.state file.old file.new (records.Manage (spelled new_record.now)) result }
 {
-    let text = encode(alloc, ruling)?;
+    let text = encode(alloc, new_record)?;
     file.append(alloc, &Record::Manage { text })
 }
 
 /// Makes room for what a record adds to the table, writes it, and does what it makes of the table. At an error the table is
 /// as it was.
-fn rule<D: Disk>(
-    table: &mut Table,
+fn write_and_apply<D: Disk>(
+    table: &mut ManagerTable,
     file: &mut RecordFile<D>,
     alloc: Global,
-    ruling: &ManagerRecord,
+    new_record: &ManagerRecord,
 ) -> Result<(), DiskFault>
     requires running { file.old.stopped ≡ false }
-    ensures ok { OnOk result (plain table.new ≡ table_after (plain table.old) ruling.now) }
+    ensures ok { OnOk result (plain table.new ≡ table_after (plain table.old) new_record.now) }
     ensures err { OnErr result (plain table.new ≡ plain table.old) }
-    ensures file { Appends D.state file.old file.new (records.Manage (spelled ruling.now)) result }
+    ensures file { Appends D.state file.old file.new (records.Manage (spelled new_record.now)) result }
 {
-    table.reserve(ruling)?;
-    match write(alloc, file, ruling) {
+    table.reserve(new_record)?;
+    match write(alloc, file, new_record) {
         Ok(()) => {
-            table.apply(ruling);
+            table.apply(new_record);
             Ok(())
         }
         Err(fault) => Err(fault),
@@ -54,13 +54,13 @@ fn rule<D: Disk>(
 
 /// Does it. At an error the table is as it was.
 pub(crate) fn perform<D: Disk>(
-    table: &mut Table,
+    table: &mut ManagerTable,
     file: &mut RecordFile<D>,
     alloc: Global,
     plan: Plan,
 ) -> Result<Step, DiskFault>
     requires running { file.old.stopped ≡ false }
-    ensures { Done D.state (plain table.old) (plain table.new) file.old file.new plan result }
+    ensures { PlanPerformed D.state (plain table.old) (plain table.new) file.old file.new plan result }
 {
     let Plan { step, change } = plan;
     match change {
@@ -69,7 +69,7 @@ pub(crate) fn perform<D: Disk>(
             table.replace(extent, entry);
             Ok(step)
         }
-        Change::Write(ruling) => match rule(table, file, alloc, &ruling) {
+        Change::Write(new_record) => match write_and_apply(table, file, alloc, &new_record) {
             Ok(()) => Ok(step),
             Err(fault) => Err(fault),
         },
@@ -78,13 +78,13 @@ pub(crate) fn perform<D: Disk>(
 
 /// Does what the manager does with a packet.
 pub(crate) fn handle_on<D: Disk>(
-    table: &mut Table,
+    table: &mut ManagerTable,
     file: &mut RecordFile<D>,
     alloc: Global,
     packet: &Packet,
 ) -> Result<Step, DiskFault>
     requires running { file.old.stopped ≡ false }
-    ensures done { Done D.state (plain table.old) (plain table.new) file.old file.new (planned (plain table.old) packet.now packet.now.body) result }
+    ensures done { PlanPerformed D.state (plain table.old) (plain table.new) file.old file.new (planned (plain table.old) packet.now packet.now.body) result }
     ensures again { IsReadAgain (planned (plain table.old) packet.now packet.now.body).change }
 {
     match plan_for(alloc, table, packet) {
@@ -95,13 +95,13 @@ pub(crate) fn handle_on<D: Disk>(
 
 /// Does what the manager does to have an extent sealed.
 pub(crate) fn decide_on<D: Disk>(
-    table: &mut Table,
+    table: &mut ManagerTable,
     file: &mut RecordFile<D>,
     alloc: Global,
     extent: u64,
 ) -> Result<Step, DiskFault>
     requires running { file.old.stopped ≡ false }
-    ensures done { Done D.state (plain table.old) (plain table.new) file.old file.new (decide table.old.target extent (entry_at table.old.extents extent)) result }
+    ensures done { PlanPerformed D.state (plain table.old) (plain table.new) file.old file.new (decide table.old.target extent (entry_at table.old.extents extent)) result }
     ensures again { IsReadAgain (decide table.old.target extent (entry_at table.old.extents extent)).change }
 {
     match decide(alloc, table, extent) {

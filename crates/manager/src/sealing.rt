@@ -1,13 +1,13 @@
 //! Decisions: at which length an extent would be sealed, why it cannot be, and the answer of a call.
 ghost use Rattle.std.specs.Prelude.{◌≡◌, ◌≢◌, Some, IfErr, option_map};
-ghost use Rattle.model.specs.Manager.{decide_refusal};
-ghost use Rattle.model.specs.Maps.{entry_at};
-ghost use Rattle.manager.specs.Ruled.{as_row, fault_of, sealing_at};
+ghost use Rattle.model_streams.specs.Manager.{decide_refusal};
+ghost use Rattle.model_streams.specs.Maps.{entry_at};
+ghost use Rattle.manager.specs.Performs.{as_rule, fault_of, sealing_at};
 
 use crate::fault::ManagerFault;
-use directory::{Table, least_told};
 use disk::DiskFault;
-use model::Extent;
+use manager_state::{ManagerTable, least_told};
+use model_streams::Extent;
 use wire::Step;
 
 /// The length at which a decision would seal an extent.
@@ -22,7 +22,7 @@ pub(crate) fn sealing_of(entry: &Extent) -> Option<u32>
 }
 
 /// Why an extent cannot be sealed.
-pub(crate) fn refusal(table: &Table, extent: u64) -> Option<ManagerFault>
+pub(crate) fn refusal(table: &ManagerTable, extent: u64) -> Option<ManagerFault>
     ensures { result ≡ option_map fault_of (decide_refusal (entry_at table.now.extents extent)) }
 {
     match table.entry(extent) {
@@ -39,7 +39,7 @@ pub(crate) fn refusal(table: &Table, extent: u64) -> Option<ManagerFault>
 
 /// The answer of a decision that was not refused.
 pub(crate) fn answer(done: Result<Step, DiskFault>) -> Result<Step, ManagerFault>
-    ensures row { as_row result ≡ done }
+    ensures rule { as_rule result ≡ done }
     ensures taken { IfErr result (λ e. (e ≢ ManagerFault.NoSuchExtent) × (e ≢ ManagerFault.NoReply)) }
 {
     match done {

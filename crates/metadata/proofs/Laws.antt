@@ -3,14 +3,14 @@ use Rattle.std.proofs.Common.{◌≡◌, ℕ, zero, suc, ◌+◌, ◌^◌, ◌<�
 use Rattle.std.specs.List.{AllByRecursion}
 use Rattle.std.specs.Prelude.{nat_le, ◌==◌, IfOk, MatchResult, if◌then◌else◌}
 use Rattle.std.proofs.lemmas.Bool.{leb-true, le-leb}
-use Rattle.cells.specs.declared.cell.Place.{Place}
+use Rattle.memtable.specs.declared.cell.Place.{Place}
 use Rattle.streams.specs.declared.table.Position.{Position}
-use Rattle.blocks.specs.declared.fault.BlockFault.{BlockFault}
-use Rattle.blocks.specs.declared.fault.BlockFault.TheVariants as faults
-use Rattle.formats.specs.Format.{Gives, ◌>>=◌, number_at, bytes_at, pair_at, only_at, many_at, whole}
-use Rattle.formats.specs.Record.{number}
-use Rattle.blocks.specs.Limits.{is_within}
-use Rattle.formats.proofs.Formats.{IsBytes, IsBytes-after, bind_some, some_is, IsFormat, number1, number2, number4, number8, within, within_again, bytes_takes, bytes_again, pair_format, only_format, counted_format, whole_takes, whole_again}
+use Rattle.block_types.specs.declared.fault.BlockFault.{BlockFault}
+use Rattle.block_types.specs.declared.fault.BlockFault.TheVariants as faults
+use Rattle.blocks.specs.Format.{Gives, ◌>>=◌, number_at, bytes_at, pair_at, only_at, many_at, whole}
+use Rattle.blocks.specs.Record.{number}
+use Rattle.block_types.specs.Limits.{is_within}
+use Rattle.blocks.proofs.Formats.{IsBytes, IsBytes-after, bind_some, some_is, IsFormat, number1, number2, number4, number8, within, within_again, bytes_takes, bytes_again, pair_format, only_format, counted_format, whole_takes, whole_again}
 use Rattle.metadata.specs.declared.record.KeyRange.{KeyRange}
 use Rattle.metadata.specs.declared.record.IndexRange.{IndexRange}
 use Rattle.metadata.specs.declared.record.Region.{Region}

@@ -1,9 +1,9 @@
 -- Reading records.
 use Rattle.std.specs.Prelude.{ℕ, zero, suc, nat_le, List, [], ◌∷◌, Option, Some, None, Bool, ◌==◌}
-use Rattle.cells.specs.declared.cell.Place.{Place}
+use Rattle.memtable.specs.declared.cell.Place.{Place}
 use Rattle.streams.specs.declared.table.Position.{Position}
-use Rattle.formats.specs.Format.{◌>>=◌, number_at, bytes_at, pair_at, only_at, many_at, whole}
-use Rattle.blocks.specs.Limits.{is_within}
+use Rattle.blocks.specs.Format.{◌>>=◌, number_at, bytes_at, pair_at, only_at, many_at, whole}
+use Rattle.block_types.specs.Limits.{is_within}
 use Rattle.metadata.specs.declared.record.KeyRange.{KeyRange}
 use Rattle.metadata.specs.declared.record.IndexRange.{IndexRange}
 use Rattle.metadata.specs.declared.record.Region.{Region}

@@ -1,9 +1,9 @@
 -- What a record's bytes are, and which records have bytes.
 use Rattle.std.specs.Prelude.{ℕ, ◌^◌, ◌≤◌, ◌<◌, Bool, List, ◌++◌, length, Option, Some, None, if◌then◌else◌}
 use Rattle.std.specs.List.{flat_map, AllByRecursion}
-use Rattle.cells.specs.declared.cell.Place.{Place}
+use Rattle.memtable.specs.declared.cell.Place.{Place}
 use Rattle.streams.specs.declared.table.Position.{Position}
-use Rattle.formats.specs.Record.{number}
+use Rattle.blocks.specs.Record.{number}
 use Rattle.metadata.specs.declared.record.KeyRange.{KeyRange}
 use Rattle.metadata.specs.declared.record.IndexRange.{IndexRange}
 use Rattle.metadata.specs.declared.record.Region.{Region}

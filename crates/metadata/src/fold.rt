@@ -1,14 +1,14 @@
 //! What the records of a range's metadata say together.
 ghost use Rattle.std.specs.Prelude.{◌≡◌, ◌+◌, ◌<◌, ◌^◌, Some, None, Err, true, IfOk, IfErr, OnOk, OnErr};
 ghost use Rattle.metadata.specs.declared.record.MetaItem.TheVariants.{Checkpoint};
-ghost use Rattle.blocks.specs.declared.fault.BlockFault.TheVariants as faults;
+ghost use Rattle.block_types.specs.declared.fault.BlockFault.TheVariants as faults;
 ghost use Rattle.metadata.specs.Fold as specs;
 
 use crate::lists::{IndexRanges, Regions};
 use crate::record::{IndexRange, KeyRange, MetaItem, MetaRecord, Region};
-use blocks::BlockFault;
+use block_types::BlockFault;
 use bytes::Bytes;
-use cells::Place;
+use memtable::Place;
 use std::alloc::{AllocError, Global};
 use std::marker::Model;
 use streams::Position;

@@ -1,16 +1,16 @@
 //! Reading a record from bytes. Each reader is the function on lists of specs/Reading.antt that its clause cites.
 ghost use Rattle.std.specs.Prelude.{◌≡◌, ◌≤◌, ◌∷◌, [], length, IfOk, MatchResult};
-ghost use Rattle.formats.specs.Format.{Gives, many_at};
+ghost use Rattle.blocks.specs.Format.{Gives, many_at};
 ghost use Rattle.metadata.specs.Record.{spelling, Fits};
 ghost use Rattle.metadata.specs.Reading.{text_at, high_behind, high_at, keys_at, place_at, position_at, flag_at, next_at, index_at, end_behind, end_at, region_at, counted_at, ranges_at, checkpoint_at, regions_at, status_at, item_at, record_at, group_at};
 ghost use Rattle.metadata.specs.declared.record.MetaRecord.{MetaRecord};
 
 use crate::lists::{IndexRanges, Regions};
 use crate::record::{IndexRange, KeyRange, MetaItem, MetaRecord, Region};
-use blocks::{BlockFault, Group};
+use block_types::{BlockFault, Group};
+use blocks::reader::{bytes_of, ended, u8_at, u16_at, u32_at, u64_at};
 use bytes::Bytes;
-use cells::{MAX_KEY, Place};
-use formats::reader::{bytes_of, ended, u8_at, u16_at, u32_at, u64_at};
+use memtable::{MAX_KEY, Place};
 use std::alloc::Global;
 use streams::Position;
 use wire::{ExtentId, RangeId};

@@ -3,7 +3,7 @@ ghost use Rattle.std.specs.Prelude.{◌≡◌};
 
 use crate::lists::{IndexRanges, Regions};
 use bytes::Bytes;
-use cells::Place;
+use memtable::Place;
 use streams::Position;
 use wire::RangeId;
 

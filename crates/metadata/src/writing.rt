@@ -1,15 +1,15 @@
 //! Writing a record as bytes. Each writer appends what its clause says; where one fails for want of memory, a part of it
 //! may stand in the buffer, so `encode` writes into a buffer of its own.
 ghost use Rattle.std.specs.Prelude.{◌≡◌, ◌∷◌, [], ◌++◌, ◌<◌, ◌^◌, ◌≤◌, length, IfOk, OnOk};
-ghost use Rattle.formats.specs.Record.{number};
+ghost use Rattle.blocks.specs.Record.{number};
 ghost use Rattle.metadata.specs.Record.{text, high, keys, place, position, flag, index, end, region, counted, item, spelling, IsHigh, IsKeyRange, IsIndex, IsRegion, IsItem, Fits};
 ghost use Rattle.std.specs.List.{AllByRecursion};
 
 use crate::record::{IndexRange, KeyRange, MetaItem, MetaRecord, Region};
-use blocks::{Block, Group, Memory};
+use block_types::{Block, Group, Memory};
+use blocks::writer::{put_bytes, put_u8, put_u16, put_u32, put_u64};
 use bytes::Bytes;
-use cells::Place;
-use formats::writer::{put_bytes, put_u8, put_u16, put_u32, put_u64};
+use memtable::Place;
 use std::alloc::{AllocError, Global};
 use streams::Position;
 

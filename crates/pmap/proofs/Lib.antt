@@ -1,5 +1,5 @@
 pub mod Places
 pub mod Routing
-pub mod Making
-pub mod Doing
-pub mod Keeping
+pub mod OneMoreRecord
+pub mod RecordedPlans
+pub mod ReplaysRecords

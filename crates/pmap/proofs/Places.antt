@@ -4,11 +4,11 @@ use Rattle.std.specs.Prelude.{map, ◌==◌, nat_lt, find, position, slice_get, 
 use Rattle.std.specs.List.{position_or_len}
 use Rattle.std.proofs.lemmas.List.Folds.{find_at}
 use Rattle.std.proofs.lemmas.Option.{slice_get_past, slice_get_read}
-use Rattle.model.proofs.Tests.{if_elim}
-use Rattle.model_tables.specs.declared.range_entry.RangeEntry.{RangeEntry}
-use Rattle.model_tables.specs.Map.{range_at, changed_if}
-use Rattle.model_tables.specs.Partition.{IsPartition, IsFresh, AreNumbered}
-use Rattle.model_tables.proofs.Partitions.{change_lies, change_numbered}
+use Rattle.model_streams.proofs.Tests.{if_elim}
+use Rattle.model_partition.specs.declared.range_entry.RangeEntry.{RangeEntry}
+use Rattle.model_partition.specs.Map.{range_at, changed_if}
+use Rattle.model_partition.specs.Partition.{IsPartition, IsFresh, AreNumbered}
+use Rattle.model_partition.proofs.Partitions.{change_lies, change_numbered}
 
 -- ---- where it stands
 

@@ -10,9 +10,9 @@ use Rattle.std.specs.declared.cmp.Ordering.TheVariants.{Less, Equal, Greater}
 use Rattle.std.proofs.lemmas.Cmp.{nat_list_cmp_total}
 use Rattle.std.proofs.lemmas.Option.{slice_get_read}
 use Rattle.metadata.specs.Keys.{below_high, within}
-use Rattle.model_tables.specs.declared.range_entry.RangeEntry.{RangeEntry}
-use Rattle.model_tables.specs.Map.{range_of_key}
-use Rattle.model_tables.specs.Partition.{IsBelow, LiesFrom}
+use Rattle.model_partition.specs.declared.range_entry.RangeEntry.{RangeEntry}
+use Rattle.model_partition.specs.Map.{range_of_key}
+use Rattle.model_partition.specs.Partition.{IsBelow, LiesFrom}
 
 -- its keys begin at this one or below
 abbrev pub begins : List ℕ → RangeEntry → Bool

@@ -1,4 +1,4 @@
-pub mod Held
-pub mod Ruled
+pub mod MapWithFile
+pub mod Performs
 pub mod Plan
-pub mod Done
+pub mod PlanPerformed

@@ -1,10 +1,10 @@
--- What a call is about to do, as the outcome of a row.
+-- What a call is about to do, as the outcome of a rule.
 use Rattle.std.specs.Prelude.{◌≡◌, ℕ, suc, ◌^◌, true, nat_lt, Option, Some, None, if◌then◌else◌}
-use Rattle.blocks.specs.declared.record.Record.{Record}
-use Rattle.model.specs.Outcome.{Outcome}
-use Rattle.model_tables.specs.declared.map_record.MapRecord.{MapRecord}
-use Rattle.model_tables.specs.Map.{MapState, writes}
-use Rattle.model_tables.specs.Replay.{map_after, ruling_fits}
+use Rattle.block_types.specs.declared.record.Record.{Record}
+use Rattle.model_streams.specs.Outcome.{Outcome}
+use Rattle.model_partition.specs.declared.map_record.MapRecord.{MapRecord}
+use Rattle.model_partition.specs.Map.{MapState, writes}
+use Rattle.model_partition.specs.Replay.{map_after, map_record_fits}
 use Rattle.pmap.specs.declared.plan.Plan.{Plan}
 
 -- the next generation, where one of 64 bits is left
@@ -13,12 +13,12 @@ next_generation generation = if nat_lt (suc generation) (2 ^ 64) then Some (suc 
 
 abbrev pub written_by : Option MapRecord → Option Record
 written_by None = None
-written_by (Some ruling) = writes ruling
+written_by (Some new_record) = writes new_record
 
 abbrev pub outcome_of : MapState → Plan → Outcome MapState
-outcome_of m plan = record { after = map_after m plan.ruling; written = written_by plan.ruling; packets = plan.step.packets; notes = plan.step.notes }
+outcome_of m plan = record { after = map_after m plan.new_record; written = written_by plan.new_record; packets = plan.step.packets; notes = plan.step.notes }
 
 -- what is written, if anything, may be written where the map is this
-abbrev pub MayRule : MapState → Option MapRecord → Type 0
-MayRule m None = Unit {0}
-MayRule m (Some ruling) = ruling_fits m (Some ruling) ≡ true
+abbrev pub MayWrite : MapState → Option MapRecord → Type 0
+MayWrite m None = Unit {0}
+MayWrite m (Some new_record) = map_record_fits m (Some new_record) ≡ true

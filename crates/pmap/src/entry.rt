@@ -2,10 +2,10 @@
 ghost use Rattle.std.specs.Prelude.{◌≡◌, ◌<◌, ◌^◌, suc, not};
 ghost use Rattle.std.specs.Cmp.Lexicographic.{slice_cmp};
 ghost use Rattle.std.specs.Ordering.{nat_cmp, is_lt};
-ghost use Rattle.model_tables.specs.Map.{assigned, renewed};
+ghost use Rattle.model_partition.specs.Map.{assigned, renewed};
 ghost use Rattle.pmap.specs.Plan.{next_generation};
 
-use model_tables::RangeEntry;
+use model_partition::RangeEntry;
 use wire::{Fence, ServerNo};
 
 /// Whether its keys begin at this one or below.

@@ -1,18 +1,18 @@
 //! The partition map: which range has which keys, and which server holds it until when, over a file of records.
 //!
 //! This crate touches memory and the disk that a map is given, through its file of records, and nothing else. It offers the
-//! rows of the map exactly: after an assignment, a renewal or a packet the ranges, the record and the packets are the row's,
+//! rules of the map exactly: after an assignment, a renewal or a packet the ranges, the record and the packets are the rule's,
 //! the record is on the disk before a packet leaves, and while a map runs its ranges are what its records make. The ranges
 //! have each key once, at any time. A refusal for want of memory changes nothing.
 #![tactic(auto)]
 
 mod entry;
 mod fault;
-mod ledger;
 mod partition_map;
 mod performing;
 mod plan;
 mod planning;
+mod record_bytes;
 mod recovery;
 mod refusing;
 mod replay;

@@ -1,27 +1,27 @@
 //! The partition map.
 ghost use Rattle.std.specs.Prelude.{◌≡◌, ◌≢◌, ◌<◌, List, [], Ok, Err, Some, None, false, true, IfOk, IfErr, MatchResult, option_map};
-ghost use Rattle.blocks.specs.declared.record.Record.{Record};
-ghost use Rattle.blocks.specs.declared.record.Version.{Version};
+ghost use Rattle.block_types.specs.declared.record.Record.{Record};
+ghost use Rattle.block_types.specs.declared.record.Version.{Version};
 ghost use Rattle.disk.specs.Disk.{IsSame, IsSteady, LeavesOnly};
 ghost use Rattle.disk.specs.File.{IsFileOf};
 ghost use Rattle.disk.specs.Memory.{memory_state};
 ghost use Rattle.wire.specs.declared.refusal.Refusal.{Refusal};
-ghost use Rattle.model.specs.Bounds.{AreFew};
-ghost use Rattle.model_tables.specs.Map.{range_at, range_of_key, assign_fault, assign_row, renew_fault, renew_row, map_row};
-ghost use Rattle.model_tables.specs.Partition.{IsPartition, AreNumbered, HaveEachKeyOnce};
-ghost use Rattle.model_tables.specs.Replay.{map_fits};
-ghost use Rattle.pmap.specs.Held.{map_of, MakesMap};
-ghost use Rattle.pmap.specs.Ruled.{Ruled, as_row, fault_of};
+ghost use Rattle.model_streams.specs.Bounds.{AreFew};
+ghost use Rattle.model_partition.specs.Map.{range_at, range_of_key, assign_fault, assign_rule, renew_fault, renew_rule, map_rule};
+ghost use Rattle.model_partition.specs.Partition.{IsPartition, AreNumbered, HaveEachKeyOnce};
+ghost use Rattle.model_partition.specs.Replay.{map_fits};
+ghost use Rattle.pmap.specs.MapWithFile.{map_of, MakesMap};
+ghost use Rattle.pmap.specs.Performs.{MapPerforms, as_rule, fault_of};
 
 use crate::fault::MapFault;
-use crate::ledger::reads_back;
 use crate::performing::{assign_on, renew_on};
 use crate::planning::answer_to;
+use crate::record_bytes::reads_back;
 use crate::recovery::table_of;
 use crate::refusing::{answer, assign_fault, renew_fault};
 use crate::table::RangeTable;
 use disk::{Disk, DiskFault, FileFault, MemDisk, RecordFile};
-use model_tables::{MapRecord, RangeEntry};
+use model_partition::{MapRecord, RangeEntry};
 use std::alloc::Global;
 use std::marker::Model;
 use wire::{Packet, RangeId, ServerNo, Step};
@@ -43,9 +43,9 @@ impl<D: Disk + Drop> Drop for PartitionMap<D> {
 /// While it runs, its ranges are what its records make of them.
 impl<D: Disk> Model for PartitionMap<D> {
     ghost use Rattle.std.specs.Prelude.{◌≡◌, false};
-    ghost use Rattle.pmap.specs.Held.{MapHeld, held_of, MakesMap};
+    ghost use Rattle.pmap.specs.MapWithFile.{MapWithFile, held_of, MakesMap};
 
-    ghost Value = { MapHeld D };
+    ghost Value = { MapWithFile D };
 
     ghost view = { λ m. held_of m.table m.file };
 
@@ -119,7 +119,7 @@ impl<D: Disk> PartitionMap<D> {
         (entry.range, entry.holder)
     }
 
-    /// Assigns a range to a server with a lease up to a moment, under a generation one higher, and tells the server: the row
+    /// Assigns a range to a server with a lease up to a moment, under a generation one higher, and tells the server: the rule
     /// of the map, exactly. The end of a lease never goes back, and where no generation of 64 bits is left nothing happens.
     /// The record is on the disk before the packet is handed out. A stopped map does nothing. 30: there is no such range.
     /// 31: another server holds it, and its lease has not ended at the moment `now`. 20: the disk failed, and the map is
@@ -135,8 +135,8 @@ impl<D: Disk> PartitionMap<D> {
     ) -> Result<Step, MapFault>
         ensures refused { self.old.file.stopped ≡ false → (r : Refusal) → assign_fault server now (range_at self.old.ranges range) ≡ Some r
             → (self.new ≡ self.old) × (result ≡ Err (fault_of r)) }
-        ensures ruled { self.old.file.stopped ≡ false → assign_fault server now (range_at self.old.ranges range) ≡ None
-            → Ruled D.state self.old self.new (assign_row (map_of self.old) range server until (range_at self.old.ranges range)) (as_row result) }
+        ensures performed { self.old.file.stopped ≡ false → assign_fault server now (range_at self.old.ranges range) ≡ None
+            → MapPerforms D.state self.old self.new (assign_rule (map_of self.old) range server until (range_at self.old.ranges range)) (as_rule result) }
         ensures taken { assign_fault server now (range_at self.old.ranges range) ≡ None
             → IfErr result (λ e. (e ≢ MapFault.NotOwner) × (e ≢ MapFault.LeaseHeld)) }
         ensures stopped { self.old.file.stopped ≡ true → (self.new ≡ self.old) × (result ≡ Ok (record { packets = []; notes = [] })) }
@@ -145,7 +145,7 @@ impl<D: Disk> PartitionMap<D> {
         ensures few { IfOk result (λ step. AreFew step.packets step.notes) }
 
         // While the map runs, its ranges are what its records make of them.
-        ensures ledger { self.old.file.stopped ≡ false → MakesMap self.old.file.records (map_of self.old) }
+        ensures replays { self.old.file.stopped ≡ false → MakesMap self.old.file.records (map_of self.old) }
     {
         if self.file.is_stopped() {
             return Ok(Step::silent(alloc));
@@ -165,7 +165,7 @@ impl<D: Disk> PartitionMap<D> {
     }
 
     /// Moves the end of the lease of a range to a moment, where that is later, for the server that holds it, and tells the
-    /// server the end: the row of the map, exactly. The record is on the disk before the packet is handed out. A stopped map
+    /// server the end: the rule of the map, exactly. The record is on the disk before the packet is handed out. A stopped map
     /// does nothing. 30: there is no such range, or the server does not hold it. 20: the disk failed, and the map is stopped
     /// until it is restarted; its records are the old ones, with the new one or without. 22: no memory. After 22 and 30
     /// nothing has changed.
@@ -178,13 +178,13 @@ impl<D: Disk> PartitionMap<D> {
     ) -> Result<Step, MapFault>
         ensures refused { self.old.file.stopped ≡ false → (r : Refusal) → renew_fault server (range_at self.old.ranges range) ≡ Some r
             → (self.new ≡ self.old) × (result ≡ Err (fault_of r)) }
-        ensures ruled { self.old.file.stopped ≡ false → renew_fault server (range_at self.old.ranges range) ≡ None
-            → Ruled D.state self.old self.new (renew_row (map_of self.old) range server until (range_at self.old.ranges range)) (as_row result) }
+        ensures performed { self.old.file.stopped ≡ false → renew_fault server (range_at self.old.ranges range) ≡ None
+            → MapPerforms D.state self.old self.new (renew_rule (map_of self.old) range server until (range_at self.old.ranges range)) (as_rule result) }
         ensures taken { renew_fault server (range_at self.old.ranges range) ≡ None
             → IfErr result (λ e. (e ≢ MapFault.NotOwner) × (e ≢ MapFault.LeaseHeld)) }
         ensures stopped { self.old.file.stopped ≡ true → (self.new ≡ self.old) × (result ≡ Ok (record { packets = []; notes = [] })) }
         ensures few { IfOk result (λ step. AreFew step.packets step.notes) }
-        ensures ledger { self.old.file.stopped ≡ false → MakesMap self.old.file.records (map_of self.old) }
+        ensures replays { self.old.file.stopped ≡ false → MakesMap self.old.file.records (map_of self.old) }
     {
         if self.file.is_stopped() {
             return Ok(Step::silent(alloc));
@@ -199,15 +199,15 @@ impl<D: Disk> PartitionMap<D> {
         }
     }
 
-    /// What the map does with a packet: the row of its table, exactly. Who asks where a key is, is told its range and who
+    /// What the map does with a packet: the rule of its table, exactly. Who asks where a key is, is told its range and who
     /// holds that; of any other packet nothing comes. It writes nothing. A stopped map does nothing. 22: nothing has changed;
     /// another fault does not come.
     pub fn handle(&mut self, alloc: Global, packet: &Packet) -> Result<Step, DiskFault>
-        ensures took { self.old.file.stopped ≡ false → Ruled D.state self.old self.new (map_row (map_of self.old) packet.now packet.now.body) result }
+        ensures performed { self.old.file.stopped ≡ false → MapPerforms D.state self.old self.new (map_rule (map_of self.old) packet.now packet.now.body) result }
         ensures stopped { self.old.file.stopped ≡ true → (self.new ≡ self.old) × (result ≡ Ok (record { packets = []; notes = [] })) }
         ensures same { self.new ≡ self.old }
         ensures few { IfOk result (λ step. AreFew step.packets step.notes) }
-        ensures ledger { self.old.file.stopped ≡ false → MakesMap self.old.file.records (map_of self.old) }
+        ensures replays { self.old.file.stopped ≡ false → MakesMap self.old.file.records (map_of self.old) }
     {
         if self.file.is_stopped() {
             return Ok(Step::silent(alloc));
@@ -273,7 +273,7 @@ impl PartitionMap<MemDisk> {
         ensures disk { self.new.file.disk ≡ record self.old.file.disk { stop = None } }
         ensures file { (self.new.file.version ≡ self.old.file.version) × (self.new.file.records ≡ self.old.file.records) }
         ensures same { self.new ≡ record self.old { file = self.new.file } }
-        ensures ledger { self.old.file.stopped ≡ false → MakesMap self.old.file.records (map_of self.old) }
+        ensures replays { self.old.file.stopped ≡ false → MakesMap self.old.file.records (map_of self.old) }
     {
         self.file.cancel_stop();
         self.file.halt();

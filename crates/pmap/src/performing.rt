@@ -1,19 +1,19 @@
 //! What a call is about to do is done: the record is written first, and then the table changes.
 ghost use Rattle.std.specs.Prelude.{◌≡◌, false, None};
-ghost use Rattle.blocks.specs.declared.record.Record.TheVariants as records;
+ghost use Rattle.block_types.specs.declared.record.Record.TheVariants as records;
 ghost use Rattle.disk.specs.Appends.{Appends};
-ghost use Rattle.model_tables.specs.Ledger.{spelled};
-ghost use Rattle.model_tables.specs.Map.{range_at, assign_row, renew_row, renew_fault};
-ghost use Rattle.pmap.specs.Done.{Done};
-ghost use Rattle.pmap.specs.Plan.{outcome_of, MayRule};
+ghost use Rattle.model_partition.specs.RecordBytes.{spelled};
+ghost use Rattle.model_partition.specs.Map.{range_at, assign_rule, renew_rule, renew_fault};
+ghost use Rattle.pmap.specs.PlanPerformed.{PlanPerformed};
+ghost use Rattle.pmap.specs.Plan.{outcome_of, MayWrite};
 
-use crate::ledger::encode;
 use crate::plan::Plan;
 use crate::planning::{plan_assign, plan_renew};
+use crate::record_bytes::encode;
 use crate::table::RangeTable;
-use blocks::Record;
+use block_types::Record;
 use disk::{Disk, DiskFault, RecordFile};
-use model_tables::MapRecord;
+use model_partition::MapRecord;
 use std::alloc::Global;
 use wire::{RangeId, ServerNo, Step};
 
@@ -21,12 +21,12 @@ use wire::{RangeId, ServerNo, Step};
 fn write<D: Disk>(
     alloc: Global,
     file: &mut RecordFile<D>,
-    ruling: &MapRecord,
+    new_record: &MapRecord,
 ) -> Result<(), DiskFault>
     requires running { file.old.stopped ≡ false }
-    ensures { Appends D.state file.old file.new (records.Manage (spelled ruling.now)) result }
+    ensures { Appends D.state file.old file.new (records.Manage (spelled new_record.now)) result }
 {
-    let text = encode(alloc, ruling)?;
+    let text = encode(alloc, new_record)?;
     file.append(alloc, &Record::Manage { text })
 }
 
@@ -38,15 +38,15 @@ fn perform<D: Disk>(
     plan: Plan,
 ) -> Result<Step, DiskFault>
     requires running { file.old.stopped ≡ false }
-    requires may { MayRule table.old plan.ruling }
-    ensures { Done D.state table.old table.new file.old file.new (outcome_of table.old plan) result }
+    requires may { MayWrite table.old plan.new_record }
+    ensures { PlanPerformed D.state table.old table.new file.old file.new (outcome_of table.old plan) result }
 {
-    let Plan { step, ruling } = plan;
-    match ruling {
+    let Plan { step, new_record } = plan;
+    match new_record {
         None => Ok(step),
-        Some(ruling) => match write(alloc, file, &ruling) {
+        Some(new_record) => match write(alloc, file, &new_record) {
             Ok(()) => {
-                table.apply(&ruling);
+                table.apply(&new_record);
                 Ok(step)
             }
             Err(fault) => Err(fault),
@@ -64,7 +64,7 @@ pub(crate) fn assign_on<D: Disk>(
     until: u64,
 ) -> Result<Step, DiskFault>
     requires running { file.old.stopped ≡ false }
-    ensures { Done D.state table.old table.new file.old file.new (assign_row table.old range server until (range_at table.old.ranges range)) result }
+    ensures { PlanPerformed D.state table.old table.new file.old file.new (assign_rule table.old range server until (range_at table.old.ranges range)) result }
 {
     match plan_assign(alloc, table, range, server, until) {
         Ok(plan) => perform(table, file, alloc, plan),
@@ -83,7 +83,7 @@ pub(crate) fn renew_on<D: Disk>(
 ) -> Result<Step, DiskFault>
     requires running { file.old.stopped ≡ false }
     requires holds { renew_fault server (range_at table.old.ranges range) ≡ None }
-    ensures { Done D.state table.old table.new file.old file.new (renew_row table.old range server until (range_at table.old.ranges range)) result }
+    ensures { PlanPerformed D.state table.old table.new file.old file.new (renew_rule table.old range server until (range_at table.old.ranges range)) result }
 {
     match plan_renew(alloc, table, range, server, until) {
         Ok(plan) => perform(table, file, alloc, plan),

@@ -1,7 +1,7 @@
 //! What a call is about to do.
 ghost use Rattle.std.specs.Prelude.{◌≡◌, [], None};
 
-use model_tables::MapRecord;
+use model_partition::MapRecord;
 use std::alloc::Global;
 use wire::Step;
 
@@ -9,17 +9,17 @@ use wire::Step;
 #[derive(Drop)]
 pub(crate) struct Plan {
     pub step: Step,
-    pub ruling: Option<MapRecord>,
+    pub new_record: Option<MapRecord>,
 }
 
 impl Plan {
     /// Nothing is done.
     pub(crate) fn nothing(alloc: Global) -> Plan
-        ensures { result ≡ record { step = record { packets = []; notes = [] }; ruling = None } }
+        ensures { result ≡ record { step = record { packets = []; notes = [] }; new_record = None } }
     {
         Plan {
             step: Step::silent(alloc),
-            ruling: None,
+            new_record: None,
         }
     }
 }

@@ -1,15 +1,15 @@
-//! What the map is about to do with a call: the rows, before anything is written.
+//! What the map is about to do with a call: the rules, before anything is written.
 ghost use Rattle.std.specs.Prelude.{◌≡◌, [], ◌∷◌, None, IfOk};
 ghost use Rattle.wire.specs.declared.actor.ActorId.TheVariants.{Map};
 ghost use Rattle.wire.specs.declared.body.Body.TheVariants as bodies;
-ghost use Rattle.model.specs.Outcome.{packet};
-ghost use Rattle.model_tables.specs.Map.{range_at, assign_row, renew_fault, renew_row, map_row};
-ghost use Rattle.pmap.specs.Plan.{outcome_of, MayRule};
+ghost use Rattle.model_streams.specs.Outcome.{packet};
+ghost use Rattle.model_partition.specs.Map.{range_at, assign_rule, renew_fault, renew_rule, map_rule};
+ghost use Rattle.pmap.specs.Plan.{outcome_of, MayWrite};
 
 use crate::entry::next_generation;
 use crate::plan::Plan;
 use crate::table::RangeTable;
-use model_tables::MapRecord;
+use model_partition::MapRecord;
 use std::alloc::{AllocError, Global};
 use wire::{ActorId, Body, MapBody, Notes, Packet, Packets, RangeId, ServerNo, Step};
 
@@ -38,8 +38,8 @@ pub(crate) fn plan_assign(
     server: ServerNo,
     until: u64,
 ) -> Result<Plan, AllocError>
-    ensures row { IfOk result (λ plan. outcome_of table.now plan ≡ assign_row table.now range server until (range_at table.now.ranges range)) }
-    ensures may { IfOk result (λ plan. MayRule table.now plan.ruling) }
+    ensures rule { IfOk result (λ plan. outcome_of table.now plan ≡ assign_rule table.now range server until (range_at table.now.ranges range)) }
+    ensures may { IfOk result (λ plan. MayWrite table.now plan.new_record) }
 {
     let Some(entry) = table.entry(range) else {
         return Ok(Plan::nothing(alloc));
@@ -55,7 +55,7 @@ pub(crate) fn plan_assign(
     let step = tell(alloc, ActorId::Server(server), told)?;
     Ok(Plan {
         step,
-        ruling: Some(MapRecord::Assign {
+        new_record: Some(MapRecord::Assign {
             range,
             server,
             until,
@@ -72,8 +72,8 @@ pub(crate) fn plan_renew(
     until: u64,
 ) -> Result<Plan, AllocError>
     requires { renew_fault server (range_at table.now.ranges range) ≡ None }
-    ensures row { IfOk result (λ plan. outcome_of table.now plan ≡ renew_row table.now range server until (range_at table.now.ranges range)) }
-    ensures may { IfOk result (λ plan. MayRule table.now plan.ruling) }
+    ensures rule { IfOk result (λ plan. outcome_of table.now plan ≡ renew_rule table.now range server until (range_at table.now.ranges range)) }
+    ensures may { IfOk result (λ plan. MayWrite table.now plan.new_record) }
 {
     let Some(entry) = table.entry(range) else {
         return Ok(Plan::nothing(alloc));
@@ -86,7 +86,7 @@ pub(crate) fn plan_renew(
     let step = tell(alloc, ActorId::Server(server), told)?;
     Ok(Plan {
         step,
-        ruling: Some(MapRecord::Renew { range, until }),
+        new_record: Some(MapRecord::Renew { range, until }),
     })
 }
 
@@ -96,8 +96,8 @@ pub(crate) fn answer_to(
     table: &RangeTable,
     packet: &Packet,
 ) -> Result<Step, AllocError>
-    ensures packets { IfOk result (λ step. step.packets ≡ (map_row table.now packet.now packet.now.body).packets) }
-    ensures notes { IfOk result (λ step. step.notes ≡ (map_row table.now packet.now packet.now.body).notes) }
+    ensures packets { IfOk result (λ step. step.packets ≡ (map_rule table.now packet.now packet.now.body).packets) }
+    ensures notes { IfOk result (λ step. step.notes ≡ (map_rule table.now packet.now packet.now.body).notes) }
 {
     match &packet.body {
         Body::Map(MapBody::Route { key, request }) => {

@@ -1,12 +1,12 @@
 //! The table from the records of the map's file.
 ghost use Rattle.std.specs.Prelude.{◌≡◌, ◌<◌, true, false, IfOk, IsErrOf};
 ghost use Rattle.disk.specs.Disk.{IsSame, IsSteady};
-ghost use Rattle.model_tables.specs.Replay.{map_fits};
-ghost use Rattle.pmap.specs.Held.{MakesMap};
+ghost use Rattle.model_partition.specs.Replay.{map_fits};
+ghost use Rattle.pmap.specs.MapWithFile.{MakesMap};
 
 use crate::replay::replayed;
 use crate::table::RangeTable;
-use blocks::BlockFault;
+use block_types::BlockFault;
 use disk::{Disk, FileFault, RecordFile};
 use std::alloc::Global;
 

@@ -1,7 +1,7 @@
 //! Why a range is not assigned and a lease not renewed, and the answer of a call.
 ghost use Rattle.std.specs.Prelude.{◌≡◌, ◌≢◌, IfErr, option_map};
-ghost use Rattle.model_tables.specs.Map.{range_at, assign_fault, renew_fault};
-ghost use Rattle.pmap.specs.Ruled.{as_row, fault_of};
+ghost use Rattle.model_partition.specs.Map.{range_at, assign_fault, renew_fault};
+ghost use Rattle.pmap.specs.Performs.{as_rule, fault_of};
 
 use crate::fault::MapFault;
 use crate::table::RangeTable;
@@ -41,7 +41,7 @@ pub(crate) fn renew_fault(table: &RangeTable, range: RangeId, server: ServerNo) 
 
 /// The answer of a call that was not refused.
 pub(crate) fn answer(done: Result<Step, DiskFault>) -> Result<Step, MapFault>
-    ensures row { as_row result ≡ done }
+    ensures rule { as_rule result ≡ done }
     ensures taken { IfErr result (λ e. (e ≢ MapFault.NotOwner) × (e ≢ MapFault.LeaseHeld)) }
 {
     match done {

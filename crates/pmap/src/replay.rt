@@ -1,19 +1,19 @@
 //! The table that records make.
 ghost use Rattle.std.specs.Prelude.{◌≡◌, true, false, Some, IfOk, OnOk, IsErrOf};
-ghost use Rattle.model_tables.specs.Map.{MapState};
-ghost use Rattle.model_tables.specs.Replay.{map_after, map_fits, ruling_fits, ruling_of};
-ghost use Rattle.pmap.specs.Held.{MakesMap};
+ghost use Rattle.model_partition.specs.Map.{MapState};
+ghost use Rattle.model_partition.specs.Replay.{map_after, map_fits, map_record_fits, map_record_of};
+ghost use Rattle.pmap.specs.MapWithFile.{MakesMap};
 
-use crate::ledger::decode;
+use crate::record_bytes::decode;
 use crate::table::RangeTable;
-use blocks::{BlockFault, Record};
-use model_tables::MapRecord;
+use block_types::{BlockFault, Record};
+use model_partition::MapRecord;
 use std::alloc::Global;
 
-/// The ruling that a record spells. `Damaged`: it spells none.
-fn ruling_in(record_read: &Record) -> Result<MapRecord, BlockFault>
-    ensures ok { IfOk result (λ ruling. ruling_of record_read.now ≡ Some ruling) }
-    ensures damaged { IsErrOf result BlockFault.Damaged → (m : MapState) → ruling_fits m (ruling_of record_read.now) ≡ false }
+/// The map's record that a record of the file spells. `Damaged`: it spells none.
+fn map_record_in(record_read: &Record) -> Result<MapRecord, BlockFault>
+    ensures ok { IfOk result (λ new_record. map_record_of record_read.now ≡ Some new_record) }
+    ensures damaged { IsErrOf result BlockFault.Damaged → (m : MapState) → map_record_fits m (map_record_of record_read.now) ≡ false }
 {
     match record_read {
         Record::Manage { text } => decode(text.as_slice()),
@@ -23,15 +23,15 @@ fn ruling_in(record_read: &Record) -> Result<MapRecord, BlockFault>
 
 /// Does what a record more makes of the table. `Damaged`: it does not fit, and nothing has changed.
 fn recover(table: &mut RangeTable, record_read: &Record) -> Result<(), BlockFault>
-    ensures fits { OnOk result (ruling_fits table.old (ruling_of record_read.now) ≡ true) }
-    ensures after { OnOk result (table.new ≡ map_after table.old (ruling_of record_read.now)) }
-    ensures damaged { IsErrOf result BlockFault.Damaged → ruling_fits table.old (ruling_of record_read.now) ≡ false }
+    ensures fits { OnOk result (map_record_fits table.old (map_record_of record_read.now) ≡ true) }
+    ensures after { OnOk result (table.new ≡ map_after table.old (map_record_of record_read.now)) }
+    ensures damaged { IsErrOf result BlockFault.Damaged → map_record_fits table.old (map_record_of record_read.now) ≡ false }
 {
-    let ruling = ruling_in(record_read)?;
-    if !table.fits(&ruling) {
+    let new_record = map_record_in(record_read)?;
+    if !table.fits(&new_record) {
         return Err(BlockFault::Damaged);
     }
-    table.apply(&ruling);
+    table.apply(&new_record);
     Ok(())
 }
 

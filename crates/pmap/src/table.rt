@@ -1,13 +1,13 @@
 //! The ranges in the order of their keys.
 ghost use Rattle.std.specs.Prelude.{◌≡◌, ◌<◌, length, true, Some, IfOk, IfSome, option_map, option_and_then, slice_get};
-ghost use Rattle.model_tables.specs.Map.{first_map, range_at, range_of_key, with_range, assigned, renewed};
-ghost use Rattle.model_tables.specs.Partition.{IsPartition, AreNumbered};
-ghost use Rattle.model_tables.specs.Replay.{after_record, may_assign, ruling_fits};
+ghost use Rattle.model_partition.specs.Map.{first_map, range_at, range_of_key, with_range, assigned, renewed};
+ghost use Rattle.model_partition.specs.Partition.{IsPartition, AreNumbered};
+ghost use Rattle.model_partition.specs.Replay.{after_record, may_assign, map_record_fits};
 
 use crate::entry::{assign_entry, begins_by, next_generation, renew_entry};
 use bytes::Bytes;
 use metadata::KeyRange;
-use model_tables::{MapRecord, RangeEntry};
+use model_partition::{MapRecord, RangeEntry};
 use std::alloc::{AllocError, Global};
 use std::marker::Model;
 use wire::{Fence, RangeId, ServerNo};
@@ -21,8 +21,8 @@ pub(crate) struct RangeTable {
 }
 
 impl Model for RangeTable {
-    ghost use Rattle.model_tables.specs.Map.{MapState};
-    ghost use Rattle.model_tables.specs.Partition.{IsPartition, AreNumbered};
+    ghost use Rattle.model_partition.specs.Map.{MapState};
+    ghost use Rattle.model_partition.specs.Partition.{IsPartition, AreNumbered};
 
     ghost Value = { MapState };
 
@@ -90,10 +90,10 @@ impl RangeTable {
     }
 
     /// Whether a record may be written where the table is this.
-    pub(crate) fn fits(&self, ruling: &MapRecord) -> bool
-        ensures { result ≡ ruling_fits self.now (Some ruling.now) }
+    pub(crate) fn fits(&self, new_record: &MapRecord) -> bool
+        ensures { result ≡ map_record_fits self.now (Some new_record.now) }
     {
-        match ruling {
+        match new_record {
             MapRecord::Assign { range, .. } => match self.entry(*range) {
                 None => false,
                 Some(entry) => next_generation(entry).is_some(),
@@ -125,11 +125,11 @@ impl RangeTable {
     }
 
     /// Does what a record that stands makes of it.
-    pub(crate) fn apply(&mut self, ruling: &MapRecord)
-        requires { ruling_fits self.old (Some ruling.now) ≡ true }
-        ensures { self.new ≡ after_record self.old ruling.now }
+    pub(crate) fn apply(&mut self, new_record: &MapRecord)
+        requires { map_record_fits self.old (Some new_record.now) ≡ true }
+        ensures { self.new ≡ after_record self.old new_record.now }
     {
-        match ruling {
+        match new_record {
             MapRecord::Assign {
                 range,
                 server,

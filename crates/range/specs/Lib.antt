@@ -1,1 +1,1 @@
-pub mod Handled
+pub mod ServerStep

@@ -1,6 +1,6 @@
 //! Whose answer a packet is.
 ghost use Rattle.std.specs.Prelude.{◌≡◌};
-ghost use Rattle.model_tables.specs.Answering as specs;
+ghost use Rattle.model_partition.specs.Answering as specs;
 
 use wire::{ActorId, AppendBody, Body, CheckBody, ReadBody, ReqNo, SealBody, StreamBody};
 

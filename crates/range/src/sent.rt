@@ -1,7 +1,7 @@
 //! What a server's call leaves.
 ghost use Rattle.std.specs.Prelude.{◌≡◌, []};
 
-use model_tables::TableNote;
+use model_partition::TableNote;
 use std::alloc::Global;
 use std::marker::Model;
 use wire::Packet;
@@ -14,7 +14,7 @@ pub struct Sent {
 }
 
 impl Model for Sent {
-    ghost use Rattle.range.specs.Handled as specs;
+    ghost use Rattle.range.specs.ServerStep as specs;
 
     ghost Value = { specs.Sent };
 

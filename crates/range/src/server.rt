@@ -1,22 +1,22 @@
 //! A partition server.
 ghost use Rattle.std.specs.Prelude.{◌≡◌, ◌<◌, ◌≤◌, ◌+◌, ◌^◌, ◌++◌, [], ◌∷◌, Some, None, Err, true, length, option_map, is_some, IfOk, OnErr};
-ghost use Rattle.model_tables.specs.Server.{map_row, new_range, table_row, numbered_row, has_numbers, moment_row, give_up_row, started, users_of, assign_row, renew_row, range_of, transacts_in, gets_in, answer_of, awaiting};
-ghost use Rattle.model_tables.specs.Answering as answering;
-ghost use Rattle.model_tables.specs.Servers.{loads};
+ghost use Rattle.model_partition.specs.Server.{map_rule, new_range, table_rule, numbered_rule, has_numbers, moment_rule, give_up_rule, started, users_of, assign_rule, renew_rule, range_of, transacts_in, gets_in, answer_of, awaiting};
+ghost use Rattle.model_partition.specs.Answering as answering;
+ghost use Rattle.model_partition.specs.Servers.{loads};
 ghost use Rattle.client.specs.Load.{open_packet};
-ghost use Rattle.model_tables.specs.Range.{refuses, request};
+ghost use Rattle.model_partition.specs.Range.{refuses, request};
 ghost use Rattle.wire.specs.declared.refusal.Refusal.TheVariants.{NotOwner};
-ghost use Rattle.range.specs.Handled.{Handles, Step, IsShort, outcome, needs_memory, told_needs_memory, asked_needs_memory};
+ghost use Rattle.range.specs.ServerStep.{HandlesPacket, ServerPerforms, IsShort, outcome, needs_memory, told_needs_memory, asked_needs_memory};
 ghost use Rattle.range.specs.declared.fault.RangeFault.TheVariants as faults;
 
 use crate::answers::{answered_number, is_answerer};
 use crate::fault::RangeFault;
 use crate::sent::Sent;
 use crate::steps::{awaiting, put, refusal, settle};
-use blocks::Nodes;
+use block_types::Nodes;
 use bytes::Bytes;
-use cells::Cell;
-use model_tables::Desk;
+use memtable::Cell;
+use model_partition::ServerContext;
 use range_core::RangeState;
 use std::alloc::{AllocError, Global};
 use std::collections::BTreeMap;
@@ -28,30 +28,33 @@ use wire::{
 
 /// A partition server, from one start to the next stop.
 pub struct RangeServer {
-    desk: Desk,
+    context: ServerContext,
     ranges: BTreeMap<u64, RangeState>,
 }
 
 // Written out, so that a crate above that lets one go has no proof of what is in it.
 impl Drop for RangeServer {
     fn drop(self) {
-        let RangeServer { desk: _, ranges: _ } = self;
+        let RangeServer {
+            context: _,
+            ranges: _,
+        } = self;
     }
 }
 
 impl Model for RangeServer {
-    ghost use Rattle.model_tables.specs.Server.{ServerState};
+    ghost use Rattle.model_partition.specs.Server.{ServerState};
 
     ghost Value = { ServerState };
 
-    ghost view = { λ s. record { desk = s.desk; ranges = s.ranges.entries } };
+    ghost view = { λ s. record { context = s.context; ranges = s.ranges.entries } };
 }
 
 /// Whether there are numbers for the requests of any one step.
-fn has_numbers(desk: &Desk) -> bool
-    ensures { result ≡ has_numbers desk.now }
+fn has_numbers(context: &ServerContext) -> bool
+    ensures { result ≡ has_numbers context.now }
 {
-    desk.count < u64::MAX - 1023
+    context.count < u64::MAX - 1023
 }
 
 impl RangeServer {
@@ -68,7 +71,7 @@ impl RangeServer {
         ensures { result ≡ started server session now pick batch }
     {
         RangeServer {
-            desk: Desk {
+            context: ServerContext {
                 server,
                 session,
                 moment: now,
@@ -82,9 +85,9 @@ impl RangeServer {
 
     /// The clock of leases shows this. A moment that goes back changes nothing.
     pub fn moment(&mut self, now: u64)
-        ensures { self.new ≡ moment_row self.old now }
+        ensures { self.new ≡ moment_rule self.old now }
     {
-        self.desk.moment = self.desk.moment.max(now);
+        self.context.moment = self.context.moment.max(now);
     }
 
     /// The entries of the table that an answer is about to show: those of the range whose load it confirms.
@@ -115,7 +118,7 @@ impl RangeServer {
         changes: &Changes,
         request: &ReqNo,
     ) -> Result<Sent, AllocError>
-        requires numbers { self.old.desk.count + 1024 < 2 ^ 64 }
+        requires numbers { self.old.context.count + 1024 < 2 ^ 64 }
         ensures ok { IfOk result (λ t. transacts_in self.old packet.now range changes.now request.now (range_of self.old.ranges range) ≡ outcome t self.new) }
         ensures err { OnErr result (self.new ≡ self.old) }
         ensures short { IfOk result IsShort }
@@ -123,8 +126,8 @@ impl RangeServer {
         match self.ranges.get_mut(&range.0) {
             None => self.refuse(alloc, packet.from, request),
             Some(state) => {
-                match state.transact(alloc, &self.desk, packet.from, request, changes) {
-                    Ok(taken) => Ok(settle(&mut self.ranges, &mut self.desk, range.0, taken)),
+                match state.transact(alloc, &self.context, packet.from, request, changes) {
+                    Ok(taken) => Ok(settle(&mut self.ranges, &mut self.context, range.0, taken)),
                     Err(full) => Err(full),
                 }
             }
@@ -141,16 +144,16 @@ impl RangeServer {
         key: &Bytes,
         request: &ReqNo,
     ) -> Result<Sent, AllocError>
-        requires numbers { self.old.desk.count + 1024 < 2 ^ 64 }
-        ensures ok { IfOk result (λ t. Step self.old self.new t (λ held. gets_in self.old packet.now range key.now request.now held (range_of self.old.ranges range))) }
+        requires numbers { self.old.context.count + 1024 < 2 ^ 64 }
+        ensures ok { IfOk result (λ t. ServerPerforms self.old self.new t (λ held. gets_in self.old packet.now range key.now request.now held (range_of self.old.ranges range))) }
         ensures err { OnErr result (self.new ≡ self.old) }
         ensures short { IfOk result IsShort }
     {
         match self.ranges.get_mut(&range.0) {
             None => self.refuse(alloc, packet.from, request),
             Some(state) => {
-                match state.get(alloc, &self.desk, packet.from, request, key) {
-                    Ok(taken) => Ok(settle(&mut self.ranges, &mut self.desk, range.0, taken)),
+                match state.get(alloc, &self.context, packet.from, request, key) {
+                    Ok(taken) => Ok(settle(&mut self.ranges, &mut self.context, range.0, taken)),
                     Err(full) => Err(full),
                 }
             }
@@ -165,9 +168,9 @@ impl RangeServer {
         packet: &Packet,
         request: &ReqNo,
     ) -> Result<Sent, AllocError>
-        requires numbers { self.old.desk.count + 1024 < 2 ^ 64 }
+        requires numbers { self.old.context.count + 1024 < 2 ^ 64 }
         requires answer { answering.answered_number packet.now.body ≡ Some request.now }
-        ensures ok { IfOk result (λ t. Step self.old self.new t (λ held. answer_of self.old packet.now request.now held (awaiting self.old.ranges request.now))) }
+        ensures ok { IfOk result (λ t. ServerPerforms self.old self.new t (λ held. answer_of self.old packet.now request.now held (awaiting self.old.ranges request.now))) }
         ensures err { OnErr result (self.new ≡ self.old) }
         ensures short { IfOk result IsShort }
     {
@@ -176,8 +179,8 @@ impl RangeServer {
         };
         match self.ranges.get_mut(&range) {
             None => Ok(Sent::nothing(alloc)),
-            Some(state) => match state.answer(alloc, &self.desk, request, &packet.body) {
-                Ok(taken) => Ok(settle(&mut self.ranges, &mut self.desk, range, taken)),
+            Some(state) => match state.answer(alloc, &self.context, request, &packet.body) {
+                Ok(taken) => Ok(settle(&mut self.ranges, &mut self.context, range, taken)),
                 Err(full) => Err(full),
             },
         }
@@ -185,8 +188,8 @@ impl RangeServer {
 
     /// An answer, or a packet that is none.
     fn answered(&mut self, alloc: Global, packet: &Packet) -> Result<Sent, AllocError>
-        requires numbers { self.old.desk.count + 1024 < 2 ^ 64 }
-        ensures ok { IfOk result (λ t. Step self.old self.new t (λ held. numbered_row self.old packet.now held (answering.answered_number packet.now.body))) }
+        requires numbers { self.old.context.count + 1024 < 2 ^ 64 }
+        ensures ok { IfOk result (λ t. ServerPerforms self.old self.new t (λ held. numbered_rule self.old packet.now held (answering.answered_number packet.now.body))) }
         ensures needed { OnErr result (is_some (answering.answered_number packet.now.body) ≡ true) }
         ensures err { OnErr result (self.new ≡ self.old) }
         ensures short { IfOk result IsShort }
@@ -209,8 +212,8 @@ impl RangeServer {
         packet: &Packet,
         body: &TableBody,
     ) -> Result<Sent, AllocError>
-        requires numbers { self.old.desk.count + 1024 < 2 ^ 64 }
-        ensures ok { IfOk result (λ t. Step self.old self.new t (λ held. table_row self.old packet.now body.now held)) }
+        requires numbers { self.old.context.count + 1024 < 2 ^ 64 }
+        ensures ok { IfOk result (λ t. ServerPerforms self.old self.new t (λ held. table_rule self.old packet.now body.now held)) }
         ensures needed { OnErr result (asked_needs_memory body.now ≡ true) }
         ensures err { OnErr result (self.new ≡ self.old) }
         ensures short { IfOk result IsShort }
@@ -243,12 +246,12 @@ impl RangeServer {
 
     /// What those who wait for a range are told where it goes.
     fn farewell(&self, alloc: Global, range: RangeId) -> Result<Vec<Packet>, AllocError>
-        ensures packets { IfOk result (λ packets. packets.items ≡ users_of self.now.desk (range_of self.now.ranges range)) }
+        ensures packets { IfOk result (λ packets. packets.items ≡ users_of self.now.context (range_of self.now.ranges range)) }
         ensures few { IfOk result (λ packets. length packets.items ≤ 1400) }
     {
         match self.ranges.get(&range.0) {
             None => Ok(Vec::new(alloc)),
-            Some(state) => match state.refusals(alloc, &self.desk) {
+            Some(state) => match state.refusals(alloc, &self.context) {
                 Ok(packets) => Ok(packets),
                 Err(full) => Err(full),
             },
@@ -263,14 +266,14 @@ impl RangeServer {
         generation: Fence,
         until: u64,
     ) -> Result<(RangeState, Vec<Packet>), AllocError>
-        ensures state { IfOk result (λ x. x.0 ≡ new_range self.now.desk range generation until) }
-        ensures packets { IfOk result (λ x. x.1.items ≡ users_of self.now.desk (range_of self.now.ranges range)
-            ++ open_packet self.now.desk.server range generation (request self.now.desk) ∷ []) }
+        ensures state { IfOk result (λ x. x.0 ≡ new_range self.now.context range generation until) }
+        ensures packets { IfOk result (λ x. x.1.items ≡ users_of self.now.context (range_of self.now.ranges range)
+            ++ open_packet self.now.context.server range generation (request self.now.context) ∷ []) }
         ensures few { IfOk result (λ x. length x.1.items ≤ 1401) }
     {
         let mut packets = self.farewell(alloc, range)?;
         packets.reserve(1)?;
-        let (state, packet) = RangeState::assign(alloc, &self.desk, range, generation, until)?;
+        let (state, packet) = RangeState::assign(alloc, &self.context, range, generation, until)?;
         // There is room for it.
         drop(packets.push(packet));
         Ok((state, packets))
@@ -284,8 +287,8 @@ impl RangeServer {
         generation: Fence,
         until: u64,
     ) -> Result<Sent, AllocError>
-        requires numbers { self.old.desk.count + 1024 < 2 ^ 64 }
-        ensures ok { IfOk result (λ t. assign_row self.old range generation until (range_of self.old.ranges range) ≡ outcome t self.new) }
+        requires numbers { self.old.context.count + 1024 < 2 ^ 64 }
+        ensures ok { IfOk result (λ t. assign_rule self.old range generation until (range_of self.old.ranges range) ≡ outcome t self.new) }
         ensures err { OnErr result (self.new ≡ self.old) }
         ensures short { IfOk result IsShort }
     {
@@ -296,7 +299,7 @@ impl RangeServer {
         }
         let (state, packets) = self.opening(alloc, range, generation, until)?;
         put(&mut self.ranges, range.0, state)?;
-        self.desk.count += 1;
+        self.context.count += 1;
         Ok(Sent {
             packets,
             notes: Vec::new(alloc),
@@ -306,7 +309,7 @@ impl RangeServer {
     /// A lease's end never goes back.
     #[tactic(auto, using(crate::proofs::Entries::set_same))]
     fn renew(&mut self, range: RangeId, generation: Fence, until: u64)
-        ensures { renew_row self.old range generation until (range_of self.old.ranges range) ≡ record { after = self.new; packets = []; notes = [] } }
+        ensures { renew_rule self.old range generation until (range_of self.old.ranges range) ≡ record { after = self.new; packets = []; notes = [] } }
     {
         if let Some(state) = self.ranges.get_mut(&range.0) {
             if state.content.load.generation == generation {
@@ -317,8 +320,8 @@ impl RangeServer {
 
     /// What the map tells.
     fn told(&mut self, alloc: Global, from: ActorId, body: &MapBody) -> Result<Sent, AllocError>
-        requires numbers { self.old.desk.count + 1024 < 2 ^ 64 }
-        ensures ok { IfOk result (λ t. map_row self.old from body.now ≡ outcome t self.new) }
+        requires numbers { self.old.context.count + 1024 < 2 ^ 64 }
+        ensures ok { IfOk result (λ t. map_rule self.old from body.now ≡ outcome t self.new) }
         ensures needed { OnErr result (told_needs_memory body.now ≡ true) }
         ensures err { OnErr result (self.new ≡ self.old) }
         ensures short { IfOk result IsShort }
@@ -344,15 +347,15 @@ impl RangeServer {
         }
     }
 
-    /// What is done with a packet: the row of its body. An error is want of memory (22), which comes only of an assignment, of
+    /// What is done with a packet: the rule of its body. An error is want of memory (22), which comes only of an assignment, of
     /// what a user asks and of an answer, and nothing has changed.
     pub fn handle(&mut self, alloc: Global, packet: &Packet) -> Result<Sent, AllocError>
-        ensures ok { IfOk result (λ t. Handles self.old self.new packet.now t) }
+        ensures ok { IfOk result (λ t. HandlesPacket self.old self.new packet.now t) }
         ensures needed { OnErr result (needs_memory packet.now.body ≡ true) }
         ensures err { OnErr result (self.new ≡ self.old) }
         ensures short { IfOk result IsShort }
     {
-        if !has_numbers(&self.desk) {
+        if !has_numbers(&self.context) {
             return Ok(Sent::nothing(alloc));
         }
         match &packet.body {
@@ -375,27 +378,27 @@ impl RangeServer {
         range: RangeId,
         pick: &Nodes,
     ) -> Result<Sent, RangeFault>
-        ensures ok { IfOk result (λ t. give_up_row self.old range pick.now ≡ Some (outcome t self.new)) }
-        ensures unknown { result ≡ Err faults.NotOwner → give_up_row self.old range pick.now ≡ None }
-        ensures refused { give_up_row self.old range pick.now ≡ None → result ≡ Err faults.NotOwner }
+        ensures ok { IfOk result (λ t. give_up_rule self.old range pick.now ≡ Some (outcome t self.new)) }
+        ensures unknown { result ≡ Err faults.NotOwner → give_up_rule self.old range pick.now ≡ None }
+        ensures refused { give_up_rule self.old range pick.now ≡ None → result ≡ Err faults.NotOwner }
         ensures err { OnErr result (self.new ≡ self.old) }
         ensures short { IfOk result IsShort }
     {
-        let told = Desk {
+        let told = ServerContext {
             pick: *pick,
-            ..self.desk
+            ..self.context
         };
         match self.ranges.get_mut(&range.0) {
             None => Err(RangeFault::NotOwner),
             Some(state) => {
                 if !has_numbers(&told) {
-                    self.desk = told;
+                    self.context = told;
                     return Ok(Sent::nothing(alloc));
                 }
                 match state.give_up(alloc, &told) {
                     Ok(taken) => {
-                        self.desk = told;
-                        Ok(settle(&mut self.ranges, &mut self.desk, range.0, taken))
+                        self.context = told;
+                        Ok(settle(&mut self.ranges, &mut self.context, range.0, taken))
                     }
                     Err(_full) => Err(RangeFault::Memory),
                 }
@@ -404,11 +407,11 @@ impl RangeServer {
     }
 
     fn refuse(&self, alloc: Global, to: ActorId, request: &ReqNo) -> Result<Sent, AllocError>
-        ensures packets { IfOk result (λ t. t ≡ record { packets = refuses self.now.desk to request.now NotOwner ∷ []; notes = [] }) }
+        ensures packets { IfOk result (λ t. t ≡ record { packets = refuses self.now.context to request.now NotOwner ∷ []; notes = [] }) }
     {
         let mut sent = Sent::nothing(alloc);
         sent.packets
-            .push(refusal(&self.desk, to, request, Refusal::NotOwner))?;
+            .push(refusal(&self.context, to, request, Refusal::NotOwner))?;
         Ok(sent)
     }
 }

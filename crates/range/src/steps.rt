@@ -3,12 +3,12 @@ ghost use Rattle.std.specs.Prelude.{◌≡◌, if◌then◌else◌, OnErr, OnOk}
 ghost use Rattle.std.specs.Map.{remove_entry};
 ghost use Rattle.std.specs.BTreeMap.{insert_entry, is_at};
 ghost use Rattle.std.specs.Ordering.{nat_cmp};
-ghost use Rattle.model_tables.specs.Range.{refuses};
-ghost use Rattle.model_tables.specs.Server.{awaiting};
+ghost use Rattle.model_partition.specs.Range.{refuses};
+ghost use Rattle.model_partition.specs.Server.{awaiting};
 
 use crate::sent::Sent;
-use model_tables::Desk;
-use range_core::{RangeState, Taken};
+use model_partition::ServerContext;
+use range_core::{RangeState, RangeStep};
 use std::alloc::AllocError;
 use std::collections::BTreeMap;
 use wire::{ActorId, AppendBody, Body, Packet, Refusal, ReqNo};
@@ -26,11 +26,16 @@ pub(crate) fn awaiting(ranges: &BTreeMap<u64, RangeState>, request: &ReqNo) -> O
 }
 
 /// A refusal from the server to one who asked.
-pub(crate) fn refusal(desk: &Desk, to: ActorId, request: &ReqNo, refusal: Refusal) -> Packet
-    ensures { result ≡ refuses desk.now to request.now refusal }
+pub(crate) fn refusal(
+    context: &ServerContext,
+    to: ActorId,
+    request: &ReqNo,
+    refusal: Refusal,
+) -> Packet
+    ensures { result ≡ refuses context.now to request.now refusal }
 {
     Packet {
-        from: ActorId::Server(desk.server),
+        from: ActorId::Server(context.server),
         to,
         body: Body::Append(AppendBody::Refused {
             request: *request,
@@ -63,15 +68,15 @@ pub(crate) fn put(
 /// What a step of a range leaves at its server.
 pub(crate) fn settle(
     ranges: &mut BTreeMap<u64, RangeState>,
-    desk: &mut Desk,
+    context: &mut ServerContext,
     range: u64,
-    taken: Taken,
+    taken: RangeStep,
 ) -> Sent
     ensures ranges { ranges.new.entries ≡ (if taken.dropped then remove_entry (is_at (nat_cmp range)) ranges.old.entries else ranges.old.entries) }
-    ensures desk { desk.new ≡ record desk.old { count = taken.count } }
+    ensures context { context.new ≡ record context.old { count = taken.count } }
     ensures sent { (result.packets ≡ taken.packets) × (result.notes ≡ taken.notes) }
 {
-    desk.count = taken.count;
+    context.count = taken.count;
     if taken.dropped {
         drop(ranges.remove(&range));
     }

@@ -2,9 +2,9 @@
 use Rattle.std.proofs.Common.{◌≡◌, ℕ, suc, List, ◌++◌, Option, Some, None, Contains, subst, sym, arith}
 use Rattle.std.specs.Prelude.{option_to_list}
 use Rattle.wire.specs.declared.body.Body.{Body}
-use Rattle.cells.specs.declared.cell.Place.{Place}
-use Rattle.lookups.specs.Held.{Values}
-use Rattle.model_tables.specs.Getting.{MayHold}
+use Rattle.memtable.specs.declared.cell.Place.{Place}
+use Rattle.range_reads.specs.ValueCache.{Values}
+use Rattle.model_partition.specs.Getting.{MayHold}
 use Rattle.range_core.specs.Cache.{HoldsOnly, brings}
 
 behind : (came : Option (Place × List ℕ)) (held : Values) (x : Place × List ℕ) → Contains held x → Contains (option_to_list came ++ held) x

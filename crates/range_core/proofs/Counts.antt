@@ -2,12 +2,12 @@
 use Rattle.std.proofs.Common.{◌≡◌, ◌∙◌, ℕ, suc, ◌+◌, ◌<◌, ◌≤◌, ◌^◌, true, List, [], ◌∷◌, length, map, take, Option, Some, None, refl, ap, arith}
 use Rattle.std.proofs.lemmas.Bool.{lt-ltb}
 use Rattle.std.proofs.lemmas.List.{length-take-le}
-use Rattle.model_tables.specs.declared.table_note.TableNote.{TableNote}
-use Rattle.model_tables.specs.declared.waiting.WaitingTransaction.{WaitingTransaction}
-use Rattle.model_tables.specs.Range.{OutGroup, waiting_out}
-use Rattle.model_tables.specs.Serving.{began, dones}
-use Rattle.group_commit.specs.Queue.{IsNextGroup, is_formed, dones_out}
-use Rattle.group_commit.proofs.Fronts.{length-changes}
+use Rattle.model_partition.specs.declared.table_note.TableNote.{TableNote}
+use Rattle.model_partition.specs.declared.waiting.WaitingTransaction.{WaitingTransaction}
+use Rattle.model_partition.specs.Range.{OutGroup, waiting_out}
+use Rattle.model_partition.specs.Serving.{began, dones}
+use Rattle.range_commit.specs.Queue.{IsNextGroup, is_formed, dones_out}
+use Rattle.range_commit.proofs.Fronts.{length-changes}
 
 pub next_formed : (next : ℕ) (queue : List WaitingTransaction) (n size : ℕ) → IsNextGroup next queue n size → is_formed next n ≡ true
 next_formed next queue n size is =

@@ -1,4 +1,4 @@
-pub mod Rows
+pub mod LogAnswers
 pub mod Counts
-pub mod Given
+pub mod GivingUp
 pub mod Cache

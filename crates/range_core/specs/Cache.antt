@@ -7,11 +7,11 @@ use Rattle.wire.specs.declared.body.ReadBody.{ReadBody}
 use Rattle.wire.specs.declared.body.ReadBody.TheVariants as reads
 use Rattle.client.specs.Client.{awaits}
 use Rattle.client.specs.Load.{load_awaits}
-use Rattle.cells.specs.declared.cell.Place.{Place}
-use Rattle.model_tables.specs.Getting.{held_at, read_at}
-use Rattle.model_tables.specs.Range.{RangeState}
-use Rattle.lookups.specs.Held.{Values}
-use Rattle.lookups.specs.Lookups.{place_of}
+use Rattle.memtable.specs.declared.cell.Place.{Place}
+use Rattle.model_partition.specs.Getting.{held_at, read_at}
+use Rattle.model_partition.specs.Range.{RangeState}
+use Rattle.range_reads.specs.ValueCache.{Values}
+use Rattle.range_reads.specs.Lookups.{place_of}
 
 -- the bytes that an answer brings, with their place
 abbrev pub read_brings : ReadBody → Option (Place × List ℕ)

@@ -11,10 +11,10 @@ use Rattle.client.specs.declared.job.Job.{Job}
 use Rattle.client.specs.declared.job.Job.TheVariants as jobs
 use Rattle.client.specs.declared.job.News.{News}
 use Rattle.client.specs.declared.job.News.TheVariants as news
-use Rattle.client.specs.Client.{Outcome, awaits, reply_row}
+use Rattle.client.specs.Client.{Outcome, awaits, reply_rule}
 use Rattle.client.specs.Requests.{is_same}
-use Rattle.model_tables.specs.declared.desk.Desk.{Desk}
-use Rattle.model_tables.specs.Range.{RangeState, request, picking}
+use Rattle.model_partition.specs.declared.server_context.ServerContext.{ServerContext}
+use Rattle.model_partition.specs.Range.{RangeState, request, picking}
 
 abbrev pub is_old : Refusal → Bool
 is_old refusals.Stale = true
@@ -57,5 +57,5 @@ is_quiet (Some (news.Appended e offset)) = false
 is_quiet told = true
 
 -- what the log's client makes of an answer
-abbrev pub reaction : Desk → RangeState → Body → Outcome
-reaction d r body = reply_row (picking d r.log) (request d) body
+abbrev pub reaction : ServerContext → RangeState → Body → Outcome
+reaction d r body = reply_rule (picking d r.log) (request d) body

@@ -1,13 +1,13 @@
 -- Whose answer moves a load on.
 use Rattle.wire.specs.declared.body.Body.{Body}
-use Rattle.model_tables.specs.declared.desk.Desk.{Desk}
-use Rattle.model_tables.specs.Range.{RangeState, RangeOutcome}
-use Rattle.model_tables.specs.Answering.{load_reply, log_taken, metadata_reply}
+use Rattle.model_partition.specs.declared.server_context.ServerContext.{ServerContext}
+use Rattle.model_partition.specs.Range.{RangeState, RangeOutcome}
+use Rattle.model_partition.specs.Answering.{load_reply, log_taken, metadata_reply}
 use Rattle.range_core.specs.declared.answering.Waiter.{Waiter}
 use Rattle.range_core.specs.declared.answering.Waiter.TheVariants as waiters
 
 -- what the range does with an answer to this one
-abbrev pub waiter_row : Waiter → Desk → RangeState → Body → RangeOutcome
-waiter_row waiters.Load d r body = load_reply d r body
-waiter_row waiters.Metadata d r body = metadata_reply d r body
-waiter_row waiters.Log d r body = log_taken d r body
+abbrev pub waiter_rule : Waiter → ServerContext → RangeState → Body → RangeOutcome
+waiter_rule waiters.Load d r body = load_reply d r body
+waiter_rule waiters.Metadata d r body = metadata_reply d r body
+waiter_rule waiters.Log d r body = log_taken d r body

@@ -1,19 +1,19 @@
 //! Answers to the client of the log while the range is served.
 ghost use Rattle.std.specs.Prelude.{◌≡◌, ◌<◌, ◌≤◌, ◌+◌, ◌-◌, ◌^◌, ◌++◌, ◌&&◌, [], true, false, length, vec_len, vec_capacity, None, is_some, option_to_list, IfOk, IfSome, IfNone, OnOk, OnErr};
-ghost use Rattle.cells.specs.Entries.{put_all};
-ghost use Rattle.client.specs.Client.{needs_memory, reply_row};
-ghost use Rattle.model_tables.specs.Range.{RangeState, is_serving, picking, request};
-ghost use Rattle.model_tables.specs.Loading.{are_counted};
-ghost use Rattle.model_tables.specs.Answering.{is_taken, log_taken};
-ghost use Rattle.group_commit.specs.Queue.{changes_out, committed_out, dones_out, size_out};
+ghost use Rattle.memtable.specs.Entries.{put_all};
+ghost use Rattle.client.specs.Client.{needs_memory, reply_rule};
+ghost use Rattle.model_partition.specs.Range.{RangeState, is_serving, picking, request};
+ghost use Rattle.model_partition.specs.Loading.{are_counted};
+ghost use Rattle.model_partition.specs.Answering.{is_taken, log_taken};
+ghost use Rattle.range_commit.specs.Queue.{changes_out, committed_out, dones_out, size_out};
 ghost use Rattle.range_core.specs.Replies.{IsAppended, IsAwaited, is_end_of, is_stale, reaction};
 ghost use Rattle.range_core.specs.Steps.{outcome, IsShort};
 
 use crate::forming::{Begun, next_group, next_request};
+use crate::range_step::{RangeStep, push_some};
 use crate::state::RangeState;
-use crate::taken::{Taken, push_some};
 use client::{Job, Reaction, StreamClient};
-use model_tables::{Desk, TableNote};
+use model_partition::{ServerContext, TableNote};
 use std::alloc::{AllocError, Global};
 use streams::Position;
 use wire::{AppendBody, Body, ExtentId, Packet, Refusal};
@@ -26,7 +26,7 @@ struct Told {
 }
 
 /// What a group that stands brings, and then what the next one does.
-fn joined(told: Told, begun: Begun, count: u64) -> Taken
+fn joined(told: Told, begun: Begun, count: u64) -> RangeStep
     requires few { (length told.packets.items ≤ 1024) × (length told.notes.items ≤ 1024) }
     requires room { (vec_len told.packets + 1 ≤ vec_capacity told.packets) × (vec_len told.notes + 1024 ≤ vec_capacity told.notes) }
     requires more { length begun.notes.items ≤ 1024 }
@@ -43,7 +43,7 @@ fn joined(told: Told, begun: Begun, count: u64) -> Taken
     } = begun;
     push_some(&mut packets, packet);
     if let Err(_full) = notes.append(&mut more) {}
-    Taken {
+    RangeStep {
         dropped: false,
         count,
         packets,
@@ -51,21 +51,21 @@ fn joined(told: Told, begun: Begun, count: u64) -> Taken
     }
 }
 
-/// What the log's client makes of an answer; a new extent is asked for at the desk's nodes from now on. For want of memory (22)
+/// What the log's client makes of an answer; a new extent is asked for at the context's nodes from now on. For want of memory (22)
 /// nothing has changed.
 fn take_answer(
     log: &mut StreamClient,
     alloc: Global,
-    desk: &Desk,
+    context: &ServerContext,
     body: &Body,
 ) -> Result<Reaction, AllocError>
-    ensures ok { IfOk result (λ x. reply_row (picking desk.now log.old) (request desk.now) body.now ≡ record { after = log.new; packet = x.packet; news = x.news }) }
+    ensures ok { IfOk result (λ x. reply_rule (picking context.now log.old) (request context.now) body.now ≡ record { after = log.new; packet = x.packet; news = x.news }) }
     ensures err { OnErr result (log.new ≡ log.old) }
     ensures needed { OnErr result (needs_memory body.now ≡ true) }
 {
     let pick = log.pick;
-    log.pick = desk.pick;
-    match log.on_answer(alloc, &next_request(desk), body) {
+    log.pick = context.pick;
+    match log.on_answer(alloc, &next_request(context), body) {
         Ok(reaction) => Ok(reaction),
         Err(full) => {
             log.pick = pick;
@@ -128,20 +128,25 @@ impl RangeState {
     }
 
     /// An answer that neither ends the append nor drops the range.
-    fn log_goes(&mut self, alloc: Global, desk: &Desk, body: &Body) -> Result<Taken, AllocError>
-        requires numbers { desk.now.count + 1024 < 2 ^ 64 }
+    fn log_goes(
+        &mut self,
+        alloc: Global,
+        context: &ServerContext,
+        body: &Body,
+    ) -> Result<RangeStep, AllocError>
+        requires numbers { context.now.count + 1024 < 2 ^ 64 }
         requires serving { is_serving self.old.stage ≡ true }
         requires current { is_stale body.now ≡ false }
         requires quiet { (is_some self.old.out && is_end_of self.old.log.job body.now) ≡ false }
-        ensures ok { IfOk result (λ t. log_taken desk.now self.old body.now ≡ outcome t self.new) }
+        ensures ok { IfOk result (λ t. log_taken context.now self.old body.now ≡ outcome t self.new) }
         ensures held { OnOk result (self.new.held ≡ self.old.held) }
         ensures err { OnErr result (self.new ≡ self.old) }
         ensures short { IfOk result IsShort }
     {
         let mut packets = Vec::with_capacity(alloc, 1)?;
-        let reaction = take_answer(&mut self.content.log, alloc, desk, body)?;
+        let reaction = take_answer(&mut self.content.log, alloc, context, body)?;
         push_some(&mut packets, reaction.packet);
-        Ok(Taken::sends(alloc, desk.count + 1, packets))
+        Ok(RangeStep::sends(alloc, context.count + 1, packets))
     }
 
     /// The group that is out stands at the offset of the extent: its changes are applied, and it is out no more. For want of
@@ -149,7 +154,7 @@ impl RangeState {
     fn apply(
         &mut self,
         alloc: Global,
-        desk: &Desk,
+        context: &ServerContext,
         body: &Body,
         extent: ExtentId,
         offset: u32,
@@ -158,7 +163,7 @@ impl RangeState {
         requires fits { offset + size_out self.old.out < 2 ^ 32 }
         requires appended { IsAppended self.old.log.job body.now extent offset }
         ensures ok { OnOk result (self.new ≡ record self.old {
-          log = (reaction desk.now self.old body.now).after;
+          log = (reaction context.now self.old body.now).after;
           live = put_all self.old.live (changes_out self.old.out extent offset);
           position = record { index = (self.old.log.base + length self.old.log.extents) - 1; offset = offset + size_out self.old.out };
           out = None;
@@ -173,7 +178,7 @@ impl RangeState {
             offset: offset + self.queue.out_size(),
         };
         self.queue.finish();
-        match take_answer(&mut self.content.log, alloc, desk, body) {
+        match take_answer(&mut self.content.log, alloc, context, body) {
             Ok(reaction) => drop(reaction),
             Err(_full) => {}
         }
@@ -181,8 +186,8 @@ impl RangeState {
     }
 
     /// What is told of the group that is out once it stands, with room for what the next one brings.
-    fn told(&self, alloc: Global, desk: &Desk) -> Result<Told, AllocError>
-        ensures packets { IfOk result (λ told. told.packets.items ≡ committed_out desk.now self.now.out) }
+    fn told(&self, alloc: Global, context: &ServerContext) -> Result<Told, AllocError>
+        ensures packets { IfOk result (λ told. told.packets.items ≡ committed_out context.now self.now.out) }
         ensures notes { IfOk result (λ told. told.notes.items ≡ dones_out self.now.load.range self.now.load.generation self.now.out) }
         ensures few { IfOk result (λ told. (length told.packets.items ≤ 1024) × (length told.notes.items ≤ 1024)) }
         ensures room { IfOk result (λ told. (vec_len told.packets + 1 ≤ vec_capacity told.packets) × (vec_len told.notes + 1024 ≤ vec_capacity told.notes)) }
@@ -191,7 +196,7 @@ impl RangeState {
         let generation = self.content.load.generation;
         // No more are done than wait.
         let _most = self.queue.count();
-        let (mut packets, mut notes) = self.queue.acknowledge(alloc, desk, range, generation)?;
+        let (mut packets, mut notes) = self.queue.acknowledge(alloc, context, range, generation)?;
         packets.reserve(1)?;
         notes.reserve(1024)?;
         Ok(Told { packets, notes })
@@ -202,57 +207,57 @@ impl RangeState {
     fn acknowledge(
         &mut self,
         alloc: Global,
-        desk: &Desk,
+        context: &ServerContext,
         body: &Body,
         extent: ExtentId,
         offset: u32,
-    ) -> Result<Taken, AllocError>
-        requires numbers { desk.now.count + 1024 < 2 ^ 64 }
+    ) -> Result<RangeStep, AllocError>
+        requires numbers { context.now.count + 1024 < 2 ^ 64 }
         requires serving { is_serving self.old.stage ≡ true }
         requires counted { are_counted self.old.log ≡ true }
         requires fits { offset + size_out self.old.out < 2 ^ 32 }
         requires out { is_some self.old.out ≡ true }
         requires appended { IsAppended self.old.log.job body.now extent offset }
-        ensures ok { IfOk result (λ t. log_taken desk.now self.old body.now ≡ outcome t self.new) }
+        ensures ok { IfOk result (λ t. log_taken context.now self.old body.now ≡ outcome t self.new) }
         ensures held { OnOk result (self.new.held ≡ self.old.held) }
         ensures err { OnErr result (self.new ≡ self.old) }
         ensures short { IfOk result IsShort }
     {
-        let told = self.told(alloc, desk)?;
+        let told = self.told(alloc, context)?;
         let range = self.content.load.range;
         let generation = self.content.load.generation;
-        let next = next_group(&self.queue, alloc, desk, range, generation)?;
-        self.apply(alloc, desk, body, extent, offset)?;
-        let begun = self.begin_next(alloc, desk, next);
-        Ok(joined(told, begun, desk.count + 1))
+        let next = next_group(&self.queue, alloc, context, range, generation)?;
+        self.apply(alloc, context, body, extent, offset)?;
+        let begun = self.begin_next(alloc, context, next);
+        Ok(joined(told, begun, context.count + 1))
     }
 
     /// An answer to the log's client while the range is served.
-    #[tactic(auto, using(crate::proofs::Rows::drops))]
+    #[tactic(auto, using(crate::proofs::LogAnswers::drops))]
     pub(crate) fn serving_reply(
         &mut self,
         alloc: Global,
-        desk: &Desk,
+        context: &ServerContext,
         body: &Body,
-    ) -> Result<Taken, AllocError>
-        requires numbers { desk.now.count + 1024 < 2 ^ 64 }
+    ) -> Result<RangeStep, AllocError>
+        requires numbers { context.now.count + 1024 < 2 ^ 64 }
         requires serving { is_serving self.old.stage ≡ true }
         requires taken { is_taken self.old body.now ≡ true }
         requires awaited { IsAwaited self.old.log.job body.now }
-        ensures ok { IfOk result (λ t. log_taken desk.now self.old body.now ≡ outcome t self.new) }
+        ensures ok { IfOk result (λ t. log_taken context.now self.old body.now ≡ outcome t self.new) }
         ensures held { OnOk result (self.new.held ≡ self.old.held) }
         ensures err { OnErr result (self.new ≡ self.old) }
         ensures short { IfOk result IsShort }
     {
         if is_stale(body) {
-            let packets = self.refusals(alloc, desk)?;
-            return Ok(Taken::drops(alloc, desk.count + 1, packets));
+            let packets = self.refusals(alloc, context)?;
+            return Ok(RangeStep::drops(alloc, context.count + 1, packets));
         }
         if self.queue.is_out() {
             if let Some((extent, offset)) = group_end(self.content.log.job, body) {
-                return self.acknowledge(alloc, desk, body, extent, offset);
+                return self.acknowledge(alloc, context, body, extent, offset);
             }
         }
-        self.log_goes(alloc, desk, body)
+        self.log_goes(alloc, context, body)
     }
 }

@@ -1,19 +1,19 @@
 //! Answers that a range waits for.
 ghost use Rattle.std.specs.Prelude.{◌≡◌, ◌<◌, ◌≤◌, ◌+◌, ◌^◌, [], Some, true, false, length, vec_len, vec_capacity, IfOk, OnOk, OnErr};
-ghost use Rattle.model_tables.specs.Range.{is_serving, refused_users};
-ghost use Rattle.model_tables.specs.Answering.{answer_row, answered_number, log_reply, range_awaits};
-ghost use Rattle.loading.specs.Steps as steps;
+ghost use Rattle.model_partition.specs.Range.{is_serving, refused_users};
+ghost use Rattle.model_partition.specs.Answering.{answer_rule, answered_number, log_reply, range_awaits};
+ghost use Rattle.range_load.specs.Steps as steps;
 ghost use Rattle.range_core.specs.Cache.{HoldsOnly, Takes, is_for_gets};
 ghost use Rattle.range_core.specs.Replies.{IsAwaited};
 ghost use Rattle.range_core.specs.Steps.{outcome, IsShort};
-ghost use Rattle.range_core.specs.Waiters.{waiter_row};
+ghost use Rattle.range_core.specs.Waiters.{waiter_rule};
 ghost use Rattle.range_core.specs.declared.answering.Waiter.TheVariants as waiters;
 
+use crate::range_step::{RangeStep, push_some};
 use crate::state::RangeState;
-use crate::taken::{Taken, push_some};
-use group_commit::Queue;
-use loading::{Progress, RangeContent, Service};
-use model_tables::{Desk, TableNote};
+use model_partition::{ServerContext, TableNote};
+use range_commit::Queue;
+use range_load::{Progress, RangeContent, Service};
 use std::alloc::{AllocError, Global};
 use wire::{Body, Packet, ReqNo};
 
@@ -50,18 +50,18 @@ enum Waiter {
 fn progress_of(
     content: &mut RangeContent,
     alloc: Global,
-    desk: &Desk,
+    context: &ServerContext,
     waiter: Waiter,
     body: &Body,
 ) -> Result<Progress, AllocError>
     requires { waiter ≡ waiters.Log → is_serving content.old.stage ≡ false }
-    ensures ok { IfOk result (λ p. steps.Makes desk.now (λ r. waiter_row waiter desk.now r body.now) content.old content.new p) }
+    ensures ok { IfOk result (λ p. steps.RangePerforms context.now (λ r. waiter_rule waiter context.now r body.now) content.old content.new p) }
     ensures err { OnErr result (content.new ≡ content.old) }
 {
     match waiter {
-        Waiter::Load => content.load_reply(alloc, desk, body),
-        Waiter::Metadata => content.metadata_reply(alloc, desk, body),
-        Waiter::Log => content.log_load_reply(alloc, desk, body),
+        Waiter::Load => content.load_reply(alloc, context, body),
+        Waiter::Metadata => content.metadata_reply(alloc, context, body),
+        Waiter::Log => content.log_load_reply(alloc, context, body),
     }
 }
 
@@ -70,16 +70,16 @@ impl RangeState {
     fn settle(
         &mut self,
         alloc: Global,
-        desk: &Desk,
+        context: &ServerContext,
         progress: Progress,
         prepared: Prepared,
-    ) -> Taken
-        requires numbers { desk.now.count + 1024 < 2 ^ 64 }
-        requires farewell { prepared.farewell.items ≡ refused_users desk.now self.old }
+    ) -> RangeStep
+        requires numbers { context.now.count + 1024 < 2 ^ 64 }
+        requires farewell { prepared.farewell.items ≡ refused_users context.now self.old }
         requires few { length prepared.farewell.items ≤ 1280 }
         requires packets { (prepared.packets.items ≡ []) × (vec_len prepared.packets < vec_capacity prepared.packets) }
         requires notes { (prepared.notes.items ≡ []) × (vec_len prepared.notes < vec_capacity prepared.notes) }
-        ensures row { steps.outcome desk.now self.old progress ≡ outcome result self.new }
+        ensures rule { steps.outcome context.now self.old progress ≡ outcome result self.new }
         ensures held { self.new.held ≡ self.old.held }
         ensures short { IsShort result }
     {
@@ -89,12 +89,12 @@ impl RangeState {
             mut notes,
         } = prepared;
         match progress {
-            Progress::Rests => Taken::sends(alloc, desk.count, packets),
+            Progress::Rests => RangeStep::sends(alloc, context.count, packets),
             Progress::Goes(packet) => {
                 push_some(&mut packets, packet);
-                Taken::sends(alloc, desk.count + 1, packets)
+                RangeStep::sends(alloc, context.count + 1, packets)
             }
-            Progress::Dropped => Taken::drops(alloc, desk.count + 1, farewell),
+            Progress::Dropped => RangeStep::drops(alloc, context.count + 1, farewell),
             Progress::Serves(
                 Service {
                     next,
@@ -107,9 +107,9 @@ impl RangeState {
                 self.queue = queue;
                 self.position = position;
                 drop(notes.push(note));
-                Taken {
+                RangeStep {
                     dropped: false,
-                    count: desk.count + 1,
+                    count: context.count + 1,
                     packets,
                     notes,
                 }
@@ -121,40 +121,45 @@ impl RangeState {
     fn step_of_load(
         &mut self,
         alloc: Global,
-        desk: &Desk,
+        context: &ServerContext,
         waiter: Waiter,
         body: &Body,
-    ) -> Result<Taken, AllocError>
-        requires numbers { desk.now.count + 1024 < 2 ^ 64 }
+    ) -> Result<RangeStep, AllocError>
+        requires numbers { context.now.count + 1024 < 2 ^ 64 }
         requires loading { waiter ≡ waiters.Log → is_serving self.old.stage ≡ false }
-        ensures ok { IfOk result (λ t. waiter_row waiter desk.now self.old body.now ≡ outcome t self.new) }
+        ensures ok { IfOk result (λ t. waiter_rule waiter context.now self.old body.now ≡ outcome t self.new) }
         ensures held { OnOk result (self.new.held ≡ self.old.held) }
         ensures err { OnErr result (self.new ≡ self.old) }
         ensures short { IfOk result IsShort }
     {
-        let farewell = self.refusals(alloc, desk)?;
+        let farewell = self.refusals(alloc, context)?;
         let prepared = make_room(alloc, farewell)?;
-        match progress_of(&mut self.content, alloc, desk, waiter, body) {
-            Ok(progress) => Ok(self.settle(alloc, desk, progress, prepared)),
+        match progress_of(&mut self.content, alloc, context, waiter, body) {
+            Ok(progress) => Ok(self.settle(alloc, context, progress, prepared)),
             Err(full) => Err(full),
         }
     }
 
-    fn log_reply(&mut self, alloc: Global, desk: &Desk, body: &Body) -> Result<Taken, AllocError>
-        requires numbers { desk.now.count + 1024 < 2 ^ 64 }
+    fn log_reply(
+        &mut self,
+        alloc: Global,
+        context: &ServerContext,
+        body: &Body,
+    ) -> Result<RangeStep, AllocError>
+        requires numbers { context.now.count + 1024 < 2 ^ 64 }
         requires awaited { IsAwaited self.old.log.job body.now }
-        ensures ok { IfOk result (λ t. log_reply desk.now self.old body.now ≡ outcome t self.new) }
+        ensures ok { IfOk result (λ t. log_reply context.now self.old body.now ≡ outcome t self.new) }
         ensures held { OnOk result (self.new.held ≡ self.old.held) }
         ensures err { OnErr result (self.new ≡ self.old) }
         ensures short { IfOk result IsShort }
     {
         if !self.is_taken(body) {
-            return Ok(Taken::sends(alloc, desk.count, Vec::new(alloc)));
+            return Ok(RangeStep::sends(alloc, context.count, Vec::new(alloc)));
         }
         if self.is_serving() {
-            return self.serving_reply(alloc, desk, body);
+            return self.serving_reply(alloc, context, body);
         }
-        self.step_of_load(alloc, desk, Waiter::Log, body)
+        self.step_of_load(alloc, context, Waiter::Log, body)
     }
 
     /// Whether a job of the range waits for an answer of this number.
@@ -171,31 +176,31 @@ impl RangeState {
     /// for it first. That the body bears the number is the caller's condition. The cache of the Gets then holds nothing but what
     /// it held and the bytes that the answer brings, and these where a read of the number asked for their very place. For want of
     /// memory (22) nothing has changed.
-    #[tactic(auto, using(crate::proofs::Rows::awaited))]
+    #[tactic(auto, using(crate::proofs::LogAnswers::awaited))]
     pub fn answer(
         &mut self,
         alloc: Global,
-        desk: &Desk,
+        context: &ServerContext,
         request: &ReqNo,
         body: &Body,
-    ) -> Result<Taken, AllocError>
-        requires numbers { desk.now.count + 1024 < 2 ^ 64 }
+    ) -> Result<RangeStep, AllocError>
+        requires numbers { context.now.count + 1024 < 2 ^ 64 }
         requires answer { answered_number body.now ≡ Some request.now }
-        ensures ok { IfOk result (λ t. answer_row desk.now self.old request.now body.now self.new.held ≡ outcome t self.new) }
+        ensures ok { IfOk result (λ t. answer_rule context.now self.old request.now body.now self.new.held ≡ outcome t self.new) }
         ensures held { OnOk result (HoldsOnly self.new.held self.old.held body.now) }
         ensures taken { OnOk result (is_for_gets self.old request.now ≡ true → Takes self.old self.new.held request.now body.now) }
         ensures err { OnErr result (self.new ≡ self.old) }
         ensures short { IfOk result IsShort }
     {
         if self.content.load.awaits(request) {
-            return self.step_of_load(alloc, desk, Waiter::Load, body);
+            return self.step_of_load(alloc, context, Waiter::Load, body);
         }
         if self.content.metadata.awaits(request) {
-            return self.step_of_load(alloc, desk, Waiter::Metadata, body);
+            return self.step_of_load(alloc, context, Waiter::Metadata, body);
         }
         if self.content.log.awaits(request) {
-            return self.log_reply(alloc, desk, body);
+            return self.log_reply(alloc, context, body);
         }
-        self.gets_reply(alloc, desk, request, body)
+        self.gets_reply(alloc, context, request, body)
     }
 }

@@ -1,28 +1,28 @@
 //! The next group of a range.
 ghost use Rattle.std.specs.Prelude.{◌≡◌, ◌<◌, ◌≤◌, ◌+◌, ◌^◌, length, take, None, true, false, option_to_list, IfOk, IfSome, IfNone, OnErr};
-ghost use Rattle.client.specs.Client.{append_row};
+ghost use Rattle.client.specs.Client.{append_rule};
 ghost use Rattle.commitlog.specs.Record.{spelling};
-ghost use Rattle.model_tables.specs.Range.{given, goes, picking, request};
-ghost use Rattle.model_tables.specs.Serving.{began, forms, grown, record_of};
-ghost use Rattle.group_commit.specs.Queue.{IsNextGroup, is_formed};
+ghost use Rattle.model_partition.specs.Range.{given, goes, picking, request};
+ghost use Rattle.model_partition.specs.Serving.{began, forms, grown, record_of};
+ghost use Rattle.range_commit.specs.Queue.{IsNextGroup, is_formed};
 ghost use Rattle.range_core.specs.Steps.{outcome, IsShort};
 
+use crate::range_step::{RangeStep, push_some};
 use crate::state::RangeState;
-use crate::taken::{Taken, push_some};
 use client::{Appending, StreamClient};
-use group_commit::{Plan, Queue};
-use model_tables::{Desk, TableNote};
+use model_partition::{ServerContext, TableNote};
+use range_commit::{Plan, Queue};
 use std::alloc::{AllocError, Global};
 use wire::{Fence, Packet, RangeId, ReqNo};
 
 /// The number of the next request.
-pub(crate) fn next_request(desk: &Desk) -> ReqNo
-    ensures { result ≡ request desk.now }
+pub(crate) fn next_request(context: &ServerContext) -> ReqNo
+    ensures { result ≡ request context.now }
 {
     ReqNo::Server {
-        server: desk.server,
-        session: desk.session,
-        count: desk.count,
+        server: context.server,
+        session: context.session,
+        count: context.count,
     }
 }
 
@@ -40,12 +40,12 @@ pub(crate) struct Ready {
 pub(crate) fn next_group(
     queue: &Queue,
     alloc: Global,
-    desk: &Desk,
+    context: &ServerContext,
     range: RangeId,
     generation: Fence,
 ) -> Result<Option<Ready>, AllocError>
-    ensures some { IfOk result (λ made. IfSome made (λ x. x.count ≡ grown queue.now.next queue.now.queue 0 desk.now.batch)) }
-    ensures none { IfOk result (λ made. IfNone made (is_formed queue.now.next (grown queue.now.next queue.now.queue 0 desk.now.batch) ≡ false)) }
+    ensures some { IfOk result (λ made. IfSome made (λ x. x.count ≡ grown queue.now.next queue.now.queue 0 context.now.batch)) }
+    ensures none { IfOk result (λ made. IfNone made (is_formed queue.now.next (grown queue.now.next queue.now.queue 0 context.now.batch) ≡ false)) }
     ensures begins { IfOk result (λ made. IfSome made (λ x. IsNextGroup queue.now.next queue.now.queue x.count x.size)) }
     ensures blocks { IfOk result (λ made. IfSome made (λ x. x.blocks ≡ spelling (record_of queue.now.next (take x.count queue.now.queue)))) }
     ensures notes { IfOk result (λ made. IfSome made (λ x. x.notes.items ≡ began range generation queue.now.next (take x.count queue.now.queue))) }
@@ -54,7 +54,7 @@ pub(crate) fn next_group(
 {
     // No more are noted than wait.
     let _most = queue.count();
-    match queue.plan(alloc, desk, range, generation)? {
+    match queue.plan(alloc, context, range, generation)? {
         None => Ok(None),
         Some(plan) => {
             let Plan {
@@ -82,25 +82,30 @@ pub(crate) struct Begun {
 }
 
 /// The group is given to the log's client, which sends it unless it is busy: then it goes later.
-fn send_group(log: &mut StreamClient, desk: &Desk, blocks: Appending) -> Option<Packet>
-    ensures { given (picking desk.now log.old) (append_row (picking desk.now log.old) (request desk.now) blocks) ≡ record { after = log.new; packet = result; news = None } }
+fn send_group(log: &mut StreamClient, context: &ServerContext, blocks: Appending) -> Option<Packet>
+    ensures { given (picking context.now log.old) (append_rule (picking context.now log.old) (request context.now) blocks) ≡ record { after = log.new; packet = result; news = None } }
 {
-    log.pick = desk.pick;
-    log.begin_append(&next_request(desk), blocks).ok()
+    log.pick = context.pick;
+    log.begin_append(&next_request(context), blocks).ok()
 }
 
 impl RangeState {
     /// The group that is ready, if one is, is out, where none is: it is sent, unless the log's client is busy.
-    pub(crate) fn begin_next(&mut self, alloc: Global, desk: &Desk, next: Option<Ready>) -> Begun
+    pub(crate) fn begin_next(
+        &mut self,
+        alloc: Global,
+        context: &ServerContext,
+        next: Option<Ready>,
+    ) -> Begun
         requires none { self.old.out ≡ None }
-        requires some { IfSome next (λ x. x.count ≡ grown self.old.next self.old.queue 0 desk.now.batch) }
-        requires rests { IfNone next (is_formed self.old.next (grown self.old.next self.old.queue 0 desk.now.batch) ≡ false) }
+        requires some { IfSome next (λ x. x.count ≡ grown self.old.next self.old.queue 0 context.now.batch) }
+        requires rests { IfNone next (is_formed self.old.next (grown self.old.next self.old.queue 0 context.now.batch) ≡ false) }
         requires begins { IfSome next (λ x. IsNextGroup self.old.next self.old.queue x.count x.size) }
         requires blocks { IfSome next (λ x. x.blocks ≡ spelling (record_of self.old.next (take x.count self.old.queue))) }
         requires notes { IfSome next (λ x. x.notes.items ≡ began self.old.load.range self.old.load.generation self.old.next (take x.count self.old.queue)) }
         requires formed { IfSome next (λ x. is_formed self.old.next x.count ≡ true) }
         requires few { IfSome next (λ x. length x.notes.items ≤ 1024) }
-        ensures row { forms desk.now self.old ≡ goes desk.now self.new (option_to_list result.packet) result.notes.items }
+        ensures rule { forms context.now self.old ≡ goes context.now self.new (option_to_list result.packet) result.notes.items }
         ensures held { self.new.held ≡ self.old.held }
         ensures few { length result.notes.items ≤ 1024 }
     {
@@ -116,7 +121,7 @@ impl RangeState {
                     blocks,
                     notes,
                 } = ready;
-                let packet = send_group(&mut self.content.log, desk, blocks);
+                let packet = send_group(&mut self.content.log, context, blocks);
                 self.queue.begin(count, size);
                 Begun { packet, notes }
             }
@@ -124,24 +129,28 @@ impl RangeState {
     }
 
     /// The next group is formed, if one is. For want of memory (22) nothing has changed.
-    pub(crate) fn form(&mut self, alloc: Global, desk: &Desk) -> Result<Taken, AllocError>
-        requires numbers { desk.now.count + 1024 < 2 ^ 64 }
-        ensures ok { IfOk result (λ t. forms desk.now self.old ≡ outcome t self.new) }
+    pub(crate) fn form(
+        &mut self,
+        alloc: Global,
+        context: &ServerContext,
+    ) -> Result<RangeStep, AllocError>
+        requires numbers { context.now.count + 1024 < 2 ^ 64 }
+        ensures ok { IfOk result (λ t. forms context.now self.old ≡ outcome t self.new) }
         ensures err { OnErr result (self.new ≡ self.old) }
         ensures short { IfOk result IsShort }
     {
         let mut packets = Vec::with_capacity(alloc, 1)?;
         if self.queue.is_out() {
-            return Ok(Taken::sends(alloc, desk.count + 1, packets));
+            return Ok(RangeStep::sends(alloc, context.count + 1, packets));
         }
         let range = self.content.load.range;
         let generation = self.content.load.generation;
-        let next = next_group(&self.queue, alloc, desk, range, generation)?;
-        let Begun { packet, notes } = self.begin_next(alloc, desk, next);
+        let next = next_group(&self.queue, alloc, context, range, generation)?;
+        let Begun { packet, notes } = self.begin_next(alloc, context, next);
         push_some(&mut packets, packet);
-        Ok(Taken {
+        Ok(RangeStep {
             dropped: false,
-            count: desk.count + 1,
+            count: context.count + 1,
             packets,
             notes,
         })

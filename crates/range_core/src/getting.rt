@@ -1,31 +1,31 @@
 //! A Get comes, or the bytes of a value.
 ghost use Rattle.std.specs.Prelude.{◌≡◌, ◌<◌, ◌≤◌, ◌+◌, ◌^◌, ℕ, List, length, Contains, None, IfOk, OnOk, OnErr};
-ghost use Rattle.cells.specs.declared.cell.Place.{Place as ValuePlace};
-ghost use Rattle.model_tables.specs.Getting.{get_fault, get_row, held_at};
-ghost use Rattle.lookups.specs.Lookups.{Sees};
-ghost use Rattle.model_tables.specs.Answering.{gets_reply};
+ghost use Rattle.memtable.specs.declared.cell.Place.{Place as ValuePlace};
+ghost use Rattle.model_partition.specs.Getting.{get_fault, get_rule, held_at};
+ghost use Rattle.range_reads.specs.Lookups.{Sees};
+ghost use Rattle.model_partition.specs.Answering.{gets_reply};
 ghost use Rattle.range_core.specs.Cache.{HoldsOnly, Takes};
 ghost use Rattle.range_core.specs.Steps.{outcome, IsShort};
 
+use crate::range_step::RangeStep;
 use crate::state::{RangeState, extents_of, known_extents};
-use crate::taken::Taken;
 use crate::transacting::refused;
 use bytes::Bytes;
-use lookups::{Asking, MAX_GETS};
-use model_tables::Desk;
+use model_partition::ServerContext;
+use range_reads::{Asking, MAX_GETS};
 use std::alloc::{AllocError, Global};
 use wire::{ActorId, Body, ReadBody, Refusal, ReqNo};
 
 impl RangeState {
     /// Why a Get is refused: 38, 32, 36, 33 or 35, the first that is met.
-    fn get_fault(&self, desk: &Desk, key: &Bytes) -> Option<Refusal>
-        ensures value { result ≡ get_fault desk.now self.now key.now }
+    fn get_fault(&self, context: &ServerContext, key: &Bytes) -> Option<Refusal>
+        ensures value { result ≡ get_fault context.now self.now key.now }
         ensures room { result ≡ None → length self.now.gets < 256 }
     {
         if !self.is_serving() {
             return Some(Refusal::Loading);
         }
-        if self.lease_ended(desk) {
+        if self.lease_ended(context) {
             return Some(Refusal::LeaseEnded);
         }
         if key.is_empty() || key.len() > 256 {
@@ -47,24 +47,24 @@ impl RangeState {
     pub fn get(
         &mut self,
         alloc: Global,
-        desk: &Desk,
+        context: &ServerContext,
         from: ActorId,
         request: &ReqNo,
         key: &Bytes,
-    ) -> Result<Taken, AllocError>
-        requires numbers { desk.now.count + 1024 < 2 ^ 64 }
-        ensures ok { IfOk result (λ t. get_row desk.now self.old from request.now key.now self.new.held ≡ outcome t self.new) }
+    ) -> Result<RangeStep, AllocError>
+        requires numbers { context.now.count + 1024 < 2 ^ 64 }
+        ensures ok { IfOk result (λ t. get_rule context.now self.old from request.now key.now self.new.held ≡ outcome t self.new) }
         ensures held { OnOk result ((x : ValuePlace × List ℕ) → Contains self.new.held x → Contains self.old.held x) }
         ensures same { OnOk result ((p : ValuePlace) → held_at self.new.held p ≡ held_at self.old.held p) }
         ensures err { OnErr result (self.new ≡ self.old) }
         ensures short { IfOk result IsShort }
     {
-        if let Some(refusal) = self.get_fault(desk, key) {
-            return refused(alloc, desk, from, request, refusal);
+        if let Some(refusal) = self.get_fault(context, key) {
+            return refused(alloc, context, from, request, refusal);
         }
         let key = key.clone()?;
         let asking = Asking {
-            desk,
+            context,
             until: self.until,
             table: &self.content.table,
             log: known_extents(&self.content.log),
@@ -72,7 +72,7 @@ impl RangeState {
             rows: extents_of(&self.content.row_data),
         };
         match self.lookups.get(alloc, &asking, from, *request, key) {
-            Ok(tried) => Ok(Taken::sends(alloc, tried.count, tried.packets)),
+            Ok(tried) => Ok(RangeStep::sends(alloc, tried.count, tried.packets)),
             Err(full) => Err(full),
         }
     }
@@ -82,12 +82,12 @@ impl RangeState {
     pub(crate) fn gets_reply(
         &mut self,
         alloc: Global,
-        desk: &Desk,
+        context: &ServerContext,
         request: &ReqNo,
         body: &Body,
-    ) -> Result<Taken, AllocError>
-        requires numbers { desk.now.count + 1024 < 2 ^ 64 }
-        ensures ok { IfOk result (λ t. gets_reply desk.now self.old request.now body.now self.new.held ≡ outcome t self.new) }
+    ) -> Result<RangeStep, AllocError>
+        requires numbers { context.now.count + 1024 < 2 ^ 64 }
+        ensures ok { IfOk result (λ t. gets_reply context.now self.old request.now body.now self.new.held ≡ outcome t self.new) }
         ensures held { OnOk result (HoldsOnly self.new.held self.old.held body.now) }
         ensures taken { OnOk result (Takes self.old self.new.held request.now body.now) }
         ensures err { OnErr result (self.new ≡ self.old) }
@@ -103,7 +103,7 @@ impl RangeState {
                 },
             ) => {
                 let asking = Asking {
-                    desk,
+                    context,
                     until: self.until,
                     table: &self.content.table,
                     log: known_extents(&self.content.log),
@@ -114,11 +114,11 @@ impl RangeState {
                     .lookups
                     .bytes(alloc, &asking, request, *extent, *offset, bytes)
                 {
-                    Ok(tried) => Ok(Taken::sends(alloc, tried.count, tried.packets)),
+                    Ok(tried) => Ok(RangeStep::sends(alloc, tried.count, tried.packets)),
                     Err(full) => Err(full),
                 }
             }
-            _ => Ok(Taken::sends(alloc, desk.count, Vec::new(alloc))),
+            _ => Ok(RangeStep::sends(alloc, context.count, Vec::new(alloc))),
         }
     }
 }

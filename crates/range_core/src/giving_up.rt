@@ -1,13 +1,13 @@
 //! No answer comes.
 ghost use Rattle.std.specs.Prelude.{◌≡◌, ◌<◌, ◌≤◌, ◌+◌, ◌++◌, ◌^◌, length, vec_len, vec_capacity, option_to_list, IfOk, OnErr};
-ghost use Rattle.model_tables.specs.Answering.{give_up_all};
+ghost use Rattle.model_partition.specs.Answering.{give_up_all};
 ghost use Rattle.range_core.specs.Steps.{outcome, IsShort};
 
+use crate::range_step::{RangeStep, push_some};
 use crate::state::{RangeState, extents_of, known_extents};
-use crate::taken::{Taken, push_some};
-use loading::GivenUp;
-use lookups::{Asking, MAX_GETS};
-use model_tables::Desk;
+use model_partition::ServerContext;
+use range_load::GivenUp;
+use range_reads::{Asking, MAX_GETS};
 use std::alloc::{AllocError, Global};
 use wire::Packet;
 
@@ -34,15 +34,19 @@ fn gathered(packets: Vec<Packet>, given: GivenUp, reads: Vec<Packet>) -> Vec<Pac
 impl RangeState {
     /// What is not answered is sent again, or an extent that does not answer is sealed: the load, the log's job and the Gets, in
     /// this order. For want of memory (22) nothing has changed.
-    pub fn give_up(&mut self, alloc: Global, desk: &Desk) -> Result<Taken, AllocError>
-        requires numbers { desk.now.count + 1024 < 2 ^ 64 }
-        ensures ok { IfOk result (λ t. give_up_all desk.now self.old ≡ outcome t self.new) }
+    pub fn give_up(
+        &mut self,
+        alloc: Global,
+        context: &ServerContext,
+    ) -> Result<RangeStep, AllocError>
+        requires numbers { context.now.count + 1024 < 2 ^ 64 }
+        ensures ok { IfOk result (λ t. give_up_all context.now self.old ≡ outcome t self.new) }
         ensures err { OnErr result (self.new ≡ self.old) }
         ensures short { IfOk result IsShort }
     {
         let packets = Vec::with_capacity(alloc, 3 + MAX_GETS)?;
         let asking = Asking {
-            desk,
+            context,
             until: self.until,
             table: &self.content.table,
             log: known_extents(&self.content.log),
@@ -50,8 +54,8 @@ impl RangeState {
             rows: extents_of(&self.content.row_data),
         };
         let reads = self.lookups.give_up(alloc, &asking)?;
-        let given = self.content.give_up(desk);
+        let given = self.content.give_up(context);
         let sent = gathered(packets, given, reads);
-        Ok(Taken::sends(alloc, desk.count + 2, sent))
+        Ok(RangeStep::sends(alloc, context.count + 2, sent))
     }
 }

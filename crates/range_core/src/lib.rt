@@ -1,7 +1,7 @@
 //! One range at a server: the load of its streams, the transactions that it takes, the groups that they are appended in, and
 //! the Gets that it answers (after Calder et al., SOSP 2011, section 5).
 //!
-//! This crate touches memory only. Each call is a row of the table of a server (model_tables/specs: Loading, Serving, Getting
+//! This crate touches memory only. Each call is a rule of the table of a server (model_partition/specs: Loading, Serving, Getting
 //! and Answering) on the range, exactly, but for what its cache holds. A step that is refused for want of memory (22) leaves
 //! the range as it was, and that is the one error that no clause limits.
 #![tactic(auto)]
@@ -11,9 +11,9 @@ mod answering;
 mod forming;
 mod getting;
 mod giving_up;
+mod range_step;
 mod state;
-mod taken;
 mod transacting;
 
+pub use range_step::RangeStep;
 pub use state::RangeState;
-pub use taken::Taken;

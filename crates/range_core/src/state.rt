@@ -1,15 +1,15 @@
 //! What a server keeps of a range.
 ghost use Rattle.std.specs.Prelude.{◌≡◌, ◌≤◌, [], None, length, max, IfOk};
 ghost use Rattle.client.specs.Load.{open_packet};
-ghost use Rattle.model_tables.specs.Range.{RangeState, request, refused_users};
-ghost use Rattle.loading.specs.Steps.{put};
-ghost use Rattle.model_tables.specs.Server.{new_range};
+ghost use Rattle.model_partition.specs.Range.{RangeState, request, refused_users};
+ghost use Rattle.range_load.specs.Steps.{put};
+ghost use Rattle.model_partition.specs.Server.{new_range};
 
 use client::StreamClient;
-use group_commit::Queue;
-use loading::RangeContent;
-use lookups::Lookups;
-use model_tables::Desk;
+use model_partition::ServerContext;
+use range_commit::Queue;
+use range_load::RangeContent;
+use range_reads::Lookups;
 use std::alloc::{AllocError, Global};
 use std::marker::Model;
 use streams::Position;
@@ -41,7 +41,7 @@ impl Drop for RangeState {
 }
 
 impl Model for RangeState {
-    ghost use Rattle.model_tables.specs.Range as specs;
+    ghost use Rattle.model_partition.specs.Range as specs;
 
     ghost Value = { specs.RangeState };
 
@@ -109,16 +109,16 @@ impl RangeState {
     /// bears the next number of the server. An error is want of memory (22).
     pub fn assign(
         alloc: Global,
-        desk: &Desk,
+        context: &ServerContext,
         range: RangeId,
         generation: Fence,
         until: u64,
     ) -> Result<(RangeState, Packet), AllocError>
-        ensures range { IfOk result (λ x. x.0 ≡ new_range desk.now range generation until) }
-        ensures packet { IfOk result (λ x. x.1 ≡ open_packet desk.now.server range generation (request desk.now)) }
+        ensures range { IfOk result (λ x. x.0 ≡ new_range context.now range generation until) }
+        ensures packet { IfOk result (λ x. x.1 ≡ open_packet context.now.server range generation (request context.now)) }
     {
         let lookups = Lookups::new(alloc)?;
-        let (content, packet) = RangeContent::new(alloc, desk, range, generation)?;
+        let (content, packet) = RangeContent::new(alloc, context, range, generation)?;
         Ok((RangeState::of(alloc, until, content, lookups), packet))
     }
 
@@ -131,12 +131,16 @@ impl RangeState {
 
     /// What those who wait are told where the range goes: that this server does not hold it (30). First the transactions,
     /// those that are being appended before the others, then the Gets, at most 1,280 packets. An error is want of memory (22).
-    pub fn refusals(&self, alloc: Global, desk: &Desk) -> Result<Vec<Packet>, AllocError>
-        ensures packets { IfOk result (λ packets. packets.items ≡ refused_users desk.now self.now) }
+    pub fn refusals(
+        &self,
+        alloc: Global,
+        context: &ServerContext,
+    ) -> Result<Vec<Packet>, AllocError>
+        ensures packets { IfOk result (λ packets. packets.items ≡ refused_users context.now self.now) }
         ensures few { IfOk result (λ packets. length packets.items ≤ 1280) }
     {
-        let mut packets = self.queue.refusals(alloc, desk)?;
-        let mut others = self.lookups.refusals(alloc, desk)?;
+        let mut packets = self.queue.refusals(alloc, context)?;
+        let mut others = self.lookups.refusals(alloc, context)?;
         packets.append(&mut others)?;
         Ok(packets)
     }

@@ -1,14 +1,14 @@
 //! A transaction comes.
 ghost use Rattle.std.specs.Prelude.{◌≡◌, ◌<◌, ◌+◌, ◌^◌, [], ◌∷◌, length, None, IfOk, OnErr};
-ghost use Rattle.model_tables.specs.Range.{RangeState, answers, refuses, is_serving, waiting_out};
-ghost use Rattle.model_tables.specs.Serving.{transact_fault, transact_row, lease_ended};
+ghost use Rattle.model_partition.specs.Range.{RangeState, answers, refuses, is_serving, waiting_out};
+ghost use Rattle.model_partition.specs.Serving.{transact_fault, transact_rule, lease_ended};
 ghost use Rattle.commitlog.specs.Record.{IsTransaction};
 ghost use Rattle.range_core.specs.Steps.{outcome, IsShort};
 
+use crate::range_step::RangeStep;
 use crate::state::RangeState;
-use crate::taken::Taken;
-use group_commit::change_fault;
-use model_tables::{Desk, Stage, WaitingTransaction};
+use model_partition::{ServerContext, Stage, WaitingTransaction};
+use range_commit::change_fault;
 use std::alloc::{AllocError, Global};
 use wire::{ActorId, AppendBody, Body, Changes, Packet, Refusal, ReqNo};
 
@@ -21,24 +21,24 @@ const MAX_TABLE: u64 = 67_108_864;
 /// A refusal goes to the one who asked, and nothing changes.
 pub(crate) fn refused(
     alloc: Global,
-    desk: &Desk,
+    context: &ServerContext,
     to: ActorId,
     request: &ReqNo,
     refusal: Refusal,
-) -> Result<Taken, AllocError>
-    ensures row { IfOk result (λ t. (r : RangeState) → answers desk.now r (refuses desk.now to request.now refusal ∷ []) ≡ outcome t r) }
+) -> Result<RangeStep, AllocError>
+    ensures rule { IfOk result (λ t. (r : RangeState) → answers context.now r (refuses context.now to request.now refusal ∷ []) ≡ outcome t r) }
     ensures short { IfOk result IsShort }
 {
     let mut packets = Vec::with_capacity(alloc, 1)?;
     packets.push(Packet {
-        from: ActorId::Server(desk.server),
+        from: ActorId::Server(context.server),
         to,
         body: Body::Append(AppendBody::Refused {
             request: *request,
             refusal,
         }),
     })?;
-    Ok(Taken::sends(alloc, desk.count, packets))
+    Ok(RangeStep::sends(alloc, context.count, packets))
 }
 
 impl RangeState {
@@ -53,22 +53,22 @@ impl RangeState {
     }
 
     /// Whether its lease has ended.
-    pub(crate) fn lease_ended(&self, desk: &Desk) -> bool
-        ensures { result ≡ lease_ended desk.now self.now }
+    pub(crate) fn lease_ended(&self, context: &ServerContext) -> bool
+        ensures { result ≡ lease_ended context.now self.now }
     {
-        self.until <= desk.moment
+        self.until <= context.moment
     }
 
     /// Why a transaction is refused: 38, 32, 37, 36, 37, 33 or 35, the first that is met.
-    fn transact_fault(&self, desk: &Desk, changes: &Changes) -> Option<Refusal>
-        ensures value { result ≡ transact_fault desk.now self.now changes.now }
+    fn transact_fault(&self, context: &ServerContext, changes: &Changes) -> Option<Refusal>
+        ensures value { result ≡ transact_fault context.now self.now changes.now }
         ensures room { result ≡ None → length (waiting_out self.now.out) + length self.now.queue < 1024 }
         ensures fits { result ≡ None → IsTransaction changes.now }
     {
         if !self.is_serving() {
             return Some(Refusal::Loading);
         }
-        if self.lease_ended(desk) {
+        if self.lease_ended(context) {
             return Some(Refusal::LeaseEnded);
         }
         let fault = change_fault(&changes.items, &self.content.said.keys);
@@ -88,18 +88,18 @@ impl RangeState {
     pub fn transact(
         &mut self,
         alloc: Global,
-        desk: &Desk,
+        context: &ServerContext,
         from: ActorId,
         request: &ReqNo,
         changes: &Changes,
-    ) -> Result<Taken, AllocError>
-        requires numbers { desk.now.count + 1024 < 2 ^ 64 }
-        ensures ok { IfOk result (λ t. transact_row desk.now self.old from request.now changes.now ≡ outcome t self.new) }
+    ) -> Result<RangeStep, AllocError>
+        requires numbers { context.now.count + 1024 < 2 ^ 64 }
+        ensures ok { IfOk result (λ t. transact_rule context.now self.old from request.now changes.now ≡ outcome t self.new) }
         ensures err { OnErr result (self.new ≡ self.old) }
         ensures short { IfOk result IsShort }
     {
-        if let Some(refusal) = self.transact_fault(desk, changes) {
-            return refused(alloc, desk, from, request, refusal);
+        if let Some(refusal) = self.transact_fault(context, changes) {
+            return refused(alloc, context, from, request, refusal);
         }
         let changes = changes.copy(alloc)?;
         self.queue.push(WaitingTransaction {
@@ -107,7 +107,7 @@ impl RangeState {
             request: *request,
             changes,
         })?;
-        match self.form(alloc, desk) {
+        match self.form(alloc, context) {
             Ok(taken) => Ok(taken),
             Err(full) => {
                 self.queue.take_back();

@@ -1,7 +1,7 @@
 -- The length of the text of groups.
 use Rattle.std.proofs.Common.{◌≡◌, ℕ, ◌+◌, List, [], ◌∷◌, ◌++◌, length, refl, ◌∙◌, arith, append_assoc, length-append}
 use Rattle.std.specs.List.{fold}
-use Rattle.blocks.specs.Limits.{group_size}
+use Rattle.block_types.specs.Limits.{group_size}
 use Rattle.replica.specs.Groups.{Group, joined, text, size, text_length}
 
 pub text-append : (xs ys : List Group) → text (xs ++ ys) ≡ text xs ++ text ys

@@ -5,7 +5,7 @@ use Rattle.std.proofs.lemmas.Bool.Decides.{nat_tests}
 use Rattle.std.specs.List.Sorted.{IsPartitionedBy, IsPartitionPoint}
 use Rattle.std.proofs.lemmas.List.{take-append-drop, take_all}
 use Rattle.std.proofs.Math.Seq.{drop-append-add}
-use Rattle.blocks.specs.Limits.{IsGroup, group_size}
+use Rattle.block_types.specs.Limits.{IsGroup, group_size}
 use Rattle.replica.specs.Groups.{Group, joined, text, size, text_length}
 use Rattle.replica.specs.Placed.{ends_from, NoneEmpty, IsPlaced, IsBefore}
 use Rattle.replica.specs.Reading.{bytes_at, groups_to}

@@ -1,7 +1,7 @@
 -- One record more.
 use Rattle.std.proofs.Common.{◌≡◌, ◌≢◌, ℕ, Bool, true, false, ◌==◌, ◌&&◌, List, [], ◌∷◌, ◌++◌, Option, Some, None, refl, ap, sym, ◌∙◌, cond, eq-eqb, eqb-true, append_assoc, append-nil}
 use Rattle.std.proofs.lemmas.Bool.{and_from, and_parts}
-use Rattle.blocks.specs.declared.record.Record.{Record}
+use Rattle.block_types.specs.declared.record.Record.{Record}
 use Rattle.replica.specs.Content.{Content}
 use Rattle.replica.specs.Replay.{extent_of, is_number, applied, applied_at, replay_from, replay, fits_at, fit_after, fit}
 

@@ -1,6 +1,6 @@
 -- What a replica holds.
 use Rattle.std.specs.Prelude.{ℕ, List, [], ◌∷◌, ◌++◌}
-use Rattle.blocks.specs.declared.record.Nodes.{Nodes}
+use Rattle.block_types.specs.declared.record.Nodes.{Nodes}
 use Rattle.replica.specs.declared.phase.Phase.{Phase}
 use Rattle.replica.specs.declared.phase.Phase.TheVariants.{Open, Frozen, Sealed}
 use Rattle.replica.specs.Groups.{Group}
@@ -13,7 +13,7 @@ pub record Content : Type 0 where
   pub groups : List Group
 
 -- and for how many more groups there is memory
-pub record Held : Type 0 where
+pub record StoredContent : Type 0 where
   pub content : Content
   pub room : ℕ
 

@@ -1,9 +1,9 @@
 -- The replica that a list of records makes.
 use Rattle.std.specs.Prelude.{ℕ, Bool, true, false, not, ◌+◌, ◌&&◌, List, [], ◌∷◌, ◌++◌, length, Option, Some, None, ◌==◌, ◌||◌, nat_lt, nat_le, if◌then◌else◌}
-use Rattle.blocks.specs.declared.record.Nodes.{Nodes}
-use Rattle.blocks.specs.declared.record.Record.{Record}
-use Rattle.blocks.specs.declared.record.Record.TheVariants.{Make, Append, Fence, Freeze, Seal, Fill, Manage}
-use Rattle.blocks.specs.Limits.{is_within, are_nodes}
+use Rattle.block_types.specs.declared.record.Nodes.{Nodes}
+use Rattle.block_types.specs.declared.record.Record.{Record}
+use Rattle.block_types.specs.declared.record.Record.TheVariants.{Make, Append, Fence, Freeze, Seal, Fill, Manage}
+use Rattle.block_types.specs.Limits.{is_within, are_nodes}
 use Rattle.replica.specs.declared.phase.Phase.{Phase}
 use Rattle.replica.specs.declared.phase.Phase.TheVariants as phases
 use Rattle.replica.specs.Groups.{Group, text_length}

@@ -1,6 +1,6 @@
 //! A replica that takes nothing but its seal.
 ghost use Rattle.std.specs.Prelude.{◌≡◌, ◌⊎◌, ◌+◌, ◌<◌, ◌≤◌, ◌++◌, ◌==◌, true, false, length, None, Some, IfOk, IfErr, OnOk, MatchResult};
-ghost use Rattle.blocks.specs.Limits.{IsTarget};
+ghost use Rattle.block_types.specs.Limits.{IsTarget};
 ghost use Rattle.replica.specs.Groups.{text_length};
 ghost use Rattle.replica.specs.Content.{sealed_with};
 ghost use Rattle.replica.specs.Kept.{held_as};
@@ -12,7 +12,7 @@ use crate::fault::{FillFault, PastEnd};
 use crate::kept::Kept;
 use crate::phase::Phase;
 use crate::sealed::SealedReplica;
-use blocks::{Group, Groups};
+use block_types::{Group, Groups};
 use std::alloc::{AllocError, Global};
 use std::marker::Model;
 
@@ -33,12 +33,12 @@ impl Drop for FrozenReplica {
 
 impl Model for FrozenReplica {
     ghost use Rattle.std.specs.Prelude.{◌<◌, ◌+◌};
-    ghost use Rattle.blocks.specs.Limits.{IsTarget};
+    ghost use Rattle.block_types.specs.Limits.{IsTarget};
     ghost use Rattle.replica.specs.declared.phase.Phase.TheVariants.{Frozen};
     ghost use Rattle.replica.specs.Groups.{text_length};
-    ghost use Rattle.replica.specs.Content.{Held};
+    ghost use Rattle.replica.specs.Content.{StoredContent};
 
-    ghost Value = { Held };
+    ghost Value = { StoredContent };
 
     ghost use Rattle.replica.specs.Kept.{held_as};
 

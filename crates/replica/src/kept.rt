@@ -1,7 +1,7 @@
 //! What a replica keeps in each of its states.
 
 use crate::placed::PlacedGroups;
-use blocks::Nodes;
+use block_types::Nodes;
 
 /// The places of its extent, its target, its fence, and its groups in order.
 #[derive(Drop)]

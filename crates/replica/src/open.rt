@@ -1,6 +1,6 @@
 //! A replica that takes groups.
 ghost use Rattle.std.specs.Prelude.{◌≡◌, ◌⊎◌, ◌+◌, ◌<◌, ◌≤◌, true, false, None, Some, IfOk, IfErr, OnOk, MatchResult};
-ghost use Rattle.blocks.specs.Limits.{IsTarget};
+ghost use Rattle.block_types.specs.Limits.{IsTarget};
 ghost use Rattle.replica.specs.Groups.{text_length};
 ghost use Rattle.replica.specs.Content.{new_content, appended, fenced, frozen};
 ghost use Rattle.replica.specs.Kept.{held_as};
@@ -14,7 +14,7 @@ use crate::kept::Kept;
 use crate::phase::Phase;
 use crate::placed::PlacedGroups;
 use crate::sealed::SealedReplica;
-use blocks::{Group, Nodes};
+use block_types::{Group, Nodes};
 use std::alloc::{AllocError, Global};
 use std::marker::Model;
 
@@ -32,12 +32,12 @@ impl Drop for OpenReplica {
 
 impl Model for OpenReplica {
     ghost use Rattle.std.specs.Prelude.{◌<◌, ◌+◌};
-    ghost use Rattle.blocks.specs.Limits.{IsTarget};
+    ghost use Rattle.block_types.specs.Limits.{IsTarget};
     ghost use Rattle.replica.specs.declared.phase.Phase.TheVariants.{Open};
     ghost use Rattle.replica.specs.Groups.{text_length};
-    ghost use Rattle.replica.specs.Content.{Held};
+    ghost use Rattle.replica.specs.Content.{StoredContent};
 
-    ghost Value = { Held };
+    ghost Value = { StoredContent };
 
     ghost use Rattle.replica.specs.Kept.{held_as};
 

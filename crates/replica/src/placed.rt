@@ -6,7 +6,7 @@ ghost use Rattle.replica.specs.Reading.{bytes_at, groups_to, groups_from};
 ghost use Rattle.replica.specs.Replay.{is_boundary};
 
 use crate::fault::PastEnd;
-use blocks::{Block, Group, Groups};
+use block_types::{Block, Group, Groups};
 use bytes::Bytes;
 use std::alloc::{AllocError, Global};
 use std::marker::Model;

@@ -1,6 +1,6 @@
 //! A replica in any state.
 ghost use Rattle.std.specs.Prelude.{◌≡◌, ◌<◌, ◌+◌, ◌≤◌, ◌++◌, true, false, length, IfOk, OnOk, OnErr, MatchResult};
-ghost use Rattle.blocks.specs.Limits.{IsTarget};
+ghost use Rattle.block_types.specs.Limits.{IsTarget};
 ghost use Rattle.replica.specs.Groups.{text_length};
 ghost use Rattle.replica.specs.Content.{appended, fenced, frozen, new_content, sealed_with};
 ghost use Rattle.replica.specs.Reading.{bytes_at, groups_from, groups_to};
@@ -13,7 +13,7 @@ use crate::kept::Kept;
 use crate::open::OpenReplica;
 use crate::phase::Phase;
 use crate::sealed::SealedReplica;
-use blocks::{Group, Groups, Nodes};
+use block_types::{Group, Groups, Nodes};
 use bytes::Bytes;
 use std::alloc::{AllocError, Global};
 use std::mem;

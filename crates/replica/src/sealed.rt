@@ -1,6 +1,6 @@
 //! A replica that never changes again.
 ghost use Rattle.std.specs.Prelude.{◌≡◌, ◌≤◌, OnOk};
-ghost use Rattle.blocks.specs.Limits.{IsTarget};
+ghost use Rattle.block_types.specs.Limits.{IsTarget};
 ghost use Rattle.replica.specs.Groups.{text_length};
 ghost use Rattle.replica.specs.Kept.{held_as};
 ghost use Rattle.replica.specs.Replay.{longest};
@@ -24,12 +24,12 @@ impl Drop for SealedReplica {
 
 impl Model for SealedReplica {
     ghost use Rattle.std.specs.Prelude.{◌≤◌};
-    ghost use Rattle.blocks.specs.Limits.{IsTarget};
+    ghost use Rattle.block_types.specs.Limits.{IsTarget};
     ghost use Rattle.replica.specs.declared.phase.Phase.TheVariants.{Sealed};
     ghost use Rattle.replica.specs.Groups.{text_length};
-    ghost use Rattle.replica.specs.Content.{Held};
+    ghost use Rattle.replica.specs.Content.{StoredContent};
 
-    ghost Value = { Held };
+    ghost Value = { StoredContent };
 
     ghost use Rattle.replica.specs.Kept.{held_as};
     ghost use Rattle.replica.specs.Replay.{longest};

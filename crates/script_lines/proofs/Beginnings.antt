@@ -1,10 +1,10 @@
 -- What a line and a request begin with.
 use Rattle.std.proofs.Common.{◌≡◌, ◌<◌, ◌∷◌, ℕ, Global, length, List, Option, None, Some, Vec, IfSome, [], ap, arith, codes, drop, get_or, subst, sym}
 use Rattle.std.specs.List.{AllByRecursion}
-use Rattle.model.specs.declared.event.Event.TheVariants as events
+use Rattle.model_streams.specs.declared.event.Event.TheVariants as events
 use Rattle.wire.specs.declared.transaction.Change.{Change}
 use Rattle.script_lines.specs.Grammar.{Asks, HasForm, Spells}
-use Rattle.script_lines.specs.Rows.{◌then◌, Reads, each}
+use Rattle.script_lines.specs.Sequences.{◌then◌, Reads, each}
 use Rattle.script_lines.specs.Verbs.{verb_word, wish_word}
 use Rattle.script_lines.specs.Words.{IsChange}
 use Rattle.script_lines.specs.declared.line.Line.{Line}

@@ -2,7 +2,7 @@
 use Rattle.std.proofs.Common.{◌≡◌, ◌≢◌, ◌<◌, ◌≤◌, ◌+◌, ◌-◌, ◌∙◌, ◌++◌, ◌∷◌, ℕ, Bor, List, [], ap, arith, below_more, drop, get_or, get_or-set_other, get_or-set_same, length, map, refl, set, subst, sym, take, zero, suc}
 use Rattle.std.proofs.lemmas.List.{drop-map, get_or-map, length-map, take_all, take_more, take_rest}
 use Rattle.std.specs.List.{All, AllByRecursion}
-use Rattle.script_lines.specs.Rows.{each}
+use Rattle.script_lines.specs.Sequences.{each}
 
 -- the texts of words
 abbrev pub texts : List (Bor (List ℕ)) → List (List ℕ)

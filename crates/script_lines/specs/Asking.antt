@@ -14,8 +14,8 @@ use Rattle.wire.specs.declared.body.TableBody.{TableBody}
 use Rattle.wire.specs.declared.body.TableBody.TheVariants as tables
 use Rattle.wire.specs.declared.streams.StreamKind.{StreamKind}
 use Rattle.wire.specs.declared.streams.StreamName.{StreamName}
-use Rattle.model.specs.declared.event.Event.{Event}
-use Rattle.model.specs.declared.event.Event.TheVariants.{Submit}
+use Rattle.model_streams.specs.declared.event.Event.{Event}
+use Rattle.model_streams.specs.declared.event.Event.TheVariants.{Submit}
 use Rattle.script_lines.specs.declared.line.Request.{Request}
 use Rattle.script_lines.specs.declared.line.Request.TheVariants as requests
 

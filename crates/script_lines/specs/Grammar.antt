@@ -1,10 +1,10 @@
 -- The lines of a script: which words spell which line.
 use Rattle.std.specs.Prelude.{◌<◌, ℕ, List, codes, length}
 use Rattle.std.specs.List.{AllByRecursion}
-use Rattle.blocks.specs.declared.record.Nodes.{Nodes}
-use Rattle.model.specs.declared.event.Event.{Event}
-use Rattle.model.specs.declared.event.Event.TheVariants as events
-use Rattle.script_lines.specs.Rows.{◌then◌, each, end, says}
+use Rattle.block_types.specs.declared.record.Nodes.{Nodes}
+use Rattle.model_streams.specs.declared.event.Event.{Event}
+use Rattle.model_streams.specs.declared.event.Event.TheVariants as events
+use Rattle.script_lines.specs.Sequences.{◌then◌, each, end, says}
 use Rattle.script_lines.specs.Values.{IsValue}
 use Rattle.script_lines.specs.Words.{Denotes, IsActor, IsChange, IsFate, IsKey, IsKind, IsLast, IsNode, IsPlace, IsServer}
 use Rattle.script_lines.specs.declared.line.Line.{Line}

@@ -1,7 +1,7 @@
 pub mod Limits
 pub mod Values
 pub mod Words
-pub mod Rows
+pub mod Sequences
 pub mod Grammar
 pub mod Verbs
 pub mod Asking

@@ -4,9 +4,9 @@ ghost use Rattle.script_lines.specs.Asking.{ask_by, asked, call_by, read_by, str
 ghost use Rattle.script_lines.specs.declared.line.Request.TheVariants as requests;
 
 use crate::line::Request;
-use blocks::Nodes;
+use block_types::Nodes;
 use bytes::Bytes;
-use model::Event;
+use model_streams::Event;
 use wire::{
     ActorId, AppendBody, Blocks, Body, Change, Changes, ExtentId, Fence, MapBody, RangeId,
     ReadBody, ReqNo, SealBody, ServerNo, StreamBody, StreamKind, StreamName, TableBody,

@@ -1,7 +1,7 @@
 //! A line of a script, as a value.
-use blocks::Nodes;
+use block_types::Nodes;
 use bytes::Bytes;
-use model::Event;
+use model_streams::Event;
 use wire::{ActorId, Change, ServerNo, StreamKind};
 
 /// What a user asks for.

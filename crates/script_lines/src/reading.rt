@@ -2,7 +2,7 @@
 ghost use Rattle.std.specs.Prelude.{◌∷◌, ◌<◌, ◌↔◌, codes, length, map, IfNone, IfOk, IfSome, IsTrue};
 ghost use Rattle.std.specs.List.{All};
 ghost use Rattle.script_lines.specs.Grammar.{HasForm, Spells};
-ghost use Rattle.script_lines.specs.Rows.{Reads};
+ghost use Rattle.script_lines.specs.Sequences.{Reads};
 ghost use Rattle.script_lines.specs.Verbs.{verb_word};
 ghost use Rattle.script_lines.specs.declared.line.Line.{Line};
 
@@ -11,7 +11,7 @@ use crate::requesting::{nodes, request};
 use crate::spelling::number;
 use crate::verb::{Verb, verb_of};
 use crate::word::{actor, fate, numbers, server};
-use model::Event;
+use model_streams::Event;
 use std::alloc::{AllocError, Global};
 use wire::{ExtentId, RangeId};
 

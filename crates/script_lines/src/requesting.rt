@@ -1,14 +1,14 @@
 //! What users ask, in words.
 ghost use Rattle.std.specs.Prelude.{◌≡◌, ◌∷◌, codes, map, min, IfOk};
 ghost use Rattle.script_lines.specs.Grammar.{Asks};
-ghost use Rattle.script_lines.specs.Rows.{Reads};
+ghost use Rattle.script_lines.specs.Sequences.{Reads};
 ghost use Rattle.script_lines.specs.Verbs.{wish_word};
 
 use crate::line::Request;
 use crate::spelling::{key, number};
 use crate::verb::{Wish, wish_of};
 use crate::word::{blocks, changes, kind, last, node, numbers, place, server};
-use blocks::Nodes;
+use block_types::Nodes;
 use std::alloc::{AllocError, Global};
 
 /// What a user asks by these words.

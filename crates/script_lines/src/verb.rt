@@ -1,6 +1,6 @@
 //! The words that lines and requests begin with.
 ghost use Rattle.std.specs.Prelude.{◌≡◌};
-ghost use Rattle.script_lines.specs.Rows.{Reads};
+ghost use Rattle.script_lines.specs.Sequences.{Reads};
 ghost use Rattle.script_lines.specs.Verbs.{verb_word, wish_word};
 
 /// What a line begins with.

@@ -1,7 +1,7 @@
 //! What the single words of a line spell.
 ghost use Rattle.std.specs.Prelude.{◌≡◌, ◌<◌, map, min, length, IfNone, IfOk, IfSome};
 ghost use Rattle.std.specs.List.{AllByRecursion};
-ghost use Rattle.script_lines.specs.Rows.{Reads, each};
+ghost use Rattle.script_lines.specs.Sequences.{Reads, each};
 ghost use Rattle.script_lines.specs.Values.{IsNumber, IsValue};
 ghost use Rattle.script_lines.specs.Words.{Denotes, DenotesUpTo, IsActor, IsChange, IsFate, IsLast, kind_number};
 

@@ -4,12 +4,12 @@ use crate::runs::{Run, decides, settles, started};
 use Step::{Appends, Checks, Confirms, GivesUp, HasExtents, HearsOfSeal, Opens};
 use Told::{Appended, Checked, Fenced, Nothing};
 use client::{ClientFault, LoadPhase, News, RangeLoad, Reaction, StreamClient};
-use layer::Layer;
 use std::alloc::{AllocError, Global};
 use wire::{
     ActorId, Body, ExtentId, Fence, Packet, RangeId, ReqNo, ServerNo, StreamBody, StreamKind,
     StreamList, StreamName,
 };
+use world_streams::StreamLayer;
 
 /// What a client is told once nothing more follows.
 enum Told {
@@ -110,7 +110,7 @@ fn asks(alloc: Global, run: &mut Run, server: u8, packet: Packet, cut: &[u8]) ->
 }
 
 /// The first packet to a server from this one on.
-fn answer(layer: &Layer, server: u8, from: usize) -> Option<&Packet> {
+fn answer(layer: &StreamLayer, server: u8, from: usize) -> Option<&Packet> {
     let to = ActorId::Server(ServerNo(server));
     let sent = layer.sent();
     for number in from..sent.len() {

@@ -1,7 +1,7 @@
 //! A server, a node or the manager stops after each delivery of a run with transactions, comes back, and the range is assigned
 //! again: each load has what was done by then.
 use bytes::Bytes;
-use model::Event;
+use model_streams::Event;
 use std::alloc::Global;
 use std::test::Fail;
 use wire::{ActorId, Body, Change, Changes, Note, RangeId, ReqNo, Row, ServerNo, TableBody};

@@ -7,7 +7,7 @@
 //!     stampctl --help         tells these, on standard output
 //!
 //! A `--` may stand before FILE, so that the file's name may begin with a hyphen. What the words name is told by
-//! `command_words`, and `tasks` does it.
+//! `stampctl_words`, and `stampctl_tasks` does it.
 //!
 //! # What it touches
 //!
@@ -34,7 +34,7 @@
 //! # What is proved of it
 //!
 //! `main` is the system's entry, and can have no contract of its own. What it calls has: `command` names the task that the
-//! words spell, exactly; `perform` answers the status; and what is printed is what `scripts::script` wrote into memory, which
+//! words spell, exactly; `perform` answers the status; and what is printed is what `script_run::script` wrote into memory, which
 //! promises that it is what the lines of the text print, run in order over one run of `world`. Of that run `world` promises
 //! that what is observed of extents agrees and keeps each acknowledged append, and that what is observed of tables replays.
 //! docs/PROOFS.md leads from here to each part.
@@ -43,7 +43,7 @@
 //!
 //! What no clause says of scripts, of runs and of the program's words is tested here, above all that it takes: whole scripts with all
 //! that they print, failing readers and writers, each stop of a run with transactions, words that are read or wrong, and what no
-//! clause of `layer` says: that its calls succeed where there is memory, runs of it followed by hand, with clients of streams over
+//! clause of `world_streams` says: that its calls succeed where there is memory, runs of it followed by hand, with clients of streams over
 //! them, and the rows that a loaded table shows. Of these a test goes through cases, each a list of steps in their order: what is
 //! done, with the answer that is wanted, or what is seen then.
 #![tactic(auto)]
@@ -73,13 +73,13 @@ mod walks;
 #[cfg(test)]
 mod words_read;
 
-use command_words::{CommandError, command};
+use stampctl_tasks::perform;
+use stampctl_words::{CommandError, command};
 use std::alloc::Global;
 use std::env;
 use std::io::ErrorKind;
 use std::process::ExitCode;
 use std::rt::Env;
-use tasks::perform;
 
 /// Why the words of the command line were not had.
 enum NoWords {

@@ -1,5 +1,5 @@
 //! What scripts print.
-use scripts::script;
+use script_run::script;
 use std::alloc::Global;
 use std::test::Fail;
 

@@ -1,5 +1,5 @@
 //! What a user asks: of the metadata stream of range 0, and of its extent 1.
-use blocks::Nodes;
+use block_types::Nodes;
 use bytes::Bytes;
 use std::alloc::{AllocError, Global};
 use wire::{

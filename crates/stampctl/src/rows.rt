@@ -1,12 +1,12 @@
 //! What no clause says: that a call succeeds where there is memory, and rows that were worked out by hand.
-use blocks::{Group, Groups};
+use block_types::{Group, Groups};
 use bytes::Bytes;
-use cells::{Cell, Place};
-use servers::rows_of;
+use memtable::{Cell, Place};
 use std::alloc::Global;
 use std::collections::BTreeMap;
 use std::test::Fail;
 use wire::{ExtentId, Note, Row, Rows};
+use world_servers::rows_of;
 
 /// What the one cell of a table is.
 enum Kept {

@@ -6,12 +6,12 @@ use Step::{
     Asks, Decides, Delivers, HasLength, HasObserved, HasSent, IsSettled, Puts, Restarts, Settles,
     Stops,
 };
-use checker::check;
 use disk::MemDisk;
-use layer::{Layer, Setup, WorldFault};
-use model::Event;
+use model_streams::Event;
 use std::alloc::Global;
 use wire::{ActorId, AppendBody, Body, ExtentId, Packet, Refusal};
+use world_checker::check;
+use world_streams::{Setup, StreamLayer, WorldFault};
 
 /// The manager, or the node of this number.
 #[derive(Clone, Copy)]
@@ -152,7 +152,7 @@ const CASES: &[Case] = &[
 /// The stream layer of three nodes.
 #[derive(Drop)]
 pub(crate) struct Run {
-    pub(crate) layer: Layer,
+    pub(crate) layer: StreamLayer,
     /// The number behind that of the last packet that came or was lost.
     pub(crate) next: usize,
 }
@@ -166,7 +166,7 @@ fn actor_of(actor: Actor) -> ActorId {
 
 // These calls pass no contract on, so that what calls them is proved from what it reads alone.
 pub(crate) fn started(alloc: Global) -> Option<Run> {
-    match Layer::start(alloc, &Setup::new(3, 1, 4096, 1)?) {
+    match StreamLayer::start(alloc, &Setup::new(3, 1, 4096, 1)?) {
         Ok(layer) => Some(Run { layer, next: 0 }),
         Err(_fault) => None,
     }

@@ -1,5 +1,5 @@
 //! What the words of the command line name, and which are wrong.
-use command_words::{Task, command};
+use stampctl_words::{Task, command};
 use std::alloc::Global;
 use std::test::Fail;
 

@@ -1,10 +1,10 @@
 //! The blocks of an append that nobody has looked at yet.
 ghost use Rattle.std.specs.Prelude.{◌≡◌, length, false, IfOk};
 ghost use Rattle.std.specs.List.{AllByRecursion};
-ghost use Rattle.blocks.specs.Limits.{IsBlock, IsGroup};
+ghost use Rattle.block_types.specs.Limits.{IsBlock, IsGroup};
 ghost use Rattle.wire.specs.Blocks.{has_bad_block};
 
-use blocks::Group;
+use block_types::Group;
 use bytes::Bytes;
 use std::alloc::{AllocError, Global};
 use std::marker::Model;

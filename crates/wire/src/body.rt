@@ -8,7 +8,7 @@ use crate::refusal::Refusal;
 use crate::server_number::ServerNo;
 use crate::streams::{Modifies, StreamLists, StreamName};
 use crate::transaction::Changes;
-use blocks::{Group, Groups, Nodes};
+use block_types::{Group, Groups, Nodes};
 use bytes::Bytes;
 
 /// Appends and what acknowledges them. Offsets and lengths count payload bytes.

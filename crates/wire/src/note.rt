@@ -6,7 +6,7 @@ use crate::fence::Fence;
 use crate::range_id::RangeId;
 use crate::rows::Rows;
 use crate::transaction::Changes;
-use blocks::{Group, Groups};
+use block_types::{Group, Groups};
 use bytes::Bytes;
 use std::alloc::{AllocError, Global};
 use std::marker::Model;

@@ -3,7 +3,7 @@
 use crate::extent_id::ExtentId;
 use crate::fence::Fence;
 use crate::range_id::RangeId;
-use blocks::Nodes;
+use block_types::Nodes;
 use std::marker::Model;
 
 /// What a stream of a range is for (after Calder et al., SOSP 2011, section 5.2).

@@ -1,2 +1,2 @@
-pub mod Coming
-pub mod Honest
+pub mod ClusterSimulation
+pub mod RunInvariant

@@ -4,18 +4,18 @@ use Rattle.wire.specs.declared.actor.ActorId.{ActorId}
 use Rattle.wire.specs.declared.actor.ActorId.TheVariants.{Node, Manager, Map, Server, User}
 use Rattle.wire.specs.declared.packet.Packet.{Packet}
 use Rattle.wire.specs.declared.refusal.Refusal.{Refusal}
-use Rattle.model.specs.declared.event.Event.{Event}
-use Rattle.model.specs.declared.event.Event.TheVariants.{Decide, GiveUp, Assign, Renew}
-use Rattle.model.specs.Maps.{entry_at}
-use Rattle.model_tables.specs.Servers.{Held, ServerCell, give_up_refusal}
-use Rattle.model_tables.specs.Cluster.{Cluster, LeadTo, comes, first_cluster}
-use Rattle.map_desk.specs.Seen.{MapSeen, MapMirrors, assign_refusal, renew_refusal}
-use Rattle.layer.specs.Desk.{refusal_in}
-use Rattle.layer.specs.Run.{RunState, Mirrors}
+use Rattle.model_streams.specs.declared.event.Event.{Event}
+use Rattle.model_streams.specs.declared.event.Event.TheVariants.{Decide, GiveUp, Assign, Renew}
+use Rattle.model_streams.specs.Maps.{entry_at}
+use Rattle.model_partition.specs.Servers.{CacheContent, ServerCell, give_up_refusal}
+use Rattle.model_partition.specs.Cluster.{Cluster, LeadTo, cluster_after, first_cluster}
+use Rattle.world_map.specs.Seen.{MapSeen, MapMirrors, assign_refusal, renew_refusal}
+use Rattle.world_streams.specs.ManagerSeen.{decision_refusal}
+use Rattle.world_streams.specs.StreamLayer.{StreamLayerState, StreamLayerMirrors}
 
 -- the stream layer, the servers, the map, the last moment, and how many transactions a group may hold
 pub record ClusterState : Type 0 where
-  pub layer : RunState
+  pub layer : StreamLayerState
   pub servers : List ServerCell
   pub map : MapSeen
   pub moment : ℕ
@@ -23,19 +23,19 @@ pub record ClusterState : Type 0 where
 
 -- the cluster of the model is this one
 pub record ClusterMirrors (x : ClusterState) (c : Cluster) : Type 0 where
-  pub layer : Mirrors x.layer c.world
+  pub layer : StreamLayerMirrors x.layer c.world
   pub servers : x.servers ≡ c.servers
   pub map : MapMirrors x.map c
   pub moment : x.moment ≡ c.now
   pub batch : x.batch ≡ c.batch
 
 -- the event led from one to the other, whatever the caches hold after it
-pub record Came (x y : ClusterState) (event : Event) : Type 0 where
-  pub held : Held
-  pub mirrors : (c : Cluster) → ClusterMirrors x c → ClusterMirrors y (comes c event held)
+pub record ClusterSimulates (x y : ClusterState) (event : Event) : Type 0 where
+  pub held : CacheContent
+  pub mirrors : (c : Cluster) → ClusterMirrors x c → ClusterMirrors y (cluster_after c event held)
 
 -- these events led to it, whatever the caches hold
-pub record Led (events : List Event) (first : Cluster) (x : ClusterState) : Type 0 where
+pub record ReachedBy (events : List Event) (first : Cluster) (x : ClusterState) : Type 0 where
   pub cluster : Cluster
   pub led : LeadTo events first cluster
   pub mirrors : ClusterMirrors x cluster
@@ -47,7 +47,7 @@ pub record IsRun (x : ClusterState) : Type 0 where
   pub target : ℕ
   pub batch : ℕ
   pub events : List Event
-  pub led : Led events (first_cluster nodes servers target batch) x
+  pub led : ReachedBy events (first_cluster nodes servers target batch) x
 
 -- whom a packet is for, where there is one
 abbrev pub addressee_of : Option Packet → Option ActorId
@@ -64,7 +64,7 @@ IsBelow (User u) = Unit {0}
 
 -- why an event is refused: the manager's, a server's or the map's reason, and nothing else
 abbrev pub refusal_of : ClusterState → Event → Option Refusal
-refusal_of x (Decide e) = refusal_in x.layer.desk e
+refusal_of x (Decide e) = decision_refusal x.layer.manager e
 refusal_of x (GiveUp server range pick) = give_up_refusal range pick (entry_at x.servers server)
 refusal_of x (Assign range server until) = assign_refusal x.map x.moment range server
 refusal_of x (Renew range server until) = renew_refusal x.map range server

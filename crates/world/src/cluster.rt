@@ -1,34 +1,34 @@
 //! A cluster: the stream layer, the servers above it, the map, and the clock of leases.
 ghost use Rattle.std.specs.Prelude.{◌≡◌, [], None, Some, IfOk, IfSome, OnOk, OnErr, option_map, slice_get};
-ghost use Rattle.model.specs.declared.event.Event.TheVariants as events;
-ghost use Rattle.model.specs.Maps.{entry_at};
-ghost use Rattle.model_tables.specs.Servers.{give_up_refusal};
-ghost use Rattle.model_tables.specs.Cluster.{first_cluster};
-ghost use Rattle.layer.specs.Desk.{refusal_in};
-ghost use Rattle.layer.specs.Nodes.{seen_of, running_at};
+ghost use Rattle.model_streams.specs.declared.event.Event.TheVariants as events;
+ghost use Rattle.model_streams.specs.Maps.{entry_at};
+ghost use Rattle.model_partition.specs.Servers.{give_up_refusal};
+ghost use Rattle.model_partition.specs.Cluster.{first_cluster};
+ghost use Rattle.world_streams.specs.ManagerSeen.{decision_refusal};
+ghost use Rattle.world_streams.specs.Nodes.{seen_of, running_at};
 ghost use Rattle.wire.specs.declared.actor.ActorId.TheVariants as actors;
-ghost use Rattle.map_desk.specs.Seen.{Steps, assign_refusal, renew_refusal};
-ghost use Rattle.model_tables.specs.Cluster.{map_starts};
-ghost use Rattle.world.specs.Cluster.{Came, ClusterMirrors, IsBelow, addressee_of, refusal_of};
+ghost use Rattle.world_map.specs.Seen.{MapSimulates, assign_refusal, renew_refusal};
+ghost use Rattle.model_partition.specs.Cluster.{map_starts};
+ghost use Rattle.world.specs.Cluster.{ClusterSimulates, ClusterMirrors, IsBelow, addressee_of, refusal_of};
 
-use blocks::Nodes;
+use block_types::Nodes;
 use disk::MemDisk;
 use enode::Node;
-use layer::{Layer, Setup, WorldFault};
-use map_desk::MapDesk;
-use model::Event;
-use servers::Servers;
+use model_streams::Event;
 use std::alloc::Global;
 use std::marker::Model;
 use wire::{ActorId, Body, ExtentId, Note, Packet, RangeId, Refusal, ServerNo};
+use world_map::MapActor;
+use world_servers::Servers;
+use world_streams::{Setup, StreamLayer, WorldFault};
 
 /// Real actors: nodes and the manager in the stream layer, which has all packets and observations; the servers; the map;
 /// the last moment of the clock; and how many transactions a group may hold.
 #[derive(Drop)]
 pub(crate) struct Cluster {
-    layer: Layer,
+    layer: StreamLayer,
     servers: Servers,
-    map: MapDesk,
+    map: MapActor,
     moment: u64,
     batch: u16,
 }
@@ -42,8 +42,8 @@ impl Model for Cluster {
 }
 
 /// Brings the map back, with what is on its disk. An error is want of memory (22), and nothing has changed.
-fn restart_map(map: &mut MapDesk, alloc: Global) -> Result<(), WorldFault>
-    ensures ok { OnOk result (Steps map.old map.new map_starts []) }
+fn restart_map(map: &mut MapActor, alloc: Global) -> Result<(), WorldFault>
+    ensures ok { OnOk result (MapSimulates map.old map.new map_starts []) }
     ensures err { OnErr result (map.new ≡ map.old) }
 {
     match map.restart(alloc) {
@@ -58,11 +58,11 @@ impl Cluster {
     pub(crate) fn start(alloc: Global, setup: &Setup) -> Result<Cluster, WorldFault>
         ensures { IfOk result (λ run. ClusterMirrors run (first_cluster setup.now.nodes setup.now.servers setup.now.target setup.now.batch)) }
     {
-        let layer = match Layer::start(alloc, setup) {
+        let layer = match StreamLayer::start(alloc, setup) {
             Ok(layer) => layer,
             Err(fault) => return Err(fault),
         };
-        let Ok(map) = MapDesk::start(alloc) else {
+        let Ok(map) = MapActor::start(alloc) else {
             return Err(WorldFault::Memory);
         };
         match Servers::start(alloc, setup.servers, setup.batch) {
@@ -85,7 +85,7 @@ impl Cluster {
         body: &Body,
     ) -> Result<Option<Refusal>, WorldFault>
         ensures none { IfOk result (λ refusal. refusal ≡ None) }
-        ensures ok { OnOk result (Came self.old self.new (events.Submit user to body.now)) }
+        ensures ok { OnOk result (ClusterSimulates self.old self.new (events.Submit user to body.now)) }
         ensures err { OnErr result (self.new ≡ self.old) }
     {
         self.layer.submit(alloc, user, to, body)
@@ -104,7 +104,7 @@ impl Cluster {
     /// The server takes the packet of this number, which is for it.
     fn give(&mut self, alloc: Global, server: ServerNo, number: usize) -> Result<(), WorldFault>
         requires { addressee_of (slice_get self.old.layer.post number) ≡ Some (actors.Server server) }
-        ensures ok { OnOk result (Came self.old self.new (events.Deliver number)) }
+        ensures ok { OnOk result (ClusterSimulates self.old self.new (events.Deliver number)) }
         ensures err { OnErr result (self.new ≡ self.old) }
     {
         self.layer.give(alloc, &mut self.servers, server, number)
@@ -113,7 +113,7 @@ impl Cluster {
     /// The map takes the packet of this number, which is for it.
     fn route(&mut self, alloc: Global, number: usize) -> Result<(), WorldFault>
         requires { addressee_of (slice_get self.old.layer.post number) ≡ Some actors.Map }
-        ensures ok { OnOk result (Came self.old self.new (events.Deliver number)) }
+        ensures ok { OnOk result (ClusterSimulates self.old self.new (events.Deliver number)) }
         ensures err { OnErr result (self.new ≡ self.old) }
     {
         self.layer.route(alloc, &mut self.map, number)
@@ -128,7 +128,7 @@ impl Cluster {
     ) -> Result<Option<Refusal>, WorldFault>
         requires { addressee_of (slice_get self.old.layer.post number) ≡ Some to }
         ensures none { IfOk result (λ refusal. refusal ≡ None) }
-        ensures ok { OnOk result (Came self.old self.new (events.Deliver number)) }
+        ensures ok { OnOk result (ClusterSimulates self.old self.new (events.Deliver number)) }
         ensures err { OnErr result (self.new ≡ self.old) }
     {
         match to {
@@ -150,7 +150,7 @@ impl Cluster {
     fn pass_on(&mut self, alloc: Global, number: usize) -> Result<Option<Refusal>, WorldFault>
         requires { IfSome (addressee_of (slice_get self.old.layer.post number)) IsBelow }
         ensures none { IfOk result (λ refusal. refusal ≡ None) }
-        ensures ok { OnOk result (Came self.old self.new (events.Deliver number)) }
+        ensures ok { OnOk result (ClusterSimulates self.old self.new (events.Deliver number)) }
         ensures err { OnErr result (self.new ≡ self.old) }
     {
         self.layer.deliver(alloc, number)
@@ -158,7 +158,7 @@ impl Cluster {
 
     fn deliver(&mut self, alloc: Global, number: usize) -> Result<Option<Refusal>, WorldFault>
         ensures none { IfOk result (λ refusal. refusal ≡ None) }
-        ensures ok { OnOk result (Came self.old self.new (events.Deliver number)) }
+        ensures ok { OnOk result (ClusterSimulates self.old self.new (events.Deliver number)) }
         ensures err { OnErr result (self.new ≡ self.old) }
     {
         match self.addressee(number) {
@@ -168,7 +168,7 @@ impl Cluster {
     }
 
     fn stop(&mut self, actor: ActorId, call: u64, keep: bool)
-        ensures { Came self.old self.new (events.Stop actor call keep) }
+        ensures { ClusterSimulates self.old self.new (events.Stop actor call keep) }
     {
         match actor {
             ActorId::Server(server) => self.servers.stop(server, call),
@@ -180,7 +180,7 @@ impl Cluster {
     }
 
     fn restart(&mut self, alloc: Global, actor: ActorId) -> Result<(), WorldFault>
-        ensures ok { OnOk result (Came self.old self.new (events.Restart actor)) }
+        ensures ok { OnOk result (ClusterSimulates self.old self.new (events.Restart actor)) }
         ensures err { OnErr result (self.new ≡ self.old) }
     {
         match actor {
@@ -196,8 +196,8 @@ impl Cluster {
     }
 
     fn decide(&mut self, alloc: Global, extent: ExtentId) -> Result<Option<Refusal>, WorldFault>
-        ensures refusal { IfOk result (λ refusal. refusal ≡ refusal_in self.old.layer.desk extent) }
-        ensures ok { OnOk result (Came self.old self.new (events.Decide extent)) }
+        ensures refusal { IfOk result (λ refusal. refusal ≡ decision_refusal self.old.layer.manager extent) }
+        ensures ok { OnOk result (ClusterSimulates self.old self.new (events.Decide extent)) }
         ensures err { OnErr result (self.new ≡ self.old) }
     {
         self.layer.decide(alloc, extent)
@@ -211,7 +211,7 @@ impl Cluster {
         pick: &Nodes,
     ) -> Result<Option<Refusal>, WorldFault>
         ensures refusal { IfOk result (λ refusal. refusal ≡ give_up_refusal range pick.now (entry_at self.old.servers server)) }
-        ensures ok { OnOk result (Came self.old self.new (events.GiveUp server range pick.now)) }
+        ensures ok { OnOk result (ClusterSimulates self.old self.new (events.GiveUp server range pick.now)) }
         ensures err { OnErr result (self.new ≡ self.old) }
     {
         self.layer
@@ -226,7 +226,7 @@ impl Cluster {
         until: u64,
     ) -> Result<Option<Refusal>, WorldFault>
         ensures refusal { IfOk result (λ refusal. refusal ≡ assign_refusal self.old.map self.old.moment range server) }
-        ensures ok { OnOk result (Came self.old self.new (events.Assign range server until)) }
+        ensures ok { OnOk result (ClusterSimulates self.old self.new (events.Assign range server until)) }
         ensures err { OnErr result (self.new ≡ self.old) }
     {
         self.layer
@@ -241,14 +241,14 @@ impl Cluster {
         until: u64,
     ) -> Result<Option<Refusal>, WorldFault>
         ensures refusal { IfOk result (λ refusal. refusal ≡ renew_refusal self.old.map range server) }
-        ensures ok { OnOk result (Came self.old self.new (events.Renew range server until)) }
+        ensures ok { OnOk result (ClusterSimulates self.old self.new (events.Renew range server until)) }
         ensures err { OnErr result (self.new ≡ self.old) }
     {
         self.layer.renew(alloc, &mut self.map, range, server, until)
     }
 
     fn show_moment(&mut self, moment: u64)
-        ensures { Came self.old self.new (events.Moment moment) }
+        ensures { ClusterSimulates self.old self.new (events.Moment moment) }
     {
         if moment < self.moment {
             return;
@@ -264,7 +264,7 @@ impl Cluster {
         alloc: Global,
         event: &Event,
     ) -> Result<Option<Refusal>, WorldFault>
-        ensures ok { OnOk result (Came self.old self.new event.now) }
+        ensures ok { OnOk result (ClusterSimulates self.old self.new event.now) }
         ensures err { OnErr result (self.new ≡ self.old) }
         ensures refusal { IfOk result (λ refusal. refusal ≡ refusal_of self.old event.now) }
     {

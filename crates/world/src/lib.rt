@@ -10,7 +10,7 @@ mod cluster;
 mod running;
 mod whole;
 
-pub use checker::check;
-pub use layer::{Setup, WorldFault};
 pub use running::Run;
 pub use whole::run;
+pub use world_checker::check;
+pub use world_streams::{Setup, WorldFault};

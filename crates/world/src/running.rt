@@ -1,19 +1,19 @@
 //! A run: a cluster that events brought to where it is.
 ghost use Rattle.std.specs.Prelude.{◌≡◌, IfOk, OnOk, OnErr, option_map};
-ghost use Rattle.model.specs.Honest.{Agree, Kept};
-ghost use Rattle.model_tables.specs.Cluster.{first_cluster};
-ghost use Rattle.model_tables.specs.Past.{Replays};
-ghost use Rattle.layer.specs.Nodes.{seen_of, running_at};
-ghost use Rattle.world.specs.Cluster.{Came, ClusterMirrors, refusal_of};
+ghost use Rattle.model_streams.specs.Honest.{Agree, Kept};
+ghost use Rattle.model_partition.specs.Cluster.{first_cluster};
+ghost use Rattle.model_partition.specs.Past.{Replays};
+ghost use Rattle.world_streams.specs.Nodes.{seen_of, running_at};
+ghost use Rattle.world.specs.Cluster.{ClusterSimulates, ClusterMirrors, refusal_of};
 
 use crate::cluster::Cluster;
 use disk::MemDisk;
 use enode::Node;
-use layer::{Setup, WorldFault};
-use model::Event;
+use model_streams::Event;
 use std::alloc::Global;
 use std::marker::Model;
 use wire::{Note, Packet, Refusal};
+use world_streams::{Setup, WorldFault};
 
 /// A cluster that events made. At each moment it is what the model makes of some list of events, from the start of some
 /// setup, whatever caches of servers hold. So what was observed of extents is honest, and what was observed of tables replays,
@@ -56,7 +56,7 @@ impl Run {
     /// unknown range (30) or while another server holds it (31); and nothing has changed then. An error is want of memory
     /// (22), and nothing has changed then either.
     pub fn step(&mut self, alloc: Global, event: &Event) -> Result<Option<Refusal>, WorldFault>
-        ensures ok { OnOk result (Came self.old self.new event.now) }
+        ensures ok { OnOk result (ClusterSimulates self.old self.new event.now) }
         ensures err { OnErr result (self.new ≡ self.old) }
         ensures refusal { IfOk result (λ refusal. refusal ≡ refusal_of self.old event.now) }
     {

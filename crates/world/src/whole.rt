@@ -1,15 +1,15 @@
 //! Whole runs.
 ghost use Rattle.std.specs.Prelude.{IfOk};
-ghost use Rattle.model.specs.Honest.{Agree, Kept};
-ghost use Rattle.model_tables.specs.Cluster.{first_cluster};
-ghost use Rattle.model_tables.specs.Past.{Replays};
-ghost use Rattle.world.specs.Cluster.{Led};
+ghost use Rattle.model_streams.specs.Honest.{Agree, Kept};
+ghost use Rattle.model_partition.specs.Cluster.{first_cluster};
+ghost use Rattle.model_partition.specs.Past.{Replays};
+ghost use Rattle.world.specs.Cluster.{ReachedBy};
 
 // A function and a type of one module may not differ in case alone.
 use crate::running::Run as Finished;
-use layer::{Setup, WorldFault};
-use model::Event;
+use model_streams::Event;
 use std::alloc::Global;
+use world_streams::{Setup, WorldFault};
 
 /// The run of these events, from the start of a setup. An error is want of memory (22). It is the run of the model that they
 /// lead to, whatever caches of servers hold; and what is observed is honest, whatever was delivered, again and in any order:
@@ -17,7 +17,7 @@ use std::alloc::Global;
 /// is loaded is that of a line of transactions that has every one that was acknowledged under an earlier generation, in order,
 /// each once.
 pub fn run(alloc: Global, setup: &Setup, events: &[Event]) -> Result<Finished, WorldFault>
-    ensures led { IfOk result (λ r. Led events.now (first_cluster setup.now.nodes setup.now.servers setup.now.target setup.now.batch) r) }
+    ensures led { IfOk result (λ r. ReachedBy events.now (first_cluster setup.now.nodes setup.now.servers setup.now.target setup.now.batch) r) }
     ensures agree { IfOk result (λ r. Agree r.layer.notes) }
     ensures kept { IfOk result (λ r. Kept r.layer.notes) }
     ensures replays { IfOk result (λ r. Replays r.layer.notes) }

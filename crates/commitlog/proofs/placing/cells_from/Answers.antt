@@ -1,8 +1,8 @@
 use Rattle.std.proofs.Common.{◌++◌, ℕ, List, take, drop, ap, arith, subst, sym, ◌∙◌}
 use Rattle.std.specs.List.{flat_map, AllByRecursion}
-use Rattle.blocks.specs.Limits.{group_size}
+use Rattle.block_types.specs.Limits.{group_size}
 use Rattle.wire.specs.declared.transaction.Change.{Change}
-use Rattle.cells.specs.declared.cell.Cell.{Cell}
+use Rattle.memtable.specs.declared.cell.Cell.{Cell}
 use Rattle.commitlog.specs.declared.log_record.LogRecord.{LogRecord}
 use Rattle.commitlog.specs.Record.{transaction_values, IsTransaction}
 use Rattle.commitlog.specs.Places.{kept_transactions}

@@ -1,5 +1,5 @@
 use Rattle.std.proofs.Common.{◌≡◌, ◌+◌, drop}
-use Rattle.blocks.specs.Limits.{group_size}
+use Rattle.block_types.specs.Limits.{group_size}
 use Rattle.commitlog.specs.Record.{transaction_values}
 use Rattle.commitlog.proofs.placing.offset_after.Given as goal
 

@@ -1,6 +1,6 @@
 use Rattle.std.proofs.Common.{◌≡◌, ◌+◌, drop}
 use Rattle.std.specs.List.{flat_map}
-use Rattle.blocks.specs.Limits.{group_size}
+use Rattle.block_types.specs.Limits.{group_size}
 use Rattle.commitlog.specs.Record.{transaction_values}
 use Rattle.commitlog.proofs.placing.offset_after_all.Given as goal
 

@@ -1,6 +1,6 @@
 use Rattle.std.proofs.Common.{◌≡◌, ◌+◌, ◌++◌, drop}
 use Rattle.std.specs.List.{AllByRecursion, flat_map}
-use Rattle.blocks.specs.Limits.{group_size}
+use Rattle.block_types.specs.Limits.{group_size}
 use Rattle.commitlog.specs.Record.{transaction_values, IsTransaction}
 use Rattle.commitlog.specs.Places.{kept_transactions}
 use Rattle.commitlog.proofs.placing.put_all_cells.Given as goal

@@ -1,6 +1,6 @@
 use Rattle.std.proofs.Common.{◌+◌, ◌∷◌, [], ◌++◌, List, drop, ap, sym, ◌∙◌, subst, append_assoc, arith}
 use Rattle.std.specs.List.{AllByRecursion}
-use Rattle.blocks.specs.Limits.{group_size}
+use Rattle.block_types.specs.Limits.{group_size}
 use Rattle.wire.specs.declared.transaction.Change.{Change}
 use Rattle.commitlog.specs.Record.{change_values, transaction_values, IsChange}
 use Rattle.commitlog.specs.Places.{kept_change, kept_changes}

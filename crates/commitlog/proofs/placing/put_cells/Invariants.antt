@@ -1,6 +1,6 @@
 use Rattle.std.proofs.Common.{◌≡◌, ◌+◌, ◌++◌, drop}
 use Rattle.std.specs.List.{AllByRecursion}
-use Rattle.blocks.specs.Limits.{group_size}
+use Rattle.block_types.specs.Limits.{group_size}
 use Rattle.commitlog.specs.Record.{transaction_values, IsChange}
 use Rattle.commitlog.specs.Places.{kept_changes}
 use Rattle.commitlog.proofs.placing.put_cells.Given as goal

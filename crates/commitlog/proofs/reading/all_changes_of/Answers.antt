@@ -1,6 +1,6 @@
 use Rattle.std.proofs.lemmas.Result.{err_from_is_err_and}
-use Rattle.formats.specs.Format.{many_at}
-use Rattle.formats.proofs.Loop.{goes_on, ends}
+use Rattle.blocks.specs.Format.{many_at}
+use Rattle.blocks.proofs.Loop.{goes_on, ends}
 use Rattle.commitlog.specs.Reading.{change_at}
 use Rattle.commitlog.proofs.reading.all_changes_of.Goals as goal
 

@@ -1,6 +1,6 @@
 use Rattle.std.proofs.Common.{◌≡◌, ◌-◌}
-use Rattle.formats.specs.Format.{many_at}
-use Rattle.formats.proofs.Loop.{with_front}
+use Rattle.blocks.specs.Format.{many_at}
+use Rattle.blocks.proofs.Loop.{with_front}
 use Rattle.commitlog.specs.Reading.{change_at}
 use Rattle.commitlog.proofs.reading.all_changes_of.Given as goal
 

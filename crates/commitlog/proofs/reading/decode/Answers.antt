@@ -1,6 +1,6 @@
 use Rattle.std.proofs.Common.{◌≡◌, ◌<◌, ℕ, List, Some, subst}
 use Rattle.std.specs.Prelude.{IfOk, slice_index}
-use Rattle.formats.specs.Format.{Gives}
+use Rattle.blocks.specs.Format.{Gives}
 use Rattle.commitlog.specs.Reading.{joined_at, record_at}
 use Rattle.commitlog.proofs.Laws.{is_found, is_only}
 use Rattle.commitlog.proofs.reading.decode.Goals as goal

@@ -1,5 +1,5 @@
 use Rattle.std.proofs.Common.{◌<◌, ℕ, List, sym, ◌∙◌, ap, subst, get_or}
-use Rattle.formats.proofs.Formats.{some_is}
+use Rattle.blocks.proofs.Formats.{some_is}
 use Rattle.commitlog.proofs.reading.record_of.Goals as goal
 
 pub returns-clause-bytes : goal.returns-clause-bytes

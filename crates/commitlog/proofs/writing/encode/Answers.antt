@@ -1,7 +1,7 @@
 use Rattle.std.proofs.Common.{List, ℕ, ◌++◌, sym, subst, ap, ◌∙◌}
 use Rattle.std.specs.List.{flat_map}
 use Rattle.wire.specs.declared.transaction.Change.{Change}
-use Rattle.blocks.specs.Limits.{IsGroup}
+use Rattle.block_types.specs.Limits.{IsGroup}
 use Rattle.commitlog.specs.declared.log_record.LogRecord.{LogRecord}
 use Rattle.commitlog.specs.Record.{transaction_values, pieces, text}
 use Rattle.commitlog.proofs.Laws.{is_group}

@@ -1,6 +1,6 @@
 use Rattle.std.proofs.Common.{ℕ, List, ◌++◌, sym, ◌∙◌, ap, append_assoc, length}
 use Rattle.std.specs.List.{flat_map}
-use Rattle.formats.specs.Record.{number}
+use Rattle.blocks.specs.Record.{number}
 use Rattle.commitlog.specs.Record.{text_changes, change_bytes}
 use Rattle.commitlog.proofs.Numbering.{on_ok, length-text_changes}
 use Rattle.commitlog.proofs.writing.put_transaction.Goals as goal

@@ -1,5 +1,5 @@
 use Rattle.std.proofs.Common.{◌++◌, ap, ◌∙◌}
-use Rattle.formats.specs.Record.{number}
+use Rattle.blocks.specs.Record.{number}
 use Rattle.commitlog.specs.declared.log_record.LogRecord.{LogRecord}
 use Rattle.commitlog.proofs.Measures.{text_written}
 use Rattle.commitlog.proofs.writing.text_of.Goals as goal

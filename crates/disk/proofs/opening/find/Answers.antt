@@ -1,6 +1,6 @@
 use Rattle.std.proofs.Common.{◌≡◌, sym, ap, subst, ◌∙◌}
 use Rattle.std.proofs.lemmas.Result.{err_from_is_err_and}
-use Rattle.blocks.specs.declared.record.Version.{Version}
+use Rattle.block_types.specs.declared.record.Version.{Version}
 use Rattle.disk.specs.File.{IsFileOf, records_in}
 use Rattle.disk.specs.Faults.{of_block}
 use Rattle.disk.proofs.Files.{opened_as, records_in-file}

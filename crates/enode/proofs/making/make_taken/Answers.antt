@@ -1,4 +1,4 @@
-use Rattle.enode.proofs.Made.{made_ok, made_err}
+use Rattle.enode.proofs.NewReplica.{made_ok, made_err}
 use Rattle.enode.proofs.making.make_taken.Goals as goal
 
 pub returns-in-Ok : goal.returns-in-Ok

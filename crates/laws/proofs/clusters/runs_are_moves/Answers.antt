@@ -1,5 +1,5 @@
-use Rattle.model_tables.specs.Cluster.{first_cluster}
-use Rattle.laws_servers.proofs.Moving.{comes_by, led_by, moves_agree, moves_keep}
+use Rattle.model_partition.specs.Cluster.{first_cluster}
+use Rattle.laws_servers.proofs.EventsAsMoves.{comes_by, led_by, moves_agree, moves_keep}
 use Rattle.laws.proofs.clusters.runs_are_moves.Goals as goal
 
 pub returns-clause-event : goal.returns-clause-event

@@ -1,4 +1,4 @@
-use Rattle.laws_clusters.proofs.Whole.{led_replays, led_ordered}
+use Rattle.laws_clusters.proofs.Theorem.{led_replays, led_ordered}
 use Rattle.laws.proofs.clusters.runs_replay.Goals as goal
 
 pub returns-clause-replays : goal.returns-clause-replays

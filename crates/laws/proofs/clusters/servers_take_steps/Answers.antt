@@ -1,4 +1,4 @@
-use Rattle.laws_servers.proofs.Serving.{server_takes_shows, server_gives_up_tidy}
+use Rattle.laws_servers.proofs.ServerSteps.{server_takes_shows, server_gives_up_tidy}
 use Rattle.laws.proofs.clusters.servers_take_steps.Goals as goal
 
 pub returns-clause-sent : goal.returns-clause-sent

@@ -1,7 +1,7 @@
-use Rattle.model.specs.World.{start, run_moves}
-use Rattle.laws_streams.proofs.Rising.{rises_on, made_with_fences}
-use Rattle.laws_streams.proofs.Confirming.{opened_rise, confirmed_settles}
-use Rattle.laws_streams.proofs.Covering.{fences_hold}
+use Rattle.model_streams.specs.StreamSystem.{start, run_moves}
+use Rattle.laws_streams.proofs.RisingFences.{rises_on, made_with_fences}
+use Rattle.laws_streams.proofs.Confirmations.{opened_rise, confirmed_settles}
+use Rattle.laws_streams.proofs.AnsweredChecks.{fences_hold}
 use Rattle.laws.proofs.extents.fences.Goals as goal
 
 pub returns-clause-streams : goal.returns-clause-streams

@@ -1,4 +1,4 @@
-use Rattle.laws_streams.proofs.Law.{agree_always, kept_always, origins_always, agree_in_moves, kept_in_moves, origins_in_moves}
+use Rattle.laws_streams.proofs.Invariant.{agree_always, kept_always, origins_always, agree_in_moves, kept_in_moves, origins_in_moves}
 use Rattle.laws.proofs.extents.honest.Goals as goal
 
 pub returns-clause-agree : goal.returns-clause-agree

@@ -1,4 +1,4 @@
-use Rattle.model_tables.specs.Past.{Transaction}
+use Rattle.model_partition.specs.Past.{Transaction}
 use Rattle.commitlog.specs.Replay.{Numbered as Group}
 use Rattle.laws_tables.proofs.Extents.{stream_keeps_order}
 use Rattle.laws_tables.proofs.Turns.{clients_keep_order}

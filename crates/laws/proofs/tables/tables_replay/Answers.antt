@@ -1,5 +1,5 @@
 use Rattle.std.proofs.Common.{subst, sym}
-use Rattle.model_tables.specs.Past.{Replays}
+use Rattle.model_partition.specs.Past.{Replays}
 use Rattle.laws_tables.proofs.Theorem.{replays}
 use Rattle.laws_tables.proofs.Others.{with_others}
 use Rattle.laws.proofs.tables.tables_replay.Goals as goal

@@ -1,6 +1,6 @@
-use Rattle.directory.specs.Table.{plain}
-use Rattle.planning.specs.Plan.{planned}
-use Rattle.manager.proofs.Rowing.{short}
+use Rattle.manager_state.specs.Table.{plain}
+use Rattle.manager_rules.specs.Plan.{planned}
+use Rattle.manager.proofs.RecordedPlans.{short}
 use Rattle.manager.proofs.performing.handle_on.Goals as goal
 
 pub returns-in-Err-clause-done : goal.returns-in-Err-clause-done

@@ -1,7 +1,7 @@
 use Rattle.std.proofs.Common.{◌≡◌, ◌-◌}
-use Rattle.formats.specs.Format.{many_at}
+use Rattle.blocks.specs.Format.{many_at}
 use Rattle.metadata.specs.Reading.{index_at}
-use Rattle.formats.proofs.Loop.{with_front}
+use Rattle.blocks.proofs.Loop.{with_front}
 use Rattle.metadata.proofs.reading.all_indexes_of.Given as goal
 
 abbrev pub invariant-loop : goal.invariant-loop

@@ -1,7 +1,7 @@
 use Rattle.std.proofs.lemmas.Result.{err_from_is_err_and}
-use Rattle.formats.specs.Format.{many_at}
+use Rattle.blocks.specs.Format.{many_at}
 use Rattle.metadata.specs.Reading.{region_at}
-use Rattle.formats.proofs.Loop.{goes_on, ends}
+use Rattle.blocks.proofs.Loop.{goes_on, ends}
 use Rattle.metadata.proofs.reading.all_regions_of.Goals as goal
 
 pub returns-in_err-region : goal.returns-in_err-region

@@ -1,6 +1,6 @@
 use Rattle.std.proofs.Common.{ap, arith, length, length-append}
-use Rattle.formats.specs.Record.{number}
-use Rattle.formats.proofs.Formats.{length-number}
+use Rattle.blocks.specs.Record.{number}
+use Rattle.blocks.proofs.Formats.{length-number}
 use Rattle.metadata.specs.Record.{item}
 use Rattle.metadata.proofs.writing.encode.Goals as goal
 

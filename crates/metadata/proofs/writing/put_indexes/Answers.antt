@@ -1,7 +1,7 @@
 use Rattle.std.proofs.Common.{List, ◌++◌, length, ap, take_all, ◌∙◌}
 use Rattle.std.specs.List.{flat_map}
 use Rattle.metadata.specs.declared.record.IndexRange.{IndexRange}
-use Rattle.formats.specs.Record.{number}
+use Rattle.blocks.specs.Record.{number}
 use Rattle.metadata.specs.Record.{index, IsIndex}
 use Rattle.metadata.proofs.Loop.{one_more, All-at}
 use Rattle.metadata.proofs.writing.put_indexes.Goals as goal

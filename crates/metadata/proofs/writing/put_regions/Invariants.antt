@@ -1,6 +1,6 @@
 use Rattle.std.proofs.Common.{◌≡◌, ◌++◌, length, take}
 use Rattle.std.specs.List.{flat_map}
-use Rattle.formats.specs.Record.{number}
+use Rattle.blocks.specs.Record.{number}
 use Rattle.metadata.specs.Record.{region}
 use Rattle.metadata.proofs.writing.put_regions.Given as goal
 

@@ -1,5 +1,5 @@
 use Rattle.std.proofs.Common.{rules}
 use Rattle.pmap.proofs.planning.plan_assign.Goals as goal
 
-pub returns-clause-row : goal.returns-clause-row
-returns-clause-row c = search rules
+pub returns-clause-rule : goal.returns-clause-rule
+returns-clause-rule c = search rules

@@ -1,6 +1,6 @@
 use Rattle.std.proofs.Common.{arith}
 use Rattle.std.proofs.lemmas.Result.{err_from_is_err_and}
-use Rattle.pmap.proofs.Making.{made_more, fits_there}
+use Rattle.pmap.proofs.OneMoreRecord.{made_more, fits_there}
 use Rattle.pmap.proofs.replay.replayed.Goals as goal
 
 pub loop-record_read-preserved : goal.loop-record_read-preserved

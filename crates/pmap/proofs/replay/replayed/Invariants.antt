@@ -1,5 +1,5 @@
 use Rattle.std.proofs.Common.{take}
-use Rattle.pmap.specs.Held.{MakesMap}
+use Rattle.pmap.specs.MapWithFile.{MakesMap}
 use Rattle.pmap.proofs.replay.replayed.Given as goal
 
 abbrev pub invariant-loop-record_read : goal.invariant-loop-record_read

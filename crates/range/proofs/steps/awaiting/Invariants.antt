@@ -1,5 +1,5 @@
 use Rattle.std.proofs.Common.{◌≡◌}
-use Rattle.model_tables.specs.Server.{awaiting}
+use Rattle.model_partition.specs.Server.{awaiting}
 use Rattle.range.proofs.steps.awaiting.Given as goal
 
 abbrev pub invariant-loop-range : goal.invariant-loop-range

@@ -1,5 +1,5 @@
 use Rattle.std.proofs.Common.{ℕ, ◌≤◌, length, subst}
-use Rattle.model_tables.specs.Range.{waiting_out}
+use Rattle.model_partition.specs.Range.{waiting_out}
 use Rattle.range_core.proofs.Counts.{few_notes}
 use Rattle.range_core.proofs.forming.next_group.Goals as goal
 

@@ -1,5 +1,5 @@
 use Rattle.std.proofs.Common.{map, take}
-use Rattle.script_lines.specs.Rows.{each}
+use Rattle.script_lines.specs.Sequences.{each}
 use Rattle.script_lines.specs.Values.{IsValue}
 use Rattle.script_lines.proofs.word.blocks.Given as goal
 

@@ -1,6 +1,6 @@
 use Rattle.std.proofs.Common.{◌≡◌, take, drop}
 use Rattle.std.specs.List.{AllByRecursion}
-use Rattle.blocks.specs.Limits.{IsBlock}
+use Rattle.block_types.specs.Limits.{IsBlock}
 use Rattle.wire.specs.Blocks.{has_bad_block}
 use Rattle.wire.proofs.blocks_list.some_bad.Given as goal
 

@@ -1,7 +1,7 @@
 use Rattle.std.proofs.Common.{take, arith}
 use Rattle.std.proofs.lemmas.Grind.{common_steps}
-use Rattle.model_tables.specs.Cluster.{first_cluster}
-use Rattle.world.proofs.Honest.{led_next, led_agree, led_keep, led_replays}
+use Rattle.model_partition.specs.Cluster.{first_cluster}
+use Rattle.world.proofs.RunInvariant.{led_next, led_agree, led_keep, led_replays}
 use Rattle.world.proofs.whole.run.Goals as goal
 
 pub loop-event-preserved : goal.loop-event-preserved

@@ -1,4 +1,4 @@
-use Rattle.client.proofs.Telling.{told_is}
+use Rattle.client.proofs.ContentAnswers.{told_is}
 use Rattle.client.proofs.client.StreamClient.on_answer.Goals as goal
 
 pub returns-in-Ok-clause-content : goal.returns-in-Ok-clause-content

@@ -1,12 +1,12 @@
 use Rattle.std.proofs.Common.{ap, ◌∙◌, sym}
-use Rattle.model.specs.Replay.{book_fits}
+use Rattle.model_streams.specs.Replay.{catalog_fits}
 use Rattle.disk.proofs.Rereading.{read_since, ok_more}
 use Rattle.manager.proofs.manager.Manager.restart.Goals as goal
 
 pub returns-in-Ok-clause-damaged : goal.returns-in-Ok-clause-damaged
 returns-in-Ok-clause-damaged g c = λ v rs is some fits.
     let same = (c.in-Ok.ensures.only v rs is).1 in
-    c.recovered.ensures.damaged (λ none. some (sym same ∙ none)) (ap book_fits same ∙ fits)
+    c.recovered.ensures.damaged (λ none. some (sym same ∙ none)) (ap catalog_fits same ∙ fits)
 
 pub returns-in-Err-clause-damaged : goal.returns-in-Err-clause-damaged
 returns-in-Err-clause-damaged g c = λ v rs is some fits. c.in-Err.ensures.only v rs is

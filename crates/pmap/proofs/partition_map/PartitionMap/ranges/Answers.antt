@@ -1,4 +1,4 @@
-use Rattle.model_tables.proofs.Partitions.{once}
+use Rattle.model_partition.proofs.Partitions.{once}
 use Rattle.pmap.proofs.partition_map.PartitionMap.ranges.Goals as goal
 
 pub returns-clause-once : goal.returns-clause-once

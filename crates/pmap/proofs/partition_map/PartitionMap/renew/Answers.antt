@@ -1,11 +1,11 @@
 use Rattle.std.proofs.Common.{Result, sym, ◌∙◌, subst}
 use Rattle.disk.specs.declared.device.DiskFault.{DiskFault}
 use Rattle.wire.specs.declared.packet.Step.{Step}
-use Rattle.model_tables.specs.Map.{range_at, renew_row}
-use Rattle.pmap.specs.Held.{held_of, MakesMap}
-use Rattle.pmap.specs.Ruled.{Ruled, fault_of}
-use Rattle.pmap.proofs.Keeping.{ruled, stays}
-use Rattle.pmap.proofs.Making.{renew_stands, none_there}
+use Rattle.model_partition.specs.Map.{range_at, renew_rule}
+use Rattle.pmap.specs.MapWithFile.{held_of, MakesMap}
+use Rattle.pmap.specs.Performs.{MapPerforms, fault_of}
+use Rattle.pmap.proofs.ReplaysRecords.{performed, stays}
+use Rattle.pmap.proofs.OneMoreRecord.{renew_stands, none_there}
 use Rattle.pmap.proofs.partition_map.PartitionMap.renew.Goals as goal
 
 pub invariant_of-self : goal.invariant_of-self
@@ -14,12 +14,12 @@ invariant_of-self g c = λ up.
     stays g.D.Disk.state c.self.inside.table c.renew_on-done.new.table _ _ _ c.renew_on-done.result c.renew_on-done.ensures made
     (renew_stands c.self.inside.file.records c.self.inside.table c.args.range c.args.server c.args.until made c.reads_back.ensures (none_there fault_of _ (sym c.renew_fault.ensures ∙ c.in-None.is))) up
 
-pub returns-in-None-clause-ruled : goal.returns-in-None-clause-ruled
-returns-in-None-clause-ruled g c = rw (← c.self.view_is) (λ up none.
+pub returns-in-None-clause-performed : goal.returns-in-None-clause-performed
+returns-in-None-clause-performed g c = rw (← c.self.view_is) (λ up none.
     let was = held_of c.self.inside.table c.self.inside.file in
     let is = held_of c.renew_on-done.new.table c.renew_on-done.new.file in
     let made : MakesMap c.self.inside.file.records c.self.inside.table = c.self.invariant up in
-    let row = renew_row c.self.inside.table c.args.range c.args.server c.args.until (range_at c.self.inside.table.ranges c.args.range) in
-    subst (λ (w : Result Step DiskFault). Ruled g.D.Disk.state was is row w) (sym c.answer.ensures.row)
-    (ruled g.D.Disk.state c.self.inside.table c.renew_on-done.new.table _ _ row c.renew_on-done.result c.renew_on-done.ensures
+    let rule = renew_rule c.self.inside.table c.args.range c.args.server c.args.until (range_at c.self.inside.table.ranges c.args.range) in
+    subst (λ (w : Result Step DiskFault). MapPerforms g.D.Disk.state was is rule w) (sym c.answer.ensures.rule)
+    (performed g.D.Disk.state c.self.inside.table c.renew_on-done.new.table _ _ rule c.renew_on-done.result c.renew_on-done.ensures
     (renew_stands c.self.inside.file.records c.self.inside.table c.args.range c.args.server c.args.until made c.reads_back.ensures (none_there fault_of _ (sym c.renew_fault.ensures ∙ c.in-None.is)))))

@@ -1,5 +1,5 @@
 use Rattle.std.proofs.Common.{ap, ◌∙◌}
-use Rattle.model_tables.specs.Replay.{map_fits}
+use Rattle.model_partition.specs.Replay.{map_fits}
 use Rattle.disk.proofs.Rereading.{read_since, ok_more}
 use Rattle.pmap.proofs.partition_map.PartitionMap.restart.Goals as goal
 

@@ -1,6 +1,6 @@
 use Rattle.std.proofs.Common.{List, refl, ap}
-use Rattle.model_tables.specs.declared.range_entry.RangeEntry.{RangeEntry}
-use Rattle.model_tables.specs.Map.{MapState, assigned}
+use Rattle.model_partition.specs.declared.range_entry.RangeEntry.{RangeEntry}
+use Rattle.model_partition.specs.Map.{MapState, assigned}
 use Rattle.pmap.proofs.Places.{written, change_keeps}
 use Rattle.pmap.proofs.table.RangeTable.assign.Goals as goal
 

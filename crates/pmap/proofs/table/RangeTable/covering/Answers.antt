@@ -1,6 +1,6 @@
 use Rattle.std.proofs.Common.{[], sym, subst, rules, of_calls}
 use Rattle.std.proofs.lemmas.Fn.{always_returns_same}
-use Rattle.model_tables.specs.Partition.{IsPartition}
+use Rattle.model_partition.specs.Partition.{IsPartition}
 use Rattle.pmap.proofs.Routing.{begins, partitioned, some_begin, covered}
 use Rattle.pmap.proofs.table.RangeTable.covering.Goals as goal
 

@@ -1,6 +1,6 @@
 use Rattle.std.proofs.Common.{◌≡◌, List, None, refl, ap, sym, ◌∙◌}
-use Rattle.model_tables.specs.declared.range_entry.RangeEntry.{RangeEntry}
-use Rattle.model_tables.specs.Map.{MapState, range_at, renewed}
+use Rattle.model_partition.specs.declared.range_entry.RangeEntry.{RangeEntry}
+use Rattle.model_partition.specs.Map.{MapState, range_at, renewed}
 use Rattle.pmap.proofs.Places.{no_change, written, change_keeps}
 use Rattle.pmap.proofs.table.RangeTable.renew.Goals as goal
 

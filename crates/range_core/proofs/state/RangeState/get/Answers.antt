@@ -1,7 +1,7 @@
 use Rattle.std.proofs.Common.{ℕ, List, Contains, subst}
 use Rattle.std.specs.Result.{OnOk}
-use Rattle.cells.specs.declared.cell.Place.{Place}
-use Rattle.model_tables.specs.Range.{RangeState}
+use Rattle.memtable.specs.declared.cell.Place.{Place}
+use Rattle.model_partition.specs.Range.{RangeState}
 use Rattle.range_core.proofs.state.RangeState.get.Goals.{in-Ok, in-Err}
 use Rattle.range_core.proofs.state.RangeState.get.Goals as goal
 

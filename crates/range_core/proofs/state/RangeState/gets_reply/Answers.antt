@@ -1,9 +1,9 @@
 use Rattle.std.proofs.Common.{rules, ◌≡◌, Some, subst}
 use Rattle.std.proofs.lemmas.Result.{on_ok_weaker}
 use Rattle.std.specs.Result.{OnOk}
-use Rattle.lookups.specs.Lookups.{place_of}
-use Rattle.model_tables.specs.Getting.{MayHold}
-use Rattle.model_tables.specs.Range.{RangeState}
+use Rattle.range_reads.specs.Lookups.{place_of}
+use Rattle.model_partition.specs.Getting.{MayHold}
+use Rattle.model_partition.specs.Range.{RangeState}
 use Rattle.range_core.specs.Cache.{brings}
 use Rattle.range_core.proofs.Cache.{came}
 use Rattle.range_core.proofs.state.RangeState.gets_reply.Goals.{in-Ok, in-Err}

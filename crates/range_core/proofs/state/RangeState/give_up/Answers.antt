@@ -1,15 +1,15 @@
 use Rattle.std.proofs.Common.{◌≡◌, ◌∙◌, ◌++◌, ℕ, List, refl, sym, ap, subst}
 use Rattle.std.specs.Prelude.{option_to_list}
 use Rattle.wire.specs.declared.packet.Packet.{Packet}
-use Rattle.cells.specs.declared.cell.Place.{Place}
-use Rattle.loading.specs.declared.content.RangeContent.{RangeContent}
-use Rattle.loading.specs.Steps.{put}
-use Rattle.lookups.specs.Lookups.{LookupsState}
-use Rattle.model_tables.specs.Range.{RangeState}
-use Rattle.model_tables.specs.Answering.{give_up_all}
+use Rattle.memtable.specs.declared.cell.Place.{Place}
+use Rattle.range_load.specs.declared.content.RangeContent.{RangeContent}
+use Rattle.range_load.specs.Steps.{put}
+use Rattle.range_reads.specs.Lookups.{LookupsState}
+use Rattle.model_partition.specs.Range.{RangeState}
+use Rattle.model_partition.specs.Answering.{give_up_all}
 use Rattle.range_core.specs.Steps.{outcome}
 use Rattle.range_core.specs.contracts.state.RangeState.{the_view}
-use Rattle.range_core.proofs.Given.{given_up}
+use Rattle.range_core.proofs.GivingUp.{given_up}
 use Rattle.range_core.proofs.state.RangeState.give_up.Goals as goal
 
 pub returns-clause-ok : goal.returns-clause-ok
@@ -20,8 +20,8 @@ returns-clause-ok c =
     let new : RangeContent = c.give_up-given.new.self in
     let after : RangeState = record before { gets = c.give_up.new.self.gets } in
     let packets = c.gathered-sent.ensures ∙ ap (λ (ps : List Packet). (((ps ++ option_to_list c.give_up-given.result.load) ++ option_to_list c.give_up-given.result.metadata) ++ option_to_list c.give_up-given.result.log) ++ c.in_ok-reads.reads.items) c.in_ok-packets.ensures.items in
-    subst (λ (r : RangeState). give_up_all c.args.desk.now r ≡ outcome c.sends.result (record (put new after) { held = c.give_up.new.self.held })) c.self.view_is
-    (given_up c.args.desk.now before new.metadata new.log c.give_up.new.self.gets c.give_up-given.result.load c.give_up-given.result.metadata c.give_up-given.result.log c.in_ok-reads.reads.items c.gathered-sent.result.items c.sends.result
+    subst (λ (r : RangeState). give_up_all c.args.context.now r ≡ outcome c.sends.result (record (put new after) { held = c.give_up.new.self.held })) c.self.view_is
+    (given_up c.args.context.now before new.metadata new.log c.give_up.new.self.gets c.give_up-given.result.load c.give_up-given.result.metadata c.give_up-given.result.log c.in_ok-reads.reads.items c.gathered-sent.result.items c.sends.result
     c.give_up-given.ensures.load c.give_up-given.ensures.metadata c.give_up-given.ensures.log (ap (λ (s : LookupsState). s.gets) moved) reads packets c.sends.ensures
     ∙ ap (λ (x : RangeContent). outcome c.sends.result (put x after)) (sym c.give_up-given.ensures.rest)
     ∙ ap (λ (h : List (Place × List ℕ)). outcome c.sends.result (record (put new after) { held = h })) (sym (ap (λ (s : LookupsState). s.held) moved)))

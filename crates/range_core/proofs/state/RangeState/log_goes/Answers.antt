@@ -2,12 +2,12 @@ use Rattle.std.proofs.Common.{◌≡◌, ◌∙◌, ◌++◌, List, true, false,
 use Rattle.std.specs.Prelude.{◌&&◌, is_some, option_to_list}
 use Rattle.wire.specs.declared.packet.Packet.{Packet}
 use Rattle.client.specs.Client.{Outcome}
-use Rattle.model_tables.specs.Range.{RangeState, is_serving}
-use Rattle.model_tables.specs.Answering.{log_taken}
+use Rattle.model_partition.specs.Range.{RangeState, is_serving}
+use Rattle.model_partition.specs.Answering.{log_taken}
 use Rattle.range_core.specs.Replies.{is_end_of}
 use Rattle.range_core.specs.Steps.{outcome}
 use Rattle.range_core.specs.contracts.state.RangeState.{the_view}
-use Rattle.range_core.proofs.Rows.{goes_on, left}
+use Rattle.range_core.proofs.LogAnswers.{goes_on, left}
 use Rattle.range_core.proofs.state.RangeState.log_goes.Goals as goal
 
 pub returns-clause-ok : goal.returns-clause-ok
@@ -18,6 +18,6 @@ returns-clause-ok c =
     let serving = subst (λ (r : RangeState). is_serving r.stage ≡ true) (sym c.self.view_is) c.requires.serving in
     let quiet = subst (λ (r : RangeState). (is_some r.out && is_end_of r.log.job c.args.body.now) ≡ false) (sym c.self.view_is) c.requires.quiet in
     let packets = c.push_some.ensures.items ∙ ap (λ (l : List Packet). l ++ option_to_list c.in_ok-reaction.reaction.packet) c.in_ok-packets.ensures.items in
-    subst (λ (r : RangeState). log_taken c.args.desk.now r c.args.body.now ≡ outcome c.sends.result after) c.self.view_is
-    (goes_on c.args.desk.now before c.args.body.now o serving c.requires.current quiet c.in_ok-reaction.ensures.ok
-    ∙ left c.args.desk.now after c.sends.result c.in_ok-reaction.reaction.packet c.push_some.new.packets.items c.sends.ensures packets)
+    subst (λ (r : RangeState). log_taken c.args.context.now r c.args.body.now ≡ outcome c.sends.result after) c.self.view_is
+    (goes_on c.args.context.now before c.args.body.now o serving c.requires.current quiet c.in_ok-reaction.ensures.ok
+    ∙ left c.args.context.now after c.sends.result c.in_ok-reaction.reaction.packet c.push_some.new.packets.items c.sends.ensures packets)

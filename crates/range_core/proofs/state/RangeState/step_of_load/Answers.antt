@@ -1,11 +1,11 @@
 use Rattle.std.proofs.Common.{◌≡◌, ◌∙◌, subst}
-use Rattle.model_tables.specs.Range.{RangeState}
+use Rattle.model_partition.specs.Range.{RangeState}
 use Rattle.range_core.specs.Steps.{outcome}
-use Rattle.range_core.specs.Waiters.{waiter_row}
+use Rattle.range_core.specs.Waiters.{waiter_rule}
 use Rattle.range_core.specs.contracts.state.RangeState.{the_view}
 use Rattle.range_core.proofs.state.RangeState.step_of_load.Goals as goal
 
 pub returns-in-Ok-clause-ok : goal.returns-in-Ok-clause-ok
 returns-in-Ok-clause-ok c =
-    subst (λ (r : RangeState). waiter_row c.args.waiter c.args.desk.now r c.args.body.now ≡ outcome c.settle.result c.settle.new.self) c.self.view_is
-    (c.in-Ok.ensures.ok (the_view c.self.inside) ∙ c.settle.ensures.row)
+    subst (λ (r : RangeState). waiter_rule c.args.waiter c.args.context.now r c.args.body.now ≡ outcome c.settle.result c.settle.new.self) c.self.view_is
+    (c.in-Ok.ensures.ok (the_view c.self.inside) ∙ c.settle.ensures.rule)

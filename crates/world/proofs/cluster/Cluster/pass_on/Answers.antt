@@ -1,12 +1,12 @@
 use Rattle.std.proofs.Common.{subst, OnOk, IfSome, slice_get}
-use Rattle.model.specs.declared.event.Event.TheVariants.{Deliver}
-use Rattle.world.specs.Cluster.{ClusterState, Came, IsBelow, addressee_of}
-use Rattle.world.proofs.Coming.{if_ok, state, deliver_came, goes_below_them}
+use Rattle.model_streams.specs.declared.event.Event.TheVariants.{Deliver}
+use Rattle.world.specs.Cluster.{ClusterState, ClusterSimulates, IsBelow, addressee_of}
+use Rattle.world.proofs.ClusterSimulation.{if_ok, state, deliver_came, goes_below_them}
 use Rattle.world.proofs.cluster.Cluster.pass_on.Goals as goal
 
 pub returns-clause-ok : goal.returns-clause-ok
 returns-clause-ok c =
     let was : ClusterState = state c.self.inside.layer c.self.inside.servers c.self.inside.map c.self.inside.moment c.self.inside.batch in
     subst (λ (x : ClusterState). IfSome (addressee_of (slice_get x.layer.post c.args.number)) IsBelow →
-    OnOk c.deliver.result (Came x (record was { layer = c.deliver.new.self }) (Deliver c.args.number))) c.self.view_is
+    OnOk c.deliver.result (ClusterSimulates x (record was { layer = c.deliver.new.self }) (Deliver c.args.number))) c.self.view_is
     (λ is. if_ok c.deliver.result (deliver_came was c.deliver.new.self c.args.number (goes_below_them (slice_get was.layer.post c.args.number) is)) c.deliver.ensures.ok) c.requires

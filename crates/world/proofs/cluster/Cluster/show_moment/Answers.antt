@@ -1,8 +1,8 @@
 use Rattle.std.proofs.Common.{◌≡◌, ◌≤◌, false, nat_lt, arith, subst}
 use Rattle.std.proofs.lemmas.Bool.Decides.{nat_tests}
-use Rattle.model.specs.declared.event.Event.TheVariants.{Moment}
-use Rattle.world.specs.Cluster.{ClusterState, Came}
-use Rattle.world.proofs.Coming.{state, on_came}
+use Rattle.model_streams.specs.declared.event.Event.TheVariants.{Moment}
+use Rattle.world.specs.Cluster.{ClusterState, ClusterSimulates}
+use Rattle.world.proofs.ClusterSimulation.{state, on_came}
 use Rattle.world.proofs.cluster.Cluster.show_moment.Goals as goal
 
 pub returns : goal.returns
@@ -10,5 +10,5 @@ returns c =
     let was : ClusterState = state c.self.inside.layer c.self.inside.servers c.self.inside.map c.self.inside.moment c.self.inside.batch in
     let on : c.self.inside.moment ≤ c.args.moment = c.if-moment-self.false in
     let test : nat_lt c.args.moment c.self.inside.moment ≡ false = grind (arith, nat_tests) in
-    subst (λ (x : ClusterState). Came x (record was { moment = c.args.moment; servers = c.moment.new.self }) (Moment c.args.moment)) c.self.view_is
+    subst (λ (x : ClusterState). ClusterSimulates x (record was { moment = c.args.moment; servers = c.moment.new.self }) (Moment c.args.moment)) c.self.view_is
     (on_came was c.args.moment c.moment.new.self test c.moment.ensures)

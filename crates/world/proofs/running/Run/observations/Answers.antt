@@ -1,7 +1,7 @@
 use Rattle.std.proofs.Common.{sym, subst}
-use Rattle.model.specs.Honest.{Agree, Kept}
-use Rattle.model_tables.specs.Past.{Replays}
-use Rattle.world.proofs.Honest.{agrees, keeps, tables_replay}
+use Rattle.model_streams.specs.Honest.{Agree, Kept}
+use Rattle.model_partition.specs.Past.{Replays}
+use Rattle.world.proofs.RunInvariant.{agrees, keeps, tables_replay}
 use Rattle.world.proofs.running.Run.observations.Goals as goal
 
 pub returns-clause-agree : goal.returns-clause-agree

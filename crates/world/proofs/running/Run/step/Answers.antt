@@ -1,4 +1,4 @@
-use Rattle.world.proofs.Honest.{goes_on}
+use Rattle.world.proofs.RunInvariant.{goes_on}
 use Rattle.world.proofs.running.Run.step.Goals as goal
 
 pub invariant_of-self : goal.invariant_of-self

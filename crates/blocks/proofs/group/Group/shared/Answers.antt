@@ -1,5 +1,0 @@
-use Rattle.std.proofs.Common.{rules}
-use Rattle.blocks.proofs.group.Group.shared.Goals as goal
-
-pub returns : goal.returns
-returns c = search rules

@@ -1,0 +1,17 @@
+use Rattle.std.proofs.Common.{arith}
+use Rattle.std.proofs.lemmas.List.{length_push}
+use Rattle.block_types.specs.Limits.{IsBlock}
+use Rattle.blocks.specs.Format.{many_at}
+use Rattle.blocks.specs.Reading.{block_at}
+use Rattle.blocks.proofs.Loop.{goes_on, All-push}
+use Rattle.blocks.proofs.reading.blocks_of.Goals as goal
+
+pub loop-preserved : goal.loop-preserved
+loop-preserved c =
+    let items = c.in_ok-push.ensures.items in
+    let i = c.loop.invariant in
+    rw items (record {
+      read = goes_on (block_at c.args.version) c.loop.read.items c.args.count c.loop.counter c.loop.rest.now c.in_ok-block.block c.in_ok-block.after.now (many_at (block_at c.args.version) c.args.count c.args.bytes.now) c.loop-test.true c.in_ok-block.ensures.read i.read;
+      count = omega (arith, i.count, length_push c.loop.read.items c.in_ok-block.block);
+      fit = All-push IsBlock c.loop.read.items c.in_ok-block.block i.fit c.in_ok-block.ensures.fits;
+    })

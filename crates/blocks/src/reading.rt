@@ -1,0 +1,298 @@
+//! Reading a record from bytes. Each reader is the function on lists of specs/Reading.antt that its clause cites.
+ghost use Rattle.std.specs.Prelude.{◌≡◌, ◌<◌, ◌^◌, ◌++◌, ℕ, List, length, IfOk, MatchResult};
+ghost use Rattle.std.specs.List.{AllByRecursion};
+ghost use Rattle.block_types.specs.Limits.{IsBlock, groups_size};
+ghost use Rattle.blocks.specs.Format.{Gives, after, many_at};
+ghost use Rattle.block_types.specs.declared.record.Version.TheVariants.{V1};
+ghost use Rattle.blocks.specs.Record.{check, spelling, Fits, Begins};
+ghost use Rattle.blocks.specs.Reading.{block_at, group_at, nodes_at, groups_at, make_record_at, append_record_at, fence_record_at, freeze_record_at, seal_record_at, fill_record_at, fields_at, body_at, record_at};
+
+use crate::reader::{bytes_of, ended, u8_at, u32_at, u64_at};
+use block_types::{
+    Block, BlockFault, Group, Groups, MAX_BLOCK, MAX_BLOCKS, MAX_TARGET, MIN_TARGET, Nodes, Record,
+    Version,
+};
+use bytes::Bytes;
+use sha2::{Digest, Sha256};
+use std::alloc::Global;
+
+/// The bytes behind what stands after a block.
+fn after_check<'a>(version: Version, block: &[u8], bytes: &'a [u8]) -> Result<&'a [u8], BlockFault>
+    ensures { Gives (λ x. x.now) result (after (check version block.now) bytes.now) }
+{
+    match version {
+        Version::V1 => Ok(bytes),
+        Version::V2 => {
+            let digest = Sha256::digest(block);
+            if bytes.starts_with(&digest) {
+                Ok(&bytes[digest.len()..])
+            } else {
+                Err(BlockFault::Damaged)
+            }
+        }
+    }
+}
+
+#[tactic(auto, unfolding(crate::specs::Reading::block_at))]
+fn block_of(alloc: Global, version: Version, bytes: &[u8]) -> Result<(Block, &[u8]), BlockFault>
+    ensures read { Gives (λ x. (x.0, x.1.now)) result (block_at version bytes.now) }
+    ensures fits { IfOk result (λ x. IsBlock x.0) }
+{
+    let (len, rest) = u32_at(bytes)?;
+    if !(1..=MAX_BLOCK).contains(&len) {
+        return Err(BlockFault::Damaged);
+    }
+    let (text, rest) = bytes_of(len as usize, rest)?;
+    let rest = after_check(version, text, rest)?;
+    Ok((Block::copied(alloc, text)?, rest))
+}
+
+fn blocks_of(
+    alloc: Global,
+    version: Version,
+    count: u8,
+    bytes: &[u8],
+) -> Result<(Vec<Block>, &[u8]), BlockFault>
+    ensures read { Gives (λ x. (x.0.items, x.1.now)) result (many_at (block_at version) count bytes.now) }
+    ensures fits { IfOk result (λ x. (length x.0.items ≡ count) × AllByRecursion IsBlock x.0.items) }
+{
+    let mut read = Vec::new(alloc);
+    let mut rest = bytes;
+    for _ in 0..count {
+        let (block, after) = block_of(alloc, version, rest)?;
+        read.push(block)?;
+        rest = after;
+    }
+    Ok((read, rest))
+}
+
+#[tactic(auto, unfolding(crate::specs::Reading::group_at))]
+fn group_of(alloc: Global, version: Version, bytes: &[u8]) -> Result<(Group, &[u8]), BlockFault>
+    ensures { Gives (λ x. (x.0, x.1.now)) result (group_at version bytes.now) }
+{
+    let (count, rest) = u8_at(bytes)?;
+    if !(1..=MAX_BLOCKS).contains(&count) {
+        return Err(BlockFault::Damaged);
+    }
+    let (blocks, rest) = blocks_of(alloc, version, count, rest)?;
+    Ok((Group::of(blocks), rest))
+}
+
+#[tactic(auto, unfolding(crate::specs::Reading::nodes_at, block_types::specs::Limits::are_nodes))]
+fn nodes_of(bytes: &[u8]) -> Result<(Nodes, &[u8]), BlockFault>
+    ensures { Gives (λ x. (x.0, x.1.now)) result (nodes_at bytes.now) }
+{
+    match bytes {
+        [primary, second, third, rest @ ..] => {
+            let nodes = Nodes {
+                primary: *primary,
+                second: *second,
+                third: *third,
+            };
+            if nodes.are_distinct_nodes() {
+                Ok((nodes, rest))
+            } else {
+                Err(BlockFault::Damaged)
+            }
+        }
+        _ => Err(BlockFault::Damaged),
+    }
+}
+
+/// The record of kind 1 in its fields.
+#[tactic(auto, unfolding(crate::specs::Reading::make_record_at, crate::specs::Reading::make_at))]
+fn make_of(fields: &[u8]) -> Result<Record, BlockFault>
+    ensures { Gives (λ r. r) result (make_record_at fields.now) }
+{
+    let (extent, rest) = u64_at(fields)?;
+    let (fence, rest) = u64_at(rest)?;
+    let (target, rest) = u32_at(rest)?;
+    if !(MIN_TARGET..=MAX_TARGET).contains(&target) {
+        return Err(BlockFault::Damaged);
+    }
+    let (nodes, rest) = nodes_of(rest)?;
+    ended(
+        Record::Make {
+            extent,
+            fence,
+            target,
+            nodes,
+        },
+        rest,
+    )
+}
+
+#[tactic(auto, unfolding(crate::specs::Reading::append_record_at, crate::specs::Reading::append_at))]
+fn append_of(alloc: Global, version: Version, fields: &[u8]) -> Result<Record, BlockFault>
+    ensures { Gives (λ r. r) result (append_record_at version fields.now) }
+{
+    let (extent, rest) = u64_at(fields)?;
+    let (offset, rest) = u32_at(rest)?;
+    let (group, rest) = group_of(alloc, version, rest)?;
+    ended(
+        Record::Append {
+            extent,
+            offset,
+            group,
+        },
+        rest,
+    )
+}
+
+fn all_groups_of(
+    alloc: Global,
+    version: Version,
+    count: u32,
+    bytes: &[u8],
+) -> Result<(Vec<Group>, u64, &[u8]), BlockFault>
+    ensures read { Gives (λ x. (x.0.items, x.2.now)) result (many_at (group_at version) count bytes.now) }
+    ensures size { IfOk result (λ x. x.1 ≡ groups_size x.0.items) }
+    ensures bound { IfOk result (λ x. x.1 < 2 ^ 60) }
+{
+    let mut groups = Vec::new(alloc);
+    let mut size = 0u64;
+    let mut rest = bytes;
+    for _ in 0..count {
+        let (group, after) = group_of(alloc, version, rest)?;
+        size += group.size() as u64;
+        groups.push(group)?;
+        rest = after;
+    }
+    Ok((groups, size, rest))
+}
+
+#[tactic(auto, unfolding(crate::specs::Reading::groups_at))]
+fn groups_of(
+    alloc: Global,
+    version: Version,
+    bytes: &[u8],
+) -> Result<(Groups, u64, &[u8]), BlockFault>
+    ensures read { Gives (λ x. (x.0, x.2.now)) result (groups_at version bytes.now) }
+    ensures size { IfOk result (λ x. x.1 ≡ groups_size x.0) }
+    ensures bound { IfOk result (λ x. x.1 < 2 ^ 60) }
+{
+    let (count, rest) = u32_at(bytes)?;
+    if count < 1 {
+        return Err(BlockFault::Damaged);
+    }
+    let (groups, size, rest) = all_groups_of(alloc, version, count, rest)?;
+    Ok((Groups { items: groups }, size, rest))
+}
+
+#[tactic(auto, unfolding(crate::specs::Reading::fence_record_at, crate::specs::Reading::fence_at))]
+fn fence_of(fields: &[u8]) -> Result<Record, BlockFault>
+    ensures { Gives (λ r. r) result (fence_record_at fields.now) }
+{
+    let (extent, rest) = u64_at(fields)?;
+    let (generation, rest) = u64_at(rest)?;
+    ended(Record::Fence { extent, generation }, rest)
+}
+
+#[tactic(auto, unfolding(crate::specs::Reading::freeze_record_at))]
+fn freeze_of(fields: &[u8]) -> Result<Record, BlockFault>
+    ensures { Gives (λ r. r) result (freeze_record_at fields.now) }
+{
+    let (extent, rest) = u64_at(fields)?;
+    ended(Record::Freeze { extent }, rest)
+}
+
+#[tactic(auto, unfolding(crate::specs::Reading::seal_record_at, crate::specs::Reading::seal_at))]
+fn seal_of(fields: &[u8]) -> Result<Record, BlockFault>
+    ensures { Gives (λ r. r) result (seal_record_at fields.now) }
+{
+    let (extent, rest) = u64_at(fields)?;
+    let (length, rest) = u32_at(rest)?;
+    ended(Record::Seal { extent, length }, rest)
+}
+
+#[tactic(auto, unfolding(crate::specs::Reading::fill_record_at, crate::specs::Reading::fill_at))]
+fn fill_of(alloc: Global, version: Version, fields: &[u8]) -> Result<Record, BlockFault>
+    ensures { Gives (λ r. r) result (fill_record_at version fields.now) }
+{
+    let (extent, rest) = u64_at(fields)?;
+    let (from, rest) = u32_at(rest)?;
+    let (length, rest) = u32_at(rest)?;
+    let (groups, size, rest) = groups_of(alloc, version, rest)?;
+    if from as u64 + size != length as u64 {
+        return Err(BlockFault::Damaged);
+    }
+    let read = Record::Fill {
+        extent,
+        from,
+        length,
+        groups,
+    };
+    ended(read, rest)
+}
+
+#[tactic(auto, unfolding(crate::specs::Reading::fields_at))]
+fn fields_of(alloc: Global, version: Version, kind: u8, fields: &[u8]) -> Result<Record, BlockFault>
+    ensures { Gives (λ r. r) result (fields_at version kind fields.now) }
+{
+    match kind {
+        1 => make_of(fields),
+        2 => append_of(alloc, version, fields),
+        3 => fence_of(fields),
+        4 => freeze_of(fields),
+        5 => seal_of(fields),
+        6 => fill_of(alloc, version, fields),
+        7 => Ok(Record::Manage {
+            text: Bytes::copy_from_slice(alloc, fields)?,
+        }),
+        _ => Err(BlockFault::Damaged),
+    }
+}
+
+#[tactic(auto, unfolding(crate::specs::Reading::body_at))]
+fn body_of(alloc: Global, version: Version, bytes: &[u8]) -> Result<Record, BlockFault>
+    ensures { Gives (λ r. r) result (body_at version bytes.now) }
+{
+    match bytes {
+        [] => Err(BlockFault::Damaged),
+        [kind, fields @ ..] => fields_of(alloc, version, *kind, fields),
+    }
+}
+
+#[tactic(auto, unfolding(crate::specs::Reading::record_at))]
+fn record_of(alloc: Global, version: Version, bytes: &[u8]) -> Result<(Record, usize), BlockFault>
+    ensures { Gives (λ x. x) result (record_at version bytes.now) }
+{
+    let (len, rest) = u32_at(bytes)?;
+    let (text, _) = bytes_of(len as usize, rest)?;
+    let record = body_of(alloc, version, text)?;
+    Ok((record, 4 + len as usize))
+}
+
+/// The record whose spelling in the version begins the bytes, and the size of that spelling; bytes behind it do not
+/// matter. It copies the payloads.
+///
+/// It is refused `Damaged` (21) only where no front of the bytes is a spelling: cut short, a field out of range, a body
+/// with bytes left over, in version 2 a digest that is not the block's. `Memory` (22) says nothing of the bytes.
+pub fn decode_as(
+    alloc: Global,
+    version: Version,
+    bytes: &[u8],
+) -> Result<(Record, usize), BlockFault>
+    ensures found { IfOk result (λ x. Begins version bytes.now x.0 x.1) }
+
+    // Where a record begins the bytes it is found, unless memory ran out.
+    ensures only { (r : Record) (n : ℕ) → Begins version bytes.now r n
+        → MatchResult result (λ x. x ≡ (r, n)) (λ e. e ≡ BlockFault.Memory) }
+{
+    record_of(alloc, version, bytes)
+}
+
+/// As `decode_as` in version 1.
+pub fn decode(alloc: Global, bytes: &[u8]) -> Result<(Record, usize), BlockFault>
+    ensures found { IfOk result (λ x. Begins V1 bytes.now x.0 x.1) }
+    ensures only { (r : Record) (n : ℕ) → Begins V1 bytes.now r n
+        → MatchResult result (λ x. x ≡ (r, n)) (λ e. e ≡ BlockFault.Memory) }
+{
+    decode_as(alloc, Version::V1, bytes)
+}
+
+/// A law, which does nothing when it runs: in each version no spelling begins another.
+pub fn one_spelling(version: Version)
+    ensures { (a b : Record) (x y : List ℕ) → Fits version a → Fits version b
+        → spelling version a ++ x ≡ spelling version b ++ y → a ≡ b }
+{}

@@ -1,5 +1,0 @@
-use Rattle.std.proofs.Common.{rules}
-use Rattle.cells.proofs.cell.Cell.size.Goals as goal
-
-pub returns-in-Inline : goal.returns-in-Inline
-returns-in-Inline c = search rules

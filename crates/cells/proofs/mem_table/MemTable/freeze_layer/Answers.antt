@@ -1,8 +1,0 @@
-use Rattle.std.proofs.Common.{rules}
-use Rattle.cells.proofs.mem_table.MemTable.freeze_layer.Goals as goal
-
-pub invariant_of-self : goal.invariant_of-self
-invariant_of-self c = search rules
-
-pub returns-clause-fixed : goal.returns-clause-fixed
-returns-clause-fixed c = search rules

@@ -1,5 +1,0 @@
-use Rattle.std.proofs.Common.{rules}
-use Rattle.cells.proofs.mem_table.MemTable.get.Goals as goal
-
-pub returns-in-Some-fixed : goal.returns-in-Some-fixed
-returns-in-Some-fixed c = search rules

@@ -1,5 +1,0 @@
-use Rattle.std.proofs.Common.{rules}
-use Rattle.checker.proofs.search.first_break.Goals as goal
-
-pub returns-then-not-meets_earlier-clause-none : goal.returns-then-not-meets_earlier-clause-none
-returns-then-not-meets_earlier-clause-none c = search rules

@@ -1,4 +1,0 @@
-pub mod Spelling
-pub mod Tables
-pub mod Keeping
-pub mod Recovering

@@ -1,9 +1,0 @@
-use Rattle.std.proofs.Common.{arith}
-use Rattle.std.proofs.lemmas.Grind.{common_steps}
-use Rattle.directory.proofs.table.Table.tell_extents.Goals as goal
-
-pub loop-extent-preserved : goal.loop-extent-preserved
-loop-extent-preserved c = grind (arith, common_steps)
-
-pub returns : goal.returns
-returns c = grind (arith, common_steps)

@@ -1,3 +1,0 @@
-pub mod Ledger
-pub mod Table
-pub mod Replay

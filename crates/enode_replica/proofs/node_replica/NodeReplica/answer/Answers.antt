@@ -1,0 +1,5 @@
+use Rattle.std.proofs.Common.{rules}
+use Rattle.enode_replica.proofs.node_replica.NodeReplica.answer.Goals as goal
+
+pub returns : goal.returns
+returns c = search rules

@@ -1,0 +1,5 @@
+pub mod RecordedRules
+pub mod Raising
+pub mod Putting
+pub mod UnrecordedRules
+pub mod Cutting

@@ -1,6 +1,0 @@
-use Rattle.std.proofs.Common.{arith}
-use Rattle.std.proofs.lemmas.Grind.{common_steps}
-use Rattle.formats.proofs.reader.u16_at.Goals as goal
-
-pub returns-clause-read : goal.returns-clause-read
-returns-clause-read c = grind (arith, common_steps)

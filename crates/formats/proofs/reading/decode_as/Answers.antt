@@ -1,9 +1,0 @@
-use Rattle.std.proofs.Common.{arith}
-use Rattle.formats.proofs.Laws.{is_found, is_only}
-use Rattle.formats.proofs.reading.decode_as.Goals as goal
-
-pub returns-clause-found : goal.returns-clause-found
-returns-clause-found c = is_found c.args.version c.args.bytes.now c.record_of.result (λ i. omega (arith, c.type_inv.bytes i)) c.record_of.ensures
-
-pub returns-clause-only : goal.returns-clause-only
-returns-clause-only c = λ r n begins. is_only c.args.version c.args.bytes.now c.record_of.result c.record_of.ensures r n begins

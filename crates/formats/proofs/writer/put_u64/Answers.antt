@@ -1,7 +1,0 @@
-use Rattle.std.proofs.Common.{rules}
-use Rattle.formats.specs.Record.{number}
-use Rattle.formats.proofs.writer.put_u64.Goals as goal
-
-pub returns-clause-ok : goal.returns-clause-ok
-unfolding number
-returns-clause-ok c = search rules

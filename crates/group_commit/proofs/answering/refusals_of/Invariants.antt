@@ -1,7 +1,0 @@
-use Rattle.std.proofs.Common.{◌≡◌, map, take}
-use Rattle.model_tables.specs.Range.{refuses}
-use Rattle.wire.specs.declared.refusal.Refusal.TheVariants as refusals
-use Rattle.group_commit.proofs.answering.refusals_of.Given as goal
-
-abbrev pub invariant-loop-transaction : goal.invariant-loop-transaction
-invariant-loop-transaction l = l.packets.items ≡ map (λ t. refuses l.desk t.from t.request refusals.NotOwner) (take l.transaction-index l.all)

@@ -1,9 +1,0 @@
-use Rattle.std.proofs.Common.{◌≡◌, ◌+◌, ◌++◌, drop}
-use Rattle.model_tables.specs.Serving.{began}
-use Rattle.group_commit.proofs.forming.notes_of.Given as goal
-
-abbrev pub invariant-loop-transaction : goal.invariant-loop-transaction
-invariant-loop-transaction l = record {
-  numbered : l.number ≡ l.first + l.transaction-index;
-  notes : l.notes.items ++ began l.range l.generation l.number (drop l.transaction-index l.group) ≡ began l.range l.generation l.first l.group;
-}

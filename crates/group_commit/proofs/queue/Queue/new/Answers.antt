@@ -1,5 +1,0 @@
-use Rattle.std.proofs.Common.{rules}
-use Rattle.group_commit.proofs.queue.Queue.new.Goals as goal
-
-pub returns : goal.returns
-returns c = search rules

@@ -1,5 +1,0 @@
-use Rattle.group_commit.proofs.Fronts.{size_bound}
-use Rattle.group_commit.proofs.queue.Queue.out_size.Goals as goal
-
-pub returns-clause-bound : goal.returns-clause-bound
-returns-clause-bound c = size_bound _ _ c.self.invariant.fits c.self.invariant.sized

@@ -1,0 +1,64 @@
+-- A cluster stands on through what the map does, its stops and its restarts.
+use Rattle.std.proofs.Common.{ℕ, Bool, List, [], Option, Some, None, refl, sym, subst, ◌==◌}
+use Rattle.wire.specs.declared.packet.Packet.{Packet}
+use Rattle.wire.specs.declared.refusal.Refusal.{Refusal}
+use Rattle.model_streams.specs.Outcome.{Outcome}
+use Rattle.model_streams.specs.StreamSystem.{ActorCell, running, down, armed, burnt, stops_in, stands_in, sent_more}
+use Rattle.model_streams.proofs.Tests.{if_elim}
+use Rattle.model_partition.specs.Map.{MapState, range_at, assign_fault, assign_rule, renew_fault, renew_rule, map_rule}
+use Rattle.model_partition.specs.Cluster.{Cluster, map_performs, map_performs_if, map_takes, assigns, renews, map_stops, map_starts}
+use Rattle.laws_clusters.proofs.OneRange.{AreFirst, Tells, Nothing, Word, IsRule, assign_is_rule, renew_is_rule, map_is_rule}
+use Rattle.laws_clusters.proofs.OtherEvents.{told_nothing, still_runs, rests_as, map_says_stands}
+use Rattle.laws_clusters.proofs.Invariant.{Standing}
+
+module _ (generation : ℕ → ℕ) (nodes target : ℕ) where
+  abbrev Stands : Cluster → Type 0
+  Stands c = Standing generation nodes target c
+
+  -- another map, and nothing is sent
+  another_map : (c : Cluster) (m : MapState) (cell : ActorCell) → AreFirst m.ranges → Stands c → Stands (record c { map = m; map_cell = cell })
+  another_map c m cell first x = rests_as generation nodes target c (record c { map = m; map_cell = cell }) x refl first (λ q past. past) (still_runs c.servers)
+
+  sends_stand : (c : Cluster) (m : MapState) (cell : ActorCell) (packets : List Packet) → AreFirst m.ranges → Tells packets → Stands c →
+      Stands (record c { map = m; map_cell = cell; world = sent_more c.world packets })
+  sends_stand c m cell packets first (Nothing is) x =
+      subst (λ ps. Stands (record c { map = m; map_cell = cell; world = sent_more c.world ps })) (sym is)
+      (rests_as generation nodes target c (record c { map = m; map_cell = cell; world = sent_more c.world [] }) x (told_nothing c.world) first (λ q past. past) (still_runs c.servers))
+  sends_stand c m cell packets first (Word to body is word) x =
+      subst (λ ps. Stands (record c { map = m; map_cell = cell; world = sent_more c.world ps })) (sym is) (map_says_stands generation nodes target c x to body word m cell first)
+
+  does_stand : (c : Cluster) (o : Outcome MapState) → IsRule o → Stands c → Stands (map_performs c o)
+  does_stand c o rule x =
+      if_elim Stands (stops_in c.map_cell o.written) _ _
+      (λ t. if_elim Stands (stands_in c.map_cell) _ _ (λ s. another_map c o.after down rule.first x) (λ s. another_map c c.map down x.first_range x))
+      (λ f. sends_stand c o.after (burnt c.map_cell o.written) o.packets rule.first rule.tells x)
+
+  does_if_stand : (c : Cluster) (refusal : Option Refusal) (o : Outcome MapState) → IsRule o → Stands c → Stands (map_performs_if c refusal o)
+  does_if_stand c (Some refusal) o rule x = x
+  does_if_stand c None o rule x = does_stand c o rule x
+
+  pub map_takes_stand : (c : Cluster) (p : Packet) → Stands c → Stands (map_takes c p)
+  map_takes_stand c p x = if_elim Stands c.map_cell.up _ _ (λ up. does_stand c (map_rule c.map p p.body) (map_is_rule c.map p p.body x.first_range) x) (λ up. x)
+
+  pub assigns_stand : (c : Cluster) (range server until : ℕ) → Stands c → Stands (assigns c range server until)
+  assigns_stand c range server until x =
+      let found = range_at c.map.ranges range in
+      if_elim Stands c.map_cell.up _ _
+      (λ up. does_if_stand c (assign_fault server c.now found) (assign_rule c.map range server until found) (assign_is_rule c.map range server until found refl x.first_range) x)
+      (λ up. x)
+
+  pub renews_stand : (c : Cluster) (range server until : ℕ) → Stands c → Stands (renews c range server until)
+  renews_stand c range server until x =
+      let found = range_at c.map.ranges range in
+      if_elim Stands c.map_cell.up _ _
+      (λ up. does_if_stand c (renew_fault server found) (renew_rule c.map range server until found) (renew_is_rule c.map range server until found x.first_range) x)
+      (λ up. x)
+
+  pub map_stops_stand : (c : Cluster) (call : ℕ) (keep : Bool) → Stands c → Stands (map_stops c call keep)
+  map_stops_stand c call keep x =
+      if_elim Stands c.map_cell.up _ _
+      (λ up. if_elim Stands (call == 0) _ _ (λ now. another_map c c.map down x.first_range x) (λ later. another_map c c.map (armed call keep) x.first_range x))
+      (λ up. x)
+
+  pub map_starts_stand : (c : Cluster) → Stands c → Stands (map_starts c)
+  map_starts_stand c x = if_elim Stands c.map_cell.up _ _ (λ up. x) (λ up. another_map c c.map running x.first_range x)

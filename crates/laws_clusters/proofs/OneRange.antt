@@ -1,0 +1,98 @@
+-- The map of a run has range 1 alone, and tells servers of no other.
+use Rattle.std.proofs.Common.{◌≡◌, ℕ, suc, ◌^◌, Bool, true, false, nat_lt, List, [], ◌∷◌, Option, Some, None, refl, sym, ◌∙◌, arith, if◌then◌else◌, ◌==◌}
+use Rattle.std.specs.Prelude.{map}
+use Rattle.std.proofs.lemmas.Bool.Decides.{nat_tests}
+use Rattle.wire.specs.declared.actor.ActorId.{ActorId}
+use Rattle.wire.specs.declared.actor.ActorId.TheVariants.{Map, Server}
+use Rattle.wire.specs.declared.actor.ReqNo.{ReqNo}
+use Rattle.wire.specs.declared.body.Body.{Body}
+use Rattle.wire.specs.declared.body.Body.TheVariants as bodies
+use Rattle.wire.specs.declared.body.MapBody.{MapBody}
+use Rattle.wire.specs.declared.body.MapBody.TheVariants as maps
+use Rattle.wire.specs.declared.packet.Packet.{Packet}
+use Rattle.model_streams.specs.Outcome.{Outcome, packet}
+use Rattle.model_streams.specs.StreamSystem.{is_told}
+use Rattle.model_streams.proofs.Tests.{if_elim}
+use Rattle.model_partition.specs.declared.range_entry.RangeEntry.{RangeEntry}
+use Rattle.model_partition.specs.Map.{MapState, range_at, range_of_key, changed_if, assigned, renewed, assign_rule, renew_rule, route_rule, told, map_rule}
+
+-- what the map tells servers of leases is of range 1, and what it tells else says nothing to them
+abbrev pub IsMapWord : MapBody → Type 0
+IsMapWord (maps.Assign range g until) = range ≡ 1
+IsMapWord body = Unit {0}
+
+abbrev pub IsWord : Body → Type 0
+IsWord (bodies.Map body) = IsMapWord body
+IsWord body = ⊥
+
+pub word_told : (body : Body) → IsWord body → is_told body ≡ true
+word_told (bodies.Append body) word = absurd word
+word_told (bodies.Check body) word = absurd word
+word_told (bodies.Seal body) word = absurd word
+word_told (bodies.Read body) word = absurd word
+word_told (bodies.Stream body) word = absurd word
+word_told (bodies.Map body) word = refl
+word_told (bodies.Table body) word = absurd word
+
+-- each range has number 1
+abbrev pub AreFirst : List RangeEntry → Type 0
+AreFirst [] = Unit {0}
+AreFirst (r ∷ rs) = (r.range ≡ 1) × AreFirst rs
+
+-- nothing is sent, or one word
+pub data Tells (packets : List Packet) : Type 0 where
+  Nothing : (is : packets ≡ []) → Tells packets
+  Word : (to : ActorId) (body : Body) (is : packets ≡ packet Map to body ∷ []) (word : IsWord body) → Tells packets
+
+-- what a rule of the map leaves and sends
+pub record IsRule (o : Outcome MapState) : Type 0 where
+  pub first : AreFirst o.after.ranges
+  pub tells : Tells o.packets
+
+-- ---- ranges
+
+change_first : (rs : List RangeEntry) (range : ℕ) (change : RangeEntry → RangeEntry) → ((r : RangeEntry) → (change r).range ≡ r.range) → AreFirst rs → AreFirst (map (changed_if range change) rs)
+change_first [] range change keeps first = tt
+change_first (r ∷ rs) range change keeps first = (
+  if_elim (λ (x : RangeEntry). x.range ≡ 1) (r.range == range) (change r) r (λ t. keeps r ∙ first.0) (λ f. first.0),
+  change_first rs range change keeps first.1,
+)
+
+found_first : (rs : List RangeEntry) (range : ℕ) (r : RangeEntry) → AreFirst rs → range_at rs range ≡ Some r → range ≡ 1
+found_first [] range r first found = absurd cc
+found_first (x ∷ rs) range r first found = go (x.range == range) refl found (found_first rs range r first.1)
+  where
+    go : (b : Bool) → (x.range == range) ≡ b → (if b then Some x else range_at rs range) ≡ Some r → (range_at rs range ≡ Some r → range ≡ 1) → range ≡ 1
+    go true test is more = (let same : x.range ≡ range = grind (arith, nat_tests) in sym same ∙ first.0)
+    go false test is more = more is
+
+-- ---- rules
+
+pub assign_is_rule : (m : MapState) (range server until : ℕ) (o : Option RangeEntry) → range_at m.ranges range ≡ o → AreFirst m.ranges → IsRule (assign_rule m range server until o)
+assign_is_rule m range server until None at first = record { first = first; tells = Nothing refl }
+assign_is_rule m range server until (Some r) at first =
+    if_elim IsRule (nat_lt (suc r.generation) (2 ^ 64)) _ _
+    (λ t. record {
+      first = change_first m.ranges range (assigned server until) (λ x. refl) first;
+      tells = Word (Server server) _ refl (found_first m.ranges range r first at);
+    })
+    (λ f. record { first = first; tells = Nothing refl })
+
+pub renew_is_rule : (m : MapState) (range server until : ℕ) (o : Option RangeEntry) → AreFirst m.ranges → IsRule (renew_rule m range server until o)
+renew_is_rule m range server until None first = record { first = first; tells = Nothing refl }
+renew_is_rule m range server until (Some r) first = record {
+  first = change_first m.ranges range (renewed until) (λ x. refl) first;
+  tells = Word (Server server) _ refl tt;
+}
+
+route_is_rule : (m : MapState) (p : Packet) (q : ReqNo) (o : Option RangeEntry) → AreFirst m.ranges → IsRule (route_rule m p q o)
+route_is_rule m p q None first = record { first = first; tells = Nothing refl }
+route_is_rule m p q (Some r) first = record { first = first; tells = Word p.from _ refl tt }
+
+told_is_rule : (m : MapState) (p : Packet) (body : MapBody) → AreFirst m.ranges → IsRule (told m p body)
+told_is_rule m p (maps.Route key q) first = route_is_rule m p q (range_of_key m.ranges key) first
+told_is_rule m p body first = record { first = first; tells = Nothing refl }
+
+pub map_is_rule : (m : MapState) (p : Packet) (body : Body) → AreFirst m.ranges → IsRule (map_rule m p body)
+map_is_rule m p (bodies.Map body) first = told_is_rule m p body first
+map_is_rule m p body first = record { first = first; tells = Nothing refl }

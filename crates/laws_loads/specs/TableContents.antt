@@ -1,0 +1,28 @@
+-- What a memory table says of keys, where the bytes of extents are known.
+use Rattle.std.specs.Prelude.{◌≡◌, ℕ, ◌++◌, length, take, drop, Option, Some, None}
+use Rattle.memtable.specs.declared.cell.Cell.{Cell}
+use Rattle.memtable.specs.declared.cell.Cell.TheVariants.{Deleted, Inline, Placed}
+use Rattle.memtable.specs.Entries.{Entries, found}
+use Rattle.model_partition.specs.Past.{Bytes, Table}
+
+-- the bytes stand at an offset of a text
+pub record StandsAt (text : Bytes) (offset : ℕ) (bytes : Bytes) : Type 0 where
+  pub before : Bytes
+  pub behind : Bytes
+  pub is : text ≡ before ++ (bytes ++ behind)
+  pub at : length before ≡ offset
+
+module _ (texts : ℕ → Bytes) where
+  -- the value of a cell, where each extent has this text
+  abbrev pub value_in : Cell → Option Bytes
+  value_in Deleted = None
+  value_in (Inline value) = Some value
+  value_in (Placed place) = Some (take place.length (drop place.offset (texts place.extent)))
+
+  abbrev pub value_of : Option Cell → Option Bytes
+  value_of None = None
+  value_of (Some cell) = value_in cell
+
+  -- the table of a layer
+  abbrev pub table_in : Entries → Table
+  table_in entries key = value_of (found entries key)

@@ -1,0 +1,17 @@
+pub mod PlacesWithin
+pub mod OneMoreExtent
+pub mod ReadRequests
+pub mod ExtentByExtent
+pub mod AnswersAreRight
+pub mod UntouchedReads
+pub mod LoadBegins
+pub mod MetadataAnswers
+pub mod LogAnswers
+pub mod LoadedTable
+pub mod OtherRules
+pub mod MoreKnown
+pub mod AnswerRules
+pub mod ShownRows
+pub mod MachineSteps
+pub mod OneScript
+pub mod ToldIsShown

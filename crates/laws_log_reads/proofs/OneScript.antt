@@ -1,0 +1,42 @@
+-- What stood in an extent up to an end is told in one way: all that is told of it begins one script.
+use Rattle.std.proofs.Common.{◌≡◌, ℕ, ◌<◌, ◌≤◌, List, [], ◌∷◌, ◌++◌, Option, Some, refl, sym, ap, ◌∙◌, subst, arith}
+use Rattle.replica.specs.Groups.{Group, size}
+use Rattle.streams.specs.Streams.{Stream}
+use Rattle.model_streams.specs.StreamSystem.{StreamSystem}
+use Rattle.model_partition.specs.Story.{Copy}
+use Rattle.model_partition.specs.StreamMachine as machine
+use Rattle.laws_streams.proofs.Ground.{Ground}
+use Rattle.laws_stream_machine.specs.Refinement.{Sent}
+use Rattle.laws_stream_machine.proofs.ExtentSteps.{Sized, chain_le}
+use Rattle.laws_stream_machine.proofs.MachineCore.{StoodThere, Settled}
+use Rattle.laws_log_reads.specs.Reads.{groups_in, StandsOnce}
+
+-- two lists of copies between the same places, which begin the same groups
+one_way : (from end : ℕ) (xs ys : List (Copy Group)) (a b : List Group) → machine.Chain from xs end → Sized xs → machine.Chain from ys end → Sized ys →
+    groups_in xs ++ a ≡ groups_in ys ++ b → groups_in xs ≡ groups_in ys
+one_way from end [] [] a b c s d t e = refl
+one_way from end [] (y ∷ ys) a b c s d t e =
+    let le : y.to ≤ end = chain_le y.to ys end d.2 in
+    let lt : y.from < y.to = d.1 in
+    absurd (omega (arith, c, d.0, lt, le))
+one_way from end (x ∷ xs) [] a b c s d t e =
+    let le : x.to ≤ end = chain_le x.to xs end c.2 in
+    let lt : x.from < x.to = c.1 in
+    absurd (omega (arith, d, c.0, lt, le))
+one_way from end (x ∷ xs) (y ∷ ys) a b c s d t e =
+    let head : x.group ≡ y.group = cc in
+    let tail : groups_in xs ++ a ≡ groups_in ys ++ b = cc in
+    let sizes : size x.group ≡ size y.group = ap size head in
+    let place : y.to ≡ x.to = omega (arith, c.0, d.0, s.0, t.0, sizes) in
+    ap (λ z. z ∷ groups_in xs) head
+    ∙ ap (λ zs. y.group ∷ zs) (one_way x.to end xs ys a b c.2 s.1 (subst (λ k. machine.Chain k ys end) place d.2) t.1 tail)
+
+-- where all that was checked is known of the nodes
+pub stands_once : (o : Option Stream) (g : Ground) (s : machine.MachineState Group) (sent : List Sent) → Settled o g s sent → (range : ℕ) (w : StreamSystem) (i : ℕ) → StandsOnce range w i s
+stands_once o g s sent settled range w i index end stood other a b =
+    let one : StoodThere o g index stood end = settled.checked i index stood end a in
+    let two : StoodThere o g index other end = settled.checked i index other end b in
+    let both : Some one.extent ≡ Some two.extent = sym one.at ∙ two.at in
+    let same : one.extent ≡ two.extent = cc in
+    one_way (machine.base index) end stood other one.begins.rest two.begins.rest one.chain one.sized two.chain two.sized
+    (sym one.begins.is ∙ ap (λ e. g.script e) same ∙ two.begins.is)

@@ -1,0 +1,125 @@
+-- Gets, and transactions that are refused, turn no stream: they send what says nothing of any extent of a stream.
+use Rattle.std.proofs.Common.{◌≡◌, ℕ, ◌≤◌, List, [], ◌∷◌, ◌++◌, map, Bool, true, false, not, Option, Some, None, refl, subst, inl, arith, if◌then◌else◌}
+use Rattle.block_types.specs.declared.record.Nodes.{Nodes}
+use Rattle.wire.specs.declared.actor.ActorId.{ActorId}
+use Rattle.wire.specs.declared.actor.ReqNo.{ReqNo}
+use Rattle.wire.specs.declared.body.ReadBody.{ReadBody}
+use Rattle.wire.specs.declared.body.ReadBody.TheVariants as reads
+use Rattle.wire.specs.declared.body.Body.{Body}
+use Rattle.wire.specs.declared.body.Body.TheVariants as bodies
+use Rattle.wire.specs.declared.refusal.Refusal.{Refusal}
+use Rattle.wire.specs.declared.refusal.Refusal.TheVariants as refusals
+use Rattle.wire.specs.declared.streams.StreamName.{StreamName}
+use Rattle.wire.specs.declared.transaction.Change.{Change}
+use Rattle.memtable.specs.declared.cell.Place.{Place}
+use Rattle.model_streams.specs.StreamSystem.{StreamSystem}
+use Rattle.model_partition.specs.declared.server_context.ServerContext.{ServerContext}
+use Rattle.model_partition.specs.declared.stage.Stage.{Stage}
+use Rattle.model_partition.specs.declared.stage.Stage.TheVariants as stages
+use Rattle.model_partition.specs.declared.waiting.WaitingGet.{WaitingGet}
+use Rattle.model_partition.specs.Range.{RangeState, refuses, answers, is_serving}
+use Rattle.model_partition.specs.Serving.{transact_fault, transacts, transact_rule, lease_ended}
+use Rattle.model_partition.specs.Getting.{Lookup, Is, Needs, Tried, asks_place, answered, try, try_all, get_fault, gets, get_rule, bytes_rule, places_of, look, standing, without}
+use Rattle.model_partition.specs.Answering.{bytes_reply, gets_reply}
+use Rattle.laws_stream_machine.specs.Refinement.{Sent}
+use Rattle.laws_ranges.specs.Serves.{Stand, Side, log_of, AreAsked, Follows, BothListed, IsSentBy, RuleTells}
+use Rattle.laws_ranges.proofs.LogRules.{asked_both}
+use Rattle.laws_ranges.proofs.BothStreams.{still_tells, follows_same}
+
+-- ---- what is tried
+
+module _ (generation : ℕ → ℕ) (range : ℕ) (w : StreamSystem) (i : ℕ) (name : StreamName) (x : Stand) (sent : List Sent) where
+  -- the next number is no lower, and what is sent is plain
+  abbrev pub IsTry : ServerContext → Tried → Type 0
+  IsTry d t = (d.count ≤ t.count) × AreAsked generation range w i name x sent t.packets
+
+  place_try : (d : ServerContext) (g : WaitingGet) (place : Place) (places : Option Nodes) → IsTry d (asks_place d g place places)
+  place_try d g place None = (omega arith, tt)
+  place_try d g place (Some places) = (omega arith, (inl (λ n s z. tt), tt))
+
+  found_try : (d : ServerContext) (r : RangeState) (g : WaitingGet) (found : Lookup) → IsTry d (answered d r g found)
+  found_try d r g (Is value) = (omega arith, (inl (λ n s z. tt), tt))
+  found_try d r g (Needs place) = place_try d g place (places_of r place.extent)
+
+  pub one_try : (d : ServerContext) (r : RangeState) (g : WaitingGet) → IsTry d (try d r g)
+  one_try d r g = go (lease_ended d r)
+    where
+      go : (t : Bool) → IsTry d (if t then record { waiting = []; count = d.count; packets = refuses d g.from g.request refusals.LeaseEnded ∷ [] } else answered d r g (look r.held (standing r g.key)))
+      go true = (omega arith, (inl (λ n s z. tt), tt))
+      go false = found_try d r g (look r.held (standing r g.key))
+
+  pub all_try : (d : ServerContext) (r : RangeState) (gs : List WaitingGet) → IsTry d (try_all d r gs)
+  all_try d r [] = (omega arith, tt)
+  all_try d r (g ∷ gs) =
+      let one : IsTry d (try d r g) = one_try d r g in
+      let others : IsTry (record d { count = (try d r g).count }) (try_all (record d { count = (try d r g).count }) r gs) = all_try (record d { count = (try d r g).count }) r gs in
+      let a : d.count ≤ (try d r g).count = one.0 in
+      let b : (try d r g).count ≤ (try_all (record d { count = (try d r g).count }) r gs).count = others.0 in (
+        omega (arith, a, b),
+        asked_both generation range w i name x sent (try d r g).packets (try_all (record d { count = (try d r g).count }) r gs).packets one.1 others.1,
+      )
+
+-- ---- the rules
+
+module _ (generation : ℕ → ℕ) (range : ℕ) (w : StreamSystem) (i : ℕ) (both : BothListed w range) (m l : Side) (d : ServerContext) (by : IsSentBy d d.count m.sent l.sent)
+    (r : RangeState) (f : Follows generation range w i m l r) where
+  refused : (from : ActorId) (v : ReqNo) (why : Refusal) → RuleTells generation range w i m l d (answers d r (refuses d from v why ∷ []))
+  refused from v why = still_tells generation range w i both m l d by (Some r) d.count (refuses d from v why ∷ []) f (omega arith) (inl (λ n s z. tt), tt)
+
+  gets_tells : (from : ActorId) (v : ReqNo) (key : List ℕ) (held : List (Place × List ℕ)) (fault : Option Refusal) → RuleTells generation range w i m l d (gets d r from v key held fault)
+  gets_tells from v key held (Some why) = refused from v why
+  gets_tells from v key held None =
+      let g : WaitingGet = record { from = from; request = v; key = key; reads = [] } in
+      let t : Tried = try d r g in
+      let is : IsTry generation range w i (log_of range) l.stand l.sent d t = one_try generation range w i (log_of range) l.stand l.sent d r g in
+      still_tells generation range w i both m l d by (Some (record r { gets = r.gets ++ t.waiting; held = held })) t.count t.packets
+      (follows_same generation range w i m l r r.until (r.gets ++ t.waiting) held f) is.0 is.1
+
+  -- a Get
+  pub get_tells : (from : ActorId) (v : ReqNo) (key : List ℕ) (held : List (Place × List ℕ)) → RuleTells generation range w i m l d (get_rule d r from v key held)
+  get_tells from v key held = gets_tells from v key held (get_fault d r key)
+
+  -- the bytes of a value
+  bytes_tells : (v : ReqNo) (held : List (Place × List ℕ)) → RuleTells generation range w i m l d (bytes_rule d r v held)
+  bytes_tells v held =
+      let now : RangeState = record r { held = held } in
+      let t : Tried = try_all d now (map (without v) r.gets) in
+      let is : IsTry generation range w i (log_of range) l.stand l.sent d t = all_try generation range w i (log_of range) l.stand l.sent d now (map (without v) r.gets) in
+      still_tells generation range w i both m l d by (Some (record r { gets = t.waiting; held = held })) t.count t.packets
+      (follows_same generation range w i m l r r.until t.waiting held f) is.0 is.1
+
+  rested : RuleTells generation range w i m l d (answers d r [])
+  rested = still_tells generation range w i both m l d by (Some r) d.count [] f (omega arith) tt
+
+  read_tells : (v : ReqNo) (body : ReadBody) (held : List (Place × List ℕ)) → RuleTells generation range w i m l d (bytes_reply d r v body held)
+  read_tells v (reads.Bytes u e offset bytes) held = bytes_tells v held
+  read_tells v body held = rested
+
+  pub gets_reply_tells : (v : ReqNo) (body : Body) (held : List (Place × List ℕ)) → RuleTells generation range w i m l d (gets_reply d r v body held)
+  gets_reply_tells v (bodies.Read body) held = read_tells v body held
+  gets_reply_tells v body held = rested
+
+  -- ---- transactions
+
+  -- where the range is not served they are refused
+  unserved_fault : (t : Bool) (other : Option Refusal) → (if not t then Some refusals.Loading else other) ≡ None → t ≡ true
+  unserved_fault true other e = refl
+  unserved_fault false other e = absurd (cc)
+
+  is_served : (s : Stage) → is_serving s ≡ true → s ≡ stages.Serving
+  is_served stages.Serving e = refl
+  is_served stages.Opening e = absurd (cc)
+  is_served (stages.Checking kind) e = absurd (cc)
+  is_served (stages.Reading kind position) e = absurd (cc)
+  is_served stages.Confirming e = absurd (cc)
+
+  transacts_by : (from : ActorId) (v : ReqNo) (changes : List Change) → (r.stage ≡ stages.Serving → RuleTells generation range w i m l d (transact_rule d r from v changes)) →
+      (fault : Option Refusal) → transact_fault d r changes ≡ fault → RuleTells generation range w i m l d (transacts d r from v changes fault)
+  transacts_by from v changes served (Some why) e = refused from v why
+  transacts_by from v changes served None e =
+      subst (λ o. RuleTells generation range w i m l d (transacts d r from v changes o)) e (served (is_served r.stage (unserved_fault (is_serving r.stage) _ e)))
+
+  -- a transaction, whatever the stage; where the range is served that is another's
+  pub transact_by : (from : ActorId) (v : ReqNo) (changes : List Change) → (r.stage ≡ stages.Serving → RuleTells generation range w i m l d (transact_rule d r from v changes)) →
+      RuleTells generation range w i m l d (transact_rule d r from v changes)
+  transact_by from v changes served = transacts_by from v changes served (transact_fault d r changes) refl

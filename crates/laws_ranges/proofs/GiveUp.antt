@@ -1,0 +1,131 @@
+-- What a range that is served does when it is told to give up.
+use Rattle.std.proofs.Common.{◌≡◌, ℕ, suc, ◌-◌, List, [], ◌∷◌, ◌++◌, length, map, flat_map, Option, Some, None, option_to_list, slice_get, refl, sym, ap, ◌∙◌, subst, inl, arith}
+use Rattle.block_types.specs.declared.record.Nodes.{Nodes}
+use Rattle.wire.specs.declared.streams.StreamName.{StreamName}
+use Rattle.client.specs.declared.job.Job.TheVariants as jobs
+use Rattle.client.specs.declared.load.LoadPhase.TheVariants as phases
+use Rattle.client.specs.Client.{ClientState, Outcome, give_up_job}
+use Rattle.model_streams.specs.StreamSystem.{StreamSystem}
+use Rattle.model_partition.specs.declared.server_context.ServerContext.{ServerContext}
+use Rattle.model_partition.specs.declared.stage.Stage.TheVariants as stages
+use Rattle.model_partition.specs.declared.waiting.PlaceRead.{PlaceRead}
+use Rattle.model_partition.specs.declared.waiting.WaitingGet.{WaitingGet}
+use Rattle.model_partition.specs.Range.{RangeState, request, used}
+use Rattle.model_partition.specs.Getting.{asks_again, gives_up_read, gives_up_get, places_of, moved_on}
+use Rattle.model_partition.specs.Answering.{give_up_all}
+use Rattle.laws_stream_machine.specs.Refinement.{Sent, purpose_of}
+use Rattle.laws_ranges.specs.Serves.{Stand, Side, after_turns, sent_with, metadata_of, log_of, Apart, ServingIs, ServesBy, AreAsked, IsServing, StageIs, Follows, BothListed, IsSentBy, RuleGoes, RuleTells}
+use Rattle.laws_ranges.specs.Quiet.{Quietly}
+use Rattle.laws_ranges.proofs.QuietTurns.{quiet_fit, quiet_shown}
+use Rattle.laws_ranges.proofs.MachineSteps.{purposes_on}
+use Rattle.laws_ranges.proofs.AppendJob.{GoesBy, give_up_goes}
+use Rattle.laws_ranges.proofs.OutGroup.{give_up_out}
+use Rattle.laws_ranges.proofs.LogRules.{asked_both, asked_if, picked_serving, next_quiet}
+use Rattle.laws_ranges.proofs.ServedRules.{unused_on, apart_on, asked_of_both}
+
+module _ (generation : ℕ → ℕ) (range : ℕ) (w : StreamSystem) (i : ℕ) where
+  -- reads of values are plain
+  again_plain : (name : StreamName) (x : Stand) (sent : List Sent) (d : ServerContext) (read : PlaceRead) (o : Option Nodes) → AreAsked generation range w i name x sent (asks_again d read o)
+  again_plain name x sent d read None = tt
+  again_plain name x sent d read (Some places) = (inl (λ n s m. tt), tt)
+
+  read_plain : (name : StreamName) (x : Stand) (sent : List Sent) (d : ServerContext) (r : RangeState) (g : WaitingGet) (o : Option PlaceRead) → AreAsked generation range w i name x sent (gives_up_read d r g o).1
+  read_plain name x sent d r g None = tt
+  read_plain name x sent d r g (Some read) = again_plain name x sent d (moved_on read) (places_of r read.place.extent)
+
+  pub gets_plain : (name : StreamName) (x : Stand) (sent : List Sent) (d : ServerContext) (r : RangeState) (gs : List WaitingGet) →
+      AreAsked generation range w i name x sent (flat_map (λ g. (gives_up_get d r g).1) gs)
+  gets_plain name x sent d r [] = tt
+  gets_plain name x sent d r (g ∷ gs) =
+      asked_both generation range w i name x sent (gives_up_get d r g).1 (flat_map (λ g. (gives_up_get d r g).1) gs)
+      (read_plain name x sent d r g (slice_get g.reads (length g.reads - 1))) (gets_plain name x sent d r gs)
+
+  module _ (both : BothListed w range) (m l : Side) (d : ServerContext) (by : IsSentBy d d.count m.sent l.sent) where
+    at_idle : (r : RangeState) → r.metadata.job ≡ jobs.Idle → r.load.phase ≡ phases.Confirmed → Follows generation range w i m l r → IsServing generation range w i m l r → r.stage ≡ stages.Serving →
+        RuleTells generation range w i m l d (give_up_all d (record r { metadata = record r.metadata { job = jobs.Idle }; load = record r.load { phase = phases.Confirmed } }))
+    at_idle r idle phase f b stage =
+        record {
+          goes = record {
+            metadata_turns = [];
+            log_turns = went.0.list;
+            metadata_allowed = tt;
+            log_allowed = went.0.allowed;
+            none = λ e. absurd cc;
+            metadata_sent = m.sent;
+            log_sent = more;
+            metadata_keeps = λ q p e. e;
+            log_keeps = purposes_on (request (used d)) went.0.purpose l.sent fresh;
+            rises = omega arith;
+            metadata_adds = record { number = d.count; from = omega arith; purpose = None; is = refl };
+            log_adds = record { number = suc d.count; from = omega arith; purpose = went.0.purpose; is = refl };
+            sent_by = record {
+              apart = apart;
+              metadata = λ k le. by.metadata k (omega (arith, le));
+              log = unused_on (used d) (suc (suc d.count)) went.0.purpose l.sent (λ k le. by.log k (omega (arith, le))) (inl refl);
+            };
+            then = record { range_is = f.range_is; under = f.under; stage = subst (λ z. StageIs generation range w i m k after z) (sym stage) serving };
+            asked = asked_of_both generation range w i both m k apart (option_to_list o.packet ++ flat_map (λ g. (gives_up_get d now g).1) r.gets)
+                (asked_both generation range w i (log_of range) k.stand more (option_to_list o.packet) (flat_map (λ g. (gives_up_get d now g).1) r.gets)
+                (asked_if generation range w i (log_of range) k.stand more o.packet went.0.asked) (gets_plain (log_of range) k.stand more d now r.gets));
+          };
+          unformed = tt;
+          fit = quiet_fit generation i l.stand went.0.list went.1;
+          shown = quiet_shown generation i range l.stand went.0.list went.1;
+        }
+      where
+        now : RangeState
+        now = record r { metadata = record r.metadata { job = jobs.Idle }; load = record r.load { phase = phases.Confirmed } }
+
+        fresh : purpose_of l.sent (request (used d)) ≡ None
+        fresh = by.log (suc d.count) (omega arith)
+
+        c : ClientState
+        c = record r.log { pick = d.pick }
+
+        o : Outcome
+        o = give_up_job c (request (used d)) r.log.job
+
+        picked : ServingIs generation (log_of range) w i l.stand l.sent c
+        picked = picked_serving generation range w i both.log d l.sent (by.log d.count (omega arith)) l.stand r.log d.pick b.log
+
+        went : GoesBy generation (log_of range) w i l.stand l.sent (request (used d)) (λ y more. ServingIs generation (log_of range) w i y more o.after) o.packet Quietly
+        went = give_up_goes generation (log_of range) w i both.log l.sent (request (used d)) fresh l.stand c picked.told r.log.job refl picked.job
+
+        more : List Sent
+        more = sent_with (request (used d)) went.0.purpose l.sent
+
+        k : Side
+        k = record { stand = after_turns generation i l.stand went.0.list; sent = more }
+
+        apart : Apart m.sent more
+        apart = apart_on m.sent l.sent (request (used d)) went.0.purpose by.apart (by.metadata (suc d.count) (omega arith))
+
+        after : RangeState
+        after = record now { metadata = record r.metadata { job = jobs.Idle; pick = d.pick }; log = o.after; gets = map (λ g. (gives_up_get d now g).0) r.gets }
+
+        serving : IsServing generation range w i m k after
+        serving = record {
+          phase = refl;
+          metadata = record {
+            told = record { stream = b.metadata.told.stream; under = b.metadata.told.under; tells = b.metadata.told.tells };
+            job = subst (λ j. ServesBy generation (metadata_of range) w i m.stand m.sent r.metadata j) idle b.metadata.job;
+          };
+          metadata_idle = refl;
+          log = went.0.then;
+          out = give_up_out r.out (request (used d)) c b.out;
+          next = b.next ∙ sym (next_quiet generation range w i l.stand went.0.list went.1);
+        }
+
+    -- a range that is served gives up: its append job seals its extent, or asks again
+    pub give_up_tells : (r : RangeState) → Follows generation range w i m l r → r.stage ≡ stages.Serving → RuleTells generation range w i m l d (give_up_all d r)
+    give_up_tells r f stage =
+        let b : IsServing generation range w i m l r = subst (λ z. StageIs generation range w i m l r z) stage f.stage in
+        subst (λ z. RuleTells generation range w i m l d (give_up_all d z)) (whole r b.metadata_idle b.phase) (at_idle r b.metadata_idle b.phase f b stage)
+      where
+        whole : (r : RangeState) → r.metadata.job ≡ jobs.Idle → r.load.phase ≡ phases.Confirmed → record r { metadata = record r.metadata { job = jobs.Idle }; load = record r.load { phase = phases.Confirmed } } ≡ r
+        whole r idle phase =
+            ap (λ j. record r { metadata = record r.metadata { job = j }; load = record r.load { phase = phases.Confirmed } }) (sym idle)
+            ∙ ap (λ p. record r { load = record r.load { phase = p } }) (sym phase)
+
+    pub give_up_both : (r : RangeState) → Follows generation range w i m l r → r.stage ≡ stages.Serving → RuleGoes generation range w i m l d (give_up_all d r)
+    give_up_both r f stage = (give_up_tells r f stage).goes

@@ -1,0 +1,324 @@
+-- What a range that is not served yet does when it is told to give up, as both streams see it.
+use Rattle.std.proofs.Common.{◌≡◌, ℕ, suc, List, [], ◌++◌, map, flat_map, Option, Some, None, option_to_list, refl, sym, ap, ◌∙◌, subst, inl, arith}
+use Rattle.wire.specs.declared.actor.ReqNo.{ReqNo}
+use Rattle.wire.specs.declared.body.Body.{Body}
+use Rattle.wire.specs.declared.body.Body.TheVariants as bodies
+use Rattle.wire.specs.declared.body.StreamBody.TheVariants as streams
+use Rattle.wire.specs.declared.packet.Packet.{Packet}
+use Rattle.wire.specs.declared.streams.StreamKind.TheVariants as kinds
+use Rattle.client.specs.declared.job.Job.{Job}
+use Rattle.client.specs.declared.job.Job.TheVariants as jobs
+use Rattle.client.specs.declared.load.LoadPhase.{LoadPhase}
+use Rattle.client.specs.declared.load.LoadPhase.TheVariants as phases
+use Rattle.client.specs.Client.{Outcome, give_up_job}
+use Rattle.client.specs.Load.{again}
+use Rattle.model_streams.specs.StreamSystem.{StreamSystem}
+use Rattle.model_partition.specs.declared.server_context.ServerContext.{ServerContext}
+use Rattle.model_partition.specs.declared.stage.Stage.{Stage}
+use Rattle.model_partition.specs.declared.stage.Stage.TheVariants as stages
+use Rattle.model_partition.specs.Range.{RangeState, RangeOutcome, request, used}
+use Rattle.model_partition.specs.Getting.{gives_up_get}
+use Rattle.model_partition.specs.Answering.{give_up_all}
+use Rattle.laws_stream_machine.specs.Refinement.{Sent, purpose_of, Opens, Confirms, IsAsked}
+use Rattle.laws_ranges.specs.Serves.{Stand, Side, after_turns, sent_with, metadata_of, log_of, Goes, Apart, AreUnused, LoadingIs, UnreadIs, OpeningIs, ConfirmingIs, IsOpening, LoadsMetadata, LoadsLog, IsConfirming, StageIs, Follows, BothListed, IsSentBy, IsKnown, AskedOfBoth, RuleGoes}
+use Rattle.laws_ranges.proofs.MachineSteps.{purposes_on}
+use Rattle.laws_ranges.proofs.AppendJob.{rests}
+use Rattle.laws_ranges.proofs.LogRules.{asked_if}
+use Rattle.laws_ranges.proofs.ServedRules.{unused_on, apart_on, asked_of_both}
+use Rattle.laws_ranges.proofs.OpenAndConfirm.{open_asked, confirm_asked}
+use Rattle.laws_ranges.proofs.GiveUp.{gets_plain, give_up_both}
+use Rattle.laws_ranges.proofs.LoadTurns.{give_up_loading}
+use Rattle.laws_ranges.proofs.ServerPick.{picked_loading, picked_unread, picked_confirming}
+use Rattle.laws_ranges.proofs.BothStreams.{apart_first, asked_of_metadata, asked_joined}
+
+module _ (generation : ℕ → ℕ) (range : ℕ) (w : StreamSystem) (i : ℕ) (both : BothListed w range) (m l : Side) (d : ServerContext) (by : IsSentBy d d.count m.sent l.sent) (r : RangeState) where
+  -- ---- steps of both clients, with a number for each
+
+  abbrev gave_up : Outcome → Outcome → RangeState
+  gave_up a b = record r { metadata = a.after; log = b.after; gets = map (λ g. (gives_up_get d r g).0) r.gets }
+
+  abbrev gave : Outcome → Outcome → Option Packet → RangeOutcome
+  gave a b first =
+      record {
+        after = Some (gave_up a b);
+        count = suc (suc d.count);
+        packets = option_to_list first ++ (option_to_list a.packet ++ (option_to_list b.packet ++ flat_map (λ g. (gives_up_get d r g).1) r.gets));
+        notes = [];
+      }
+
+  metadata_fresh : purpose_of m.sent (request d) ≡ None
+  metadata_fresh = by.metadata d.count (omega arith)
+
+  log_fresh : purpose_of l.sent (request (used d)) ≡ None
+  log_fresh = by.log (suc d.count) (omega arith)
+
+  module _ (One Two : Stand → List Sent → Type 0) (a b : Outcome) (first : Option Packet)
+      (one : Goes generation (metadata_of range) w i m.stand m.sent (request d) One a.packet) (two : Goes generation (log_of range) w i l.stand l.sent (request (used d)) Two b.packet) where
+    abbrev first_side : Side
+    first_side = record { stand = after_turns generation i m.stand one.list; sent = sent_with (request d) one.purpose m.sent }
+
+    abbrev second_side : Side
+    second_side = record { stand = after_turns generation i l.stand two.list; sent = sent_with (request (used d)) two.purpose l.sent }
+
+    gave_both : Follows generation range w i first_side second_side (gave_up a b) → AskedOfBoth generation range w i first_side second_side (option_to_list first) → RuleGoes generation range w i m l d (gave a b first)
+    gave_both follows asked_first =
+        let one_sent : List Sent = sent_with (request d) one.purpose m.sent in
+        let two_sent : List Sent = sent_with (request (used d)) two.purpose l.sent in
+        let n : Side = record { stand = after_turns generation i m.stand one.list; sent = one_sent } in
+        let k : Side = record { stand = after_turns generation i l.stand two.list; sent = two_sent } in
+        let again_asked : List Packet = flat_map (λ g. (gives_up_get d r g).1) r.gets in
+        let unused : AreUnused d (suc d.count) one_sent = unused_on d (suc d.count) one.purpose m.sent by.metadata (inl refl) in
+        let apart_one : Apart one_sent l.sent = apart_first m.sent l.sent (request d) one.purpose by.apart (by.log d.count (omega arith)) in
+        let apart : Apart one_sent two_sent = apart_on one_sent l.sent (request (used d)) two.purpose apart_one (unused (suc d.count) (omega arith)) in
+        record {
+          metadata_turns = one.list;
+          log_turns = two.list;
+          metadata_allowed = one.allowed;
+          log_allowed = two.allowed;
+          none = λ e. absurd cc;
+          metadata_sent = one_sent;
+          log_sent = two_sent;
+          metadata_keeps = purposes_on (request d) one.purpose m.sent metadata_fresh;
+          log_keeps = purposes_on (request (used d)) two.purpose l.sent log_fresh;
+          rises = omega arith;
+          metadata_adds = record { number = d.count; from = omega arith; purpose = one.purpose; is = refl };
+          log_adds = record { number = suc d.count; from = omega arith; purpose = two.purpose; is = refl };
+          sent_by = record {
+            apart = apart;
+            metadata = λ j le. unused j (omega (arith, le));
+            log = unused_on (used d) (suc (suc d.count)) two.purpose l.sent (λ j le. by.log j (omega (arith, le))) (inl refl);
+          };
+          then = follows;
+          asked = asked_joined generation range w i both n k (option_to_list first) (option_to_list a.packet ++ (option_to_list b.packet ++ again_asked)) asked_first
+              (asked_joined generation range w i both n k (option_to_list a.packet) (option_to_list b.packet ++ again_asked)
+              (asked_of_metadata generation range w i both n k apart (option_to_list a.packet) (asked_if generation range w i (metadata_of range) n.stand one_sent a.packet one.asked))
+              (asked_joined generation range w i both n k (option_to_list b.packet) again_asked
+              (asked_of_both generation range w i both n k apart (option_to_list b.packet) (asked_if generation range w i (log_of range) k.stand two_sent b.packet two.asked))
+              (asked_of_both generation range w i both n k apart again_asked (gets_plain generation range w i (log_of range) k.stand two_sent d r r.gets))));
+        }
+
+  -- ---- the jobs of both
+
+  abbrev metadata_gives : Job → Outcome
+  metadata_gives j = give_up_job (record r.metadata { pick = d.pick }) (request d) j
+
+  abbrev log_gives : Job → Outcome
+  log_gives j = give_up_job (record r.log { pick = d.pick }) (request (used d)) j
+
+  -- where the range stands
+  abbrev GivesUp : Job → Job → LoadPhase → Type 0
+  GivesUp j k p = RuleGoes generation range w i m l d (gave (metadata_gives j) (log_gives k) (again r.load p))
+
+  gives_up : (j k : Job) (p : LoadPhase) → r.metadata.job ≡ j → r.log.job ≡ k → r.load.phase ≡ p → GivesUp j k p → RuleGoes generation range w i m l d (give_up_all d r)
+  gives_up j k p ej ek ep rule =
+      subst (λ z. GivesUp z r.log.job r.load.phase) (sym ej) (subst (λ z. GivesUp j z r.load.phase) (sym ek) (subst (λ z. GivesUp j k z) (sym ep) rule))
+
+  module _ (range_is : r.load.range ≡ range) (under : r.load.generation ≡ generation i) where
+    abbrev AskedTwice : Side → Side → Body → Type 0
+    AskedTwice n k body = IsAsked generation (metadata_of range) w n.stand.state n.sent body × IsAsked generation (log_of range) w k.stand.state k.sent body × IsKnown generation range w i n.sent k.sent body
+
+    -- what is asked for the range and its generation
+    of_load : (n k : Side) (about : ℕ → ℕ → Body) → AskedTwice n k (about range (generation i)) → AskedTwice n k (about r.load.range r.load.generation)
+    of_load n k about asked =
+        subst (λ g. AskedTwice n k (about r.load.range g)) (sym under) (subst (λ g. AskedTwice n k (about g (generation i))) (sym range_is) asked)
+
+    -- ---- the streams are to be opened
+
+    opening_gives : IsOpening generation range w i m l r → r.stage ≡ stages.Opening → RuleGoes generation range w i m l d (give_up_all d r)
+    opening_gives b stage =
+        gives_up jobs.Idle jobs.Idle (phases.Opening b.q) b.metadata_idle b.log_idle b.phase
+        (gave_both One Two a z (again r.load (phases.Opening b.q)) one two
+        (record {
+          range_is = range_is;
+          under = under;
+          stage = subst (λ s. StageIs generation range w i n k (gave_up a z) s) (sym stage)
+              (record { q = b.q; phase = b.phase; metadata = one.then; log = two.then; metadata_idle = b.metadata_idle; log_idle = b.log_idle });
+        })
+        (of_load n k (λ g h. bodies.Stream (streams.OpenStreams g h b.q)) (open_asked generation (metadata_of range) w i n.stand n.sent b.q one.then, open_asked generation (log_of range) w i k.stand k.sent b.q two.then, λ v is none other. known v is none), tt))
+      where
+        a : Outcome
+        a = metadata_gives jobs.Idle
+
+        z : Outcome
+        z = log_gives jobs.Idle
+
+        One : Stand → List Sent → Type 0
+        One = λ y more. OpeningIs generation (metadata_of range) w i y more b.q
+
+        Two : Stand → List Sent → Type 0
+        Two = λ y more. OpeningIs generation (log_of range) w i y more b.q
+
+        one : Goes generation (metadata_of range) w i m.stand m.sent (request d) One None
+        one = rests generation (metadata_of range) w i m.stand m.sent (request d) One b.metadata
+
+        two : Goes generation (log_of range) w i l.stand l.sent (request (used d)) Two None
+        two = rests generation (log_of range) w i l.stand l.sent (request (used d)) Two b.log
+
+        n : Side
+        n = record { stand = after_turns generation i m.stand one.list; sent = sent_with (request d) one.purpose m.sent }
+
+        k : Side
+        k = record { stand = after_turns generation i l.stand two.list; sent = sent_with (request (used d)) two.purpose l.sent }
+
+        known : (v : ReqNo) → Some b.q ≡ Some v → purpose_of n.sent v ≡ None → ⊥
+        known v is none = let same : b.q ≡ v = cc in let t : Some (Opens i) ≡ None = sym one.then.for ∙ ap (purpose_of n.sent) same ∙ none in cc
+
+    -- ---- the generation is to be confirmed
+
+    confirming_gives : IsConfirming generation range w i m l r → r.stage ≡ stages.Confirming → RuleGoes generation range w i m l d (give_up_all d r)
+    confirming_gives b stage =
+        gives_up jobs.Idle jobs.Idle (phases.Confirming b.q) b.metadata.idle b.log.idle b.phase
+        (gave_both One Two a z (again r.load (phases.Confirming b.q)) one two
+        (record {
+          range_is = range_is;
+          under = under;
+          stage = subst (λ s. StageIs generation range w i n k (gave_up a z) s) (sym stage) (record { q = b.q; phase = b.phase; metadata = one.then; log = two.then });
+        }) (
+          of_load n k (λ g h. bodies.Stream (streams.Confirm g h b.q))
+              (confirm_asked generation (metadata_of range) w i n.stand n.sent a.after b.q one.then, confirm_asked generation (log_of range) w i k.stand k.sent z.after b.q two.then, λ v is none other. known v is none),
+          tt,
+        ))
+      where
+        a : Outcome
+        a = metadata_gives jobs.Idle
+
+        z : Outcome
+        z = log_gives jobs.Idle
+
+        One : Stand → List Sent → Type 0
+        One = λ y more. ConfirmingIs generation (metadata_of range) w i y more a.after b.q
+
+        Two : Stand → List Sent → Type 0
+        Two = λ y more. ConfirmingIs generation (log_of range) w i y more z.after b.q
+
+        one : Goes generation (metadata_of range) w i m.stand m.sent (request d) One None
+        one = rests generation (metadata_of range) w i m.stand m.sent (request d) One (picked_confirming generation (metadata_of range) w i m.stand m.sent r.metadata d.pick b.q b.metadata)
+
+        two : Goes generation (log_of range) w i l.stand l.sent (request (used d)) Two None
+        two = rests generation (log_of range) w i l.stand l.sent (request (used d)) Two (picked_confirming generation (log_of range) w i l.stand l.sent r.log d.pick b.q b.log)
+
+        n : Side
+        n = record { stand = after_turns generation i m.stand one.list; sent = sent_with (request d) one.purpose m.sent }
+
+        k : Side
+        k = record { stand = after_turns generation i l.stand two.list; sent = sent_with (request (used d)) two.purpose l.sent }
+
+        known : (v : ReqNo) → Some b.q ≡ Some v → purpose_of n.sent v ≡ None → ⊥
+        known v is none = let same : b.q ≡ v = cc in let t : Some (Confirms i one.then.read one.then.end) ≡ None = sym one.then.for ∙ ap (purpose_of n.sent) same ∙ none in cc
+
+    -- ---- the metadata is checked or read
+
+    metadata_gives_up : LoadsMetadata generation range w i m l r → ((n k : Side) (s : RangeState) → s.stage ≡ r.stage → LoadsMetadata generation range w i n k s → StageIs generation range w i n k s s.stage) →
+        RuleGoes generation range w i m l d (give_up_all d r)
+    metadata_gives_up b keeps =
+        gives_up r.metadata.job jobs.Idle phases.Opened refl b.log.idle b.phase
+        (gave_both One Two a z None one two
+        (record {
+          range_is = range_is;
+          under = under;
+          stage = keeps n k (gave_up a z) refl (record { phase = b.phase; metadata = one.then; log = two.then });
+        })
+        tt)
+      where
+        a : Outcome
+        a = metadata_gives r.metadata.job
+
+        z : Outcome
+        z = log_gives jobs.Idle
+
+        One : Stand → List Sent → Type 0
+        One = λ y more. LoadingIs generation (metadata_of range) w i y more a.after
+
+        Two : Stand → List Sent → Type 0
+        Two = λ y more. UnreadIs generation (log_of range) w i y more z.after
+
+        picked : LoadingIs generation (metadata_of range) w i m.stand m.sent (record r.metadata { pick = d.pick })
+        picked = picked_loading generation (metadata_of range) w i m.stand m.sent r.metadata d.pick b.metadata
+
+        one : Goes generation (metadata_of range) w i m.stand m.sent (request d) One a.packet
+        one = give_up_loading generation (metadata_of range) w i both.metadata m.sent (request d) metadata_fresh m.stand (record r.metadata { pick = d.pick }) r.metadata.job refl picked.told picked.opened picked.job
+
+        two : Goes generation (log_of range) w i l.stand l.sent (request (used d)) Two None
+        two = rests generation (log_of range) w i l.stand l.sent (request (used d)) Two (picked_unread generation (log_of range) w i l.stand l.sent r.log d.pick b.log)
+
+        n : Side
+        n = record { stand = after_turns generation i m.stand one.list; sent = sent_with (request d) one.purpose m.sent }
+
+        k : Side
+        k = record { stand = after_turns generation i l.stand two.list; sent = sent_with (request (used d)) two.purpose l.sent }
+
+    -- ---- the log is checked or read
+
+    log_gives_up : LoadsLog generation range w i m l r → ((n k : Side) (s : RangeState) → s.stage ≡ r.stage → LoadsLog generation range w i n k s → StageIs generation range w i n k s s.stage) →
+        RuleGoes generation range w i m l d (give_up_all d r)
+    log_gives_up b keeps =
+        gives_up jobs.Idle r.log.job phases.Opened b.metadata_idle refl b.phase
+        (gave_both One Two a z None one two
+        (record {
+          range_is = range_is;
+          under = under;
+          stage = keeps n k (gave_up a z) refl (record { phase = b.phase; metadata = one.then; metadata_idle = b.metadata_idle; log = two.then });
+        })
+        tt)
+      where
+        a : Outcome
+        a = metadata_gives jobs.Idle
+
+        z : Outcome
+        z = log_gives r.log.job
+
+        One : Stand → List Sent → Type 0
+        One = λ y more. LoadingIs generation (metadata_of range) w i y more a.after
+
+        Two : Stand → List Sent → Type 0
+        Two = λ y more. LoadingIs generation (log_of range) w i y more z.after
+
+        picked : LoadingIs generation (log_of range) w i l.stand l.sent (record r.log { pick = d.pick })
+        picked = picked_loading generation (log_of range) w i l.stand l.sent r.log d.pick b.log
+
+        one : Goes generation (metadata_of range) w i m.stand m.sent (request d) One None
+        one = rests generation (metadata_of range) w i m.stand m.sent (request d) One (picked_loading generation (metadata_of range) w i m.stand m.sent r.metadata d.pick b.metadata)
+
+        two : Goes generation (log_of range) w i l.stand l.sent (request (used d)) Two z.packet
+        two = give_up_loading generation (log_of range) w i both.log l.sent (request (used d)) log_fresh l.stand (record r.log { pick = d.pick }) r.log.job refl picked.told picked.opened picked.job
+
+        n : Side
+        n = record { stand = after_turns generation i m.stand one.list; sent = sent_with (request d) one.purpose m.sent }
+
+        k : Side
+        k = record { stand = after_turns generation i l.stand two.list; sent = sent_with (request (used d)) two.purpose l.sent }
+
+-- ---- whatever the stage
+
+module _ (generation : ℕ → ℕ) (range : ℕ) (w : StreamSystem) (i : ℕ) (both : BothListed w range) (m l : Side) (d : ServerContext) (by : IsSentBy d d.count m.sent l.sent)
+    (r : RangeState) (f : Follows generation range w i m l r) where
+  abbrev GaveUp : Type 0
+  GaveUp = RuleGoes generation range w i m l d (give_up_all d r)
+
+  metadata_stays : (e : Stage) → r.stage ≡ e → ((n k : Side) (s : RangeState) → LoadsMetadata generation range w i n k s → StageIs generation range w i n k s e) →
+      (n k : Side) (s : RangeState) → s.stage ≡ r.stage → LoadsMetadata generation range w i n k s → StageIs generation range w i n k s s.stage
+  metadata_stays e stage is n k s same b = subst (λ g. StageIs generation range w i n k s g) (sym (same ∙ stage)) (is n k s b)
+
+  log_stays : (e : Stage) → r.stage ≡ e → ((n k : Side) (s : RangeState) → LoadsLog generation range w i n k s → StageIs generation range w i n k s e) →
+      (n k : Side) (s : RangeState) → s.stage ≡ r.stage → LoadsLog generation range w i n k s → StageIs generation range w i n k s s.stage
+  log_stays e stage is n k s same b = subst (λ g. StageIs generation range w i n k s g) (sym (same ∙ stage)) (is n k s b)
+
+  gave_up_at : (s : Stage) → r.stage ≡ s → StageIs generation range w i m l r s → GaveUp
+  gave_up_at stages.Opening e b = opening_gives generation range w i both m l d by r f.range_is f.under b e
+  gave_up_at (stages.Checking kinds.Metadata) e b =
+      metadata_gives_up generation range w i both m l d by r f.range_is f.under b (metadata_stays (stages.Checking kinds.Metadata) e (λ n k s z. z))
+  gave_up_at (stages.Checking kinds.Log) e b =
+      log_gives_up generation range w i both m l d by r f.range_is f.under b (log_stays (stages.Checking kinds.Log) e (λ n k s z. z))
+  gave_up_at (stages.Checking kinds.RowData) e b = absurd b
+  gave_up_at (stages.Checking kinds.BlobData) e b = absurd b
+  gave_up_at (stages.Reading kinds.Metadata position) e b =
+      metadata_gives_up generation range w i both m l d by r f.range_is f.under b (metadata_stays (stages.Reading kinds.Metadata position) e (λ n k s z. z))
+  gave_up_at (stages.Reading kinds.Log position) e b =
+      log_gives_up generation range w i both m l d by r f.range_is f.under b (log_stays (stages.Reading kinds.Log position) e (λ n k s z. z))
+  gave_up_at (stages.Reading kinds.RowData position) e b = absurd b
+  gave_up_at (stages.Reading kinds.BlobData position) e b = absurd b
+  gave_up_at stages.Confirming e b = confirming_gives generation range w i both m l d by r f.range_is f.under b e
+  gave_up_at stages.Serving e b = give_up_both generation range w i both m l d by r f e
+
+  pub give_up_all_both : RuleGoes generation range w i m l d (give_up_all d r)
+  give_up_all_both = gave_up_at r.stage refl f.stage

@@ -1,0 +1,4 @@
+pub mod Serves
+pub mod Sound
+pub mod Quiet
+pub mod StaysLoading

@@ -1,0 +1,552 @@
+-- What a server's client of one stream has to do with one incarnation of the machine of the stream: where it stands in the
+-- load, and in its append job.
+use Rattle.std.specs.Prelude.{◌≡◌, ◌⊎◌, ℕ, suc, ◌+◌, ◌≤◌, Bool, true, false, not, List, [], ◌∷◌, ◌++◌, length, map, Option, Some, None, is_some}
+use Rattle.block_types.specs.declared.record.Nodes.{Nodes}
+use Rattle.wire.specs.declared.actor.ReqNo.{ReqNo}
+use Rattle.wire.specs.declared.actor.ReqNo.TheVariants as requests
+use Rattle.wire.specs.declared.body.AppendBody.TheVariants as appends
+use Rattle.wire.specs.declared.body.Body.{Body}
+use Rattle.wire.specs.declared.body.Body.TheVariants as bodies
+use Rattle.wire.specs.declared.body.CheckBody.TheVariants as checks
+use Rattle.wire.specs.declared.body.ReadBody.TheVariants as reads
+use Rattle.wire.specs.declared.body.SealBody.TheVariants as seals
+use Rattle.wire.specs.declared.body.StreamBody.TheVariants as streams
+use Rattle.wire.specs.declared.packet.Packet.{Packet}
+use Rattle.wire.specs.declared.streams.StreamExtent.{StreamExtent}
+use Rattle.wire.specs.declared.streams.StreamKind.TheVariants as kinds
+use Rattle.wire.specs.declared.streams.StreamName.{StreamName}
+use Rattle.replica.specs.Groups.{Group}
+use Rattle.client.specs.declared.job.Job.{Job}
+use Rattle.client.specs.declared.job.Job.TheVariants as jobs
+use Rattle.client.specs.declared.job.News.{News}
+use Rattle.client.specs.declared.job.News.TheVariants as news
+use Rattle.client.specs.declared.load.LoadPhase.TheVariants as phases
+use Rattle.client.specs.Client.{ClientState, last_extent}
+use Rattle.commitlog.specs.declared.log_record.LogRecord.{LogRecord}
+use Rattle.commitlog.specs.Record.{spelling, Fits}
+use Rattle.memtable.specs.Entries.{Entries}
+use Rattle.metadata.specs.declared.record.IndexRange.{IndexRange}
+use Rattle.model_streams.specs.StreamSystem.{StreamSystem}
+use Rattle.model_partition.specs.declared.server_context.ServerContext.{ServerContext}
+use Rattle.model_partition.specs.declared.stage.Stage.{Stage}
+use Rattle.model_partition.specs.declared.stage.Stage.TheVariants as stages
+use Rattle.model_partition.specs.declared.table_note.TableNote.{TableNote}
+use Rattle.model_partition.specs.declared.table_note.TableNote.TheVariants as notes
+use Rattle.model_partition.specs.Log.{next_number, line_shown}
+use Rattle.model_partition.specs.Past.{Transaction}
+use Rattle.model_partition.specs.Range.{OutGroup, RangeState, RangeOutcome, request}
+use Rattle.model_partition.specs.Serving.{record_of}
+use Rattle.model_partition.specs.Story.{Copy, placed}
+use Rattle.model_partition.specs.StreamMachine as machine
+use Rattle.model_partition.specs.ServerTurns as turns
+use Rattle.laws_loads.specs.Renaming.{renamed, renamed_copy, decoded}
+use Rattle.laws_stream_machine.specs.Refinement.{Purpose, Sent, purpose_of, asked_number, extents_in, Opens, Checks, Seals, Reads, Confirms, Appends, Extends, Tells, IsAt, IsAsked}
+
+-- ---- turns of one incarnation
+
+-- what the machine is, and where the incarnation stands in it
+pub record Stand : Type 0 where
+  pub state : machine.MachineState Group
+  pub phase : turns.Phase Group
+
+module _ (generation : ℕ → ℕ) (i : ℕ) where
+  abbrev pub turned : Stand → turns.Turn Group → Stand
+  turned x t =
+      record {
+        state = turns.all_next Group generation x.state (turns.does Group generation x.state i x.phase t);
+        phase = turns.becomes Group generation x.state x.phase t;
+      }
+
+  -- the newest first
+  abbrev pub after_turns : Stand → List (turns.Turn Group) → Stand
+  after_turns x [] = x
+  after_turns x (t ∷ earlier) = turned (after_turns x earlier) t
+
+  abbrev pub AreTurns : Stand → List (turns.Turn Group) → Type 0
+  AreTurns x [] = Unit {0}
+  AreTurns x (t ∷ earlier) =
+      turns.IsTurn Group generation (after_turns x earlier).state i (after_turns x earlier).phase t × AreTurns x earlier
+
+-- ---- what the turns of a log show
+
+-- transactions that begin, and that are acknowledged, from a number on
+abbrev pub begun_notes : ℕ → ℕ → ℕ → List Transaction → List TableNote
+begun_notes range g s [] = []
+begun_notes range g s (t ∷ ts) = notes.Began range g s t ∷ begun_notes range g (suc s) ts
+
+abbrev pub done_notes : ℕ → ℕ → ℕ → List Transaction → List TableNote
+done_notes range g s [] = []
+done_notes range g s (t ∷ ts) = notes.Done range g s ∷ done_notes range g (suc s) ts
+
+-- the group whose Append is out
+abbrev pub group_in : turns.Phase Group → Group
+group_in (turns.Sent n append group) = group
+group_in phase = []
+
+-- one loaded table, with this next number
+pub record IsLoaded (range g next : ℕ) (shown : List TableNote) : Type 0 where
+  pub entries : Entries
+  pub indexes : List IndexRange
+  pub is : shown ≡ notes.Loaded range g entries indexes next ∷ []
+
+-- the number behind the line that a load makes of these copies
+abbrev pub next_behind : List (Copy Group) → ℕ
+next_behind read = suc (length (line_shown (map placed (map (renamed_copy decoded) read))))
+
+-- the blocks are a record's
+pub record IsSpelled (group : Group) : Type 0 where
+  pub written : LogRecord
+  pub fits : Fits written
+  pub is : group ≡ spelling written
+
+-- no group is formed
+abbrev pub IsUnformed : turns.Turn Group → Type 0
+IsUnformed (turns.Forms group) = ⊥
+IsUnformed turn = Unit {0}
+
+abbrev pub AreUnformed : List (turns.Turn Group) → Type 0
+AreUnformed [] = Unit {0}
+AreUnformed (turn ∷ earlier) = IsUnformed turn × AreUnformed earlier
+
+module _ (generation : ℕ → ℕ) (i : ℕ) where
+  -- a group is a record with the numbers that come next, and a load shows all that stands
+  abbrev pub IsFit : Stand → turns.Turn Group → Type 0
+  IsFit x (turns.Forms group) = ((decoded group).first ≡ next_number (renamed decoded x.state.story) (generation i)) × IsSpelled group
+  IsFit x (turns.ConfirmedIs start end read) = start ≡ 0
+  IsFit x turn = Unit {0}
+
+  abbrev pub AreFit : Stand → List (turns.Turn Group) → Type 0
+  AreFit x [] = Unit {0}
+  AreFit x (t ∷ earlier) = IsFit (after_turns generation i x earlier) t × AreFit x earlier
+
+  abbrev pub IsShown : ℕ → Stand → turns.Turn Group → List TableNote → Type 0
+  IsShown range x (turns.Forms group) shown = shown ≡ begun_notes range (generation i) (decoded group).first (decoded group).items
+  IsShown range x (turns.AppendedAt from to) shown = shown ≡ done_notes range (generation i) (decoded (group_in x.phase)).first (decoded (group_in x.phase)).items
+  IsShown range x (turns.ConfirmedIs start end read) shown = IsLoaded range (generation i) (next_behind read) shown
+  IsShown range x turn shown = shown ≡ []
+
+  -- the observations are those of the turns, in order
+  abbrev pub AreShown : ℕ → Stand → List (turns.Turn Group) → List TableNote → Type 0
+  AreShown range x [] shown = shown ≡ []
+  AreShown range x (t ∷ earlier) shown =
+      (front : List TableNote) × (back : List TableNote) × (shown ≡ front ++ back) × AreShown range x earlier front
+      × IsShown range (after_turns generation i x earlier) t back
+
+-- ---- a client
+
+-- whether the last extent is there and not sealed
+abbrev pub is_live : Option StreamExtent → Bool
+is_live None = false
+is_live (Some x) = not (is_some x.length)
+
+abbrev pub number_of : Option StreamExtent → Option ℕ
+number_of None = None
+number_of (Some x) = Some x.extent
+
+-- the last extent that the client knows is not sealed, and has this number and this index
+pub record LastIs (c : ClientState) (e index : ℕ) : Type 0 where
+  pub places : Nodes
+  pub last : last_extent c.extents ≡ Some (record { extent = e; places = places; length = None })
+  pub index_is : suc index ≡ length c.extents
+
+-- what a load reads of the extents that its client knows: all that are sealed, and what stood in an open last one
+pub data LoadOf (i : ℕ) (s : machine.MachineState Group) (c : ClientState) (read : List (Copy Group)) : Type 0 where
+  OfSealed : (live : is_live (last_extent c.extents) ≡ false) (within : length c.extents ≤ length s.core.shut) (is : read ≡ machine.all_shut (machine.first (length c.extents) s.core.shut)) → LoadOf i s c read
+  OfStood : (index found : ℕ) (stood : List (Copy Group)) (live : is_live (last_extent c.extents) ≡ true) (count : suc index ≡ length c.extents) (checked : c.checked ≡ Some found)
+      (fact : machine.In (machine.Checked i index stood (machine.base index + found)) s.facts) (within : index ≤ length s.core.shut)
+      (is : read ≡ machine.all_shut (machine.first index s.core.shut) ++ stood) → LoadOf i s c read
+
+module _ (generation : ℕ → ℕ) (name : StreamName) (w : StreamSystem) (i : ℕ) (x : Stand) (sent : List Sent) where
+  -- the client is of this stream and this incarnation, and was told its extents rightly
+  pub record IsTold (c : ClientState) : Type 0 where
+    pub stream : c.stream ≡ name
+    pub under : c.generation ≡ generation i
+    pub tells : Tells generation name w x.state sent (record { base = c.base; extents = c.extents })
+
+  -- ---- the append job
+
+  pub record SentIs (c : ClientState) (e : ℕ) (q : ReqNo) : Type 0 where
+    pub index : ℕ
+    pub append : ℕ
+    pub last : LastIs c e index
+    pub stands : x.phase ≡ turns.Sent (suc index) append c.group
+    pub for : purpose_of sent q ≡ Some (Appends i index append c.group)
+    pub fact : machine.In (machine.AsksAppend i index append c.group) x.state.facts
+
+  pub record ClosingIs (c : ClientState) (e : ℕ) (q : ReqNo) : Type 0 where
+    pub index : ℕ
+    pub append : ℕ
+    pub last : LastIs c e index
+    pub stands : x.phase ≡ turns.Closing (suc index) append c.group
+    pub for : purpose_of sent q ≡ Some (Seals i index)
+
+  pub record GrowingIs (c : ClientState) (last : Option ℕ) (q : ReqNo) : Type 0 where
+    pub append : ℕ
+    pub all_sealed : is_live (last_extent c.extents) ≡ false
+    pub stands : x.phase ≡ turns.Growing (length c.extents) append c.group
+    pub for : purpose_of sent q ≡ Some (Extends i (length c.extents))
+    pub last_is : last ≡ number_of (last_extent c.extents)
+    pub fact : machine.In (machine.AsksExtend i (length c.extents)) x.state.facts
+
+  -- no append job; whether the last extent is open
+  abbrev pub IsIdle : ClientState → Type 0
+  IsIdle c = x.phase ≡ turns.Serving (length c.extents) (is_live (last_extent c.extents))
+
+  -- a job of a client of a range that is served
+  abbrev pub ServesBy : ClientState → Job → Type 0
+  ServesBy c jobs.Idle = IsIdle c
+  ServesBy c (jobs.Sent e q) = SentIs c e q
+  ServesBy c (jobs.Closing e q) = ClosingIs c e q
+  ServesBy c (jobs.Growing last q) = GrowingIs c last q
+  ServesBy c (jobs.Checking e q) = ⊥
+  ServesBy c (jobs.Shutting e q) = ⊥
+  ServesBy c (jobs.Reading e places upto sealed place q) = ⊥
+
+  -- ---- the load
+
+  pub record CheckingIs (c : ClientState) (e : ℕ) (q : ReqNo) : Type 0 where
+    pub index : ℕ
+    pub last : LastIs c e index
+    pub stands : x.phase ≡ turns.Checking index
+    pub for : purpose_of sent q ≡ Some (Checks i index)
+    pub fact : machine.In (machine.AsksCheck i index) x.state.facts
+
+  pub record ShuttingIs (c : ClientState) (e : ℕ) (q : ReqNo) : Type 0 where
+    pub index : ℕ
+    pub last : LastIs c e index
+    pub stands : x.phase ≡ turns.Sealing index
+    pub for : purpose_of sent q ≡ Some (Seals i index)
+
+  -- the last extent was checked at the length that the client keeps
+  pub record FoundIs (c : ClientState) : Type 0 where
+    pub e : ℕ
+    pub index : ℕ
+    pub found : ℕ
+    pub stood : List (Copy Group)
+    pub last : LastIs c e index
+    pub stands : x.phase ≡ turns.Checking index
+    pub checked : c.checked ≡ Some found
+    pub fact : machine.In (machine.Checked i index stood (machine.base index + found)) x.state.facts
+
+  -- where the load stands when all extents but an open last one are sealed and that one is checked
+  pub data Readable (c : ClientState) : Type 0 where
+    -- each was sealed at the opening, or there is none
+    WasSealed : (live : is_live (last_extent c.extents) ≡ false) (stands : x.phase ≡ turns.Opening) → Readable c
+    WasFound : (found : FoundIs c) → Readable c
+    -- the last was sealed by this load
+    WasShut : (index : ℕ) (index_is : suc index ≡ length c.extents) (live : is_live (last_extent c.extents) ≡ false)
+        (stands : x.phase ≡ turns.Sealing index) → Readable c
+
+  pub record ReadingIs (c : ClientState) (e upto : ℕ) (sealed : Bool) (q : ReqNo) : Type 0 where
+    pub index : ℕ
+    pub at : IsAt w name index e
+    pub for : purpose_of sent q ≡ Some (Reads i index upto)
+    pub is_last : sealed ≡ false → LastIs c e index
+    pub readable : Readable c
+
+  -- a job of a client whose stream is loaded, and is not asked any more once its generation is to be confirmed
+  abbrev pub LoadsBy : ClientState → Job → Type 0
+  LoadsBy c jobs.Idle = Readable c
+  LoadsBy c (jobs.Sent e q) = ⊥
+  LoadsBy c (jobs.Closing e q) = ⊥
+  LoadsBy c (jobs.Growing last q) = ⊥
+  LoadsBy c (jobs.Checking e q) = CheckingIs c e q
+  LoadsBy c (jobs.Shutting e q) = ShuttingIs c e q
+  LoadsBy c (jobs.Reading e places upto sealed place q) = ReadingIs c e upto sealed q
+
+  pub record LoadingIs (c : ClientState) : Type 0 where
+    pub told : IsTold c
+    pub opened : machine.In (machine.Opened i (length c.extents)) x.state.facts
+    pub job : LoadsBy c c.job
+
+  -- OpenStreams is out
+  pub record OpeningIs (q : ReqNo) : Type 0 where
+    pub stands : x.phase ≡ turns.Opening
+    pub for : purpose_of sent q ≡ Some (Opens i)
+    pub fact : machine.In (machine.AsksOpen i) x.state.facts
+
+  -- all is read and Confirm is out
+  pub record ConfirmingIs (c : ClientState) (q : ReqNo) : Type 0 where
+    pub told : IsTold c
+    pub idle : c.job ≡ jobs.Idle
+    pub read : List (Copy Group)
+    pub end : ℕ
+    pub of : LoadOf i x.state c read
+    pub stands : x.phase ≡ turns.Confirming (length c.extents) (is_live (last_extent c.extents))
+    pub for : purpose_of sent q ≡ Some (Confirms i read end)
+    pub fact : machine.In (machine.AsksConfirm i read end) x.state.facts
+
+  -- the range is served
+  pub record ServingIs (c : ClientState) : Type 0 where
+    pub told : IsTold c
+    pub job : ServesBy c c.job
+
+  -- this stream waits until another is read
+  pub record UnreadIs (c : ClientState) : Type 0 where
+    pub told : IsTold c
+    pub opened : machine.In (machine.Opened i (length c.extents)) x.state.facts
+    pub idle : c.job ≡ jobs.Idle
+    pub stands : x.phase ≡ turns.Opening
+
+-- ---- what grows
+
+-- facts, sealed extents, the list of the stream and the requests that were sent are never taken back
+pub record Wider (name : StreamName) (w v : StreamSystem) (s t : machine.MachineState Group) (sent more : List Sent) : Type 0 where
+  pub facts : (f : machine.Fact Group) → machine.In f s.facts → machine.In f t.facts
+  pub shut : (index : ℕ) (y : machine.SealedExtent Group) → machine.shut_at index s.core.shut ≡ Some y → machine.shut_at index t.core.shut ≡ Some y
+  pub extents : (index e : ℕ) → IsAt w name index e → IsAt v name index e
+  pub known : length (extents_in w name) ≤ length (extents_in v name)
+  pub purposes : (q : ReqNo) (p : Purpose) → purpose_of sent q ≡ Some p → purpose_of more q ≡ Some p
+
+-- ---- a range
+
+pub record Side : Type 0 where
+  pub stand : Stand
+  pub sent : List Sent
+
+-- the group of an append job is that of the transactions that are being appended
+abbrev pub GroupIs : Group → Option OutGroup → Type 0
+GroupIs group out = (o : OutGroup) × (out ≡ Some o) × (group ≡ spelling (record_of o.first o.transactions))
+
+abbrev pub OutIs : Job → Group → Option OutGroup → Type 0
+OutIs jobs.Idle group out = out ≡ None
+OutIs (jobs.Sent e q) group out = GroupIs group out
+OutIs (jobs.Closing e q) group out = GroupIs group out
+OutIs (jobs.Growing last q) group out = GroupIs group out
+OutIs (jobs.Checking e q) group out = ⊥
+OutIs (jobs.Shutting e q) group out = ⊥
+OutIs (jobs.Reading e places upto sealed place q) group out = ⊥
+
+abbrev pub metadata_of : ℕ → StreamName
+metadata_of range = record { range = range; kind = kinds.Metadata }
+
+abbrev pub log_of : ℕ → StreamName
+log_of range = record { range = range; kind = kinds.Log }
+
+module _ (generation : ℕ → ℕ) (range : ℕ) (w : StreamSystem) (i : ℕ) (m l : Side) where
+  pub record IsOpening (r : RangeState) : Type 0 where
+    pub q : ReqNo
+    pub phase : r.load.phase ≡ phases.Opening q
+    pub metadata : OpeningIs generation (metadata_of range) w i m.stand m.sent q
+    pub log : OpeningIs generation (log_of range) w i l.stand l.sent q
+    pub metadata_idle : r.metadata.job ≡ jobs.Idle
+    pub log_idle : r.log.job ≡ jobs.Idle
+
+  pub record LoadsMetadata (r : RangeState) : Type 0 where
+    pub phase : r.load.phase ≡ phases.Opened
+    pub metadata : LoadingIs generation (metadata_of range) w i m.stand m.sent r.metadata
+    pub log : UnreadIs generation (log_of range) w i l.stand l.sent r.log
+
+  pub record LoadsLog (r : RangeState) : Type 0 where
+    pub phase : r.load.phase ≡ phases.Opened
+    pub metadata : LoadingIs generation (metadata_of range) w i m.stand m.sent r.metadata
+    pub metadata_idle : r.metadata.job ≡ jobs.Idle
+    pub log : LoadingIs generation (log_of range) w i l.stand l.sent r.log
+
+  pub record IsConfirming (r : RangeState) : Type 0 where
+    pub q : ReqNo
+    pub phase : r.load.phase ≡ phases.Confirming q
+    pub metadata : ConfirmingIs generation (metadata_of range) w i m.stand m.sent r.metadata q
+    pub log : ConfirmingIs generation (log_of range) w i l.stand l.sent r.log q
+
+  pub record IsServing (r : RangeState) : Type 0 where
+    pub phase : r.load.phase ≡ phases.Confirmed
+    pub metadata : ServingIs generation (metadata_of range) w i m.stand m.sent r.metadata
+    pub metadata_idle : r.metadata.job ≡ jobs.Idle
+    pub log : ServingIs generation (log_of range) w i l.stand l.sent r.log
+    pub out : OutIs r.log.job r.log.group r.out
+    -- its next number is that of the log's story
+    pub next : r.next ≡ next_number (renamed decoded l.stand.state.story) (generation i)
+
+  abbrev pub StageIs : RangeState → Stage → Type 0
+  StageIs r stages.Opening = IsOpening r
+  StageIs r (stages.Checking kinds.Metadata) = LoadsMetadata r
+  StageIs r (stages.Checking kinds.Log) = LoadsLog r
+  StageIs r (stages.Checking kinds.RowData) = ⊥
+  StageIs r (stages.Checking kinds.BlobData) = ⊥
+  StageIs r (stages.Reading kinds.Metadata position) = LoadsMetadata r
+  StageIs r (stages.Reading kinds.Log position) = LoadsLog r
+  StageIs r (stages.Reading kinds.RowData position) = ⊥
+  StageIs r (stages.Reading kinds.BlobData position) = ⊥
+  StageIs r stages.Confirming = IsConfirming r
+  StageIs r stages.Serving = IsServing r
+
+  -- a range at a server is where the machines of its two streams have the incarnation stand
+  pub record Follows (r : RangeState) : Type 0 where
+    pub range_is : r.load.range ≡ range
+    pub under : r.load.generation ≡ generation i
+    pub stage : StageIs r r.stage
+
+-- ---- what a step of a client does
+
+-- whether a request is about one stream alone: the opening and the confirmation are about all streams of a range
+abbrev pub is_alone : Purpose → Bool
+is_alone (Opens i) = false
+is_alone (Checks i index) = true
+is_alone (Seals i index) = true
+is_alone (Reads i index upto) = true
+is_alone (Confirms i read end) = false
+is_alone (Appends i index append group) = true
+is_alone (Extends i n) = true
+
+abbrev pub sent_with : ReqNo → Option Purpose → List Sent → List Sent
+sent_with q None sent = sent
+sent_with q (Some p) sent = record { request = q; purpose = p } ∷ sent
+
+-- what the manager's list of a stream keeps: the extents are made, and each stands there once
+pub record Listed (w : StreamSystem) (name : StreamName) : Type 0 where
+  pub made : (index e : ℕ) → IsAt w name index e → w.catalog.extent e ≡ None → ⊥
+  pub once : (j k e : ℕ) → IsAt w name j e → IsAt w name k e → j ≡ k
+
+module _ (generation : ℕ → ℕ) (name : StreamName) (w : StreamSystem) (i : ℕ) where
+  -- the number of a request about this stream alone
+  abbrev pub IsNumbered : List Sent → ReqNo → Type 0
+  IsNumbered sent q = (p : Purpose) × (purpose_of sent q ≡ Some p) × (is_alone p ≡ true)
+
+  -- a request about an extent or the list of this stream alone
+  abbrev pub IsOwn : List Sent → Body → Type 0
+  IsOwn sent (bodies.Append (appends.Append e g blocks q)) = ((index : ℕ) × IsAt w name index e) × IsNumbered sent q
+  IsOwn sent (bodies.Check (checks.Check e g q)) = ((index : ℕ) × IsAt w name index e) × IsNumbered sent q
+  IsOwn sent (bodies.Read (reads.ReadGroups e upto sealed q)) = ((index : ℕ) × IsAt w name index e) × IsNumbered sent q
+  IsOwn sent (bodies.Seal (seals.SealExtent e q)) = ((index : ℕ) × IsAt w name index e) × IsNumbered sent q
+  IsOwn sent (bodies.Stream (streams.Extend stream g last pick q)) = (stream ≡ name) × IsNumbered sent q
+  IsOwn sent body = ⊥
+
+  -- what is sent, if anything, is asked, and of this stream alone
+  abbrev pub IsAskedIf : Stand → List Sent → Option Packet → Type 0
+  IsAskedIf x sent None = Unit {0}
+  IsAskedIf x sent (Some p) = IsAsked generation name w x.state sent p.body × IsOwn sent p.body
+
+  -- Turns of the incarnation, each allowed, and at most one more request, under this number: then it stands like this, and
+  -- what is sent is asked.
+  pub record Goes (x : Stand) (sent : List Sent) (q : ReqNo) (Then : Stand → List Sent → Type 0) (packet : Option Packet) : Type 0 where
+    pub list : List (turns.Turn Group)
+    pub allowed : AreTurns generation i x list
+    pub purpose : Option Purpose
+    pub then : Then (after_turns generation i x list) (sent_with q purpose sent)
+    pub asked : IsAskedIf (after_turns generation i x list) (sent_with q purpose sent) packet
+
+  -- an answer under an old generation ends all; else the client goes on, and asks nothing more once its group stands
+  abbrev pub ServesAfter : List Sent → Option News → ClientState → Stand → List Sent → Type 0
+  ServesAfter sent None c = λ y more. ServingIs generation name w i y more c
+  ServesAfter sent (Some news.Fenced) c = λ y more. Unit {0}
+  ServesAfter sent (Some (news.Appended e offset)) c = λ y more. ServingIs generation name w i y more c × (more ≡ sent)
+  ServesAfter sent (Some (news.Checked e found)) c = λ y more. ServingIs generation name w i y more c
+  ServesAfter sent (Some (news.Sealed e l)) c = λ y more. ServingIs generation name w i y more c
+  ServesAfter sent (Some (news.Content e upto)) c = λ y more. ServingIs generation name w i y more c
+
+-- the answer to an Extend that is waited for counts one extent more
+abbrev pub IsCounted : ℕ → Stand → Type 0
+IsCounted i x = (n m append : ℕ) (group : Group) → x.phase ≡ turns.Growing n append group → machine.In (machine.Extended i n m) x.state.facts → m ≡ suc n
+
+-- ---- what a rule of a range that is served does to its log
+
+module _ (generation : ℕ → ℕ) (range : ℕ) (w : StreamSystem) (i : ℕ) where
+  -- it says nothing of any stream's extents: what users are told, and reads of values
+  abbrev pub IsPlain : Packet → Type 0
+  IsPlain p = (name : StreamName) (s : machine.MachineState Group) (sent : List Sent) → IsAsked generation name w s sent p.body
+
+  abbrev pub AreAsked : StreamName → Stand → List Sent → List Packet → Type 0
+  AreAsked name x sent [] = Unit {0}
+  AreAsked name x sent (p ∷ ps) = (IsPlain p ⊎ (IsAsked generation name w x.state sent p.body × IsOwn generation name w i sent p.body)) × AreAsked name x sent ps
+
+  pub record ServesLog (x : Stand) (sent : List Sent) (r : RangeState) : Type 0 where
+    pub range_is : r.load.range ≡ range
+    pub under : r.load.generation ≡ generation i
+    pub client : ServingIs generation (log_of range) w i x sent r.log
+    pub out : OutIs r.log.job r.log.group r.out
+    pub stage : r.stage ≡ stages.Serving
+    pub next : r.next ≡ next_number (renamed decoded x.state.story) (generation i)
+
+  -- a range that is dropped makes no turn any more
+  abbrev pub ServesLogIf : Option RangeState → Stand → List Sent → Type 0
+  ServesLogIf None = λ x sent. Unit {0}
+  ServesLogIf (Some r) = λ x sent. ServesLog x sent r
+
+  -- Turns of the log's machine, each allowed and fit, and at most one more request, under the server's next number, which is
+  -- then used; the observations are those of the turns.
+  pub record LogRule (x : Stand) (sent : List Sent) (d : ServerContext) (o : RangeOutcome) : Type 0 where
+    pub list : List (turns.Turn Group)
+    pub allowed : AreTurns generation i x list
+    pub fit : AreFit generation i x list
+    pub shown : AreShown generation i range x list o.notes
+    pub purpose : Option Purpose
+    pub counts : (o.count ≡ suc d.count) ⊎ ((o.count ≡ d.count) × (purpose ≡ None))
+    -- a range that is dropped makes no turn
+    pub none : o.after ≡ None → list ≡ []
+    pub then : ServesLogIf o.after (after_turns generation i x list) (sent_with (request d) purpose sent)
+    pub asked : AreAsked (log_of range) (after_turns generation i x list) (sent_with (request d) purpose sent) o.packets
+
+-- ---- both streams of a range
+
+-- a number of a request about one stream alone is none of the other's
+pub record Apart (one other : List Sent) : Type 0 where
+  pub here : (q : ReqNo) (p : Purpose) → purpose_of one q ≡ Some p → is_alone p ≡ true → purpose_of other q ≡ None
+  pub there : (q : ReqNo) (p : Purpose) → purpose_of other q ≡ Some p → is_alone p ≡ true → purpose_of one q ≡ None
+
+-- what the manager's lists of both keep: no extent stands in both
+pub record BothListed (w : StreamSystem) (range : ℕ) : Type 0 where
+  pub metadata : Listed w (metadata_of range)
+  pub log : Listed w (log_of range)
+  pub apart : (j k e : ℕ) → IsAt w (metadata_of range) j e → IsAt w (log_of range) k e → ⊥
+
+-- the server's numbers from its count on are not used
+abbrev pub AreUnused : ServerContext → ℕ → List Sent → Type 0
+AreUnused d count sent = (k : ℕ) → count ≤ k → purpose_of sent (requests.Server d.server d.session k) ≡ None
+
+-- what was sent before is known, and its numbers are those of two streams, and below the server's count
+pub record IsSentBy (d : ServerContext) (count : ℕ) (m l : List Sent) : Type 0 where
+  pub apart : Apart m l
+  pub metadata : AreUnused d count m
+  pub log : AreUnused d count l
+
+-- at most one request more, under a number that the server had not used
+pub record Adds (d : ServerContext) (sent more : List Sent) : Type 0 where
+  pub number : ℕ
+  pub from : d.count ≤ number
+  pub purpose : Option Purpose
+  pub is : more ≡ sent_with (requests.Server d.server d.session number) purpose sent
+
+module _ (generation : ℕ → ℕ) (range : ℕ) (w : StreamSystem) (i : ℕ) where
+  abbrev pub FollowsIf : Option RangeState → Side → Side → Type 0
+  FollowsIf None n k = Unit {0}
+  FollowsIf (Some r) n k = Follows generation range w i n k r
+
+  -- what can have a purpose has one, in one of the streams
+  abbrev pub IsKnown : List Sent → List Sent → Body → Type 0
+  IsKnown m l body = (q : ReqNo) → asked_number body ≡ Some q → purpose_of m q ≡ None → purpose_of l q ≡ None → ⊥
+
+  -- each packet is asked, as both streams see it
+  abbrev pub AskedOfBoth : Side → Side → List Packet → Type 0
+  AskedOfBoth n k [] = Unit {0}
+  AskedOfBoth n k (p ∷ ps) =
+      (IsAsked generation (metadata_of range) w n.stand.state n.sent p.body × IsAsked generation (log_of range) w k.stand.state k.sent p.body × IsKnown n.sent k.sent p.body) × AskedOfBoth n k ps
+
+  -- What a rule does: turns of the incarnation in both machines, each allowed, and requests of the server's next numbers; then the
+  -- range, if it is still there, is where the machines have it, and all that is sent is asked.
+  pub record RuleGoes (m l : Side) (d : ServerContext) (o : RangeOutcome) : Type 0 where
+    pub metadata_turns : List (turns.Turn Group)
+    pub log_turns : List (turns.Turn Group)
+    pub metadata_allowed : AreTurns generation i m.stand metadata_turns
+    pub log_allowed : AreTurns generation i l.stand log_turns
+    -- a range that is dropped makes no turn
+    pub none : o.after ≡ None → (metadata_turns ≡ []) × (log_turns ≡ [])
+    pub metadata_sent : List Sent
+    pub log_sent : List Sent
+    pub metadata_keeps : (q : ReqNo) (p : Purpose) → purpose_of m.sent q ≡ Some p → purpose_of metadata_sent q ≡ Some p
+    pub log_keeps : (q : ReqNo) (p : Purpose) → purpose_of l.sent q ≡ Some p → purpose_of log_sent q ≡ Some p
+    -- numbers are never used again
+    pub rises : d.count ≤ o.count
+    pub metadata_adds : Adds d m.sent metadata_sent
+    pub log_adds : Adds d l.sent log_sent
+    pub sent_by : IsSentBy d o.count metadata_sent log_sent
+    pub then : FollowsIf o.after (record { stand = after_turns generation i m.stand metadata_turns; sent = metadata_sent }) (record { stand = after_turns generation i l.stand log_turns; sent = log_sent })
+    pub asked : AskedOfBoth (record { stand = after_turns generation i m.stand metadata_turns; sent = metadata_sent }) (record { stand = after_turns generation i l.stand log_turns; sent = log_sent }) o.packets
+
+  -- What a rule does and shows: its groups have the numbers that come next, and its observations are those of the log's turns.
+  pub record RuleTells (m l : Side) (d : ServerContext) (o : RangeOutcome) : Type 0 where
+    pub goes : RuleGoes m l d o
+    -- nothing is appended to the metadata
+    pub unformed : AreUnformed goes.metadata_turns
+    pub fit : AreFit generation i l.stand goes.log_turns
+    pub shown : AreShown generation i range l.stand goes.log_turns o.notes

@@ -1,0 +1,188 @@
+-- Each event of a run with servers is some moves of the stream layer.
+use Rattle.std.proofs.Common.{◌≡◌, ℕ, suc, ◌^◌, Bool, true, nat_lt, ◌==◌, List, [], ◌∷◌, ◌++◌, Option, Some, None, refl, sym, ap, ◌∙◌, subst, append_assoc, append-nil, slice_get, if◌then◌else◌, inl, inr}
+use Rattle.wire.specs.declared.actor.ActorId.{ActorId}
+use Rattle.wire.specs.declared.actor.ActorId.TheVariants.{Node, Manager, Map, Server, User}
+use Rattle.wire.specs.declared.actor.ReqNo.{ReqNo}
+use Rattle.wire.specs.declared.body.Body.{Body}
+use Rattle.wire.specs.declared.body.Body.TheVariants as bodies
+use Rattle.wire.specs.declared.body.MapBody.{MapBody}
+use Rattle.wire.specs.declared.body.MapBody.TheVariants as maps
+use Rattle.wire.specs.declared.note.Note.{Note}
+use Rattle.wire.specs.declared.packet.Packet.{Packet}
+use Rattle.wire.specs.declared.refusal.Refusal.{Refusal}
+use Rattle.model_streams.specs.declared.event.Event.{Event}
+use Rattle.model_streams.specs.declared.event.Event.TheVariants.{Submit, Deliver, Stop, Restart, Decide, GiveUp, Assign, Renew, Moment}
+use Rattle.model_streams.specs.Honest.{Agree, Kept}
+use Rattle.model_streams.specs.Outcome.{Outcome, packet}
+use Rattle.model_streams.specs.StreamSystem.{StreamSystem, happens, moved, sent_more, stops_in, stands_in, delivered, delivered_if, is_table_note, start, Move, run_moves}
+use Rattle.model_streams.specs.StreamSystem.Move.{Happens, Asks, Says, Observes}
+use Rattle.model_streams.proofs.Tests.{if_elim}
+use Rattle.model_partition.specs.declared.range_entry.RangeEntry.{RangeEntry}
+use Rattle.model_partition.specs.Map.{MapState, range_at, range_of_key, assign_fault, assign_rule, renew_fault, renew_rule, route_rule, told as map_told, map_rule}
+use Rattle.model_partition.specs.declared.table_note.TableNote.{TableNote}
+use Rattle.model_partition.specs.declared.table_note.TableNote.TheVariants.{Began, Done, Loaded}
+use Rattle.model_partition.specs.Servers.{CacheContent, ServersOutcome, told, noted, with_told, server_takes, server_gives_up, server_stops, server_starts}
+use Rattle.model_partition.specs.Cluster.{Cluster, map_performs, map_performs_if, map_takes, delivered_to, delivers, stops, restarts, cluster_after, assigns, renews, shows_moment, LeadTo}
+use Rattle.laws_streams.proofs.Invariant.{agree_in_moves, kept_in_moves}
+use Rattle.laws_streams.proofs.RisingFences.{run_more}
+use Rattle.laws_servers.specs.Sending.{MaySend, MaySendAll, ByMoves}
+use Rattle.laws_servers.proofs.ServerSteps.{IsStill, server_takes_shows, server_gives_up_tidy, server_stops_still, server_starts_still}
+
+-- ---- moves one after the other
+
+pub none : (w : StreamSystem) → ByMoves w w
+none w = record { moves = []; is = refl }
+
+pub one : (w : StreamSystem) (move : Move) → ByMoves w (moved w move)
+one w move = record { moves = move ∷ []; is = refl }
+
+pub both : (u v w : StreamSystem) → ByMoves u v → ByMoves v w → ByMoves u w
+both u v w a b = record { moves = a.moves ++ b.moves; is = run_more a.moves b.moves u ∙ ap (run_moves b.moves) a.is ∙ b.is }
+
+-- ---- packets and observations
+
+one_packet : (w : StreamSystem) (p : Packet) → MaySend p → ByMoves w (sent_more w (p ∷ []))
+one_packet w p (inl a) = record {
+  moves = Asks a.server p.to p.body ∷ [];
+  is = ap (λ (b : Bool). if b then sent_more w (packet (Server a.server) p.to p.body ∷ []) else w) a.call
+      ∙ ap (λ (from : ActorId). sent_more w (packet from p.to p.body ∷ [])) (sym a.from);
+}
+one_packet w p (inr is) = record {
+  moves = Says p.from p.to p.body ∷ [];
+  is = ap (λ (b : Bool). if b then sent_more w (p ∷ []) else w) is;
+}
+
+sent_by : (w : StreamSystem) (packets : List Packet) → MaySendAll packets → ByMoves w (sent_more w packets)
+sent_by w [] h = subst (ByMoves w) (ap (λ (l : List Packet). record w { post = l }) (sym (append-nil w.post))) (none w)
+sent_by w (p ∷ packets) h =
+    subst (ByMoves w) (ap (λ (l : List Packet). record w { post = l }) (append_assoc w.post (p ∷ []) packets))
+    (both w (sent_more w (p ∷ [])) (sent_more (sent_more w (p ∷ [])) packets) (one_packet w p h.0) (sent_by (sent_more w (p ∷ [])) packets h.1))
+
+pub is_shown : (notes : List Note) (note : TableNote) → is_table_note (told notes note) ≡ true
+is_shown notes (Began range generation number changes) = refl
+is_shown notes (Done range generation number) = refl
+is_shown notes (Loaded range generation entries indexes next) = refl
+
+one_note : (w : StreamSystem) (note : TableNote) → ByMoves w (record w { notes = w.notes ++ told w.notes note ∷ [] })
+one_note w note = record {
+  moves = Observes (told w.notes note) ∷ [];
+  is = ap (λ (b : Bool). if b then record w { notes = w.notes ++ told w.notes note ∷ [] } else w) (is_shown w.notes note);
+}
+
+shown_by : (w : StreamSystem) (notes : List TableNote) → ByMoves w (record w { notes = noted w.notes notes })
+shown_by w [] = none w
+shown_by w (note ∷ notes) =
+    let v : StreamSystem = record w { notes = w.notes ++ told w.notes note ∷ [] } in
+    both w v (record v { notes = noted v.notes notes }) (one_note w note) (shown_by v notes)
+
+told_by : (w : StreamSystem) (packets : List Packet) (notes : List TableNote) → MaySendAll packets → ByMoves w (with_told w packets notes)
+told_by w packets notes h = both w (sent_more w packets) (with_told w packets notes) (sent_by w packets h) (shown_by (sent_more w packets) notes)
+
+still_by : (w : StreamSystem) (o : ServersOutcome) → IsStill o → ByMoves w (with_told w o.packets o.notes)
+still_by w o h = told_by w o.packets o.notes (subst MaySendAll (sym h.0) tt)
+
+-- ---- the map
+
+-- the map tells no node anything
+assign_says : (m : MapState) (range server until : ℕ) (o : Option RangeEntry) → MaySendAll (assign_rule m range server until o).packets
+assign_says m range server until None = tt
+assign_says m range server until (Some r) = if_elim (λ (o : Outcome MapState). MaySendAll o.packets) (nat_lt (suc r.generation) (2 ^ 64)) _ _ (λ t. (inr refl, tt)) (λ f. tt)
+
+renew_says : (m : MapState) (range server until : ℕ) (o : Option RangeEntry) → MaySendAll (renew_rule m range server until o).packets
+renew_says m range server until None = tt
+renew_says m range server until (Some r) = (inr refl, tt)
+
+route_says : (m : MapState) (p : Packet) (q : ReqNo) (o : Option RangeEntry) → MaySendAll (route_rule m p q o).packets
+route_says m p q None = tt
+route_says m p q (Some r) = (inr refl, tt)
+
+told_says : (m : MapState) (p : Packet) (body : MapBody) → MaySendAll (map_told m p body).packets
+told_says m p (maps.Route key q) = route_says m p q (range_of_key m.ranges key)
+told_says m p body = tt
+
+map_says : (m : MapState) (p : Packet) (body : Body) → MaySendAll (map_rule m p body).packets
+map_says m p (bodies.Map body) = told_says m p body
+map_says m p body = tt
+
+does_by : (c : Cluster) (o : Outcome MapState) → MaySendAll o.packets → ByMoves c.world (map_performs c o).world
+does_by c o may =
+    if_elim (λ (d : Cluster). ByMoves c.world d.world) (stops_in c.map_cell o.written) _ _
+    (λ t. if_elim (λ (d : Cluster). ByMoves c.world d.world) (stands_in c.map_cell) _ _ (λ s. none c.world) (λ s. none c.world))
+    (λ f. sent_by c.world o.packets may)
+
+does_if_by : (c : Cluster) (refusal : Option Refusal) (o : Outcome MapState) → MaySendAll o.packets → ByMoves c.world (map_performs_if c refusal o).world
+does_if_by c (Some refusal) o may = none c.world
+does_if_by c None o may = does_by c o may
+
+map_takes_by : (c : Cluster) (p : Packet) → ByMoves c.world (map_takes c p).world
+map_takes_by c p = if_elim (λ (d : Cluster). ByMoves c.world d.world) c.map_cell.up _ _ (λ up. does_by c (map_rule c.map p p.body) (map_says c.map p p.body)) (λ up. none c.world)
+
+-- ---- events
+
+goes_by : (c : Cluster) (held : CacheContent) (number : ℕ) (p : Packet) (to : ActorId) → happens c.world (Deliver number) ≡ delivered c.world p to → ByMoves c.world (delivered_to c p held to).world
+goes_by c held number p (Node n) is = subst (ByMoves c.world) is (one c.world (Happens (Deliver number)))
+goes_by c held number p Manager is = subst (ByMoves c.world) is (one c.world (Happens (Deliver number)))
+goes_by c held number p Map is = map_takes_by c p
+goes_by c held number p (Server s) is =
+    let o : ServersOutcome = server_takes c.servers s p held in
+    told_by c.world o.packets o.notes (server_takes_shows c.servers s p held).0
+goes_by c held number p (User u) is = none c.world
+
+delivers_by : (c : Cluster) (held : CacheContent) (number : ℕ) (found : Option Packet) → slice_get c.world.post number ≡ found → ByMoves c.world (delivers c held found).world
+delivers_by c held number None is = none c.world
+delivers_by c held number (Some p) is = goes_by c held number p p.to (ap (delivered_if c.world) is)
+
+stops_by : (c : Cluster) (actor : ActorId) (call : ℕ) (keep : Bool) → ByMoves c.world (stops c actor call keep).world
+stops_by c (Node n) call keep = one c.world (Happens (Stop (Node n) call keep))
+stops_by c Manager call keep = one c.world (Happens (Stop Manager call keep))
+stops_by c Map call keep = if_elim (λ (d : Cluster). ByMoves c.world d.world) c.map_cell.up _ _ (λ up. if_elim (λ (d : Cluster). ByMoves c.world d.world) (call == 0) _ _ (λ now. none c.world) (λ later. none c.world)) (λ up. none c.world)
+stops_by c (Server s) call keep = still_by c.world (server_stops c.servers s call) (server_stops_still c.servers s call)
+stops_by c (User u) call keep = none c.world
+
+restarts_by : (c : Cluster) (actor : ActorId) → ByMoves c.world (restarts c actor).world
+restarts_by c (Node n) = one c.world (Happens (Restart (Node n)))
+restarts_by c Manager = one c.world (Happens (Restart Manager))
+restarts_by c Map = if_elim (λ (d : Cluster). ByMoves c.world d.world) c.map_cell.up _ _ (λ up. none c.world) (λ up. none c.world)
+restarts_by c (Server s) = still_by c.world (server_starts c.servers s c.now c.batch) (server_starts_still c.servers s c.now c.batch)
+restarts_by c (User u) = none c.world
+
+assigns_by : (c : Cluster) (range server until : ℕ) → ByMoves c.world (assigns c range server until).world
+assigns_by c range server until =
+    let found = range_at c.map.ranges range in
+    if_elim (λ (d : Cluster). ByMoves c.world d.world) c.map_cell.up _ _
+    (λ up. does_if_by c (assign_fault server c.now found) (assign_rule c.map range server until found) (assign_says c.map range server until found)) (λ up. none c.world)
+
+renews_by : (c : Cluster) (range server until : ℕ) → ByMoves c.world (renews c range server until).world
+renews_by c range server until =
+    let found = range_at c.map.ranges range in
+    if_elim (λ (d : Cluster). ByMoves c.world d.world) c.map_cell.up _ _
+    (λ up. does_if_by c (renew_fault server found) (renew_rule c.map range server until found) (renew_says c.map range server until found)) (λ up. none c.world)
+
+moment_by : (c : Cluster) (now : ℕ) → ByMoves c.world (shows_moment c now).world
+moment_by c now = if_elim (λ (d : Cluster). ByMoves c.world d.world) (nat_lt now c.now) _ _ (λ t. none c.world) (λ f. none c.world)
+
+pub comes_by : (c : Cluster) (event : Event) (held : CacheContent) → ByMoves c.world (cluster_after c event held).world
+comes_by c (Submit user to body) held = one c.world (Happens (Submit user to body))
+comes_by c (Deliver number) held = delivers_by c held number (slice_get c.world.post number) refl
+comes_by c (Stop actor call keep) held = stops_by c actor call keep
+comes_by c (Restart actor) held = restarts_by c actor
+comes_by c (Decide e) held = one c.world (Happens (Decide e))
+comes_by c (GiveUp server range pick) held =
+    let o : ServersOutcome = server_gives_up c.servers server range pick in
+    told_by c.world o.packets o.notes (server_gives_up_tidy c.servers server range pick).0
+comes_by c (Assign range server until) held = assigns_by c range server until
+comes_by c (Renew range server until) held = renews_by c range server until
+comes_by c (Moment now) held = moment_by c now
+
+-- ---- whole runs
+
+pub led_by : (events : List Event) (c d : Cluster) → LeadTo events c d → ByMoves c.world d.world
+led_by [] c d h = subst (λ (x : Cluster). ByMoves c.world x.world) h (none c.world)
+led_by (event ∷ events) c d h =
+    both c.world (cluster_after c event h.0).world d.world (comes_by c event h.0) (led_by events (cluster_after c event h.0) d h.1)
+
+pub moves_agree : (nodes target : ℕ) (w : StreamSystem) → ByMoves (start nodes target) w → Agree w.notes
+moves_agree nodes target w h = subst (λ (v : StreamSystem). Agree v.notes) h.is (agree_in_moves nodes target h.moves)
+
+pub moves_keep : (nodes target : ℕ) (w : StreamSystem) → ByMoves (start nodes target) w → Kept w.notes
+moves_keep nodes target w h = subst (λ (v : StreamSystem). Kept v.notes) h.is (kept_in_moves nodes target h.moves)

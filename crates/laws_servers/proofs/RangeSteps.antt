@@ -1,0 +1,353 @@
+-- What a step of a range sends is from a server, and what it shows is plain, but for the table that it loads.
+use Rattle.std.proofs.Common.{ℕ, suc, not, ◌&&◌, ◌==◌, nat_lt, List, [], ◌∷◌, ◌++◌, Option, Some, None, refl, inl, inr, map, flat_map, slice_get, length, ◌-◌, ◌+◌, ◌^◌, take, is_some}
+use Rattle.std.specs.Prelude.{option_to_list}
+use Rattle.block_types.specs.declared.record.Nodes.{Nodes}
+use Rattle.wire.specs.declared.actor.ActorId.{ActorId}
+use Rattle.wire.specs.declared.actor.ReqNo.{ReqNo}
+use Rattle.wire.specs.declared.body.AppendBody.{AppendBody}
+use Rattle.wire.specs.declared.body.AppendBody.TheVariants as appends
+use Rattle.wire.specs.declared.body.ReadBody.{ReadBody}
+use Rattle.wire.specs.declared.body.ReadBody.TheVariants as reads
+use Rattle.wire.specs.declared.body.StreamBody.{StreamBody}
+use Rattle.wire.specs.declared.body.StreamBody.TheVariants as streams
+use Rattle.wire.specs.declared.body.Body.{Body}
+use Rattle.wire.specs.declared.body.Body.TheVariants as bodies
+use Rattle.wire.specs.declared.packet.Packet.{Packet}
+use Rattle.wire.specs.declared.refusal.Refusal.{Refusal}
+use Rattle.wire.specs.declared.refusal.Refusal.TheVariants as refusals
+use Rattle.wire.specs.declared.streams.StreamExtent.{StreamExtent}
+use Rattle.wire.specs.declared.streams.StreamLists.{StreamLists}
+use Rattle.wire.specs.declared.streams.StreamKind.TheVariants as kinds
+use Rattle.wire.specs.declared.transaction.Change.{Change}
+use Rattle.client.specs.declared.job.News.{News}
+use Rattle.client.specs.declared.job.News.TheVariants as news
+use Rattle.client.specs.declared.load.LoadPhase.{LoadPhase}
+use Rattle.client.specs.declared.load.LoadPhase.TheVariants as phases
+use Rattle.client.specs.Client.{ClientState, Outcome, append_rule, check_rule, reply_rule, give_up_rule, read_sealed_rule, read_checked_rule, last_extent, awaits, new_client}
+use Rattle.client.specs.Load.{again, load_awaits}
+use Rattle.memtable.specs.declared.cell.Place.{Place}
+use Rattle.commitlog.specs.Record.{spelling}
+use Rattle.commitlog.specs.Places.{kept}
+use Rattle.memtable.specs.Entries.{Entries, put_all}
+use Rattle.metadata.specs.Fold.{MetadataState, first_metadata}
+use Rattle.metadata.specs.declared.record.Region.{Region}
+use Rattle.model_streams.proofs.Tests.{if_elim}
+use Rattle.model_partition.specs.declared.server_context.ServerContext.{ServerContext}
+use Rattle.model_partition.specs.declared.stage.Stage.{Stage}
+use Rattle.model_partition.specs.declared.stage.Stage.TheVariants.{Checking, Reading}
+use Rattle.model_partition.specs.declared.table_note.TableNote.{TableNote}
+use Rattle.model_partition.specs.declared.table_note.TableNote.TheVariants.{Loaded}
+use Rattle.model_partition.specs.declared.waiting.PlaceRead.{PlaceRead}
+use Rattle.model_partition.specs.declared.waiting.WaitingGet.{WaitingGet}
+use Rattle.model_partition.specs.declared.waiting.WaitingTransaction.{WaitingTransaction}
+use Rattle.model_partition.specs.Range.{OutGroup, RangeState, RangeOutcome, request, used, refuses, waiting_out, refused_users, dropped, given, picking, is_serving}
+use Rattle.model_partition.specs.Serving.{record_of, group_count, began, appends as appends_next, forms, transact_fault, lease_ended, transacts, transact_rule, dones, committed, out_size, after_these, applies, log_done}
+use Rattle.model_partition.specs.Loading.{Group, said_after, replayed, read_by, read_of, reads_log, first_position, reads_log_from, checks_log, begins_log, reads_metadata, begins_metadata, opens, says, metadata_news, replays, log_read, log_news, open_region, serves_from, serves, are_counted}
+use Rattle.model_partition.specs.Getting.{Lookup, Is, Needs, Tried, asks_place, answered, try, try_all, get_fault, gets, get_rule, bytes_rule, gives_up_read, gives_up_get, asks_again, moved_on, places_of, look, standing, without}
+use Rattle.model_partition.specs.Answering.{load_refused, load_told, load_reply, metadata_reply, serving_news, is_taken, log_taken, log_reply, bytes_reply, gets_reply, answer_rule, give_up_all, groups_of}
+use Rattle.model_partition.specs.Servers.{ArePlain, ShowsLoad}
+use Rattle.laws_servers.specs.Sending.{AllFromServers}
+use Rattle.laws_servers.proofs.ClientPackets.{all_both, all_map, all_flat, listed, Calls, given_calls, append_rule_calls, check_rule_calls, read_sealed_calls, read_checked_calls, reply_calls, give_up_calls, again_calls}
+
+-- ---- what is shown
+
+plain_both : (xs ys : List TableNote) → ArePlain xs → ArePlain ys → ArePlain (xs ++ ys)
+plain_both [] ys a b = b
+plain_both (Loaded range generation entries indexes next ∷ xs) ys a b = absurd a
+plain_both (note ∷ xs) ys a b = plain_both xs ys a b
+
+began_plain : (range g s : ℕ) (ts : List WaitingTransaction) → ArePlain (began range g s ts)
+began_plain range g s [] = tt
+began_plain range g s (t ∷ ts) = began_plain range g (suc s) ts
+
+dones_plain : (range g s : ℕ) (ts : List WaitingTransaction) → ArePlain (dones range g s ts)
+dones_plain range g s [] = tt
+dones_plain range g s (t ∷ ts) = dones_plain range g (suc s) ts
+
+-- what it sends is from a server, and it shows no loaded table
+abbrev pub IsTidy : RangeOutcome → Type 0
+IsTidy o = AllFromServers o.packets × ArePlain o.notes
+
+-- what it sends is from a server, and it shows no loaded table but this
+abbrev pub ShowsFrom : Option Entries → RangeOutcome → Type 0
+ShowsFrom loading o = AllFromServers o.packets × ShowsLoad loading o.notes
+
+pub tidy_shows : (loading : Option Entries) (o : RangeOutcome) → IsTidy o → ShowsFrom loading o
+tidy_shows loading o h = (h.0, inl h.1)
+
+-- ---- steps
+
+pub refused_all : (d : ServerContext) (r : RangeState) → AllFromServers (refused_users d r)
+refused_all d r =
+    all_both _ _
+    (all_map (λ (t : WaitingTransaction). refuses d t.from t.request refusals.NotOwner) (λ t. (d.server, refl, inr refl)) (waiting_out r.out ++ r.queue))
+    (all_map (λ (g : WaitingGet). refuses d g.from g.request refusals.NotOwner) (λ g. (d.server, refl, inr refl)) r.gets)
+
+dropped_tidy : (d : ServerContext) (r : RangeState) → IsTidy (dropped d r)
+dropped_tidy d r = (refused_all d r, tt)
+
+-- ---- transactions
+
+appends_tidy : (d : ServerContext) (r : RangeState) (n : ℕ) → IsTidy (appends_next d r n)
+appends_tidy d r n =
+    let c : ClientState = picking d r.log in
+    let o = append_rule c (request d) (spelling (record_of r.next (take n r.queue))) in (
+      listed (given c o).packet (given_calls c o (append_rule_calls c (request d) (spelling (record_of r.next (take n r.queue))))),
+      began_plain r.load.range r.load.generation r.next (take n r.queue),
+    )
+
+forms_tidy : (d : ServerContext) (r : RangeState) → IsTidy (forms d r)
+forms_tidy d r =
+    if_elim IsTidy (not (is_some r.out) && (nat_lt 0 (group_count d r) && nat_lt (r.next + group_count d r) (2 ^ 64))) _ _
+    (λ t. appends_tidy d r (group_count d r)) (λ f. (tt, tt))
+
+transacts_tidy : (d : ServerContext) (r : RangeState) (from : ActorId) (q : ReqNo) (changes : List Change) (fault : Option Refusal) → IsTidy (transacts d r from q changes fault)
+transacts_tidy d r from q changes (Some refusal) = (((d.server, refl, inr refl), tt), tt)
+transacts_tidy d r from q changes None =
+    forms_tidy d (record r { queue = r.queue ++ record { from = from; request = q; changes = changes } ∷ [] })
+
+pub transact_tidy : (d : ServerContext) (r : RangeState) (from : ActorId) (q : ReqNo) (changes : List Change) → IsTidy (transact_rule d r from q changes)
+transact_tidy d r from q changes = transacts_tidy d r from q changes (transact_fault d r changes)
+
+committed_all : (d : ServerContext) (s : ℕ) (ts : List WaitingTransaction) → AllFromServers (committed d s ts)
+committed_all d s [] = tt
+committed_all d s (t ∷ ts) = ((d.server, refl, inr refl), committed_all d (suc s) ts)
+
+after_tidy : (packets : List Packet) (notes : List TableNote) (o : RangeOutcome) → AllFromServers packets → ArePlain notes → IsTidy o → IsTidy (after_these packets notes o)
+after_tidy packets notes o sent plain h = (all_both packets o.packets sent h.0, plain_both notes o.notes plain h.1)
+
+applies_tidy : (d : ServerContext) (r : RangeState) (out : OutGroup) (extent offset : ℕ) → IsTidy (applies d r out extent offset)
+applies_tidy d r out extent offset =
+    let next : RangeState = record r {
+      live = put_all r.live (flat_map (λ changes. changes) (kept (record_of out.first out.transactions) extent offset));
+      position = record { index = (r.log.base + length r.log.extents) - 1; offset = offset + out_size out };
+      out = None;
+    } in
+    after_tidy (committed d out.first out.transactions) (dones r.load.range r.load.generation out.first out.transactions) (forms d next)
+    (committed_all d out.first out.transactions) (dones_plain r.load.range r.load.generation out.first out.transactions) (forms_tidy d next)
+
+log_done_tidy : (d : ServerContext) (r : RangeState) (out : Option OutGroup) (extent offset : ℕ) → IsTidy (log_done d r out extent offset)
+log_done_tidy d r None extent offset = (tt, tt)
+log_done_tidy d r (Some out) extent offset = applies_tidy d r out extent offset
+
+-- ---- Gets
+
+asks_place_sends : (d : ServerContext) (g : WaitingGet) (place : Place) (places : Option Nodes) → AllFromServers (asks_place d g place places).packets
+asks_place_sends d g place None = tt
+asks_place_sends d g place (Some places) = ((d.server, refl, inl refl), tt)
+
+answered_sends : (d : ServerContext) (r : RangeState) (g : WaitingGet) (found : Lookup) → AllFromServers (answered d r g found).packets
+answered_sends d r g (Is value) = ((d.server, refl, inr refl), tt)
+answered_sends d r g (Needs place) = asks_place_sends d g place (places_of r place.extent)
+
+try_sends : (d : ServerContext) (r : RangeState) (g : WaitingGet) → AllFromServers (try d r g).packets
+try_sends d r g =
+    if_elim (λ (t : Tried). AllFromServers t.packets) (lease_ended d r) _ _ (λ t. ((d.server, refl, inr refl), tt)) (λ f. answered_sends d r g (look r.held (standing r g.key)))
+
+try_all_sends : (d : ServerContext) (r : RangeState) (gs : List WaitingGet) → AllFromServers (try_all d r gs).packets
+try_all_sends d r [] = tt
+try_all_sends d r (g ∷ gs) = all_both (try d r g).packets _ (try_sends d r g) (try_all_sends (record d { count = (try d r g).count }) r gs)
+
+gets_tidy : (d : ServerContext) (r : RangeState) (from : ActorId) (q : ReqNo) (key : List ℕ) (held : List (Place × List ℕ)) (fault : Option Refusal) → IsTidy (gets d r from q key held fault)
+gets_tidy d r from q key held (Some refusal) = (((d.server, refl, inr refl), tt), tt)
+gets_tidy d r from q key held None = (try_sends d r (record { from = from; request = q; key = key; reads = [] }), tt)
+
+pub get_tidy : (d : ServerContext) (r : RangeState) (from : ActorId) (q : ReqNo) (key : List ℕ) (held : List (Place × List ℕ)) → IsTidy (get_rule d r from q key held)
+get_tidy d r from q key held = gets_tidy d r from q key held (get_fault d r key)
+
+bytes_tidy : (d : ServerContext) (r : RangeState) (w : ReqNo) (held : List (Place × List ℕ)) → IsTidy (bytes_rule d r w held)
+bytes_tidy d r w held = (try_all_sends d (record r { held = held }) (map (without w) r.gets), tt)
+
+-- ---- the load
+
+read_by_calls : (d : ServerContext) (c : ClientState) (position : ℕ) (x : Option StreamExtent) → Calls (read_by d c position x)
+read_by_calls d c position None = tt
+read_by_calls d c position (Some x) =
+    if_elim (λ z. Calls (given c z)) (is_some x.length) _ _
+    (λ t. given_calls c (read_sealed_rule c (request d) position) (read_sealed_calls c (request d) position))
+    (λ f. given_calls c (read_checked_rule c (request d)) (read_checked_calls c (request d)))
+
+reads_log_tidy : (d : ServerContext) (r : RangeState) (position : ℕ) → IsTidy (reads_log d r position)
+reads_log_tidy d r position =
+    let c : ClientState = picking d r.log in
+    if_elim IsTidy (nat_lt position (length r.log.extents)) _ _
+    (λ t. (listed (read_of d c position).packet (read_by_calls d c position (slice_get c.extents position)), tt))
+    (λ f. (((r.load.server, refl, inl refl), tt), tt))
+
+reads_log_from_tidy : (d : ServerContext) (r : RangeState) (position : Option ℕ) → IsTidy (reads_log_from d r position)
+reads_log_from_tidy d r None = dropped_tidy d r
+reads_log_from_tidy d r (Some position) = reads_log_tidy d r position
+
+checks_log_tidy : (d : ServerContext) (r : RangeState) (x : Option StreamExtent) → IsTidy (checks_log d r x)
+checks_log_tidy d r None = reads_log_from_tidy d r (first_position r r.regions)
+checks_log_tidy d r (Some x) =
+    let c : ClientState = picking d r.log in
+    if_elim IsTidy (is_some x.length) _ _
+    (λ t. reads_log_from_tidy d r (first_position r r.regions))
+    (λ f. (listed (given c (check_rule c (request d))).packet (given_calls c (check_rule c (request d)) (check_rule_calls c (request d))), tt))
+
+begins_log_tidy : (d : ServerContext) (r : RangeState) → IsTidy (begins_log d r)
+begins_log_tidy d r =
+    if_elim IsTidy (is_some (open_region r.said.regions) && (is_some (first_position r r.said.regions) && (length r.said.indexes == 0))) _ _
+    (λ t. checks_log_tidy d (record r { regions = r.said.regions }) (last_extent r.log.extents))
+    (λ f. dropped_tidy d r)
+
+reads_metadata_tidy : (d : ServerContext) (r : RangeState) (position : ℕ) → IsTidy (reads_metadata d r position)
+reads_metadata_tidy d r position =
+    let c : ClientState = picking d r.metadata in
+    if_elim IsTidy (nat_lt position (length r.metadata.extents)) _ _
+    (λ t. (listed (read_of d c position).packet (read_by_calls d c position (slice_get c.extents position)), tt))
+    (λ f. begins_log_tidy d r)
+
+begins_metadata_tidy : (d : ServerContext) (r : RangeState) (x : Option StreamExtent) → IsTidy (begins_metadata d r x)
+begins_metadata_tidy d r None = begins_log_tidy d r
+begins_metadata_tidy d r (Some x) =
+    let c : ClientState = picking d r.metadata in
+    if_elim IsTidy (is_some x.length) _ _
+    (λ t. reads_metadata_tidy d r 0)
+    (λ f. (listed (given c (check_rule c (request d))).packet (given_calls c (check_rule c (request d)) (check_rule_calls c (request d))), tt))
+
+opens_tidy : (d : ServerContext) (r : RangeState) (lists : StreamLists) → IsTidy (opens d r lists)
+opens_tidy d r lists =
+    begins_metadata_tidy d
+    (record r {
+      load = record r.load { phase = phases.Opened };
+      metadata = new_client d.server (record { range = r.load.range; kind = kinds.Metadata }) r.load.generation lists.metadata d.pick;
+      log = new_client d.server (record { range = r.load.range; kind = kinds.Log }) r.load.generation lists.log d.pick;
+      row_data = lists.row_data;
+      blob_data = lists.blob_data;
+      said = first_metadata;
+    })
+    (last_extent lists.metadata.extents)
+
+says_tidy : (d : ServerContext) (r : RangeState) (position : ℕ) (said : Option MetadataState) → IsTidy (says d r position said)
+says_tidy d r position None = dropped_tidy d r
+says_tidy d r position (Some said) = reads_metadata_tidy d (record r { said = said }) (suc position)
+
+replays_tidy : (d : ServerContext) (r : RangeState) (position : ℕ) (x : Option (List Region × Entries)) → IsTidy (replays d r position x)
+replays_tidy d r position None = dropped_tidy d r
+replays_tidy d r position (Some x) = reads_log_tidy d (record r { regions = x.0; live = x.1 }) (suc position)
+
+log_read_tidy : (d : ServerContext) (r : RangeState) (position e : ℕ) (groups : List Group) → IsTidy (log_read d r position e groups)
+log_read_tidy d r position e groups =
+    if_elim IsTidy (nat_lt (r.log.base + position) (2 ^ 64)) _ _
+    (λ t. replays_tidy d r position (replayed r.said.keys e (record { index = r.log.base + position; offset = 0 }) (r.regions, r.live) groups))
+    (λ f. dropped_tidy d r)
+
+metadata_news_tidy : (d : ServerContext) (r : RangeState) (groups : List Group) (stage : Stage) (told : Option News) (packets : List Packet) → AllFromServers packets → IsTidy (metadata_news d r groups stage told packets)
+metadata_news_tidy d r groups stage (Some news.Fenced) packets h = dropped_tidy d r
+metadata_news_tidy d r groups (Checking kind) (Some (news.Checked e l)) packets h = reads_metadata_tidy d r 0
+metadata_news_tidy d r groups (Checking kind) (Some (news.Sealed e l)) packets h = reads_metadata_tidy d r 0
+metadata_news_tidy d r groups (Reading kind position) (Some (news.Sealed e l)) packets h = reads_metadata_tidy d r position
+metadata_news_tidy d r groups (Reading kind position) (Some (news.Content e upto)) packets h = says_tidy d r position (said_after r.said groups)
+metadata_news_tidy d r groups stage told packets h = (h, tt)
+
+log_news_tidy : (d : ServerContext) (r : RangeState) (groups : List Group) (stage : Stage) (told : Option News) (packets : List Packet) → AllFromServers packets → IsTidy (log_news d r groups stage told packets)
+log_news_tidy d r groups stage (Some news.Fenced) packets h = dropped_tidy d r
+log_news_tidy d r groups (Checking kind) (Some (news.Checked e l)) packets h = reads_log_from_tidy d r (first_position r r.regions)
+log_news_tidy d r groups (Checking kind) (Some (news.Sealed e l)) packets h = reads_log_from_tidy d r (first_position r r.regions)
+log_news_tidy d r groups (Reading kind position) (Some (news.Sealed e l)) packets h = reads_log_tidy d r position
+log_news_tidy d r groups (Reading kind position) (Some (news.Content e upto)) packets h = log_read_tidy d r position e groups
+log_news_tidy d r groups stage told packets h = (h, tt)
+
+-- ---- the loaded table
+
+serves_from_shows : (d : ServerContext) (r : RangeState) (region : Option Region) → ShowsFrom (Some r.live) (serves_from d r region)
+serves_from_shows d r None = tidy_shows (Some r.live) (dropped d r) (dropped_tidy d r)
+serves_from_shows d r (Some region) =
+    if_elim (ShowsFrom (Some r.live)) (nat_lt 0 region.next) _ _
+    (λ t. (tt, inr (record { range = r.load.range; generation = r.load.generation; entries = r.live; indexes = r.said.indexes; next = region.next; is = refl; from = refl })))
+    (λ f. tidy_shows (Some r.live) (dropped d r) (dropped_tidy d r))
+
+serves_shows : (d : ServerContext) (r : RangeState) → ShowsFrom (Some r.live) (serves d r)
+serves_shows d r =
+    if_elim (ShowsFrom (Some r.live)) (are_counted r.log) _ _
+    (λ t. serves_from_shows d r (open_region r.regions))
+    (λ f. tidy_shows (Some r.live) (dropped d r) (dropped_tidy d r))
+
+-- the memory table that a range shows with this answer, where it is confirmed
+abbrev pub live_by : RangeState → StreamBody → Option Entries
+live_by r (streams.Confirmed w) = Some r.live
+live_by r body = None
+
+abbrev pub live_with : RangeState → Body → Option Entries
+live_with r (bodies.Stream body) = live_by r body
+live_with r body = None
+
+-- ---- answers
+
+load_refused_tidy : (d : ServerContext) (r : RangeState) (body : AppendBody) → IsTidy (load_refused d r body)
+load_refused_tidy d r (appends.Refused w refusals.Stale) = dropped_tidy d r
+load_refused_tidy d r body = (tt, tt)
+
+load_told_shows : (d : ServerContext) (r : RangeState) (phase : LoadPhase) (body : StreamBody) → ShowsFrom (live_by r body) (load_told d r phase body)
+load_told_shows d r (phases.Opening q) (streams.Opened w lists) = tidy_shows None (opens d r lists) (opens_tidy d r lists)
+load_told_shows d r (phases.Confirming q) (streams.Confirmed w) = serves_shows d r
+load_told_shows d r phase body = (tt, inl tt)
+
+load_reply_shows : (d : ServerContext) (r : RangeState) (body : Body) → ShowsFrom (live_with r body) (load_reply d r body)
+load_reply_shows d r (bodies.Append body) = tidy_shows None (load_refused d r body) (load_refused_tidy d r body)
+load_reply_shows d r (bodies.Stream body) = load_told_shows d r r.load.phase body
+load_reply_shows d r body = (tt, inl tt)
+
+metadata_reply_tidy : (d : ServerContext) (r : RangeState) (body : Body) → IsTidy (metadata_reply d r body)
+metadata_reply_tidy d r body =
+    let o : Outcome = reply_rule (picking d r.metadata) (request d) body in
+    metadata_news_tidy d (record r { metadata = o.after }) (groups_of body) r.stage o.news (option_to_list o.packet)
+    (listed o.packet (reply_calls (picking d r.metadata) (request d) body))
+
+serving_news_tidy : (d : ServerContext) (r : RangeState) (told : Option News) (packets : List Packet) → AllFromServers packets → IsTidy (serving_news d r told packets)
+serving_news_tidy d r (Some news.Fenced) packets h = dropped_tidy d r
+serving_news_tidy d r (Some (news.Appended e offset)) packets h = log_done_tidy d r r.out e offset
+serving_news_tidy d r told packets h = (h, tt)
+
+log_taken_tidy : (d : ServerContext) (r : RangeState) (body : Body) → IsTidy (log_taken d r body)
+log_taken_tidy d r body =
+    let o : Outcome = reply_rule (picking d r.log) (request d) body in
+    let now : RangeState = record r { log = o.after } in
+    let all : AllFromServers (option_to_list o.packet) = listed o.packet (reply_calls (picking d r.log) (request d) body) in
+    if_elim IsTidy (is_serving r.stage) _ _
+    (λ t. serving_news_tidy d now o.news (option_to_list o.packet) all)
+    (λ f. log_news_tidy d now (groups_of body) r.stage o.news (option_to_list o.packet) all)
+
+log_reply_tidy : (d : ServerContext) (r : RangeState) (body : Body) → IsTidy (log_reply d r body)
+log_reply_tidy d r body = if_elim IsTidy (is_taken r body) _ _ (λ t. log_taken_tidy d r body) (λ f. (tt, tt))
+
+bytes_reply_tidy : (d : ServerContext) (r : RangeState) (w : ReqNo) (body : ReadBody) (held : List (Place × List ℕ)) → IsTidy (bytes_reply d r w body held)
+bytes_reply_tidy d r w (reads.Bytes v e offset bytes) held = bytes_tidy d r w held
+bytes_reply_tidy d r w body held = (tt, tt)
+
+gets_reply_tidy : (d : ServerContext) (r : RangeState) (w : ReqNo) (body : Body) (held : List (Place × List ℕ)) → IsTidy (gets_reply d r w body held)
+gets_reply_tidy d r w (bodies.Read body) held = bytes_reply_tidy d r w body held
+gets_reply_tidy d r w body held = (tt, tt)
+
+pub answer_shows : (d : ServerContext) (r : RangeState) (w : ReqNo) (body : Body) (held : List (Place × List ℕ)) → ShowsFrom (live_with r body) (answer_rule d r w body held)
+answer_shows d r w body held =
+    if_elim (ShowsFrom (live_with r body)) (load_awaits r.load.phase w) _ _
+    (λ t. load_reply_shows d r body)
+    (λ f. if_elim (ShowsFrom (live_with r body)) (awaits r.metadata.job w) _ _
+    (λ t. tidy_shows (live_with r body) (metadata_reply d r body) (metadata_reply_tidy d r body))
+    (λ g. if_elim (ShowsFrom (live_with r body)) (awaits r.log.job w) _ _
+    (λ t. tidy_shows (live_with r body) (log_reply d r body) (log_reply_tidy d r body))
+    (λ h. tidy_shows (live_with r body) (gets_reply d r w body held) (gets_reply_tidy d r w body held))))
+
+-- ---- giving up
+
+asks_again_all : (d : ServerContext) (read : PlaceRead) (places : Option Nodes) → AllFromServers (asks_again d read places)
+asks_again_all d read None = tt
+asks_again_all d read (Some places) = ((d.server, refl, inl refl), tt)
+
+gives_up_read_all : (d : ServerContext) (r : RangeState) (g : WaitingGet) (read : Option PlaceRead) → AllFromServers (gives_up_read d r g read).1
+gives_up_read_all d r g None = tt
+gives_up_read_all d r g (Some read) = asks_again_all d (moved_on read) (places_of r read.place.extent)
+
+pub give_up_tidy : (d : ServerContext) (r : RangeState) → IsTidy (give_up_all d r)
+give_up_tidy d r =
+    let m : Outcome = give_up_rule (picking d r.metadata) (request d) d.pick in
+    let l : Outcome = give_up_rule (picking d r.log) (request (used d)) d.pick in (
+      all_both (option_to_list (again r.load r.load.phase)) _ (listed (again r.load r.load.phase) (again_calls r.load r.load.phase))
+          (all_both (option_to_list m.packet) _ (listed m.packet (give_up_calls (picking d r.metadata) (request d) d.pick))
+          (all_both (option_to_list l.packet) _ (listed l.packet (give_up_calls (picking d r.log) (request (used d)) d.pick))
+          (all_flat (λ (g : WaitingGet). (gives_up_get d r g).1) (λ g. gives_up_read_all d r g (slice_get g.reads (length g.reads - 1))) r.gets))),
+      tt,
+    )

@@ -1,0 +1,183 @@
+-- What a step of a server sends it may send, and what it shows is plain, but for the table that it loads.
+use Rattle.std.proofs.Common.{◌≡◌, ℕ, ◌==◌, List, [], Option, Some, None, refl, sym, ap, ◌∙◌, inl, inr, subst}
+use Rattle.std.proofs.lemmas.Option.{same_Some}
+use Rattle.block_types.specs.declared.record.Nodes.{Nodes}
+use Rattle.wire.specs.declared.actor.ActorId.{ActorId}
+use Rattle.wire.specs.declared.actor.ActorId.TheVariants as actors
+use Rattle.wire.specs.declared.actor.ReqNo.{ReqNo}
+use Rattle.wire.specs.declared.body.StreamBody.{StreamBody}
+use Rattle.wire.specs.declared.body.StreamBody.TheVariants as streams
+use Rattle.wire.specs.declared.body.MapBody.{MapBody}
+use Rattle.wire.specs.declared.body.MapBody.TheVariants as maps
+use Rattle.wire.specs.declared.body.TableBody.{TableBody}
+use Rattle.wire.specs.declared.body.TableBody.TheVariants as tables
+use Rattle.wire.specs.declared.body.Body.{Body}
+use Rattle.wire.specs.declared.body.Body.TheVariants as bodies
+use Rattle.wire.specs.declared.packet.Packet.{Packet}
+use Rattle.wire.specs.declared.transaction.Change.{Change}
+use Rattle.memtable.specs.Entries.{Entries}
+use Rattle.model_streams.proofs.Tests.{if_elim}
+use Rattle.model_streams.specs.Maps.{entry_at}
+use Rattle.model_partition.specs.declared.server_context.ServerContext.{ServerContext}
+use Rattle.model_partition.specs.Range.{RangeState}
+use Rattle.model_partition.specs.Answering.{answered_number, is_answerer, answer_rule, give_up_all}
+use Rattle.model_partition.specs.Server.{ServerState, ServerOutcome, range_of, awaiting, users_of, is_newer, assign_rule, renew_rule, told_by_map, map_rule, transacts_in, gets_in, table_rule, answer_in, answer_of, numbered_rule, taken_rule, has_numbers, server_rule, gives_up}
+use Rattle.model_partition.specs.Servers.{CacheContent, ArePlain, ShowsLoad, ServerCell, ServersOutcome, live_of, live_at, loads, cell_loads, server_loads, cell_takes, cell_given_up, cell_gives_up, cell_stops, cell_starts, at_server, server_takes, server_gives_up, server_stops, server_starts}
+use Rattle.laws_servers.specs.Sending.{MaySendAll, AllFromServers}
+use Rattle.laws_servers.proofs.ClientPackets.{all_both, may_send_all}
+use Rattle.laws_servers.proofs.RangeSteps.{ShowsFrom, live_with, refused_all, transact_tidy, get_tidy, answer_shows, give_up_tidy}
+
+-- what it sends is from a server, and it shows no loaded table
+abbrev pub AreTidy : ServerOutcome → Type 0
+AreTidy o = AllFromServers o.packets × ArePlain o.notes
+
+-- what it sends is from a server, and it shows no loaded table but this
+abbrev pub Shows : Option Entries → ServerOutcome → Type 0
+Shows loading o = AllFromServers o.packets × ShowsLoad loading o.notes
+
+plainly : (loading : Option Entries) (o : ServerOutcome) → AreTidy o → Shows loading o
+plainly loading o h = (h.0, inl h.1)
+
+-- ---- what the map tells
+
+pub users_all : (d : ServerContext) (known : Option RangeState) → AllFromServers (users_of d known)
+users_all d None = tt
+users_all d (Some r) = refused_all d r
+
+assign_tidy : (s : ServerState) (range generation until : ℕ) (known : Option RangeState) → AreTidy (assign_rule s range generation until known)
+assign_tidy s range generation until known =
+    if_elim AreTidy (is_newer generation known) _ _
+    (λ t. (all_both (users_of s.context known) _ (users_all s.context known) ((s.context.server, refl, inl refl), tt), tt))
+    (λ f. (tt, tt))
+
+renew_tidy : (s : ServerState) (range generation until : ℕ) (known : Option RangeState) → AreTidy (renew_rule s range generation until known)
+renew_tidy s range generation until None = (tt, tt)
+renew_tidy s range generation until (Some r) = if_elim AreTidy (r.load.generation == generation) _ _ (λ t. (tt, tt)) (λ f. (tt, tt))
+
+told_tidy : (s : ServerState) (body : MapBody) → AreTidy (told_by_map s body)
+told_tidy s (maps.Assign range generation until) = assign_tidy s range generation until (range_of s.ranges range)
+told_tidy s (maps.Renew range generation until) = renew_tidy s range generation until (range_of s.ranges range)
+told_tidy s body = (tt, tt)
+
+map_tidy : (s : ServerState) (from : ActorId) (body : MapBody) → AreTidy (map_rule s from body)
+map_tidy s actors.Map body = told_tidy s body
+map_tidy s from body = (tt, tt)
+
+-- ---- what users ask
+
+transacts_tidy : (s : ServerState) (p : Packet) (range : ℕ) (changes : List Change) (q : ReqNo) (known : Option RangeState) → AreTidy (transacts_in s p range changes q known)
+transacts_tidy s p range changes q None = (((s.context.server, refl, inr refl), tt), tt)
+transacts_tidy s p range changes q (Some r) = transact_tidy s.context r p.from q changes
+
+gets_tidy : (s : ServerState) (p : Packet) (range : ℕ) (key : List ℕ) (q : ReqNo) (held : CacheContent) (known : Option RangeState) → AreTidy (gets_in s p range key q held known)
+gets_tidy s p range key q held None = (((s.context.server, refl, inr refl), tt), tt)
+gets_tidy s p range key q held (Some r) = get_tidy s.context r p.from q key held
+
+table_tidy : (s : ServerState) (p : Packet) (body : TableBody) (held : CacheContent) → AreTidy (table_rule s p body held)
+table_tidy s p (tables.Transact range changes q) held = transacts_tidy s p range changes q (range_of s.ranges range)
+table_tidy s p (tables.Get range key q) held = gets_tidy s p range key q held (range_of s.ranges range)
+table_tidy s p body held = (tt, tt)
+
+-- ---- answers
+
+-- the range that shows its table is the one that waits for the answer
+live_is : (s : ServerState) (body : StreamBody) (w : ReqNo) (range : ℕ) (r : RangeState) → answered_number (bodies.Stream body) ≡ Some w → awaiting s.ranges w ≡ Some range →
+    range_of s.ranges range ≡ Some r → live_with r (bodies.Stream body) ≡ loads s (bodies.Stream body)
+live_is s (streams.Confirmed q) w range r number waits known =
+    sym (ap (λ (x : ReqNo). live_at s (awaiting s.ranges x)) (same_Some q w number) ∙ ap (live_at s) waits ∙ ap live_of known)
+live_is s body w range r number waits known = refl
+
+live_loads : (s : ServerState) (body : Body) (w : ReqNo) (range : ℕ) (r : RangeState) → answered_number body ≡ Some w → awaiting s.ranges w ≡ Some range →
+    range_of s.ranges range ≡ Some r → live_with r body ≡ loads s body
+live_loads s (bodies.Stream body) w range r number waits known = live_is s body w range r number waits known
+live_loads s body w range r number waits known = refl
+
+answer_in_shows : (s : ServerState) (p : Packet) (w : ReqNo) (held : CacheContent) (range : ℕ) (known : Option RangeState) → answered_number p.body ≡ Some w → awaiting s.ranges w ≡ Some range →
+    range_of s.ranges range ≡ known → Shows (loads s p.body) (answer_in s p w held range known)
+answer_in_shows s p w held range None number waits known = (tt, inl tt)
+answer_in_shows s p w held range (Some r) number waits known =
+    subst (λ (loading : Option Entries). ShowsFrom loading (answer_rule s.context r w p.body held)) (live_loads s p.body w range r number waits known)
+    (answer_shows s.context r w p.body held)
+
+answer_of_shows : (s : ServerState) (p : Packet) (w : ReqNo) (held : CacheContent) (range : Option ℕ) → answered_number p.body ≡ Some w → awaiting s.ranges w ≡ range →
+    Shows (loads s p.body) (answer_of s p w held range)
+answer_of_shows s p w held None number waits = (tt, inl tt)
+answer_of_shows s p w held (Some range) number waits = answer_in_shows s p w held range (range_of s.ranges range) number waits refl
+
+numbered_shows : (s : ServerState) (p : Packet) (held : CacheContent) (number : Option ReqNo) → answered_number p.body ≡ number → Shows (loads s p.body) (numbered_rule s p held number)
+numbered_shows s p held None is = (tt, inl tt)
+numbered_shows s p held (Some w) is =
+    if_elim (Shows (loads s p.body)) (is_answerer p.from p.body) _ _
+    (λ t. answer_of_shows s p w held (awaiting s.ranges w) is refl)
+    (λ f. (tt, inl tt))
+
+answered_shows : (s : ServerState) (p : Packet) (held : CacheContent) (body : Body) → p.body ≡ body → Shows (loads s body) (numbered_rule s p held (answered_number body))
+answered_shows s p held body is =
+    subst (λ (b : Body). Shows (loads s b) (numbered_rule s p held (answered_number b))) is (numbered_shows s p held (answered_number p.body) refl)
+
+taken_shows : (s : ServerState) (p : Packet) (body : Body) (held : CacheContent) → p.body ≡ body → Shows (loads s body) (taken_rule s p body held)
+taken_shows s p (bodies.Map body) held is = plainly None (map_rule s p.from body) (map_tidy s p.from body)
+taken_shows s p (bodies.Table body) held is = plainly None (table_rule s p body held) (table_tidy s p body held)
+taken_shows s p body held is = answered_shows s p held body is
+
+pub server_shows : (s : ServerState) (p : Packet) (held : CacheContent) → Shows (loads s p.body) (server_rule s p p.body held)
+server_shows s p held = if_elim (Shows (loads s p.body)) (has_numbers s.context) _ _ (λ t. taken_shows s p p.body held refl) (λ f. (tt, inl tt))
+
+-- ---- servers over their starts and stops
+
+-- all servers send what servers may send, and show no loaded table
+abbrev pub AllTidy : ServersOutcome → Type 0
+AllTidy o = MaySendAll o.packets × ArePlain o.notes
+
+-- all servers send what servers may send, and show no loaded table but this
+abbrev pub AllShow : Option Entries → ServersOutcome → Type 0
+AllShow loading o = MaySendAll o.packets × ShowsLoad loading o.notes
+
+cell_shows : (cell : ServerCell) (p : Packet) (held : CacheContent) (state : Option ServerState) →
+    MaySendAll (cell_takes cell p held state).packets × ShowsLoad (cell_loads state p.body) (cell_takes cell p held state).notes
+cell_shows cell p held None = (tt, inl tt)
+cell_shows cell p held (Some s) = let h = server_shows s p held in (may_send_all (server_rule s p p.body held).packets h.0, h.1)
+
+takes_shows : (servers : List ServerCell) (n : ℕ) (p : Packet) (held : CacheContent) (cell : Option ServerCell) →
+    AllShow (server_loads cell p.body) (at_server servers n (λ x. cell_takes x p held x.state) cell)
+takes_shows servers n p held None = (tt, inl tt)
+takes_shows servers n p held (Some cell) = cell_shows cell p held cell.state
+
+pub server_takes_shows : (servers : List ServerCell) (n : ℕ) (p : Packet) (held : CacheContent) →
+    AllShow (server_loads (entry_at servers n) p.body) (server_takes servers n p held)
+server_takes_shows servers n p held = takes_shows servers n p held (entry_at servers n)
+
+gives_up_tidy : (s : ServerState) (range : ℕ) (known : Option RangeState) (cell : ServerCell) →
+    MaySendAll (cell_given_up cell (gives_up s range known)).packets × ArePlain (cell_given_up cell (gives_up s range known)).notes
+gives_up_tidy s range None cell = (tt, tt)
+gives_up_tidy s range (Some r) cell =
+    if_elim (λ (o : ServerOutcome). MaySendAll o.packets × ArePlain o.notes) (has_numbers s.context) _ _
+    (λ t. let h = give_up_tidy s.context r in (may_send_all (give_up_all s.context r).packets h.0, h.1)) (λ f. (tt, tt))
+
+cell_gives_up_tidy : (cell : ServerCell) (range : ℕ) (pick : Nodes) (state : Option ServerState) →
+    MaySendAll (cell_gives_up cell range pick state).packets × ArePlain (cell_gives_up cell range pick state).notes
+cell_gives_up_tidy cell range pick None = (tt, tt)
+cell_gives_up_tidy cell range pick (Some s) = gives_up_tidy (record s { context = record s.context { pick = pick } }) range (range_of s.ranges range) cell
+
+given_up_tidy : (servers : List ServerCell) (n range : ℕ) (pick : Nodes) (cell : Option ServerCell) →
+    AllTidy (at_server servers n (λ x. cell_gives_up x range pick x.state) cell)
+given_up_tidy servers n range pick None = (tt, tt)
+given_up_tidy servers n range pick (Some cell) = cell_gives_up_tidy cell range pick cell.state
+
+pub server_gives_up_tidy : (servers : List ServerCell) (n range : ℕ) (pick : Nodes) → AllTidy (server_gives_up servers n range pick)
+server_gives_up_tidy servers n range pick = given_up_tidy servers n range pick (entry_at servers n)
+
+-- a stop and a start neither send nor show
+abbrev pub IsStill : ServersOutcome → Type 0
+IsStill o = (o.packets ≡ []) × (o.notes ≡ [])
+
+rests_still : (servers : List ServerCell) (n : ℕ) (goes : ServerCell → ServerCell) (cell : Option ServerCell) →
+    IsStill (at_server servers n (λ x. record { cell = goes x; packets = []; notes = [] }) cell)
+rests_still servers n goes None = (refl, refl)
+rests_still servers n goes (Some cell) = (refl, refl)
+
+pub server_stops_still : (servers : List ServerCell) (n call : ℕ) → IsStill (server_stops servers n call)
+server_stops_still servers n call = rests_still servers n (cell_stops call) (entry_at servers n)
+
+pub server_starts_still : (servers : List ServerCell) (n now batch : ℕ) → IsStill (server_starts servers n now batch)
+server_starts_still servers n now batch = rests_still servers n (λ x. cell_starts n now batch x x.state) (entry_at servers n)

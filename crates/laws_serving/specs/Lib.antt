@@ -1,4 +1,0 @@
-pub mod Serves
-pub mod Sound
-pub mod Quiet
-pub mod Still

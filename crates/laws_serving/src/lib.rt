@@ -1,7 +1,0 @@
-//! What a partition server does with a range, as turns on the streams of the range.
-//!
-//! This crate has no code, and touches nothing. Its lemmas lead from the rows of a server (`model_tables`) to the turns of one
-//! incarnation of the range on the machines of its metadata and of its log: each row that is treated here makes turns that are
-//! allowed, asks what those turns ask, under numbers that were not used, and leaves the range standing where they lead. What it
-//! shows is what the turns of the log show, and the transactions of each group that it forms have the numbers that come next.
-#![tactic(auto)]

@@ -1,0 +1,16 @@
+pub mod ExtentSteps
+pub mod FactSources
+pub mod StepSequences
+pub mod MachineCore
+pub mod SentPackets
+pub mod Refines
+pub mod WorldSteps
+pub mod ToldLists
+pub mod StreamRules
+pub mod ManagerSteps
+pub mod NodeAnswers
+pub mod NodeSteps
+pub mod EventSteps
+pub mod ServerRequests
+pub mod LowerLayer
+pub mod Guards

@@ -1,0 +1,323 @@
+-- What a rule of the manager's table leaves of the lists of extents.
+use Rattle.std.proofs.Common.{◌≡◌, ◌⊎◌, ℕ, suc, ◌≤◌, ◌&&◌, ◌==◌, [], ◌∷◌, ◌++◌, Option, Some, None, Result, Ok, Err, refl, sym, ap, ◌∙◌, inl, inr, arith, subst}
+use Rattle.std.proofs.lemmas.Bool.{eqb-true, and_parts}
+use Rattle.block_types.specs.declared.record.Nodes.{Nodes}
+use Rattle.wire.specs.declared.actor.ActorId.{ActorId}
+use Rattle.wire.specs.declared.actor.ActorId.TheVariants.{Manager}
+use Rattle.wire.specs.declared.actor.ReqNo.{ReqNo}
+use Rattle.wire.specs.declared.body.SealBody.{SealBody}
+use Rattle.wire.specs.declared.body.SealBody.TheVariants.{SealExtent, Frozen, IsSealed, Short}
+use Rattle.wire.specs.declared.body.StreamBody.{StreamBody}
+use Rattle.wire.specs.declared.body.StreamBody.TheVariants.{CreateStream, OpenStreams, Confirm, Confirmed, Extend, Trim, MultiModify}
+use Rattle.wire.specs.declared.body.Body.{Body}
+use Rattle.wire.specs.declared.body.Body.TheVariants as bodies
+use Rattle.wire.specs.declared.packet.Packet.{Packet}
+use Rattle.wire.specs.declared.refusal.Refusal.{Refusal}
+use Rattle.wire.specs.declared.refusal.Refusal.TheVariants.{Stale, BadPick}
+use Rattle.wire.specs.declared.streams.StreamKind.{StreamKind}
+use Rattle.wire.specs.declared.streams.StreamKind.TheVariants.{Metadata, Log, RowData, BlobData}
+use Rattle.wire.specs.declared.streams.StreamName.{StreamName}
+use Rattle.streams.specs.Streams.{kind_number, Stream, Streams, empty_stream, stream_of, with_stream, fenced_at, extending, last_of, longer, extended_if, extended as extended_streams}
+use Rattle.model_streams.specs.declared.extent.Extent.{Extent}
+use Rattle.model_streams.specs.declared.extent.PlaceReport.{PlaceReport}
+use Rattle.model_streams.specs.Actors.{is_node, is_user, generation_of}
+use Rattle.model_streams.specs.Manager.{Catalog, is_there, new_extent, with_extent, extended, create_tests, create_refusal, create_taken, open_refusal, open_taken, confirm_refusal, answer, is_foreign, is_pick, sealed_lengths, extend_made, last_told, extend_answered, extend_rule, no_users, seal_asked, seal_extent_rule, with_report, noted, frozen_to, frozen_rule, known_sealed, is_sealed_rule, place_of, first_sealed, asks_tail, short_rule, sealed_to, decided_if, least_told, decide_rule, stream_body_rule, seal_body_rule, manager_rule, reminders}
+use Rattle.model_streams.specs.Outcome.{Outcome, silent, sends, refused, or_refused}
+use Rattle.model_streams.proofs.Tests.{if_elim, none_met}
+use Rattle.laws_streams.specs.Origins.{Begins}
+use Rattle.laws_streams.specs.Answers.{MayGrow}
+use Rattle.laws_streams.specs.Listings.{Longer}
+use Rattle.laws_streams.proofs.Lists.{begins_refl, begins_push}
+use Rattle.laws_streams.proofs.Choices.{changed_elim, changed-same}
+use Rattle.laws_streams.proofs.RisingFences.{not_there, no_fault}
+use Rattle.laws_streams.proofs.StreamAnswers.{found_end, may_grow}
+
+-- ---- catalogs
+
+-- the extent is there, and sealed where it was
+pub record Kept (y : Extent) (found : Option Extent) : Type 0 where
+  pub now : Extent
+  pub is : found ≡ Some now
+  pub sealed : (l : ℕ) → y.sealed ≡ Some l → now.sealed ≡ Some l
+
+-- a list that was there
+pub record Old (b : Catalog) (s : StreamName) (z : Stream) : Type 0 where
+  pub was : Stream
+  pub there : stream_of b.stream s ≡ Some was
+  pub base : z.base ≡ was.base
+  pub extents : z.extents ≡ was.extents
+
+-- a list that gained the next extent
+pub record Grown (b : Catalog) (extent : ℕ → Option Extent) (s : StreamName) (z : Stream) : Type 0 where
+  pub was : Stream
+  pub there : stream_of b.stream s ≡ Some was
+  pub base : z.base ≡ was.base
+  pub extents : z.extents ≡ was.extents ++ suc b.count ∷ []
+  pub last : Option ℕ
+  pub may : MayGrow b was last
+  pub new : Extent
+  pub made : extent (suc b.count) ≡ Some new
+
+-- from b to c lists and extents are kept, and at most the list of this name gains an extent
+pub record Goes (b c : Catalog) : Type 0 where
+  pub name : StreamName
+  pub kept : (e : ℕ) (y : Extent) → b.extent e ≡ Some y → Kept y (c.extent e)
+  pub grows : (s : StreamName) (x : Stream) → stream_of b.stream s ≡ Some x → Longer x (stream_of c.stream s)
+  pub lists : (s : StreamName) (z : Stream) → stream_of c.stream s ≡ Some z →
+      Old b s z ⊎ (((z.base ≡ 0) × (z.extents ≡ [])) ⊎ ((s ≡ name) × Grown b c.extent s z))
+  pub count : b.count ≤ c.count
+  pub numbered : (e : ℕ) (y : Extent) → c.extent e ≡ Some y → ((x : Extent) × (b.extent e ≡ Some x)) ⊎ (e ≤ c.count)
+
+same_extent : (o : Option Extent) (y : Extent) → o ≡ Some y → Kept y o
+same_extent o y is = record { now = y; is = is; sealed = λ l k. k }
+
+same_list : (o : Option Stream) (x : Stream) → o ≡ Some x → Longer x o
+same_list o x is = record { now = x; is = is; begins = begins_refl x.extents }
+
+old_list : (b : Catalog) (s : StreamName) (z : Stream) → stream_of b.stream s ≡ Some z → Old b s z
+old_list b s z is = record { was = z; there = is; base = refl; extents = refl }
+
+-- any name
+abbrev some_name : StreamName
+some_name = record { range = 0; kind = Metadata }
+
+pub goes_refl : (b : Catalog) → Goes b b
+goes_refl b = record {
+  name = some_name;
+  kept = λ e y is. same_extent _ y is;
+  grows = λ s x is. same_list _ x is;
+  lists = λ s z is. inl (old_list b s z is);
+  count = omega arith;
+  numbered = λ e y is. inl (y, is);
+}
+
+goes_extent : (b : Catalog) (e : ℕ) (x y : Extent) → b.extent e ≡ Some x → ((l : ℕ) → x.sealed ≡ Some l → y.sealed ≡ Some l) → Goes b (with_extent b e y)
+goes_extent b e x y there sealed = record {
+  name = some_name;
+  kept = λ k z is. changed_elim (Kept z) e (Some y) b.extent k
+      (λ q. let c : z ≡ x = (let d : Some z ≡ Some x = sym is ∙ ap b.extent q ∙ there in cc) in
+      record { now = y; is = refl; sealed = λ l h. sealed l (ap (λ (v : Extent). v.sealed) (sym c) ∙ h) })
+      (λ q. same_extent _ z is);
+  grows = λ s z is. same_list _ z is;
+  lists = λ s z is. inl (old_list b s z is);
+  count = omega arith;
+  numbered = λ k z. changed_elim (λ o. o ≡ Some z → ((v : Extent) × (b.extent k ≡ Some v)) ⊎ (k ≤ b.count)) e (Some y) b.extent k
+      (λ q is. inl (x, ap b.extent q ∙ there)) (λ q is. inl (z, is));
+}
+
+-- ---- names
+
+pub kind_same : (a b : StreamKind) → kind_number a ≡ kind_number b → a ≡ b
+kind_same Metadata Metadata e = refl
+kind_same Log Log e = refl
+kind_same RowData RowData e = refl
+kind_same BlobData BlobData e = refl
+kind_same Metadata Log e = absurd cc
+kind_same Metadata RowData e = absurd cc
+kind_same Metadata BlobData e = absurd cc
+kind_same Log Metadata e = absurd cc
+kind_same Log RowData e = absurd cc
+kind_same Log BlobData e = absurd cc
+kind_same RowData Metadata e = absurd cc
+kind_same RowData Log e = absurd cc
+kind_same RowData BlobData e = absurd cc
+kind_same BlobData Metadata e = absurd cc
+kind_same BlobData Log e = absurd cc
+kind_same BlobData RowData e = absurd cc
+
+pub same_name : (s t : StreamName) → s.range ≡ t.range → s.kind ≡ t.kind → s ≡ t
+same_name s t r k =
+    let e : record { range = s.range; kind = s.kind } ≡ record { range = t.range; kind = t.kind } = rw (r, k) refl in
+    e
+
+-- one stream is changed at its name, and the others are as they were
+pub with_stream_elim : (P : Option Stream → Type 0) (streams : Streams) (s : StreamName) (y : Stream) (t : StreamName) →
+    (t ≡ s → P (Some y)) → P (stream_of streams t) → P (stream_of (with_stream streams s y) t)
+with_stream_elim P streams s y t same other =
+    if_elim P ((t.range == s.range) && (kind_number t.kind == kind_number s.kind)) (Some y) (streams t.range (kind_number t.kind))
+    (λ k.
+    let m = and_parts (t.range == s.range) (kind_number t.kind == kind_number s.kind) k in
+    same (same_name t s (eqb-true t.range s.range m.0) (kind_same t.kind s.kind (eqb-true (kind_number t.kind) (kind_number s.kind) m.1))))
+    (λ k. other)
+
+-- ---- rules about streams
+
+create_goes : (b : Catalog) (p : Packet) (s : StreamName) (fence : ℕ) (q : ReqNo) (x : Option Refusal) → create_refusal b p s ≡ x →
+    Goes b (or_refused b Manager p q x (create_taken b p s fence q)).after
+create_goes b p s fence q (Some refusal) is = goes_refl b
+create_goes b p s fence q None is =
+    let none : stream_of b.stream s ≡ None = not_there _ (no_fault _ _ (none_met (create_tests b p s) is).1.0) in
+    record {
+      name = some_name;
+      kept = λ e y there. same_extent _ y there;
+      grows = λ t x there. with_stream_elim (Longer x) b.stream s (empty_stream fence) t
+          (λ k. absurd (let c : None ≡ Some x = sym none ∙ ap (stream_of b.stream) (sym k) ∙ there in cc)) (same_list _ x there);
+      lists = λ t z. with_stream_elim (λ o. o ≡ Some z → Old b t z ⊎ (((z.base ≡ 0) × (z.extents ≡ [])) ⊎ ((t ≡ some_name) × Grown b b.extent t z)))
+          b.stream s (empty_stream fence) t
+          (λ k there. let c : empty_stream fence ≡ z = cc in inr (inl (ap (λ (v : Stream). v.base) (sym c), ap (λ (v : Stream). v.extents) (sym c))))
+          (λ there. inl (old_list b t z there));
+      count = omega arith;
+      numbered = λ e y there. inl (y, there);
+    }
+
+fenced_longer : (generation : ℕ) (o : Option Stream) (x : Stream) → o ≡ Some x → Longer x (fenced_at generation o)
+fenced_longer generation None x is = absurd cc
+fenced_longer generation (Some y) x is =
+    let c : y ≡ x = cc in
+    record { now = record y { fence = generation }; is = refl; begins = subst (λ (v : Stream). Begins v.extents y.extents) c (begins_refl y.extents) }
+
+fenced_old : (b : Catalog) (s : StreamName) (generation : ℕ) (o : Option Stream) (z : Stream) → stream_of b.stream s ≡ o → fenced_at generation o ≡ Some z → Old b s z
+fenced_old b s generation None z there is = absurd cc
+fenced_old b s generation (Some y) z there is =
+    let c : record y { fence = generation } ≡ z = cc in
+    record { was = y; there = there; base = ap (λ (v : Stream). v.base) (sym c); extents = ap (λ (v : Stream). v.extents) (sym c) }
+
+open_goes : (b : Catalog) (p : Packet) (range generation : ℕ) (q : ReqNo) (x : Option Refusal) →
+    Goes b (or_refused b Manager p q x (open_taken b p range generation q)).after
+open_goes b p range generation q (Some refusal) = goes_refl b
+open_goes b p range generation q None = record {
+  name = some_name;
+  kept = λ e y there. same_extent _ y there;
+  grows = λ s x there. if_elim (Longer x) (s.range == range) (fenced_at generation (stream_of b.stream s)) (stream_of b.stream s)
+      (λ t. fenced_longer generation _ x there) (λ t. same_list _ x there);
+  lists = λ s z. if_elim (λ o. o ≡ Some z → Old b s z ⊎ (((z.base ≡ 0) × (z.extents ≡ [])) ⊎ ((s ≡ some_name) × Grown b b.extent s z)))
+      (s.range == range) (fenced_at generation (stream_of b.stream s)) (stream_of b.stream s)
+      (λ t is. inl (fenced_old b s generation (stream_of b.stream s) z refl is)) (λ t is. inl (old_list b s z is));
+  count = omega arith;
+  numbered = λ e y there. inl (y, there);
+}
+
+module _ (b : Catalog) (s : StreamName) (fence : ℕ) (pick : Nodes) (x : Stream) (there : stream_of b.stream s ≡ Some x) (last : Option ℕ) (may : MayGrow b x last)
+    (fresh : b.extent (suc b.count) ≡ None) where
+  longer_is : extended_streams b.stream s (suc b.count) ≡ with_stream b.stream s (longer (suc b.count) x)
+  longer_is = ap (λ o. extended_if b.stream s (suc b.count) o) there
+
+  extended_goes : Goes b (extended b s fence pick)
+  extended_goes = record {
+    name = s;
+    kept = λ e y is. changed_elim (Kept y) (suc b.count) (Some (new_extent pick fence)) b.extent e
+        (λ q. absurd (let c : None ≡ Some y = sym fresh ∙ ap b.extent (sym q) ∙ is in cc)) (λ q. same_extent _ y is);
+    grows = λ t y is. rw longer_is (with_stream_elim (Longer y) b.stream s (longer (suc b.count) x) t
+        (λ k. let c : y ≡ x = (let d : Some y ≡ Some x = sym is ∙ ap (stream_of b.stream) k ∙ there in cc) in
+        record { now = longer (suc b.count) x; is = refl; begins = subst (λ (v : Stream). Begins v.extents (x.extents ++ suc b.count ∷ [])) (sym c) (begins_push x.extents (suc b.count ∷ [])) })
+        (same_list _ y is));
+    lists = λ t z. rw longer_is (with_stream_elim (λ o. o ≡ Some z → Old b t z ⊎ (((z.base ≡ 0) × (z.extents ≡ [])) ⊎ ((t ≡ s) × Grown b (extended b s fence pick).extent t z)))
+        b.stream s (longer (suc b.count) x) t
+        (λ k is. let c : longer (suc b.count) x ≡ z = cc in inr (inr (
+          k,
+          record {
+            was = x;
+            there = ap (stream_of b.stream) k ∙ there;
+            base = ap (λ (v : Stream). v.base) (sym c);
+            extents = ap (λ (v : Stream). v.extents) (sym c);
+            last = last;
+            may = may;
+            new = new_extent pick fence;
+            made = changed-same (suc b.count) (Some (new_extent pick fence)) b.extent;
+          },
+        )))
+        (λ is. inl (old_list b t z is)));
+    count = omega arith;
+    numbered = λ e y. changed_elim (λ o. o ≡ Some y → ((v : Extent) × (b.extent e ≡ Some v)) ⊎ (e ≤ suc b.count)) (suc b.count) (Some (new_extent pick fence)) b.extent e
+        (λ q is. inr (omega (arith, q))) (λ q is. inl (y, is));
+  }
+
+module _ (b : Catalog) (p : Packet) (fresh : b.extent (suc b.count) ≡ None) where
+  answered_goes : (s : StreamName) (generation : ℕ) (last : Option ℕ) (pick : Nodes) (q : ReqNo) (x : Result (Option ℕ) Refusal) →
+      extending (sealed_lengths b) (stream_of b.stream s) generation last ≡ x → Goes b (extend_answered b p s generation pick q x).after
+  answered_goes s generation last pick q (Err refusal) is = goes_refl b
+  answered_goes s generation last pick q (Ok None) is =
+      let (x, there, fence, free) = found_end (sealed_lengths b) (stream_of b.stream s) generation last None is in
+      if_elim (λ (o : Outcome Catalog). Goes b o.after) (is_pick b.nodes pick) (extend_made b p s generation pick q) (refused b Manager p q BadPick)
+      (λ t. extended_goes b s generation pick x there last (may_grow b x last (last_of x.extents) refl free) fresh) (λ t. goes_refl b)
+  answered_goes s generation last pick q (Ok (Some e)) is = by_extent (b.extent e)
+    where
+      by_extent : (o : Option Extent) → Goes b (last_told b p e o q).after
+      by_extent None = goes_refl b
+      by_extent (Some x) = goes_refl b
+
+  extend_goes : (s : StreamName) (generation : ℕ) (last : Option ℕ) (pick : Nodes) (q : ReqNo) → Goes b (extend_rule b p s generation last pick q).after
+  extend_goes s generation last pick q =
+      let x = extending (sealed_lengths b) (stream_of b.stream s) generation last in
+      if_elim (λ (o : Outcome Catalog). Goes b o.after) (is_foreign p.from s.range) (refused b Manager p q Stale) (extend_answered b p s generation pick q x)
+      (λ t. goes_refl b) (λ t. answered_goes s generation last pick q x refl)
+
+  confirm_goes : (q : ReqNo) (x : Option Refusal) → Goes b (or_refused b Manager p q x (answer b p (Confirmed q))).after
+  confirm_goes q (Some refusal) = goes_refl b
+  confirm_goes q None = goes_refl b
+
+  no_users_goes : (q : ReqNo) → Goes b (no_users b p q).after
+  no_users_goes q =
+      if_elim (λ (o : Outcome Catalog). Goes b o.after) (is_user p.from) (refused b Manager p q Stale) (silent b) (λ t. goes_refl b) (λ t. goes_refl b)
+
+  stream_goes : (body : StreamBody) → Goes b (stream_body_rule b p body).after
+  stream_goes (CreateStream s fence q) = create_goes b p s (generation_of p.from fence) q (create_refusal b p s) refl
+  stream_goes (OpenStreams range generation q) = open_goes b p range generation q (open_refusal b p range generation)
+  stream_goes (Confirm range generation q) = confirm_goes q (confirm_refusal b p range generation)
+  stream_goes (Extend s generation last pick q) = extend_goes s (generation_of p.from generation) last pick q
+  stream_goes (Trim range generation before to_blob q) = no_users_goes q
+  stream_goes (MultiModify list q) = no_users_goes q
+  stream_goes body = goes_refl b
+
+  -- ---- rules about extents
+
+  reported_goes : (e : ℕ) (from : ActorId) (news : PlaceReport → PlaceReport) (x : Extent) → b.extent e ≡ Some x → Goes b (noted b e (with_report x from news)).after
+  reported_goes e from news x is =
+      if_elim (λ o. Goes b (noted b e o).after) (is_node x.places.primary from) (Some (record x { primary = news x.primary })) _
+      (λ t. goes_extent b e x _ is (λ l k. k))
+      (λ _. if_elim (λ o. Goes b (noted b e o).after) (is_node x.places.second from) (Some (record x { second = news x.second })) _
+      (λ t. goes_extent b e x _ is (λ l k. k))
+      (λ _. if_elim (λ o. Goes b (noted b e o).after) (is_node x.places.third from) (Some (record x { third = news x.third })) None
+      (λ t. goes_extent b e x _ is (λ l k. k)) (λ _. goes_refl b)))
+
+  seal_extent_goes : (e : ℕ) (q : ReqNo) (o : Option Extent) → b.extent e ≡ o → Goes b (seal_extent_rule b p e q o).after
+  seal_extent_goes e q None is = goes_refl b
+  seal_extent_goes e q (Some x) is = by_length x.sealed
+    where
+      by_length : (o : Option ℕ) → Goes b (seal_asked b p e q x o).after
+      by_length None = goes_extent b e x _ is (λ l k. k)
+      by_length (Some l) = goes_refl b
+
+  frozen_goes : (e l : ℕ) (o : Option Extent) → b.extent e ≡ o → Goes b (frozen_rule b p e l o).after
+  frozen_goes e l None is = goes_refl b
+  frozen_goes e l (Some x) is =
+      if_elim (λ (o : Outcome Catalog). Goes b o.after) (is_there x.sealed) (silent b) (noted b e (with_report x p.from (frozen_to l)))
+      (λ t. goes_refl b) (λ f. reported_goes e p.from (frozen_to l) x is)
+
+  is_sealed_goes : (e : ℕ) (o : Option Extent) → b.extent e ≡ o → Goes b (is_sealed_rule b p e o).after
+  is_sealed_goes e None is = goes_refl b
+  is_sealed_goes e (Some x) is = reported_goes e p.from known_sealed x is
+
+  asks_goes : (e l : ℕ) (to n : Option ℕ) → Goes b (asks_tail b e l to n).after
+  asks_goes e l (Some to) (Some n) = goes_refl b
+  asks_goes e l (Some to) None = goes_refl b
+  asks_goes e l None (Some n) = goes_refl b
+  asks_goes e l None None = goes_refl b
+
+  short_goes : (e l : ℕ) (o : Option Extent) → Goes b (short_rule b p e l o).after
+  short_goes e l None = goes_refl b
+  short_goes e l (Some x) =
+      if_elim (λ (o : Outcome Catalog). Goes b o.after) (is_there x.sealed) (asks_tail b e l (place_of x.places p.from) (first_sealed x)) (silent b)
+      (λ t. asks_goes e l (place_of x.places p.from) (first_sealed x)) (λ f. goes_refl b)
+
+  seal_goes : (body : SealBody) → Goes b (seal_body_rule b p body).after
+  seal_goes (SealExtent e q) = seal_extent_goes e q (b.extent e) refl
+  seal_goes (Frozen e l) = frozen_goes e l (b.extent e) refl
+  seal_goes (IsSealed e) = is_sealed_goes e (b.extent e) refl
+  seal_goes (Short e l) = short_goes e l (b.extent e)
+  seal_goes body = goes_refl b
+
+  pub rule_goes : (body : Body) → Goes b (manager_rule b p body).after
+  rule_goes (bodies.Stream body) = stream_goes body
+  rule_goes (bodies.Seal body) = seal_goes body
+  rule_goes body = goes_refl b
+
+pub decide_goes : (b : Catalog) (e : ℕ) (o : Option Extent) → b.extent e ≡ o → Goes b (decide_rule b e o).after
+decide_goes b e None is = goes_refl b
+decide_goes b e (Some x) is =
+    if_elim (λ (o : Outcome Catalog). Goes b o.after) (is_there x.sealed) (sends b (reminders b e x)) (decided_if b e x (least_told x))
+    (λ t. goes_refl b) (λ f. by_least (not_there x.sealed f) (least_told x))
+  where
+    by_least : x.sealed ≡ None → (o : Option ℕ) → Goes b (decided_if b e x o).after
+    by_least unsealed None = goes_refl b
+    by_least unsealed (Some l) = goes_extent b e x (sealed_to x l) is (λ k m. absurd (let c : None ≡ Some k = sym unsealed ∙ m in cc))

@@ -1,9 +1,0 @@
-pub mod Seen
-pub mod Giving
-pub mod Going
-pub mod Stopping
-pub mod Quiet
-pub mod Desking
-pub mod Ruling
-pub mod Happening
-pub mod Telling

@@ -1,6 +1,0 @@
-pub mod Limits
-pub mod Nodes
-pub mod Desk
-pub mod Stopping
-pub mod Run
-pub mod Told

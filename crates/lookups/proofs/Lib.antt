@@ -1,5 +1,0 @@
-pub mod Values
-pub mod Extents
-pub mod Tries
-pub mod Moves
-pub mod Sights

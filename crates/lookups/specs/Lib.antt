@@ -1,4 +1,0 @@
-pub mod Held
-pub mod Looking
-pub mod Moving
-pub mod Lookups

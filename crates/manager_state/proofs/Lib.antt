@@ -1,0 +1,4 @@
+pub mod Spelling
+pub mod Tables
+pub mod ReplaysRecords
+pub mod Recovering

@@ -1,0 +1,12 @@
+use Rattle.std.proofs.Common.{◌≡◌, ◌++◌, length}
+use Rattle.std.specs.Vec.Iter.{into_iter_items, into_iter_len}
+use Rattle.manager_state.specs.Replay.{plain_of}
+use Rattle.manager_state.proofs.Recovering.{SoFar}
+use Rattle.manager_state.proofs.table.ManagerTable.replayed.Given as goal
+
+abbrev pub invariant-loop-record_read : goal.invariant-loop-record_read
+invariant-loop-record_read l = record {
+  made : SoFar (plain_of l.table) l.yielded;
+  rest : l.yielded ++ into_iter_items l.record_read-iterator ≡ l.fn.records.items;
+  count : into_iter_len l.record_read-iterator ≡ length (into_iter_items l.record_read-iterator);
+}

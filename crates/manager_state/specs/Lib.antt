@@ -1,0 +1,3 @@
+pub mod RecordBytes
+pub mod Table
+pub mod Replay

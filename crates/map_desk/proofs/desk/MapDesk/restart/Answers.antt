@@ -1,5 +1,0 @@
-use Rattle.std.proofs.Common.{rules}
-use Rattle.map_desk.proofs.desk.MapDesk.restart.Goals as goal
-
-pub returns-in-Ok-restart-clause-ok : goal.returns-in-Ok-restart-clause-ok
-returns-in-Ok-restart-clause-ok c = search rules

@@ -1,0 +1,122 @@
+//! One layer, as a map.
+ghost use Rattle.std.specs.Prelude.{◌≡◌, ◌+◌, ◌<◌, ◌≤◌, ◌^◌, ◌++◌, ◌∷◌, ℕ, [], List, vec_len, vec_capacity, IfOk, OnOk, OnErr, if◌then◌else◌};
+ghost use Rattle.std.specs.List.{AllByRecursion};
+ghost use Rattle.std.specs.BTreeMap.{is_at, insert_entry};
+ghost use Rattle.memtable.specs.Cell.{IsEntry};
+ghost use Rattle.memtable.specs.Entries as specs;
+
+use crate::cell::{Cell, entry_size};
+use bytes::Bytes;
+use std::alloc::{AllocError, Global};
+use std::collections::BTreeMap;
+
+/// A key and its cell before a change of it.
+type Undo = (Bytes, Option<Cell>);
+
+/// Puts the cell at the key, and adds how the key was. It answers the size with the entry, of a size with the layer.
+fn put(
+    layer: &mut BTreeMap<Bytes, Cell>,
+    undos: &mut Vec<Undo>,
+    size: u64,
+    key: Bytes,
+    cell: Cell,
+) -> Result<u64, AllocError>
+    requires fits { IsEntry key cell }
+    requires size { specs.entries_size layer.old.entries ≤ size }
+    ensures entries { OnOk result (layer.new.entries ≡ insert_entry specs.key_cmp layer.old.entries key cell) }
+    ensures found { OnOk result ((q : List ℕ) → specs.found layer.new.entries q
+        ≡ (if is_at (specs.key_cmp key) q then Some cell else specs.found layer.old.entries q)) }
+    ensures size { IfOk result (λ n. n + specs.entries_size layer.old.entries ≡ size + specs.entries_size layer.new.entries) }
+    ensures undos { OnOk result (specs.all_taken_back undos.new.items layer.new.entries
+        ≡ specs.all_taken_back undos.old.items layer.old.entries) }
+    ensures err_layer { OnErr result (layer.new.entries ≡ layer.old.entries) }
+    ensures err_undos { OnErr result (undos.new.items ≡ undos.old.items) }
+{
+    let added = entry_size(&key, &cell);
+    let Some(grown) = size.checked_add(added) else {
+        return Err(AllocError);
+    };
+    undos.reserve(1)?;
+    let back = key.clone()?;
+    match layer.insert(key, cell) {
+        Ok(old) => {
+            let less = old_size(&back, &old);
+            note(undos, back, old);
+            Ok(grown - less)
+        }
+        Err(_) => Err(AllocError),
+    }
+}
+
+/// Adds how a key was, where there is room.
+fn note(undos: &mut Vec<Undo>, key: Bytes, old: Option<Cell>)
+    requires { vec_len undos.old < vec_capacity undos.old }
+    ensures { undos.new.items ≡ undos.old.items ++ (key, old) ∷ [] }
+{
+    let _ = undos.push((key, old));
+}
+
+/// The size of the entry that was at the key.
+fn old_size(key: &Bytes, old: &Option<Cell>) -> u64
+    requires { specs.old_size key.now old.now < 2 ^ 64 }
+    ensures { result ≡ specs.old_size key.now old.now }
+{
+    match old {
+        None => 0,
+        Some(cell) => entry_size(key, cell),
+    }
+}
+
+/// Takes one change back.
+fn take_back(layer: &mut BTreeMap<Bytes, Cell>, key: Bytes, old: Option<Cell>)
+    ensures { layer.new.entries ≡ specs.taken_back (key, old) layer.old.entries }
+{
+    match old {
+        None => {
+            let _ = layer.remove(&key);
+        }
+        Some(cell) => {
+            if layer.contains_key(&key) {
+                let _ = layer.insert(key, cell);
+            }
+        }
+    }
+}
+
+/// Takes changes back, the last one first.
+fn take_all_back(layer: &mut BTreeMap<Bytes, Cell>, mut undos: Vec<Undo>)
+    ensures { layer.new.entries ≡ specs.all_taken_back undos.items layer.old.entries }
+{
+    while let Some((key, old)) = undos.pop() {
+        take_back(layer, key, old);
+    }
+}
+
+/// Puts all changes, from left to right; for want of memory none. It answers the size with them, of a size with the layer.
+pub(crate) fn put_all(
+    alloc: Global,
+    layer: &mut BTreeMap<Bytes, Cell>,
+    size: u64,
+    changes: Vec<(Bytes, Cell)>,
+) -> Result<u64, AllocError>
+    requires fits { AllByRecursion (λ c. IsEntry c.0 c.1) changes.items }
+    requires size { specs.entries_size layer.old.entries ≤ size }
+    ensures entries { OnOk result (layer.new.entries ≡ specs.put_all layer.old.entries changes.items) }
+    ensures found { OnOk result ((q : List ℕ) → specs.found layer.new.entries q
+        ≡ specs.latest q changes.items (specs.found layer.old.entries q)) }
+    ensures size { IfOk result (λ n. n + specs.entries_size layer.old.entries ≡ size + specs.entries_size layer.new.entries) }
+    ensures err { OnErr result (layer.new.entries ≡ layer.old.entries) }
+{
+    let mut undos = Vec::new(alloc);
+    let mut grown = size;
+    for (key, cell) in changes {
+        match put(layer, &mut undos, grown, key, cell) {
+            Ok(next) => grown = next,
+            Err(_) => {
+                take_all_back(layer, undos);
+                return Err(AllocError);
+            }
+        }
+    }
+    Ok(grown)
+}

@@ -1,0 +1,191 @@
+-- What a range does with an answer, and with being told to give up.
+use Rattle.std.specs.Prelude.{ℕ, suc, ◌+◌, ◌^◌, Bool, true, false, ◌||◌, ◌&&◌, nat_lt, List, [], ◌++◌, map, flat_map, Option, Some, None, option_to_list, if◌then◌else◌}
+use Rattle.std.specs.List.{list_any}
+use Rattle.wire.specs.declared.actor.ActorId.{ActorId}
+use Rattle.wire.specs.declared.actor.ActorId.TheVariants.{Node, Manager}
+use Rattle.wire.specs.declared.actor.ReqNo.{ReqNo}
+use Rattle.wire.specs.declared.body.AppendBody.{AppendBody}
+use Rattle.wire.specs.declared.body.AppendBody.TheVariants as appends
+use Rattle.wire.specs.declared.body.CheckBody.{CheckBody}
+use Rattle.wire.specs.declared.body.CheckBody.TheVariants as checks
+use Rattle.wire.specs.declared.body.SealBody.{SealBody}
+use Rattle.wire.specs.declared.body.SealBody.TheVariants as seals
+use Rattle.wire.specs.declared.body.ReadBody.{ReadBody}
+use Rattle.wire.specs.declared.body.ReadBody.TheVariants as reads
+use Rattle.wire.specs.declared.body.StreamBody.{StreamBody}
+use Rattle.wire.specs.declared.body.StreamBody.TheVariants as streams
+use Rattle.wire.specs.declared.body.Body.{Body}
+use Rattle.wire.specs.declared.body.Body.TheVariants as bodies
+use Rattle.wire.specs.declared.packet.Packet.{Packet}
+use Rattle.wire.specs.declared.refusal.Refusal.TheVariants as refusals
+use Rattle.client.specs.declared.job.News.{News}
+use Rattle.client.specs.declared.job.News.TheVariants as news
+use Rattle.client.specs.declared.load.LoadPhase.{LoadPhase}
+use Rattle.client.specs.declared.load.LoadPhase.TheVariants as phases
+use Rattle.client.specs.Client.{Outcome, awaits, reply_rule, give_up_rule}
+use Rattle.client.specs.Load.{again, load_awaits}
+use Rattle.client.specs.Requests.{is_same}
+use Rattle.memtable.specs.declared.cell.Place.{Place}
+use Rattle.model_partition.specs.declared.waiting.WaitingGet.{WaitingGet}
+use Rattle.model_partition.specs.declared.server_context.ServerContext.{ServerContext}
+use Rattle.model_partition.specs.Range.{OutGroup, RangeState, RangeOutcome, request, used, goes, answers, dropped, picking, is_serving}
+use Rattle.model_partition.specs.Loading.{Group, are_counted, opens, serves, metadata_news, log_news}
+use Rattle.model_partition.specs.Serving.{log_done, out_size}
+use Rattle.model_partition.specs.Getting.{bytes_rule, gives_up_get}
+
+-- ---- whose answer it is
+
+abbrev pub get_awaits : WaitingGet → ReqNo → Bool
+get_awaits g w = list_any (λ read. is_same read.request w) g.reads
+
+-- whether a job of the range waits for an answer of this number
+abbrev pub range_awaits : RangeState → ReqNo → Bool
+range_awaits r w = load_awaits r.load.phase w || (awaits r.metadata.job w || (awaits r.log.job w || list_any (λ g. get_awaits g w) r.gets))
+
+abbrev pub append_number : AppendBody → Option ReqNo
+append_number (appends.Appended w e offset) = Some w
+append_number (appends.Refused w refusal) = Some w
+append_number body = None
+
+abbrev pub check_number : CheckBody → Option ReqNo
+check_number (checks.Checked w l) = Some w
+check_number body = None
+
+abbrev pub seal_number : SealBody → Option ReqNo
+seal_number (seals.SealedIs w e l) = Some w
+seal_number body = None
+
+abbrev pub read_number : ReadBody → Option ReqNo
+read_number (reads.Bytes w e offset bytes) = Some w
+read_number (reads.Groups w e groups) = Some w
+read_number body = None
+
+abbrev pub stream_number : StreamBody → Option ReqNo
+stream_number (streams.Opened w lists) = Some w
+stream_number (streams.Confirmed w) = Some w
+stream_number (streams.Extended w e places) = Some w
+stream_number body = None
+
+-- the number that an answer repeats
+abbrev pub answered_number : Body → Option ReqNo
+answered_number (bodies.Append body) = append_number body
+answered_number (bodies.Check body) = check_number body
+answered_number (bodies.Seal body) = seal_number body
+answered_number (bodies.Read body) = read_number body
+answered_number (bodies.Stream body) = stream_number body
+answered_number (bodies.Map body) = None
+answered_number (bodies.Table body) = None
+
+abbrev pub is_any_node : ActorId → Bool
+is_any_node (Node n) = true
+is_any_node actor = false
+
+abbrev pub is_the_manager : ActorId → Bool
+is_the_manager Manager = true
+is_the_manager actor = false
+
+abbrev pub append_sender : ActorId → AppendBody → Bool
+append_sender from (appends.Refused w refusal) = is_any_node from || is_the_manager from
+append_sender from body = is_any_node from
+
+-- whether an answer comes from one who gives such answers
+abbrev pub is_answerer : ActorId → Body → Bool
+is_answerer from (bodies.Append body) = append_sender from body
+is_answerer from (bodies.Check body) = is_any_node from
+is_answerer from (bodies.Seal body) = is_the_manager from
+is_answerer from (bodies.Read body) = is_any_node from
+is_answerer from (bodies.Stream body) = is_the_manager from
+is_answerer from body = false
+
+-- ---- answers
+
+-- the groups of an answer
+abbrev pub read_groups : ReadBody → List Group
+read_groups (reads.Groups w e groups) = groups
+read_groups body = []
+
+abbrev pub groups_of : Body → List Group
+groups_of (bodies.Read body) = read_groups body
+groups_of body = []
+
+abbrev pub load_refused : ServerContext → RangeState → AppendBody → RangeOutcome
+load_refused d r (appends.Refused w refusals.Stale) = dropped d r
+load_refused d r body = answers d r []
+
+abbrev pub load_told : ServerContext → RangeState → LoadPhase → StreamBody → RangeOutcome
+load_told d r (phases.Opening q) (streams.Opened w lists) = opens d r lists
+load_told d r (phases.Confirming q) (streams.Confirmed w) = serves d r
+load_told d r phase body = answers d r []
+
+-- the answer to the opening or the confirmation
+abbrev pub load_reply : ServerContext → RangeState → Body → RangeOutcome
+load_reply d r (bodies.Append body) = load_refused d r body
+load_reply d r (bodies.Stream body) = load_told d r r.load.phase body
+load_reply d r body = answers d r []
+
+abbrev pub metadata_reply : ServerContext → RangeState → Body → RangeOutcome
+metadata_reply d r body =
+    let o : Outcome = reply_rule (picking d r.metadata) (request d) body in
+    metadata_news d (record r { metadata = o.after }) (groups_of body) r.stage o.news (option_to_list o.packet)
+
+-- news of the log's client while the range is served
+abbrev pub serving_news : ServerContext → RangeState → Option News → List Packet → RangeOutcome
+serving_news d r (Some news.Fenced) packets = dropped d r
+serving_news d r (Some (news.Appended e offset)) packets = log_done d r r.out e offset
+serving_news d r told packets = goes d r packets []
+
+-- whether a group may stand there: an offset whose end no extent reaches, or an extent whose index does not fit 64 bits, is
+-- told by no node
+abbrev pub may_stand : RangeState → Option OutGroup → ℕ → Bool
+may_stand r None offset = true
+may_stand r (Some out) offset = nat_lt (offset + out_size out) (2 ^ 32) && are_counted r.log
+
+abbrev pub is_told_rightly : RangeState → AppendBody → Bool
+is_told_rightly r (appends.Appended w e offset) = may_stand r r.out offset
+is_told_rightly r body = true
+
+abbrev pub is_taken : RangeState → Body → Bool
+is_taken r (bodies.Append body) = is_told_rightly r body
+is_taken r body = true
+
+abbrev pub log_taken : ServerContext → RangeState → Body → RangeOutcome
+log_taken d r body =
+    let o : Outcome = reply_rule (picking d r.log) (request d) body in
+    let now : RangeState = record r { log = o.after } in
+    if is_serving r.stage then serving_news d now o.news (option_to_list o.packet)
+    else log_news d now (groups_of body) r.stage o.news (option_to_list o.packet)
+
+abbrev pub log_reply : ServerContext → RangeState → Body → RangeOutcome
+log_reply d r body = if is_taken r body then log_taken d r body else answers d r []
+
+abbrev pub bytes_reply : ServerContext → RangeState → ReqNo → ReadBody → List (Place × List ℕ) → RangeOutcome
+bytes_reply d r w (reads.Bytes v e offset bytes) held = bytes_rule d r w held
+bytes_reply d r w body held = answers d r []
+
+abbrev pub gets_reply : ServerContext → RangeState → ReqNo → Body → List (Place × List ℕ) → RangeOutcome
+gets_reply d r w (bodies.Read body) held = bytes_reply d r w body held
+gets_reply d r w body held = answers d r []
+
+-- The answer of this number, which some job of the range waits for. held: what the cache holds after it.
+abbrev pub answer_rule : ServerContext → RangeState → ReqNo → Body → List (Place × List ℕ) → RangeOutcome
+answer_rule d r w body held =
+    if load_awaits r.load.phase w then load_reply d r body
+    else if awaits r.metadata.job w then metadata_reply d r body
+    else if awaits r.log.job w then log_reply d r body
+    else gets_reply d r w body held
+
+-- ---- giving up
+
+-- The load, the log's job and the Gets, in this order, each send again what is not answered, or seal the extent that does not
+-- answer. Two numbers of requests are used.
+abbrev pub give_up_all : ServerContext → RangeState → RangeOutcome
+give_up_all d r =
+    let m : Outcome = give_up_rule (picking d r.metadata) (request d) d.pick in
+    let l : Outcome = give_up_rule (picking d r.log) (request (used d)) d.pick in
+    record {
+      after = Some (record r { metadata = m.after; log = l.after; gets = map (λ g. (gives_up_get d r g).0) r.gets });
+      count = suc (suc d.count);
+      packets = option_to_list (again r.load r.load.phase)
+          ++ (option_to_list m.packet ++ (option_to_list l.packet ++ flat_map (λ g. (gives_up_get d r g).1) r.gets));
+      notes = [];
+    }

@@ -1,0 +1,196 @@
+-- The table of a server: what it does with a packet, with a moment, and with being told to give up.
+use Rattle.std.specs.Prelude.{ℕ, ◌+◌, ◌^◌, max, Bool, true, ◌==◌, nat_lt, List, [], ◌∷◌, ◌++◌, Option, Some, None, if◌then◌else◌}
+use Rattle.std.specs.Map.{lookup, remove_entry, set_value}
+use Rattle.std.specs.BTreeMap.{is_at, insert_entry}
+use Rattle.std.specs.Ordering.{nat_cmp}
+use Rattle.block_types.specs.declared.record.Nodes.{Nodes}
+use Rattle.wire.specs.declared.actor.ActorId.{ActorId}
+use Rattle.wire.specs.declared.actor.ActorId.TheVariants.{Map}
+use Rattle.wire.specs.declared.actor.ReqNo.{ReqNo}
+use Rattle.wire.specs.declared.body.Body.{Body}
+use Rattle.wire.specs.declared.body.Body.TheVariants as bodies
+use Rattle.wire.specs.declared.body.MapBody.{MapBody}
+use Rattle.wire.specs.declared.body.MapBody.TheVariants as maps
+use Rattle.wire.specs.declared.body.TableBody.{TableBody}
+use Rattle.wire.specs.declared.body.TableBody.TheVariants as tables
+use Rattle.wire.specs.declared.packet.Packet.{Packet}
+use Rattle.wire.specs.declared.transaction.Change.{Change}
+use Rattle.wire.specs.declared.refusal.Refusal.TheVariants as refusals
+use Rattle.wire.specs.declared.streams.StreamKind.TheVariants as kinds
+use Rattle.client.specs.Client.{new_client}
+use Rattle.client.specs.Load.{opening, open_packet}
+use Rattle.memtable.specs.declared.cell.Place.{Place}
+use Rattle.metadata.specs.Fold.{first_metadata}
+use Rattle.model_partition.specs.declared.stage.Stage.TheVariants.{Opening}
+use Rattle.model_partition.specs.declared.table_note.TableNote.{TableNote}
+use Rattle.model_partition.specs.declared.server_context.ServerContext.{ServerContext}
+use Rattle.model_partition.specs.Range.{RangeState, RangeOutcome, request, used, refuses, refused_users}
+use Rattle.model_partition.specs.Serving.{transact_rule}
+use Rattle.model_partition.specs.Getting.{get_rule}
+use Rattle.model_partition.specs.Answering.{range_awaits, answered_number, is_answerer, answer_rule, give_up_all}
+
+-- a server, and its ranges in the order of their numbers
+pub record ServerState : Type 0 where
+  pub context : ServerContext
+  pub ranges : List (ℕ × RangeState)
+
+pub record ServerOutcome : Type 0 where
+  pub after : ServerState
+  pub packets : List Packet
+  pub notes : List TableNote
+
+-- ---- ranges by their numbers
+
+abbrev pub range_of : List (ℕ × RangeState) → ℕ → Option RangeState
+range_of rs range = lookup (is_at (nat_cmp range)) rs
+
+-- the range as a step left it, or no more
+abbrev pub set_range : List (ℕ × RangeState) → ℕ → Option RangeState → List (ℕ × RangeState)
+set_range rs range None = remove_entry (is_at (nat_cmp range)) rs
+set_range rs range (Some r) = set_value (is_at (nat_cmp range)) rs r
+
+-- the number of the range that waits for an answer of this number
+abbrev pub awaiting : List (ℕ × RangeState) → ReqNo → Option ℕ
+awaiting [] w = None
+awaiting (x ∷ xs) w = if range_awaits x.1 w then Some x.0 else awaiting xs w
+
+-- ---- steps
+
+abbrev pub rests : ServerState → ServerOutcome
+rests s = record { after = s; packets = []; notes = [] }
+
+abbrev pub sends_one : ServerState → Packet → ServerOutcome
+sends_one s p = record { after = s; packets = p ∷ []; notes = [] }
+
+-- the step of one of its ranges
+abbrev pub stepped : ServerState → ℕ → RangeOutcome → ServerOutcome
+stepped s range o =
+    record {
+      after = record { context = record s.context { count = o.count }; ranges = set_range s.ranges range o.after };
+      packets = o.packets;
+      notes = o.notes;
+    }
+
+-- ---- what the map tells
+
+-- a range that is loaded under a generation
+abbrev pub new_range : ServerContext → ℕ → ℕ → ℕ → RangeState
+new_range d range generation until =
+    record {
+      until = until;
+      load = opening d.server range generation (request d);
+      stage = Opening;
+      metadata = new_client d.server (record { range = range; kind = kinds.Metadata }) generation (record { base = 0; extents = [] }) d.pick;
+      log = new_client d.server (record { range = range; kind = kinds.Log }) generation (record { base = 0; extents = [] }) d.pick;
+      row_data = record { base = 0; extents = [] };
+      blob_data = record { base = 0; extents = [] };
+      said = first_metadata;
+      regions = [];
+      live = [];
+      fixed = None;
+      next = 1;
+      position = record { index = 0; offset = 0 };
+      queue = [];
+      out = None;
+      gets = [];
+      held = [];
+    }
+
+abbrev pub users_of : ServerContext → Option RangeState → List Packet
+users_of d None = []
+users_of d (Some r) = refused_users d r
+
+-- whether a generation is above what is known of the range
+abbrev pub is_newer : ℕ → Option RangeState → Bool
+is_newer generation None = true
+is_newer generation (Some r) = nat_lt r.load.generation generation
+
+-- what was known of the range goes, and its streams are opened
+abbrev pub assign_rule : ServerState → ℕ → ℕ → ℕ → Option RangeState → ServerOutcome
+assign_rule s range generation until known =
+    if is_newer generation known then
+    record {
+      after = record { context = used s.context; ranges = insert_entry nat_cmp s.ranges range (new_range s.context range generation until) };
+      packets = users_of s.context known ++ open_packet s.context.server range generation (request s.context) ∷ [];
+      notes = [];
+    }
+    else rests s
+
+-- a lease's end never goes back
+abbrev pub renew_rule : ServerState → ℕ → ℕ → ℕ → Option RangeState → ServerOutcome
+renew_rule s range generation until None = rests s
+renew_rule s range generation until (Some r) =
+    if r.load.generation == generation then
+    record { after = record s { ranges = set_range s.ranges range (Some (record r { until = max r.until until })) }; packets = []; notes = [] }
+    else rests s
+
+abbrev pub told_by_map : ServerState → MapBody → ServerOutcome
+told_by_map s (maps.Assign range generation until) = assign_rule s range generation until (range_of s.ranges range)
+told_by_map s (maps.Renew range generation until) = renew_rule s range generation until (range_of s.ranges range)
+told_by_map s body = rests s
+
+abbrev pub map_rule : ServerState → ActorId → MapBody → ServerOutcome
+map_rule s Map body = told_by_map s body
+map_rule s from body = rests s
+
+-- ---- what users ask
+
+abbrev pub transacts_in : ServerState → Packet → ℕ → List Change → ReqNo → Option RangeState → ServerOutcome
+transacts_in s p range changes q None = sends_one s (refuses s.context p.from q refusals.NotOwner)
+transacts_in s p range changes q (Some r) = stepped s range (transact_rule s.context r p.from q changes)
+
+abbrev pub gets_in : ServerState → Packet → ℕ → List ℕ → ReqNo → List (Place × List ℕ) → Option RangeState → ServerOutcome
+gets_in s p range key q held None = sends_one s (refuses s.context p.from q refusals.NotOwner)
+gets_in s p range key q held (Some r) = stepped s range (get_rule s.context r p.from q key held)
+
+abbrev pub table_rule : ServerState → Packet → TableBody → List (Place × List ℕ) → ServerOutcome
+table_rule s p (tables.Transact range changes q) held = transacts_in s p range changes q (range_of s.ranges range)
+table_rule s p (tables.Get range key q) held = gets_in s p range key q held (range_of s.ranges range)
+table_rule s p body held = rests s
+
+-- ---- answers
+
+abbrev pub answer_in : ServerState → Packet → ReqNo → List (Place × List ℕ) → ℕ → Option RangeState → ServerOutcome
+answer_in s p w held range None = rests s
+answer_in s p w held range (Some r) = stepped s range (answer_rule s.context r w p.body held)
+
+abbrev pub answer_of : ServerState → Packet → ReqNo → List (Place × List ℕ) → Option ℕ → ServerOutcome
+answer_of s p w held None = rests s
+answer_of s p w held (Some range) = answer_in s p w held range (range_of s.ranges range)
+
+abbrev pub numbered_rule : ServerState → Packet → List (Place × List ℕ) → Option ReqNo → ServerOutcome
+numbered_rule s p held None = rests s
+numbered_rule s p held (Some w) = if is_answerer p.from p.body then answer_of s p w held (awaiting s.ranges w) else rests s
+
+abbrev pub taken_rule : ServerState → Packet → Body → List (Place × List ℕ) → ServerOutcome
+taken_rule s p (bodies.Map body) held = map_rule s p.from body
+taken_rule s p (bodies.Table body) held = table_rule s p body held
+taken_rule s p body held = numbered_rule s p held (answered_number body)
+
+-- whether there are numbers for the requests of any one step
+abbrev pub has_numbers : ServerContext → Bool
+has_numbers d = nat_lt (d.count + 1024) (2 ^ 64)
+
+-- What the server does with a packet; without numbers for its requests, nothing. held: what the cache of the range that the
+-- packet belongs to holds after it.
+abbrev pub server_rule : ServerState → Packet → Body → List (Place × List ℕ) → ServerOutcome
+server_rule s p body held = if has_numbers s.context then taken_rule s p body held else rests s
+
+-- ---- events
+
+-- a moment that goes back changes nothing
+abbrev pub moment_rule : ServerState → ℕ → ServerState
+moment_rule s now = record s { context = record s.context { moment = max s.context.moment now } }
+
+abbrev pub gives_up : ServerState → ℕ → Option RangeState → Option ServerOutcome
+gives_up s range None = None
+gives_up s range (Some r) = Some (if has_numbers s.context then stepped s range (give_up_all s.context r) else rests s)
+
+-- the nodes for new extents are replaced, and the jobs of a range give up; none where the range is unknown (30)
+abbrev pub give_up_rule : ServerState → ℕ → Nodes → Option ServerOutcome
+give_up_rule s range pick = gives_up (record s { context = record s.context { pick = pick } }) range (range_of s.ranges range)
+
+-- a start: no range, and the last moment
+abbrev pub started : ℕ → ℕ → ℕ → Nodes → ℕ → ServerState
+started server session now pick batch =
+    record { context = record { server = server; session = session; moment = now; pick = pick; batch = batch; count = 1 }; ranges = [] }

@@ -1,0 +1,221 @@
+-- The servers of a run: what they hold, what comes of packets and events to them, and what their loaded tables show.
+use Rattle.std.specs.Prelude.{◌≡◌, ◌⊎◌, ℕ, zero, suc, ◌+◌, ◌-◌, ◌^◌, max, Bool, true, false, not, ◌&&◌, ◌==◌, nat_lt, nat_le, List, [], ◌∷◌, ◌++◌, length, take, drop, map, flat_map, Option, Some, None, option_map, is_some, slice_get, slice_set, if◌then◌else◌}
+use Rattle.block_types.specs.declared.record.Nodes.{Nodes}
+use Rattle.wire.specs.declared.body.StreamBody.{StreamBody}
+use Rattle.wire.specs.declared.body.StreamBody.TheVariants.{Confirmed}
+use Rattle.wire.specs.declared.body.Body.{Body}
+use Rattle.wire.specs.declared.body.Body.TheVariants as bodies
+use Rattle.wire.specs.declared.note.Note.{Note}
+use Rattle.wire.specs.declared.note.Note.TheVariants.{Acked, Content, Seen, Began, Done, Loaded}
+use Rattle.wire.specs.declared.packet.Packet.{Packet}
+use Rattle.wire.specs.declared.refusal.Refusal.{Refusal}
+use Rattle.wire.specs.declared.refusal.Refusal.TheVariants.{NotOwner}
+use Rattle.wire.specs.declared.rows.Row.{Row}
+use Rattle.replica.specs.Groups.{joined, text}
+use Rattle.model_streams.specs.Maps.{entry_at}
+use Rattle.model_streams.specs.StreamSystem.{StreamSystem}
+use Rattle.memtable.specs.declared.cell.Cell.{Cell}
+use Rattle.memtable.specs.declared.cell.Cell.TheVariants.{Deleted, Inline, Placed}
+use Rattle.memtable.specs.declared.cell.Place.{Place}
+use Rattle.memtable.specs.Entries.{Entries}
+use Rattle.model_partition.specs.declared.table_note.TableNote.{TableNote}
+use Rattle.model_partition.specs.declared.table_note.TableNote.TheVariants as tables
+use Rattle.metadata.specs.declared.record.IndexRange.{IndexRange}
+use Rattle.model_partition.specs.Range.{RangeState}
+use Rattle.model_partition.specs.Server.{ServerState, ServerOutcome, range_of, awaiting, server_rule, moment_rule, give_up_rule, started}
+
+-- what a cache holds
+abbrev pub CacheContent : Type 0
+CacheContent = List (Place × List ℕ)
+
+-- a server: how often it was started, and its state while it runs
+pub record ServerCell : Type 0 where
+  pub session : ℕ
+  pub state : Option ServerState
+
+-- ---- what a loaded table shows
+
+-- the bytes of a place, where these bytes from an offset on cover it
+abbrev pub part : ℕ → List ℕ → Place → Option (List ℕ)
+part offset bytes place =
+    if nat_le offset place.offset && nat_le (place.offset + place.length) (offset + length bytes)
+    then Some (take place.length (drop (place.offset - offset) bytes))
+    else None
+
+abbrev pub shown_in : Note → Place → Option (List ℕ)
+shown_in (Acked e offset group) place = if e == place.extent then part offset (joined group) place else None
+shown_in (Content e node groups) place = if e == place.extent then part 0 (text groups) place else None
+shown_in (Seen e node offset bytes) place = if e == place.extent then part offset bytes place else None
+shown_in note place = None
+
+abbrev pub or_later : Option (List ℕ) → Option (List ℕ) → Option (List ℕ)
+or_later None later = later
+or_later (Some value) later = Some value
+
+-- what the earliest observation that covers the place shows of it
+abbrev pub first_shown : List Note → Place → Option (List ℕ)
+first_shown [] place = None
+first_shown (note ∷ notes) place = or_later (shown_in note place) (first_shown notes place)
+
+abbrev pub row_if : List ℕ → Option (List ℕ) → List Row
+row_if key None = []
+row_if key (Some value) = record { key = key; value = value } ∷ []
+
+abbrev pub row_of : List Note → List ℕ → Cell → List Row
+row_of notes key Deleted = []
+row_of notes key (Inline value) = row_if key (Some value)
+row_of notes key (Placed place) = row_if key (first_shown notes place)
+
+-- the rows of these entries
+abbrev pub rows_of : List Note → Entries → List Row
+rows_of notes entries = flat_map (λ entry. row_of notes entry.0 entry.1) entries
+
+-- an observation of a server, behind these
+abbrev pub told : List Note → TableNote → Note
+told notes (tables.Began range generation number changes) = Began range generation number changes
+told notes (tables.Done range generation number) = Done range generation number
+told notes (tables.Loaded range generation entries indexes next) = Loaded range generation (rows_of notes entries) next
+
+abbrev pub noted : List Note → List TableNote → List Note
+noted notes [] = notes
+noted notes (note ∷ more) = noted (notes ++ told notes note ∷ []) more
+
+-- these notes have no loaded table
+abbrev pub ArePlain : List TableNote → Type 0
+ArePlain [] = Unit {0}
+ArePlain (tables.Began range generation number changes ∷ notes) = ArePlain notes
+ArePlain (tables.Done range generation number ∷ notes) = ArePlain notes
+ArePlain (tables.Loaded range generation entries indexes next ∷ notes) = ⊥
+
+-- one loaded table of these entries, and nothing else
+pub record IsLoad (loading : Option Entries) (notes : List TableNote) : Type 0 where
+  pub range : ℕ
+  pub generation : ℕ
+  pub entries : Entries
+  pub indexes : List IndexRange
+  pub next : ℕ
+  pub is : notes ≡ tables.Loaded range generation entries indexes next ∷ []
+  pub from : loading ≡ Some entries
+
+-- no loaded table, or one of these entries
+abbrev pub ShowsLoad : Option Entries → List TableNote → Type 0
+ShowsLoad loading notes = ArePlain notes ⊎ IsLoad loading notes
+
+-- the memory table of a range
+abbrev pub live_of : Option RangeState → Option Entries
+live_of None = None
+live_of (Some r) = Some r.live
+
+abbrev pub live_at : ServerState → Option ℕ → Option Entries
+live_at s None = None
+live_at s (Some range) = live_of (range_of s.ranges range)
+
+-- the memory table of the range that is confirmed with this packet
+abbrev pub loads_by : ServerState → StreamBody → Option Entries
+loads_by s (Confirmed w) = live_at s (awaiting s.ranges w)
+loads_by s body = None
+
+abbrev pub loads : ServerState → Body → Option Entries
+loads s (bodies.Stream body) = loads_by s body
+loads s body = None
+
+abbrev pub cell_loads : Option ServerState → Body → Option Entries
+cell_loads None body = None
+cell_loads (Some s) body = loads s body
+
+abbrev pub server_loads : Option ServerCell → Body → Option Entries
+server_loads None body = None
+server_loads (Some cell) body = cell_loads cell.state body
+
+-- ---- servers
+
+-- a server after a step, and what it sends and shows
+pub record CellOutcome : Type 0 where
+  pub cell : ServerCell
+  pub packets : List Packet
+  pub notes : List TableNote
+
+abbrev pub cell_rests : ServerCell → CellOutcome
+cell_rests cell = record { cell = cell; packets = []; notes = [] }
+
+abbrev pub cell_performs : ServerCell → ServerOutcome → CellOutcome
+cell_performs cell o = record { cell = record cell { state = Some o.after }; packets = o.packets; notes = o.notes }
+
+-- nothing comes of a packet to a server that has stopped
+abbrev pub cell_takes : ServerCell → Packet → CacheContent → Option ServerState → CellOutcome
+cell_takes cell p held None = cell_rests cell
+cell_takes cell p held (Some server) = cell_performs cell (server_rule server p p.body held)
+
+abbrev pub cell_given_up : ServerCell → Option ServerOutcome → CellOutcome
+cell_given_up cell None = cell_rests cell
+cell_given_up cell (Some o) = cell_performs cell o
+
+abbrev pub cell_gives_up : ServerCell → ℕ → Nodes → Option ServerState → CellOutcome
+cell_gives_up cell range pick None = cell_rests cell
+cell_gives_up cell range pick (Some server) = cell_given_up cell (give_up_rule server range pick)
+
+-- why a server refuses to give up: it does not hold the range
+abbrev pub give_up_fault : ℕ → Nodes → Option ServerState → Option Refusal
+give_up_fault range pick None = None
+give_up_fault range pick (Some server) = if is_some (give_up_rule server range pick) then None else Some NotOwner
+
+-- a server has no device: it stops at once, or not at all
+abbrev pub cell_stops : ℕ → ServerCell → ServerCell
+cell_stops call cell = if call == 0 then record cell { state = None } else cell
+
+-- the nodes that a server's new extents are made on, until it is told others
+abbrev pub first_pick : Nodes
+first_pick = record { primary = 1; second = 2; third = 3 }
+
+-- a server that has stopped starts, under a number of its own
+abbrev pub cell_starts : ℕ → ℕ → ℕ → ServerCell → Option ServerState → ServerCell
+cell_starts s now batch cell (Some server) = cell
+cell_starts s now batch cell None =
+    if nat_lt (suc cell.session) (2 ^ 64)
+    then record { session = suc cell.session; state = Some (started s (suc cell.session) now first_pick batch) }
+    else cell
+
+-- all servers after a step of one, and what it sends and shows
+pub record ServersOutcome : Type 0 where
+  pub servers : List ServerCell
+  pub packets : List Packet
+  pub notes : List TableNote
+
+-- what the server of a number does; nothing where there is none
+abbrev pub at_server : List ServerCell → ℕ → (ServerCell → CellOutcome) → Option ServerCell → ServersOutcome
+at_server servers s rule None = record { servers = servers; packets = []; notes = [] }
+at_server servers s rule (Some cell) =
+    record { servers = slice_set servers (s - 1) (rule cell).cell; packets = (rule cell).packets; notes = (rule cell).notes }
+
+abbrev pub server_takes : List ServerCell → ℕ → Packet → CacheContent → ServersOutcome
+server_takes servers s p held = at_server servers s (λ cell. cell_takes cell p held cell.state) (entry_at servers s)
+
+abbrev pub server_gives_up : List ServerCell → ℕ → ℕ → Nodes → ServersOutcome
+server_gives_up servers s range pick = at_server servers s (λ cell. cell_gives_up cell range pick cell.state) (entry_at servers s)
+
+abbrev pub server_stops : List ServerCell → ℕ → ℕ → ServersOutcome
+server_stops servers s call = at_server servers s (λ cell. cell_rests (cell_stops call cell)) (entry_at servers s)
+
+abbrev pub server_starts : List ServerCell → ℕ → ℕ → ℕ → ServersOutcome
+server_starts servers s now batch = at_server servers s (λ cell. cell_rests (cell_starts s now batch cell cell.state)) (entry_at servers s)
+
+-- what servers send and show
+abbrev pub with_told : StreamSystem → List Packet → List TableNote → StreamSystem
+with_told w packets notes = record w { post = w.post ++ packets; notes = noted w.notes notes }
+
+-- ---- the clock
+
+abbrev pub told_moment : ℕ → ServerCell → ServerCell
+told_moment now cell = record cell { state = option_map (λ server. moment_rule server now) cell.state }
+
+abbrev pub give_up_refusal : ℕ → Nodes → Option ServerCell → Option Refusal
+give_up_refusal range pick None = None
+give_up_refusal range pick (Some cell) = give_up_fault range pick cell.state
+
+-- a server that runs, at its first start
+abbrev pub first_server : ℕ → ℕ → ServerCell
+first_server batch s = record { session = 1; state = Some (started s 1 0 first_pick batch) }
+
+abbrev pub first_servers : ℕ → ℕ → ℕ → List ServerCell
+first_servers batch s zero = []
+first_servers batch s (suc more) = first_server batch s ∷ first_servers batch (suc s) more

@@ -1,0 +1,34 @@
+//! What the users of a table are promised, what its servers and the partition map do, and what whole runs are, as definitions.
+//!
+//! This crate has no code but the plain values that states are made of, and touches nothing. Its definitions stand in specs/:
+//! - Past: what a table that is loaded again must be, said of observations alone (`Replays`).
+//! - Story and Log: what the users of one stream see of it, the order that it keeps, and what servers may do to the log of a
+//!   range.
+//! - StreamMachine and ServerTurns: one stream as its manager, the primaries of its extents and its servers make it.
+//! - Range, Loading, Serving, Getting, Answering and Server: the table of a server, as functions of its state.
+//! - Servers: the servers of a run, and what a loaded table shows.
+//! - Map: the partition map, its ranges in the order of their keys, and its rules: which range has which keys, which server holds
+//!   it until when, and what the map does with each call and packet.
+//! - Partition: ranges that lie side by side and have each key once, as they do at first and after each rule, and as a split
+//!   or a merge leaves them.
+//! - RecordBytes and Replay: the bytes of the map's records, written and read; the map that records make, and which records fit.
+//! - Cluster: whole runs: the stream layer, the servers above it, the map, and the clock of leases; what each event makes of all
+//!   actors, stops and restarts of the map inside its records among them.
+//!
+//! The laws of `laws_tables`, `laws_servers` and `laws_clusters` are proved of these functions alone, and the laws in proofs/ of the
+//! map's; the crates of servers and of the map prove that their calls are them, and `world` that its runs are these.
+#![tactic(auto)]
+
+mod map_record;
+mod range_entry;
+mod server_context;
+mod stage;
+mod table_note;
+mod waiting;
+
+pub use map_record::MapRecord;
+pub use range_entry::RangeEntry;
+pub use server_context::ServerContext;
+pub use stage::Stage;
+pub use table_note::{Entries, TableNote};
+pub use waiting::{PlaceRead, PlaceReads, WaitingGet, WaitingTransaction};

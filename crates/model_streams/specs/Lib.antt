@@ -1,0 +1,11 @@
+pub mod Outcome
+pub mod Honest
+pub mod Pairs
+pub mod Maps
+pub mod Actors
+pub mod Node
+pub mod Bounds
+pub mod RecordBytes
+pub mod Manager
+pub mod Replay
+pub mod StreamSystem

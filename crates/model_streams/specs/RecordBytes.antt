@@ -1,0 +1,81 @@
+-- The records of the stream manager, as bytes.
+use Rattle.std.specs.Prelude.{ℕ, zero, suc, List, [], ◌∷◌, ◌++◌, Option, Some, None}
+use Rattle.blocks.specs.Format.{◌>>=◌, number_at, pair_at, only_at, whole}
+use Rattle.block_types.specs.Limits.{is_within}
+use Rattle.blocks.specs.Reading.{nodes_at}
+use Rattle.blocks.specs.Record.{number, nodes}
+use Rattle.wire.specs.declared.streams.StreamKind.{StreamKind}
+use Rattle.wire.specs.declared.streams.StreamKind.TheVariants.{Metadata, Log, RowData, BlobData}
+use Rattle.wire.specs.declared.streams.StreamName.{StreamName}
+pub use Rattle.streams.specs.Streams.{kind_number}
+use Rattle.model_streams.specs.declared.manager_record.ManagerRecord.{ManagerRecord}
+use Rattle.model_streams.specs.declared.manager_record.ManagerRecord.TheVariants.{First, CreateStream, OpenStreams, Extend, Seal}
+
+abbrev pub stream_name : StreamName → List ℕ
+stream_name s = number 8 s.range ++ kind_number s.kind ∷ []
+
+-- a kind and its fields
+abbrev pub spelled : ManagerRecord → List ℕ
+spelled (First count target) = 1 ∷ count ∷ number 4 target
+spelled (CreateStream s fence) = 2 ∷ (stream_name s ++ number 8 fence)
+spelled (OpenStreams range generation) = 3 ∷ (number 8 range ++ number 8 generation)
+spelled (Extend s generation pick) = 4 ∷ (stream_name s ++ (number 8 generation ++ nodes pick))
+spelled (Seal e length) = 5 ∷ (number 8 e ++ number 4 length)
+
+-- ---- reading
+
+abbrev pub kind_of : ℕ → Option StreamKind
+kind_of zero = Some Metadata
+kind_of (suc zero) = Some Log
+kind_of (suc (suc zero)) = Some RowData
+kind_of (suc (suc (suc zero))) = Some BlobData
+kind_of _ = None
+
+abbrev pub kind_at : List ℕ → Option (StreamKind × List ℕ)
+kind_at [] = None
+kind_at (byte ∷ rest) = kind_of byte >>= λ kind. Some (kind, rest)
+
+unfoldable pub stream_at : List ℕ → Option (StreamName × List ℕ)
+stream_at bytes = do
+  range ← number_at 8 bytes
+  kind ← kind_at range.1
+  Some (record { range = range.0; kind = kind.0 }, kind.1)
+
+unfoldable pub first_at : List ℕ → Option ManagerRecord
+first_at fields = do
+  x ← pair_at (only_at (is_within 3 12) (number_at 1)) (only_at (is_within 4096 16777216) (number_at 4)) fields
+  whole (Some (First x.0.0 x.0.1, x.1))
+
+unfoldable pub create_at : List ℕ → Option ManagerRecord
+create_at fields = do
+  x ← pair_at stream_at (number_at 8) fields
+  whole (Some (CreateStream x.0.0 x.0.1, x.1))
+
+unfoldable pub open_at : List ℕ → Option ManagerRecord
+open_at fields = do
+  x ← pair_at (number_at 8) (number_at 8) fields
+  whole (Some (OpenStreams x.0.0 x.0.1, x.1))
+
+unfoldable pub extend_at : List ℕ → Option ManagerRecord
+extend_at fields = do
+  x ← pair_at stream_at (pair_at (number_at 8) nodes_at) fields
+  whole (Some (Extend x.0.0 x.0.1.0 x.0.1.1, x.1))
+
+unfoldable pub seal_at : List ℕ → Option ManagerRecord
+seal_at fields = do
+  x ← pair_at (number_at 8) (number_at 4) fields
+  whole (Some (Seal x.0.0 x.0.1, x.1))
+
+-- by the kind
+unfoldable pub fields_at : ℕ → List ℕ → Option ManagerRecord
+fields_at (suc zero) fields = first_at fields
+fields_at (suc (suc zero)) fields = create_at fields
+fields_at (suc (suc (suc zero))) fields = open_at fields
+fields_at (suc (suc (suc (suc zero)))) fields = extend_at fields
+fields_at (suc (suc (suc (suc (suc zero))))) fields = seal_at fields
+fields_at kind fields = None
+
+-- the record that these bytes spell, if they spell one
+unfoldable pub record_of : List ℕ → Option ManagerRecord
+record_of [] = None
+record_of (kind ∷ fields) = fields_at kind fields

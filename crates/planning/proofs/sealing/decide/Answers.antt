@@ -1,5 +1,0 @@
-use Rattle.std.proofs.Common.{rules}
-use Rattle.planning.proofs.sealing.decide.Goals as goal
-
-pub returns-in-Some-least_told : goal.returns-in-Some-least_told
-returns-in-Some-least_told c = search rules

@@ -1,0 +1,3 @@
+pub mod ChangeTests
+pub mod GroupGrowth
+pub mod Fronts

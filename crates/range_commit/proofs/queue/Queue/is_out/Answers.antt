@@ -1,0 +1,5 @@
+use Rattle.std.proofs.Common.{rules}
+use Rattle.range_commit.proofs.queue.Queue.is_out.Goals as goal
+
+pub returns : goal.returns
+returns c = search rules

@@ -1,0 +1,222 @@
+//! A load begins, and its streams are opened.
+ghost use Rattle.std.specs.Prelude.{◌≡◌, [], ℕ, IfOk, OnErr};
+ghost use Rattle.wire.specs.declared.streams.StreamKind.TheVariants as kinds;
+ghost use Rattle.client.specs.declared.load.LoadPhase.TheVariants as phases;
+ghost use Rattle.client.specs.Client.{new_client, last_extent};
+ghost use Rattle.client.specs.Load.{open_packet, opening};
+ghost use Rattle.metadata.specs.Fold.{first_metadata};
+ghost use Rattle.model_partition.specs.Range.{request};
+ghost use Rattle.model_partition.specs.Loading as rows;
+ghost use Rattle.model_partition.specs.Server.{new_range};
+ghost use Rattle.range_load.specs.Steps.{put, outcome, RangePerforms};
+
+use crate::asking::next_request;
+use crate::content::RangeContent;
+use crate::copying::{copied_list, no_list};
+use crate::progress::Progress;
+use client::{LoadPhase, RangeLoad, StreamClient};
+use memtable::MemTable;
+use metadata::{Metadata, Region, copied_regions};
+use model_partition::{ServerContext, Stage};
+use std::alloc::{AllocError, Global};
+use wire::{Fence, Packet, RangeId, StreamKind, StreamList, StreamLists, StreamName};
+
+/// The client of a stream of a range, with nothing out.
+fn client_of(
+    alloc: Global,
+    context: &ServerContext,
+    kind: StreamKind,
+    load: &RangeLoad,
+    list: &StreamList,
+) -> Result<StreamClient, AllocError>
+    ensures { IfOk result (λ c. c ≡ new_client context.now.server (record { range = load.now.range; kind = kind }) load.now.generation list.now context.now.pick) }
+{
+    let stream = StreamName {
+        range: load.range,
+        kind,
+    };
+    StreamClient::new(
+        alloc,
+        context.server,
+        stream,
+        load.generation,
+        list,
+        context.pick,
+    )
+}
+
+/// The clients of the metadata and of the log, with nothing out.
+fn clients_of(
+    alloc: Global,
+    context: &ServerContext,
+    load: &RangeLoad,
+    metadata: &StreamList,
+    log: &StreamList,
+) -> Result<(StreamClient, StreamClient), AllocError>
+    ensures metadata { IfOk result (λ both. both.0 ≡ new_client context.now.server (record { range = load.now.range; kind = kinds.Metadata }) load.now.generation metadata.now context.now.pick) }
+    ensures log { IfOk result (λ both. both.1 ≡ new_client context.now.server (record { range = load.now.range; kind = kinds.Log }) load.now.generation log.now context.now.pick) }
+{
+    let first = client_of(alloc, context, StreamKind::Metadata, load, metadata)?;
+    match client_of(alloc, context, StreamKind::Log, load, log) {
+        Ok(second) => Ok((first, second)),
+        Err(full) => {
+            drop(first);
+            Err(full)
+        }
+    }
+}
+
+/// The same of streams that are not opened yet.
+fn first_clients(
+    alloc: Global,
+    context: &ServerContext,
+    load: &RangeLoad,
+) -> Result<(StreamClient, StreamClient), AllocError>
+    ensures metadata { IfOk result (λ both. both.0 ≡ new_client context.now.server (record { range = load.now.range; kind = kinds.Metadata }) load.now.generation (record { base = 0; extents = [] }) context.now.pick) }
+    ensures log { IfOk result (λ both. both.1 ≡ new_client context.now.server (record { range = load.now.range; kind = kinds.Log }) load.now.generation (record { base = 0; extents = [] }) context.now.pick) }
+{
+    let none = no_list(alloc);
+    let clients = clients_of(alloc, context, load, &none, &none);
+    drop(none);
+    clients
+}
+
+/// Copies of the streams of the data.
+fn data_of(alloc: Global, lists: &StreamLists) -> Result<(StreamList, StreamList), AllocError>
+    ensures rows { IfOk result (λ both. both.0 ≡ lists.now.row_data) }
+    ensures blobs { IfOk result (λ both. both.1 ≡ lists.now.blob_data) }
+{
+    let rows = copied_list(alloc, &lists.row_data)?;
+    match copied_list(alloc, &lists.blob_data) {
+        Ok(blobs) => Ok((rows, blobs)),
+        Err(full) => {
+            drop(rows);
+            Err(full)
+        }
+    }
+}
+
+/// What is known before any metadata is read, and a copy of its regions.
+fn first_said(alloc: Global) -> Result<(Metadata, Vec<Region>), AllocError>
+    ensures said { IfOk result (λ both. both.0 ≡ first_metadata) }
+    ensures regions { IfOk result (λ both. both.1.items ≡ first_metadata.regions) }
+{
+    let said = Metadata::first(alloc)?;
+    match copied_regions(alloc, &said.regions.items) {
+        Ok(regions) => Ok((said, regions)),
+        Err(full) => {
+            drop(said);
+            Err(full)
+        }
+    }
+}
+
+/// What is known of a range whose load has just begun.
+fn begun(
+    alloc: Global,
+    context: &ServerContext,
+    load: RangeLoad,
+) -> Result<RangeContent, AllocError>
+    ensures { IfOk result (λ x. (range generation until : ℕ) → load ≡ opening context.now.server range generation (request context.now) → put x (new_range context.now range generation until) ≡ new_range context.now range generation until) }
+{
+    let said = Metadata::first(alloc)?;
+    match first_clients(alloc, context, &load) {
+        Ok((metadata, log)) => Ok(RangeContent {
+            load,
+            stage: Stage::Opening,
+            metadata,
+            log,
+            row_data: no_list(alloc),
+            blob_data: no_list(alloc),
+            said,
+            regions: Vec::new(alloc),
+            table: MemTable::new(alloc),
+        }),
+        Err(full) => {
+            drop(said);
+            Err(full)
+        }
+    }
+}
+
+impl RangeContent {
+    /// A load of a range under a generation, of which nothing is known, and the packet, to the manager, that opens its streams
+    /// under the next number. An error is want of memory (22).
+    pub fn new(
+        alloc: Global,
+        context: &ServerContext,
+        range: RangeId,
+        generation: Fence,
+    ) -> Result<(RangeContent, Packet), AllocError>
+        ensures content { IfOk result (λ x. (until : ℕ) → put x.0 (new_range context.now range generation until) ≡ new_range context.now range generation until) }
+        ensures packet { IfOk result (λ x. x.1 ≡ open_packet context.now.server range generation (request context.now)) }
+    {
+        let (load, packet) = RangeLoad::open_for_load(
+            context.server,
+            range,
+            generation,
+            &next_request(context),
+        );
+        match begun(alloc, context, load) {
+            Ok(content) => Ok((content, packet)),
+            Err(full) => {
+                drop(packet);
+                Err(full)
+            }
+        }
+    }
+
+    /// The streams are opened, and nothing is read yet.
+    pub(crate) fn opens(
+        &mut self,
+        alloc: Global,
+        context: &ServerContext,
+        lists: &StreamLists,
+    ) -> Result<Progress, AllocError>
+        ensures ok { IfOk result (λ p. RangePerforms context.now (λ r. rows.opens context.now r lists.now) self.old self.new p) }
+        ensures err { OnErr result (self.new ≡ self.old) }
+    {
+        let clients = clients_of(alloc, context, &self.load, &lists.metadata, &lists.log)?;
+        match data_of(alloc, lists) {
+            Ok(streams) => self.opens_with(alloc, context, clients, streams),
+            Err(full) => {
+                drop(clients);
+                Err(full)
+            }
+        }
+    }
+
+    /// The same with these clients of the metadata and the log, and these streams of the data.
+    fn opens_with(
+        &mut self,
+        alloc: Global,
+        context: &ServerContext,
+        clients: (StreamClient, StreamClient),
+        streams: (StreamList, StreamList),
+    ) -> Result<Progress, AllocError>
+        ensures ok { IfOk result (λ p. RangePerforms context.now (λ r. rows.begins_metadata context.now (record r {
+          load = record r.load { phase = phases.Opened };
+          metadata = clients.0;
+          log = clients.1;
+          row_data = streams.0;
+          blob_data = streams.1;
+          said = first_metadata;
+        }) (last_extent clients.0.extents)) self.old self.new p) }
+        ensures err { OnErr result (self.new ≡ self.old) }
+    {
+        match first_said(alloc) {
+            Ok((said, regions)) => {
+                self.load.set_phase(LoadPhase::Opened);
+                (self.metadata, self.log) = clients;
+                (self.row_data, self.blob_data) = streams;
+                self.said = said;
+                Ok(self.begins_metadata(context, regions))
+            }
+            Err(full) => {
+                drop(clients);
+                drop(streams);
+                Err(full)
+            }
+        }
+    }
+}

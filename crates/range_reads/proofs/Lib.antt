@@ -1,0 +1,5 @@
+pub mod Values
+pub mod Extents
+pub mod Tries
+pub mod Moves
+pub mod SeenRange

@@ -1,0 +1,44 @@
+-- What Gets see is the range.
+use Rattle.std.proofs.Common.{◌≡◌, List, [], ◌++◌, map, Some, sym, ap, ◌∙◌}
+use Rattle.std.specs.Prelude.{option_to_list}
+use Rattle.wire.specs.declared.actor.ReqNo.{ReqNo}
+use Rattle.wire.specs.declared.packet.Packet.{Packet}
+use Rattle.model_partition.specs.declared.server_context.ServerContext.{ServerContext}
+use Rattle.model_partition.specs.declared.waiting.WaitingGet.{WaitingGet}
+use Rattle.model_partition.specs.Getting.{Tried, try, try_all, without, gets_after, bytes_rule}
+use Rattle.model_partition.specs.Range.{RangeState}
+use Rattle.range_reads.specs.declared.asking.Asking.{Asking}
+use Rattle.range_reads.specs.declared.trying.OneTry.{OneTry}
+use Rattle.range_reads.specs.ValueCache.{Values}
+use Rattle.range_reads.specs.Lookups.{LookupsState, Sees, IsOf, seen, tried_of}
+
+pub is_seen : (r : RangeState) (a : Asking) (held : Values) → Sees r a → seen a held r ≡ record r { held = held }
+is_seen r a held s = λ i.
+    record r {
+      until = s.until i;
+      live = s.live i;
+      fixed = s.fixed i;
+      log = record r.log { extents = s.log i };
+      blob_data = record r.blob_data { extents = s.blob i };
+      row_data = record r.row_data { extents = s.rows i };
+      held = held;
+    }
+
+pub get_taken : (d : ServerContext) (r : RangeState) (a : Asking) (s : LookupsState) (g : WaitingGet) (one : OneTry) (held : Values) (gets : List WaitingGet) (packets : List Packet) → Sees r a → IsOf r s
+    → tried_of one ≡ try d (seen a s.held r) g → gets ≡ s.gets ++ option_to_list one.waiting → packets ≡ option_to_list one.packet
+    → gets_after (record r { held = held }) r.gets (try d r g) ≡ record { after = Some (record r { gets = gets; held = held }); count = one.count; packets = packets; notes = [] }
+get_taken d r a s g one held gets packets sees own tried gets_are packets_are =
+    let same : seen a s.held r ≡ r = is_seen r a s.held sees ∙ ap (λ (h : Values). record r { held = h }) own.held in
+    let is : try d r g ≡ tried_of one = ap (λ (x : RangeState). try d x g) (sym same) ∙ sym tried in
+    let all : r.gets ++ option_to_list one.waiting ≡ gets = ap (λ (l : List WaitingGet). l ++ option_to_list one.waiting) (sym own.gets) ∙ sym gets_are in
+    ap (gets_after (record r { held = held }) r.gets) is
+    ∙ (λ i. record { after = Some (record r { gets = all i; held = held }); count = one.count; packets = sym packets_are i; notes = [] })
+
+pub bytes_taken : (d : ServerContext) (r : RangeState) (a : Asking) (s : LookupsState) (w : ReqNo) (gets : List WaitingGet) (held after : Values) (t : Tried) → Sees r a → IsOf r s → gets ≡ s.gets → after ≡ held
+    → try_all d (seen a held r) (map (without w) gets) ≡ t → bytes_rule d r w after ≡ record { after = Some (record r { gets = t.waiting; held = after }); count = t.count; packets = t.packets; notes = [] }
+bytes_taken d r a s w gets held after t sees own gets_are after_is tried =
+    let is : try_all d (record r { held = after }) (map (without w) r.gets) ≡ t =
+    ap (λ (h : Values). try_all d (record r { held = h }) (map (without w) r.gets)) after_is
+    ∙ ap (λ (x : RangeState). try_all d x (map (without w) r.gets)) (sym (is_seen r a held sees))
+    ∙ ap (λ (l : List WaitingGet). try_all d (seen a held r) (map (without w) l)) (sym own.gets ∙ sym gets_are) ∙ tried in
+    ap (gets_after (record r { held = after }) []) is

@@ -1,0 +1,56 @@
+-- Tries in turn.
+use Rattle.std.proofs.Common.{◌≡◌, ℕ, false, ◌+◌, ◌<◌, ◌≤◌, List, ◌∷◌, ◌++◌, length, map, drop, get_or, Option, Some, None, sym, ap, ◌∙◌, arith, append_assoc, append-nil, length-append}
+use Rattle.std.specs.Prelude.{option_to_list}
+use Rattle.std.proofs.lemmas.List.{drop_more, drop_all}
+use Rattle.wire.specs.declared.actor.ReqNo.{ReqNo}
+use Rattle.wire.specs.declared.packet.Packet.{Packet}
+use Rattle.model_partition.specs.declared.server_context.ServerContext.{ServerContext}
+use Rattle.model_partition.specs.declared.waiting.WaitingGet.{WaitingGet}
+use Rattle.model_partition.specs.Getting.{Lookup, Tried, look, standing, answered, try, try_all, without}
+use Rattle.model_partition.specs.Range.{RangeState}
+use Rattle.model_partition.specs.Serving.{lease_ended}
+use Rattle.range_reads.specs.declared.trying.OneTry.{OneTry}
+use Rattle.range_reads.specs.Lookups.{tried_of}
+
+-- what earlier tries left, and then these
+abbrev pub with_done : List WaitingGet → List Packet → Tried → Tried
+with_done waiting packets t = record { waiting = waiting ++ t.waiting; count = t.count; packets = packets ++ t.packets }
+
+pub goes_on : (d : ServerContext) (r : RangeState) (count : ℕ) (g : WaitingGet) (gs : List WaitingGet) (one : OneTry) (waiting waiting_after : List WaitingGet) (packets packets_after : List Packet) (count_after : ℕ)
+    → tried_of one ≡ try (record d { count = count }) r g → waiting_after ≡ waiting ++ option_to_list one.waiting → count_after ≡ one.count → packets_after ≡ packets ++ option_to_list one.packet
+    → with_done waiting_after packets_after (try_all (record d { count = count_after }) r gs) ≡ with_done waiting packets (try_all (record d { count = count }) r (g ∷ gs))
+goes_on d r count g gs one waiting waiting_after packets packets_after count_after tried waiting_is count_is packets_is =
+    let others : Tried = try_all (record d { count = one.count }) r gs in
+    ap (λ (n : ℕ). with_done waiting_after packets_after (try_all (record d { count = n }) r gs)) count_is
+    ∙ ap (λ (l : List WaitingGet). record { waiting = l ++ others.waiting; count = others.count; packets = packets_after ++ others.packets }) waiting_is
+    ∙ ap (λ (l : List Packet). record { waiting = (waiting ++ option_to_list one.waiting) ++ others.waiting; count = others.count; packets = l ++ others.packets }) packets_is
+    ∙ ap (λ (l : List WaitingGet). record { waiting = l; count = others.count; packets = (packets ++ option_to_list one.packet) ++ others.packets }) (append_assoc waiting (option_to_list one.waiting) others.waiting)
+    ∙ ap (λ (l : List Packet). record { waiting = waiting ++ (option_to_list one.waiting ++ others.waiting); count = others.count; packets = l }) (append_assoc packets (option_to_list one.packet) others.packets)
+    ∙ ap (λ (t : Tried). let rest : Tried = try_all (record d { count = t.count }) r gs in with_done waiting packets (record { waiting = t.waiting ++ rest.waiting; count = rest.count; packets = t.packets ++ rest.packets })) tried
+
+-- the Get at hand, and those behind it
+pub next_try : (w : ReqNo) (gets : List WaitingGet) (i : ℕ) (get left : WaitingGet) → i < length gets → get ≡ get_or gets i get → left ≡ without w get
+    → left ∷ map (without w) (drop (i + 1) gets) ≡ map (without w) (drop i gets)
+next_try w gets i get left lt is left_is =
+    ap (λ (g : WaitingGet). g ∷ map (without w) (drop (i + 1) gets)) (left_is ∙ ap (without w) is) ∙ sym (ap (map (without w)) (drop_more gets i get lt))
+
+pub all_tried : (d : ServerContext) (r : RangeState) (count : ℕ) (w : ReqNo) (gets : List WaitingGet) (i : ℕ) (waiting : List WaitingGet) (packets : List Packet) → length gets ≤ i
+    → with_done waiting packets (try_all (record d { count = count }) r (map (without w) (drop i gets))) ≡ record { waiting = waiting; count = count; packets = packets }
+all_tried d r count w gets i waiting packets le =
+    ap (λ (l : List WaitingGet). with_done waiting packets (try_all (record d { count = count }) r (map (without w) l))) (drop_all i gets le)
+    ∙ (λ j. record { waiting = append-nil waiting j; count = count; packets = append-nil packets j })
+
+-- one more at most
+pub counted_on : (start i count one after : ℕ) → count ≤ start + i → one ≤ count + 1 → after ≡ one → after ≤ start + (i + 1)
+counted_on start i count one after so_far next is = omega arith
+
+at_most_one : {A : Type 0} (o : Option A) → length (option_to_list o) ≤ 1
+at_most_one None = omega arith
+at_most_one (Some x) = omega arith
+
+pub no_more : {A : Type 0} (i : ℕ) (o : Option A) (before after : List A) → length before ≤ i → after ≡ before ++ option_to_list o → length after ≤ i + 1
+no_more i o before after le is = omega (arith, ap length is, length-append before (option_to_list o), at_most_one o)
+
+-- what is looked up before the lease has ended is answered
+pub in_time : (d : ServerContext) (r : RangeState) (g : WaitingGet) (found : Lookup) → lease_ended d r ≡ false → found ≡ look r.held (standing r g.key) → answered d r g found ≡ try d r g
+in_time d r g found ended is = rw ended (ap (answered d r g) is)

@@ -1,0 +1,4 @@
+pub mod ValueCache
+pub mod Looking
+pub mod Moving
+pub mod Lookups

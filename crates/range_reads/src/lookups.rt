@@ -1,0 +1,226 @@
+//! The Gets that wait, and the values that are held for them.
+ghost use Rattle.std.specs.Prelude.{◌≡◌, ◌+◌, ◌<◌, ◌≤◌, ◌^◌, ◌++◌, ℕ, List, [], None, Some, Contains, length, map, flat_map, option_to_list, IfOk, IfSome, OnErr, OnOk};
+ghost use Rattle.std.specs.List.{list_any};
+ghost use Rattle.memtable.specs.declared.cell.Place.{Place as ValuePlace};
+ghost use Rattle.range_reads.specs.ValueCache.{with_fresh};
+ghost use Rattle.range_reads.specs.Lookups.{place_of, Sees, IsOf};
+ghost use Rattle.model_partition.specs.Answering.{get_awaits};
+ghost use Rattle.model_partition.specs.Getting.{bytes_rule, gets as gets_of, gives_up_get, held_at, read_at, MayHold};
+ghost use Rattle.model_partition.specs.Range.{RangeState, refuses as refuses_of};
+ghost use Rattle.wire.specs.declared.refusal.Refusal.TheVariants as refusals;
+
+use crate::adding::push_some;
+use crate::asking::Asking;
+use crate::awaited::{fresh_of, refusals_of, some_awaits};
+use crate::giving_up::{MovedGets, move_each};
+use crate::trying::{OneTry, Tries, one_try, try_each};
+use crate::value_cache::{Fresh, ValueCache};
+use bytes::Bytes;
+use memtable::{Cell, Place};
+use model_partition::{PlaceReads, ServerContext, WaitingGet};
+use std::alloc::{AllocError, Global};
+use std::marker::Model;
+use wire::{ActorId, ExtentId, Packet, ReqNo};
+
+/// How many Gets of a range wait at most.
+pub const MAX_GETS: usize = 256;
+
+/// What a step leaves: the number of the server's next request, and the packets.
+#[derive(Drop)]
+pub struct Tried {
+    pub count: u64,
+    pub packets: Vec<Packet>,
+}
+
+/// The Gets of a range that wait, at most 256, and the values that were read for Gets, the most recently used first.
+pub struct Lookups {
+    gets: Vec<WaitingGet>,
+    held: ValueCache,
+}
+
+// Written out, so that a crate above that lets one go has no proof of what is in it.
+impl Drop for Lookups {
+    fn drop(self) {
+        let Lookups { gets: _, held: _ } = self;
+    }
+}
+
+impl Model for Lookups {
+    ghost use Rattle.std.specs.Prelude.{◌≤◌, length};
+    ghost use Rattle.range_reads.specs.ValueCache.{with_fresh};
+    ghost use Rattle.range_reads.specs.Lookups.{LookupsState};
+
+    ghost Value = { LookupsState };
+
+    ghost view = { λ l. record { gets = l.gets.items; held = l.held } };
+
+    ghost invariant = { λ l. length l.gets.items ≤ 256 };
+}
+
+fn place_in_cell(cell: Option<&Cell>) -> Option<Place> {
+    match cell {
+        Some(Cell::Placed(place)) => Some(*place),
+        _ => None,
+    }
+}
+
+fn packets_of(alloc: Global, packet: Option<Packet>) -> Result<Vec<Packet>, AllocError>
+    ensures { IfOk result (λ packets. packets.items ≡ option_to_list packet) }
+{
+    let mut packets = Vec::new(alloc);
+    push_some(&mut packets, packet)?;
+    Ok(packets)
+}
+
+fn promote_some(held: &mut ValueCache, place: &Option<Place>)
+    ensures held { (x : ValuePlace × List ℕ) → Contains held.new x → Contains held.old x }
+    ensures same { (p : ValuePlace) → held_at held.new p ≡ held_at held.old p }
+{
+    if let Some(place) = place {
+        held.promote(place);
+    }
+}
+
+fn hold_some(held: &mut ValueCache, fresh: Option<Fresh>) -> Result<(), AllocError>
+    ensures ok { OnOk result (held.new ≡ with_fresh held.old fresh) }
+    ensures err { OnErr result (held.new ≡ held.old) }
+{
+    match fresh {
+        None => Ok(()),
+        Some(came) => held.put(came),
+    }
+}
+
+impl Lookups {
+    /// No Get waits and no value is held. An error is want of memory (22).
+    pub fn new(alloc: Global) -> Result<Lookups, AllocError>
+        ensures { IfOk result (λ made. made ≡ record { gets = []; held = [] }) }
+    {
+        let held = ValueCache::new(alloc)?;
+        Ok(Lookups {
+            gets: Vec::new(alloc),
+            held,
+        })
+    }
+
+    /// How many Gets wait, at most 256.
+    pub fn count(&self) -> usize
+        ensures value { result ≡ length self.now.gets }
+        ensures bound { result ≤ 256 }
+    {
+        self.gets.len()
+    }
+
+    /// Whether a Get waits for an answer of this number.
+    pub fn awaits(&self, number: &ReqNo) -> bool
+        ensures { result ≡ list_any (λ g. get_awaits g number.now) self.now.gets }
+    {
+        some_awaits(&self.gets, number)
+    }
+
+    /// A Get of a key that is not refused otherwise: it is refused once the lease has ended, else answered, or kept, with a read
+    /// of what it needs. That there is room for it and a number for the read is the caller's condition. A value that serves it
+    /// becomes the most recently used. For want of memory (22) nothing has changed.
+    pub fn get(
+        &mut self,
+        alloc: Global,
+        asking: &Asking<'_>,
+        from: ActorId,
+        number: ReqNo,
+        key: Bytes,
+    ) -> Result<Tried, AllocError>
+        requires room { length self.old.gets < 256 }
+        requires numbers { asking.now.context.now.count + 1024 < 2 ^ 64 }
+        ensures ok { IfOk result (λ tried. (r : RangeState) → Sees r asking.now → IsOf r self.old
+            → gets_of asking.now.context.now r from number key self.new.held None
+            ≡ record { after = Some (record r { gets = self.new.gets; held = self.new.held }); count = tried.count; packets = tried.packets.items; notes = [] }) }
+        ensures held { OnOk result ((x : ValuePlace × List ℕ) → Contains self.new.held x → Contains self.old.held x) }
+        ensures same { OnOk result ((p : ValuePlace) → held_at self.new.held p ≡ held_at self.old.held p) }
+        ensures bound { IfOk result (λ tried. length tried.packets.items ≤ 256) }
+        ensures err { OnErr result (self.new ≡ self.old) }
+    {
+        let place = place_in_cell(asking.table.get(&key));
+        let get = WaitingGet {
+            from,
+            request: number,
+            key,
+            reads: PlaceReads {
+                items: Vec::new(alloc),
+            },
+        };
+        let one = one_try(alloc, asking, &self.held, &None, asking.context.count, get)?;
+        let OneTry {
+            waiting,
+            count,
+            packet,
+        } = one;
+        let packets = packets_of(alloc, packet)?;
+        push_some(&mut self.gets, waiting)?;
+        promote_some(&mut self.held, &place);
+        Ok(Tried { count, packets })
+    }
+
+    /// The bytes of a read of this number have come: each Get is tried again, without that read. They are held only where a read
+    /// of this number asked for just these. For want of memory (22) nothing has changed.
+    pub fn bytes(
+        &mut self,
+        alloc: Global,
+        asking: &Asking<'_>,
+        number: &ReqNo,
+        extent: ExtentId,
+        offset: u32,
+        bytes: &Bytes,
+    ) -> Result<Tried, AllocError>
+        requires { asking.now.context.now.count + 1024 < 2 ^ 64 }
+        ensures ok { IfOk result (λ tried. (r : RangeState) → Sees r asking.now → IsOf r self.old
+            → bytes_rule asking.now.context.now r number.now self.new.held
+            ≡ record { after = Some (record r { gets = self.new.gets; held = self.new.held }); count = tried.count; packets = tried.packets.items; notes = [] }) }
+        ensures held { OnOk result (MayHold self.new.held self.old.held (place_of extent offset bytes.now) bytes.now) }
+        ensures taken { OnOk result (read_at self.old.gets number.now ≡ Some (place_of extent offset bytes.now)
+            → held_at self.new.held (place_of extent offset bytes.now) ≡ Some bytes.now) }
+        ensures other { OnOk result ((read_at self.old.gets number.now ≡ Some (place_of extent offset bytes.now) → ⊥)
+            → self.new.held ≡ self.old.held) }
+        ensures bound { IfOk result (λ tried. length tried.packets.items ≤ 256) }
+        ensures err { OnErr result (self.new ≡ self.old) }
+    {
+        let fresh = fresh_of(&self.gets, number, extent, offset, bytes)?;
+        let tries = try_each(alloc, asking, &self.held, &fresh, number, &self.gets)?;
+        hold_some(&mut self.held, fresh)?;
+        let Tries {
+            waiting,
+            count,
+            packets,
+        } = tries;
+        self.gets = waiting;
+        Ok(Tried { count, packets })
+    }
+
+    /// The last read of each Get goes to the next place of its extent, with its number. For want of memory (22) nothing has
+    /// changed.
+    pub fn give_up(&mut self, alloc: Global, asking: &Asking<'_>) -> Result<Vec<Packet>, AllocError>
+        ensures gets { OnOk result ((r : RangeState) → Sees r asking.now
+            → self.new ≡ record self.old { gets = map (λ g. (gives_up_get asking.now.context.now r g).0) self.old.gets }) }
+        ensures packets { IfOk result (λ packets. (r : RangeState) → Sees r asking.now
+            → packets.items ≡ flat_map (λ g. (gives_up_get asking.now.context.now r g).1) self.old.gets) }
+        ensures bound { IfOk result (λ packets. length packets.items ≤ 256) }
+        ensures err { OnErr result (self.new ≡ self.old) }
+    {
+        let moved = move_each(alloc, asking, &self.gets)?;
+        let MovedGets { gets, packets } = moved;
+        self.gets = gets;
+        Ok(packets)
+    }
+
+    /// Each Get is told that this server does not hold the range. An error is want of memory (22).
+    pub fn refusals(
+        &self,
+        alloc: Global,
+        context: &ServerContext,
+    ) -> Result<Vec<Packet>, AllocError>
+        ensures packets { IfOk result (λ told. told.items
+            ≡ map (λ g. refuses_of context.now g.from g.request refusals.NotOwner) self.now.gets) }
+        ensures bound { IfOk result (λ told. length told.items ≤ 256) }
+    {
+        refusals_of(alloc, context, &self.gets)
+    }
+}

@@ -1,0 +1,166 @@
+//! The values that were read for Gets, as many as there is room for.
+ghost use Rattle.std.specs.Prelude.{◌≡◌, ◌≤◌, [], Some, length, option_copied, IfOk, OnOk, OnErr};
+ghost use Rattle.std.specs.List.{IsDistinct};
+ghost use Rattle.std.specs.Map.{keys_of};
+ghost use Rattle.memtable.specs.declared.cell.Place.{Place as ValuePlace};
+ghost use Rattle.range_reads.specs.ValueCache.{goes_for, with_fresh};
+ghost use Rattle.lru.specs.LruCache.{promoted};
+ghost use Rattle.model_partition.specs.Getting.{held_at, is_place};
+
+use bytes::Bytes;
+use lru::LruCache;
+use memtable::Place;
+use std::alloc::{AllocError, Global};
+use std::marker::Model;
+use std::num::NonZeroUsize;
+
+/// How many values are held at most.
+pub const MAX_HELD: usize = 256;
+
+/// The place of a value that is held.
+#[derive(Clone, Copy, PartialEq, Eq, Hash)]
+pub(crate) struct HeldPlace {
+    extent: u64,
+    offset: u32,
+    length: u32,
+}
+
+impl Model for HeldPlace {
+    ghost use Rattle.memtable.specs.declared.cell.Place.{Place};
+
+    ghost Value = { Place };
+
+    ghost view = { λ p. record { extent = p.extent; offset = p.offset; length = p.length } };
+
+    ghost inverse = { λ p. record { extent = p.extent; offset = p.offset; length = p.length } };
+}
+
+fn key_of(place: &Place) -> HeldPlace
+    ensures { result ≡ place.now }
+{
+    HeldPlace {
+        extent: place.extent.0,
+        offset: place.offset,
+        length: place.length,
+    }
+}
+
+/// A value that has just come, and its place.
+#[derive(Drop)]
+pub(crate) struct Fresh {
+    pub(crate) place: Place,
+    pub(crate) bytes: Bytes,
+}
+
+pub(crate) fn is_same_place(one: &Place, other: &Place) -> bool
+    ensures { result ≡ is_place one.now other.now }
+{
+    one.extent.0 == other.extent.0 && one.offset == other.offset && one.length == other.length
+}
+
+/// Values by their places, the most recently used first.
+#[derive(Drop)]
+pub(crate) struct ValueCache {
+    cache: LruCache<HeldPlace, Bytes>,
+}
+
+impl Model for ValueCache {
+    ghost use Rattle.std.specs.Prelude.{◌≡◌};
+    ghost use Rattle.range_reads.specs.ValueCache.{Values};
+
+    ghost Value = { Values };
+
+    ghost view = { λ h. h.cache.entries };
+
+    ghost invariant = { λ h. h.cache.cap ≡ 256 };
+}
+
+impl ValueCache {
+    /// None is held. An error is want of memory.
+    pub(crate) fn new(alloc: Global) -> Result<ValueCache, AllocError>
+        ensures { IfOk result (λ held. held ≡ []) }
+    {
+        let cache = LruCache::sparse(alloc, NonZeroUsize::new(MAX_HELD).unwrap())?;
+        Ok(ValueCache { cache })
+    }
+
+    /// The value at a place, if it is held.
+    pub(crate) fn value(&self, place: &Place) -> Option<&Bytes>
+        ensures { option_copied result ≡ held_at self.now place.now }
+    {
+        self.cache.peek(&key_of(place))
+    }
+
+    /// Whether the value at a place goes once that of another is held.
+    fn goes_for(&self, fresh: &Place, place: &Place) -> bool
+        ensures value { result ≡ goes_for self.now fresh.now place.now }
+        ensures distinct { IsDistinct is_place (keys_of self.now) }
+        ensures bound { length self.now ≤ 256 }
+    {
+        if self.cache.len() != MAX_HELD || self.value(fresh).is_some() {
+            return false;
+        }
+        match self.cache.peek_lru() {
+            None => false,
+            Some((last, _bytes)) => *last == key_of(place),
+        }
+    }
+
+    /// The value at a place again, if it is held. It shares its bytes; an error is want of memory.
+    fn copied(&self, place: &Place) -> Result<Option<Bytes>, AllocError>
+        ensures { IfOk result (λ value. value ≡ held_at self.now place.now) }
+    {
+        match self.value(place) {
+            None => Ok(None),
+            Some(bytes) => Ok(Some(bytes.clone()?)),
+        }
+    }
+
+    /// The same, once this value is held too.
+    fn copied_beside(&self, fresh: &Fresh, place: &Place) -> Result<Option<Bytes>, AllocError>
+        ensures { IfOk result (λ value. value ≡ held_at (with_fresh self.now (Some fresh.now)) place.now) }
+    {
+        if is_same_place(place, &fresh.place) {
+            return Ok(Some(fresh.bytes.clone()?));
+        }
+        if self.goes_for(&fresh.place, place) {
+            return Ok(None);
+        }
+        match self.copied(place) {
+            Ok(value) => Ok(value),
+            Err(full) => Err(full),
+        }
+    }
+
+    /// The value at a place, if it is held once one that has come is. It shares its bytes; an error is want of memory.
+    pub(crate) fn value_with(
+        &self,
+        fresh: &Option<Fresh>,
+        place: &Place,
+    ) -> Result<Option<Bytes>, AllocError>
+        ensures { IfOk result (λ value. value ≡ held_at (with_fresh self.now fresh.now) place.now) }
+    {
+        match fresh {
+            None => self.copied(place),
+            Some(came) => self.copied_beside(came, place),
+        }
+    }
+
+    /// The value at a place becomes the most recently used, if it is held.
+    pub(crate) fn promote(&mut self, place: &Place)
+        ensures order { self.new ≡ promoted (is_place place.now) self.old }
+        ensures same { (p : ValuePlace) → held_at self.new p ≡ held_at self.old p }
+    {
+        let _count = self.cache.len();
+        let _held = self.cache.promote(&key_of(place));
+    }
+
+    /// Holds one value more.
+    pub(crate) fn put(&mut self, fresh: Fresh) -> Result<(), AllocError>
+        ensures ok { OnOk result (self.new ≡ with_fresh self.old (Some fresh)) }
+        ensures err { OnErr result (self.new ≡ self.old) }
+    {
+        self.cache.put(key_of(&fresh.place), fresh.bytes)?;
+        Ok(())
+    }
+}

@@ -1,5 +1,0 @@
-use Rattle.std.proofs.Common.{rules}
-use Rattle.reports.proofs.telling.report_note.Goals as goal
-
-pub returns-in-Seen : goal.returns-in-Seen
-returns-in-Seen c = search rules

@@ -1,9 +1,0 @@
-use Rattle.std.proofs.Common.{◌≡◌, ◌≤◌, ◌*◌, take}
-use Rattle.blocks.specs.Limits.{groups_size}
-use Rattle.reports.proofs.telling.size_of.Given as goal
-
-abbrev pub invariant-loop-group : goal.invariant-loop-group
-invariant-loop-group l = record {
-  value : l.size ≡ groups_size (take l.group-index l.groups);
-  bound : l.size ≤ 4194304 * l.group-index;
-}

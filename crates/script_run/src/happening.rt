@@ -1,0 +1,103 @@
+//! How one event of a run happens, and what is printed of it.
+ghost use Rattle.std.specs.Prelude.{◌≡◌, IfErr, IfOk, IsOk, OnOk, Some};
+ghost use Rattle.script_run.specs.Failures.{IsRunFailure};
+ghost use Rattle.script_run.specs.Output.{Prints, PrintsEvent, line_of_refusal, node_report, replica_report, standing_of};
+ghost use Rattle.std.specs.Io.KnownBytes.{Appends};
+ghost use Rattle.enode.specs.Node.{find};
+ghost use Rattle.world_streams.specs.Nodes.{running_at};
+ghost use Rattle.model_streams.specs.Node.{contents};
+ghost use Rattle.replica.specs.State.{content_of};
+ghost use Rattle.world.specs.Cluster.{ClusterSimulates, refusal_of};
+
+use crate::error::Failure;
+use crate::printing::{print, print_since};
+use disk::MemDisk;
+use enode::Node;
+use model_streams::Event;
+use replica::{Phase, Replica};
+use script_reports::{Report, Standing};
+use std::alloc::Global;
+use std::io::Write;
+use wire::{ExtentId, Refusal};
+use world::{Run, WorldFault};
+
+/// The event is handed over whole, since one that lives on is dropped at each exit.
+fn stepped(run: &mut Run, alloc: Global, event: Event) -> Result<Option<Refusal>, WorldFault>
+    ensures came { OnOk result (ClusterSimulates run.old run.new event) }
+    ensures refusal { IfOk result (λ refusal. refusal ≡ refusal_of run.old event) }
+{
+    run.step(alloc, &event)
+}
+
+/// A step that is refused says so.
+fn tell_refusal<W: Write>(
+    told: Result<Option<Refusal>, WorldFault>,
+    writer: &mut W,
+) -> Result<(), Failure>
+    ensures stepped { OnOk result (IfOk told (λ refusal. Appends (W.contents writer.old) (W.contents writer.new) (line_of_refusal refusal))) }
+    ensures only { OnOk result (IsOk told) }
+    ensures failed { IfErr result IsRunFailure }
+{
+    match told {
+        Ok(Some(refusal)) => print(Report::Refused(refusal), writer),
+        Ok(None) => Ok(()),
+        Err(WorldFault::Memory) => Err(Failure::Refused(Refusal::Memory)),
+    }
+}
+
+/// An event happens: where it is refused that is printed, and then what is observed of it.
+pub fn happen<W: Write>(
+    run: &mut Run,
+    alloc: Global,
+    event: Event,
+    writer: &mut W,
+) -> Result<(), Failure>
+    ensures told { OnOk result (Prints (W.contents writer.old) (W.contents writer.new) (λ text. PrintsEvent run.old event text run.new)) }
+    ensures failed { IfErr result IsRunFailure }
+{
+    let shown = run.observations().len();
+    tell_refusal(stepped(run, alloc, event), writer)?;
+    print_since(run.observations(), shown, writer)
+}
+
+fn standing_of(phase: Phase) -> Standing
+    ensures { result ≡ standing_of phase }
+{
+    match phase {
+        Phase::Open => Standing::Open,
+        Phase::Frozen => Standing::Frozen,
+        Phase::Sealed => Standing::Sealed,
+    }
+}
+
+fn replica_report(node: u8, extent: u64, replica: &Replica) -> Report
+    ensures { result ≡ replica_report node extent (Some (content_of replica.now)) }
+{
+    Report::Replica {
+        node,
+        extent,
+        standing: standing_of(replica.state()),
+        length: replica.len(),
+        fence: replica.fence(),
+    }
+}
+
+/// What a node that runs has of an extent.
+fn look_at(looked: &Node<MemDisk>, node: u8, extent: u64) -> Report
+    ensures { result ≡ replica_report node extent (contents (find looked.now.replicas extent)) }
+{
+    match looked.replica(ExtentId(extent)) {
+        Some(replica) => replica_report(node, extent, replica),
+        None => Report::NoReplica { node, extent },
+    }
+}
+
+/// What a node has of an extent.
+pub fn look(run: &Run, node: u8, extent: u64) -> Report
+    ensures { result ≡ node_report node extent (running_at run.now.layer.nodes node) }
+{
+    match run.node(node) {
+        Some(looked) => look_at(looked, node, extent),
+        None => Report::Stopped { node, extent },
+    }
+}

@@ -1,0 +1,54 @@
+//! How lines of output leave the program.
+ghost use Rattle.std.specs.Prelude.{◌++◌, ◌∷◌, [], IfErr, OnOk, drop};
+ghost use Rattle.std.specs.Io.KnownBytes.{Appends};
+ghost use Rattle.script_reports.specs.Reports.{report_text};
+ghost use Rattle.script_run.specs.Failures.{IsRunFailure};
+ghost use Rattle.script_run.specs.Output.{line, lines_of_notes};
+
+use crate::error::Failure;
+use script_reports::{Report, report_note};
+use std::io::Write;
+use wire::Note;
+
+/// Prints a line.
+pub fn print<W: Write>(report: Report, writer: &mut W) -> Result<(), Failure>
+    ensures printed { OnOk result (Appends (W.contents writer.old) (W.contents writer.new)
+        (report_text report ++ 10 ∷ [])) }
+    ensures failed { IfErr result IsRunFailure }
+{
+    writeln!(writer, "{report}").map_err(Failure::Output)
+}
+
+/// Prints a line, if there is one.
+pub fn print_some<W: Write>(report: Option<Report>, writer: &mut W) -> Result<(), Failure>
+    ensures printed { OnOk result (Appends (W.contents writer.old) (W.contents writer.new) (line report)) }
+    ensures failed { IfErr result IsRunFailure }
+{
+    match report {
+        Some(report) => print(report, writer),
+        None => Ok(()),
+    }
+}
+
+/// Prints the lines of what was observed.
+pub fn print_notes<W: Write>(notes: &[Note], writer: &mut W) -> Result<(), Failure>
+    ensures printed { OnOk result (Appends (W.contents writer.old) (W.contents writer.new) (lines_of_notes notes.now)) }
+    ensures failed { IfErr result IsRunFailure }
+{
+    for note in notes {
+        print_some(report_note(note), writer)?;
+    }
+    Ok(())
+}
+
+/// Prints the lines of what was observed after so much.
+pub fn print_since<W: Write>(notes: &[Note], shown: usize, writer: &mut W) -> Result<(), Failure>
+    ensures printed { OnOk result (Appends (W.contents writer.old) (W.contents writer.new)
+        (lines_of_notes (drop shown notes.now))) }
+    ensures failed { IfErr result IsRunFailure }
+{
+    match notes.get(shown..) {
+        Some(more) => print_notes(more, writer),
+        None => Ok(()),
+    }
+}

@@ -1,0 +1,71 @@
+//! The task that runs a script.
+ghost use Rattle.std.specs.Prelude.{◌≡◌, IfErr, IfOk, IfSome, List, OnOk, string_bytes};
+ghost use Rattle.std.specs.Str.{IsUtf8};
+ghost use Rattle.std.specs.Io.KnownBytes.{Keeps};
+ghost use Rattle.wire.specs.declared.refusal.Refusal.TheVariants.{BadScript};
+ghost use Rattle.script_run.specs.Failures.{IsRunFailure};
+ghost use Rattle.script_run.specs.Output.{Prints};
+ghost use Rattle.script_run.specs.Playing.{PlaysAll};
+ghost use Rattle.script_run.specs.Script.{IsScript, Size, Writes};
+
+use crate::error::Failure;
+use crate::plan::read_plan;
+use crate::session::Session;
+use script_lines::Line;
+use std::alloc::Global;
+use std::io::{Read, Write};
+use wire::Refusal;
+
+fn read_text<R: Read + Drop>(alloc: Global, mut reader: R) -> Result<String, Failure>
+    ensures text { IfOk result (λ text. IfSome (R.remaining reader) (λ bytes. string_bytes text ≡ bytes)) }
+    ensures utf8 { IfErr result (λ e. e ≡ Failure.Refused BadScript
+        → IfSome (R.remaining reader) (λ bytes. IsUtf8 bytes → ⊥)) }
+{
+    let mut bytes = Vec::new(alloc);
+    if let Err(error) = reader.read_to_end(&mut bytes) {
+        return Err(Failure::of_input(&error));
+    }
+    match String::from_utf8(bytes) {
+        Ok(text) => Ok(text),
+        Err(_) => Err(Failure::Refused(Refusal::BadScript)),
+    }
+}
+
+/// Runs the lines in order.
+fn play_all<W: Write>(
+    session: &mut Session,
+    lines: Vec<Line>,
+    writer: &mut W,
+) -> Result<(), Failure>
+    ensures played { OnOk result (Prints (W.contents writer.old) (W.contents writer.new)
+        (λ text. PlaysAll session.old lines.items text session.new)) }
+    ensures failed { IfErr result IsRunFailure }
+{
+    for line in lines {
+        session.play(line, writer)?;
+    }
+    Ok(())
+}
+
+/// Runs the script that the reader holds, and prints what is observed and answered. The whole text is read first. An error is
+/// a text that is no script (60), want of memory (22), a reader that fails (62), or a writer that fails.
+pub fn script<R: Read + Drop, W: Write>(
+    alloc: Global,
+    reader: R,
+    writer: &mut W,
+) -> Result<(), Failure>
+    // What is written is what the script of the text prints: every line of it was read, and was run in order.
+    ensures written { OnOk result (IfSome (R.remaining reader) (λ text.
+        Prints (W.contents writer.old) (W.contents writer.new) (λ written. Writes text written))) }
+    // What is refused for its text is refused before the first line is printed.
+    ensures checked_first { IfErr result (λ e. (IsRunFailure e → ⊥)
+        → Keeps (W.contents writer.old) (W.contents writer.new)) }
+    // A text that is a script is not refused as one that is none.
+    ensures refused { IfErr result (λ e. e ≡ Failure.Refused BadScript → IfSome (R.remaining reader) (λ text.
+        (size : Size) (plan : List Line) → IsScript text size plan → ⊥)) }
+{
+    let text = read_text(alloc, reader)?;
+    let plan = read_plan(alloc, text.as_str())?;
+    let mut session = Session::start(alloc, &plan.setup)?;
+    play_all(&mut session, plan.lines, writer)
+}

@@ -1,0 +1,202 @@
+//! A script as it runs.
+ghost use Rattle.std.specs.Prelude.{◌≡◌, ◌++◌, ◌∷◌, ◌-◌, [], IfErr, IfNone, IfOk, IfSome, OnOk, filter, length, not};
+ghost use Rattle.model_partition.specs.Cluster.{first_cluster};
+ghost use Rattle.script_run.specs.Deliveries.{Delivered, IsLowest, Passed, is_same};
+ghost use Rattle.script_run.specs.Failures.{IsRunFailure};
+ghost use Rattle.script_run.specs.Output.{Prints};
+ghost use Rattle.script_run.specs.Playing.{Delivers, DeliversPacket, Happens, IsFresh, IsSettled, Plays, Settles, Submits};
+ghost use Rattle.world.specs.Cluster.{ClusterMirrors};
+
+use crate::deliveries::{Deliveries, is_same};
+use crate::error::Failure;
+use crate::happening::{happen, look};
+use crate::printing::{print, print_some};
+use crate::tickets::Tickets;
+use model_streams::Event;
+use script_lines::{Line, Request, event_of};
+use script_reports::{Report, report_answer};
+use std::alloc::{AllocError, Global};
+use std::io::Write;
+use std::marker::Model;
+use wire::{ActorId, Refusal, ReqNo};
+use world::{Run, Setup, WorldFault};
+
+/// The most packets that one settle delivers.
+const MOST_DELIVERIES: usize = 100_000;
+
+/// The actors, the network, what users have asked, and to whom no settle delivers.
+#[derive(Drop)]
+pub struct Session {
+    alloc: Global,
+    run: Run,
+    deliveries: Deliveries,
+    tickets: Tickets,
+    cut: Vec<ActorId>,
+}
+
+impl Model for Session {
+    ghost use Rattle.script_run.specs.Playing.{SessionState};
+
+    ghost Value = { SessionState };
+
+    ghost view = { λ s. record { run = s.run; noted = s.deliveries; tickets = s.tickets; cut = s.cut.items } };
+}
+
+/// Takes an actor out.
+fn take_out(cut: &mut Vec<ActorId>, actor: ActorId)
+    ensures { cut.new.items ≡ filter (λ other. not (is_same other actor)) cut.old.items }
+{
+    cut.retain(|other| !is_same(other, &actor));
+}
+
+impl Session {
+    /// A stamp of this setup, in which nothing has happened. An error is want of memory (22).
+    pub fn start(alloc: Global, setup: &Setup) -> Result<Session, Failure>
+        ensures fresh { IfOk result IsFresh }
+        ensures mirrors { IfOk result (λ s. ClusterMirrors s.run
+            (first_cluster setup.now.nodes setup.now.servers setup.now.target setup.now.batch)) }
+        ensures failed { IfErr result IsRunFailure }
+    {
+        match Run::start(alloc, setup) {
+            Ok(run) => Ok(Session {
+                alloc,
+                run,
+                deliveries: Deliveries::new(alloc),
+                tickets: Tickets::new(alloc),
+                cut: Vec::new(alloc),
+            }),
+            Err(WorldFault::Memory) => Err(Failure::Refused(Refusal::Memory)),
+        }
+    }
+
+    /// Runs a line, and prints what is observed and answered. An error is want of memory (22), or that the writer failed.
+    pub fn play<W: Write>(&mut self, line: Line, writer: &mut W) -> Result<(), Failure>
+        ensures played { OnOk result (Prints (W.contents writer.old) (W.contents writer.new) (λ text. Plays self.old line text self.new)) }
+        ensures failed { IfErr result IsRunFailure }
+    {
+        match line {
+            Line::Submit { user, request } => self.submit(user, request, writer),
+            Line::Deliver(number) => self.deliver(number as usize, writer),
+            Line::DeliverLast => self.deliver_last(writer),
+            Line::Settle => self.settle(writer),
+            Line::Cut(actor) => self.cut_off(actor),
+            Line::Heal(actor) => {
+                self.heal(actor);
+                Ok(())
+            }
+            Line::Show { node, extent } => print(look(&self.run, node, extent), writer),
+            Line::Happens(event) => self.observe(event, writer),
+        }
+    }
+
+    /// An event happens, and what is observed of it is printed.
+    fn observe<W: Write>(&mut self, event: Event, writer: &mut W) -> Result<(), Failure>
+        ensures happens { OnOk result (Prints (W.contents writer.old) (W.contents writer.new) (λ text. Happens self.old event text self.new)) }
+        ensures failed { IfErr result IsRunFailure }
+    {
+        happen(&mut self.run, self.alloc, event, writer)
+    }
+
+    fn cut_off(&mut self, actor: ActorId) -> Result<(), Failure>
+        ensures cut { OnOk result (self.new ≡ record self.old { cut = self.old.cut ++ actor ∷ [] }) }
+        ensures failed { IfErr result IsRunFailure }
+    {
+        self.cut.push(actor)?;
+        Ok(())
+    }
+
+    fn heal(&mut self, actor: ActorId)
+        ensures { self.new ≡ record self.old { cut = filter (λ other. not (is_same other actor)) self.old.cut } }
+    {
+        take_out(&mut self.cut, actor);
+    }
+
+    fn submit<W: Write>(&mut self, user: u64, asked: Request, writer: &mut W) -> Result<(), Failure>
+        ensures submits { OnOk result (Prints (W.contents writer.old) (W.contents writer.new)
+            (λ text. Submits self.old user asked text self.new)) }
+        ensures failed { IfErr result IsRunFailure }
+    {
+        let ticket = self.tickets.take(user)?;
+        let number = ReqNo::User { user, ticket };
+        happen(
+            &mut self.run,
+            self.alloc,
+            event_of(user, number, asked),
+            writer,
+        )
+    }
+
+    /// A number that was never sent delivers nothing.
+    fn deliver<W: Write>(&mut self, number: usize, writer: &mut W) -> Result<(), Failure>
+        ensures delivers { OnOk result (Prints (W.contents writer.old) (W.contents writer.new)
+            (λ text. Delivers self.old number text self.new)) }
+        ensures failed { IfErr result IsRunFailure }
+    {
+        match self.run.sent().get(number) {
+            Some(packet) => {
+                let answer = report_answer(self.alloc, packet)?;
+                self.hand_over(number, answer, writer)
+            }
+            None => Ok(()),
+        }
+    }
+
+    /// The packet that was sent last is delivered.
+    fn deliver_last<W: Write>(&mut self, writer: &mut W) -> Result<(), Failure>
+        ensures delivers { OnOk result (Prints (W.contents writer.old) (W.contents writer.new)
+            (λ text. Delivers self.old (length self.old.run.layer.post - 1) text self.new)) }
+        ensures failed { IfErr result IsRunFailure }
+    {
+        let last = self.run.sent().len().saturating_sub(1);
+        self.deliver(last, writer)
+    }
+
+    /// Notes that a packet is delivered, so that no settle takes it again.
+    fn note(&mut self, number: usize) -> Result<(), AllocError>
+        ensures noted { OnOk result (Delivered self.old.noted number self.new.noted) }
+        ensures same { OnOk result (self.new ≡ record self.old { noted = self.new.noted }) }
+    {
+        self.deliveries.note(number)
+    }
+
+    /// Packet `number`, which brings this answer, is delivered.
+    fn hand_over<W: Write>(
+        &mut self,
+        number: usize,
+        answer: Option<Report>,
+        writer: &mut W,
+    ) -> Result<(), Failure>
+        ensures delivers { OnOk result (Prints (W.contents writer.old) (W.contents writer.new)
+            (λ text. DeliversPacket self.old number answer text self.new)) }
+        ensures failed { IfErr result IsRunFailure }
+    {
+        self.note(number)?;
+        self.observe(Event::Deliver { number }, writer)?;
+        print_some(answer, writer)
+    }
+
+    /// The lowest packet that a settle takes, where there is one; those below it are passed over.
+    fn lowest(&mut self) -> Result<Option<usize>, AllocError>
+        ensures found { IfOk result (λ found. IfSome found (λ n. IsLowest self.old.cut self.old.run.layer.post self.old.noted n
+            × Passed self.old.noted n self.new.noted)) }
+        ensures none { IfOk result (λ found. IfNone found (IsSettled self.old self.new)) }
+        ensures same { OnOk result (self.new ≡ record self.old { noted = self.new.noted }) }
+    {
+        self.deliveries.next(self.cut.as_slice(), self.run.sent())
+    }
+
+    /// Delivers the lowest packet that a settle takes, again and again, until there is none or it has delivered the most.
+    fn settle<W: Write>(&mut self, writer: &mut W) -> Result<(), Failure>
+        ensures settles { OnOk result (Prints (W.contents writer.old) (W.contents writer.new)
+            (λ text. Settles self.old text self.new)) }
+        ensures failed { IfErr result IsRunFailure }
+    {
+        for _turn in 0..MOST_DELIVERIES {
+            let Some(number) = self.lowest()? else {
+                return Ok(());
+            };
+            self.deliver(number, writer)?;
+        }
+        Ok(())
+    }
+}

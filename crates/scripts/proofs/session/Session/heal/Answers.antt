@@ -1,5 +1,0 @@
-use Rattle.std.proofs.Common.{rules}
-use Rattle.scripts.proofs.session.Session.heal.Goals as goal
-
-pub returns : goal.returns
-returns c = search rules

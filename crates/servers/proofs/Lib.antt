@@ -1,3 +1,0 @@
-pub mod Adding
-pub mod Covering
-pub mod Tending

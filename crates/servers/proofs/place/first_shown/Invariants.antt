@@ -1,6 +1,0 @@
-use Rattle.std.proofs.Common.{◌≡◌, drop}
-use Rattle.model_tables.specs.Servers.{first_shown}
-use Rattle.servers.proofs.place.first_shown.Given as goal
-
-abbrev pub invariant-loop-note : goal.invariant-loop-note
-invariant-loop-note l = first_shown l.fn.notes l.fn.place ≡ first_shown (drop l.note-index l.fn.notes) l.fn.place

@@ -1,8 +1,0 @@
-use Rattle.std.proofs.Common.{rules}
-use Rattle.serving.proofs.secondary.put.Goals as goal
-
-pub returns : goal.returns
-returns g c = search rules
-
-pub returns-then-offset-length : goal.returns-then-offset-length
-returns-then-offset-length g c = search rules

@@ -1,2 +1,0 @@
-pub mod Rowed
-pub mod Sealing

@@ -1,0 +1,106 @@
+//! Tasks.
+ghost use Rattle.std.specs.Prelude.{◌≡◌, ◌≢◌, ◌<◌, ◌⊎◌, Err, IfErr, IfOk};
+ghost use Rattle.std.specs.Process.{exit_status};
+ghost use Rattle.clap.specs.Words.{kind_of};
+ghost use Rattle.clap.specs.declared.error.kind.ErrorKind.TheVariants.{DisplayHelp, DisplayVersion};
+ghost use Rattle.clap.specs.declared.error.Error.{Error};
+ghost use Rattle.stampctl_words.specs.declared.named.CommandError.TheVariants.{Memory, WrongWords};
+
+use script_run::{Failure, script};
+use stampctl_words::{CommandError, Task};
+use std::alloc::Global;
+use std::fs;
+use std::io::{self, Print, Read, Write};
+use std::process::ExitCode;
+use std::rt::Files;
+use wire::Refusal;
+
+/// Tells why a task ended early, where there is no buffered writer to tell it.
+fn refused<R: Print>(rt: &R, refusal: Refusal) -> ExitCode
+    ensures { exit_status result ≡ 1 }
+{
+    let _ = rt.println(format_args!("refused {refusal}"));
+    ExitCode::FAILURE
+}
+
+/// Tells the help that was asked for, or how the words are wrong.
+fn tell<R: Eprint + Print>(rt: &R, error: &clap::Error) -> ExitCode
+    ensures mistake { (kind_of error.now ≢ DisplayHelp)
+        → (kind_of error.now ≢ DisplayVersion) → exit_status result ≡ 2 }
+    ensures help { (kind_of error.now ≡ DisplayHelp) ⊎ (kind_of error.now ≡ DisplayVersion) → exit_status result < 2 }
+{
+    let status = ExitCode::from(error.exit_code() as u8);
+    match error.print(rt) {
+        Err(_) if !error.use_stderr() => ExitCode::FAILURE,
+        _ => status,
+    }
+}
+
+/// The whole script: of the file, or of the standard input.
+fn text_of<R: Files + Input>(
+    rt: &R,
+    alloc: Global,
+    path: Option<&str>,
+) -> Result<Vec<u8>, io::Error> {
+    let mut text = Vec::new(alloc);
+    match path {
+        None => rt.reader().read_to_end(&mut text)?,
+        Some(path) => fs::open(rt, path)?.read_to_end(&mut text)?,
+    };
+    Ok(text)
+}
+
+/// Prints what a script wrote, and how it ended. A script that could write no more ended for want of memory.
+fn finish<R: Print>(rt: &R, ended: Result<(), Failure>, written: &[u8]) -> ExitCode
+    ensures refused { IfErr ended (λ _. exit_status result ≡ 1) }
+    ensures told { exit_status result < 2 }
+{
+    let mut writer = io::writer(rt);
+    if writer
+        .write_all(written)
+        .and_then(|()| writer.flush())
+        .is_err()
+    {
+        return ExitCode::FAILURE;
+    }
+    match ended {
+        Ok(()) => ExitCode::SUCCESS,
+        Err(Failure::Refused(refusal)) => refused(rt, refusal),
+        Err(Failure::Output(_)) => refused(rt, Refusal::Memory),
+    }
+}
+
+/// Runs the script over bytes in memory, so that what `script` promises is said of this very call.
+fn run<R: Files + Input + Print>(rt: &R, alloc: Global, path: Option<&str>) -> ExitCode
+    ensures { exit_status result < 2 }
+{
+    let mut written = Vec::new(alloc);
+    let ended = match text_of(rt, alloc, path) {
+        Ok(text) => script(alloc, text.as_slice(), &mut written),
+        Err(error) => Err(Failure::of_input(&error)),
+    };
+    finish(rt, ended, &written)
+}
+
+/// Performs a task, or tells why the words name none, and answers the status to end with. A script ends in 0 where it ran to
+/// its end, and in 1 where it was refused or what it wrote could not be printed. Where memory for the words ran out it is 1;
+/// wrong words are told on the standard error and end in 2, and help that was asked for in 0, or in 1 where it could not be
+/// printed.
+pub fn perform<R: Eprint + Files + Input + Print>(
+    rt: &R,
+    alloc: Global,
+    task: Result<Task<'_>, CommandError>,
+) -> ExitCode
+    ensures ran { IfOk task.entry (λ _. exit_status result < 2) }
+    ensures memory { task.entry ≡ Err Memory → exit_status result ≡ 1 }
+    ensures mistake { (e : Error) → task.entry ≡ Err (WrongWords e) → kind_of e ≢ DisplayHelp → kind_of e ≢ DisplayVersion
+        → exit_status result ≡ 2 }
+    ensures help { (e : Error) → task.entry ≡ Err (WrongWords e) → (kind_of e ≡ DisplayHelp) ⊎ (kind_of e ≡ DisplayVersion)
+        → exit_status result < 2 }
+{
+    match task {
+        Ok(Task::Run(path)) => run(rt, alloc, path),
+        Err(CommandError::Memory) => refused(rt, Refusal::Memory),
+        Err(CommandError::WrongWords(error)) => tell(rt, &error),
+    }
+}

@@ -1,0 +1,15 @@
+use Rattle.std.proofs.Common.{◌≡◌, ◌∙◌, rules, ap, ap₂, codes, true}
+use Rattle.std.proofs.lemmas.Result.{IfOk-weaker}
+use Rattle.clap.specs.Words.{app_of, new_app, shape_of, with_subcommand}
+use Rattle.clap.specs.Simple.{app_of_fields, on_top}
+use Rattle.stampctl_words.specs.CommandLine.{file_shape}
+use Rattle.stampctl_words.proofs.named.command_line.Goals as goal
+
+pub returns : goal.returns
+returns c =
+    let about : app_of c.about.result ≡ new_app (codes "stampctl") = ap app_of_fields c.about.ensures ∙ c.new.ensures.app in
+    let after : app_of c.after_help.result ≡ new_app (codes "stampctl") = ap app_of_fields c.after_help.ensures ∙ about in
+    let top : app_of c.disable_help_subcommand.result ≡ on_top (λ s. record s { disable_help_subcommand = true }) (new_app (codes "stampctl")) =
+    ap app_of_fields c.disable_help_subcommand.ensures ∙ ap (on_top (λ s. record s { disable_help_subcommand = true })) after in
+    let run : shape_of c.in_ok-script.script ≡ file_shape (codes "run") = search rules in
+    IfOk-weaker c.subcommand.result _ _ (λ new added. added.shape c.in_ok-script.ensures.local ∙ ap₂ with_subcommand top run) c.subcommand.ensures

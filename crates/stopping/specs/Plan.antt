@@ -1,7 +1,0 @@
--- What an actor's disk was told.
-use Rattle.std.specs.Prelude.{ℕ, Bool, ◌==◌, Option, Some, None, if◌then◌else◌}
-use Rattle.model.specs.World.{Cell}
-
--- in which device call it is to stop, and whether what that writes is kept
-abbrev pub plan_of : Cell → Option (ℕ × Bool)
-plan_of c = if c.fuse == 0 then None else Some (c.fuse, c.keep)

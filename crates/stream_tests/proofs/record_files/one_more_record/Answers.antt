@@ -1,4 +1,0 @@
-use Rattle.stream_tests.proofs.record_files.one_more_record.Goals as goal
-
-pub append-requires-clause-fits : goal.append-requires-clause-fits
-append-requires-clause-fits g c = c.make.ensures.any c.records.new.self.version

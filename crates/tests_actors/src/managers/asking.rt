@@ -1,0 +1,132 @@
+//! What the cases ask of a manager. Where no extent is said, it is extent 1.
+use block_types::Nodes;
+use std::alloc::Global;
+use wire::{
+    Body, ExtentId, Fence, Modifies, RangeId, ReqNo, SealBody, ServerNo, StreamBody, StreamKind,
+    StreamName,
+};
+
+/// A packet to the manager, but for who sends it.
+#[derive(Clone, Copy)]
+pub enum Ask {
+    /// The range of the stream.
+    Create(u64),
+    /// One more extent of range 0, after this last one, with this third place.
+    Extend(Option<u64>, u8),
+    /// The extent.
+    SealExtent(u64),
+    /// The length.
+    Frozen(u32),
+    IsSealed,
+    /// The length.
+    Short(u32),
+    /// The range and the generation.
+    Open(u64, u64),
+    /// The range and the generation.
+    Confirm(u64, u64),
+    /// One more extent of range 1, for this generation, after this last one, with this third place.
+    Lengthen(u64, Option<u64>, u8),
+    Trim,
+    /// A list of no changes.
+    Modify,
+}
+
+const USER_REQUEST: ReqNo = ReqNo::User { user: 7, ticket: 0 };
+
+fn server_request() -> ReqNo {
+    ReqNo::Server {
+        server: ServerNo(2),
+        session: 1,
+        count: 1,
+    }
+}
+
+fn row_data(range: u64) -> StreamName {
+    StreamName {
+        range: RangeId(range),
+        kind: StreamKind::RowData,
+    }
+}
+
+fn create(range: u64) -> StreamBody {
+    StreamBody::CreateStream {
+        stream: row_data(range),
+        fence: Fence(0),
+        request: USER_REQUEST,
+    }
+}
+
+fn extend(range: u64, generation: u64, last: Option<u64>, third: u8, request: ReqNo) -> StreamBody {
+    StreamBody::Extend {
+        stream: row_data(range),
+        generation: Fence(generation),
+        last: last.map(|number| ExtentId(number)),
+        pick: Nodes {
+            primary: 1,
+            second: 2,
+            third,
+        },
+        request,
+    }
+}
+
+fn open(range: u64, generation: u64) -> StreamBody {
+    StreamBody::OpenStreams {
+        range: RangeId(range),
+        generation: Fence(generation),
+        request: server_request(),
+    }
+}
+
+fn confirm(range: u64, generation: u64) -> StreamBody {
+    StreamBody::Confirm {
+        range: RangeId(range),
+        generation: Fence(generation),
+        request: server_request(),
+    }
+}
+
+fn trim() -> StreamBody {
+    StreamBody::Trim {
+        range: RangeId(1),
+        generation: Fence(1),
+        before: 1,
+        to_blob: false,
+        request: server_request(),
+    }
+}
+
+fn modify(alloc: Global) -> StreamBody {
+    StreamBody::MultiModify {
+        list: Modifies {
+            items: Vec::new(alloc),
+        },
+        request: server_request(),
+    }
+}
+
+fn seal_extent(extent: u64) -> SealBody {
+    SealBody::SealExtent {
+        extent: ExtentId(extent),
+        request: USER_REQUEST,
+    }
+}
+
+pub fn body_of(alloc: Global, ask: Ask) -> Body {
+    let extent = ExtentId(1);
+    match ask {
+        Ask::Create(range) => Body::Stream(create(range)),
+        Ask::Extend(last, third) => Body::Stream(extend(0, 0, last, third, USER_REQUEST)),
+        Ask::SealExtent(extent) => Body::Seal(seal_extent(extent)),
+        Ask::Frozen(length) => Body::Seal(SealBody::Frozen { extent, length }),
+        Ask::IsSealed => Body::Seal(SealBody::IsSealed { extent }),
+        Ask::Short(length) => Body::Seal(SealBody::Short { extent, length }),
+        Ask::Open(range, generation) => Body::Stream(open(range, generation)),
+        Ask::Confirm(range, generation) => Body::Stream(confirm(range, generation)),
+        Ask::Lengthen(generation, last, third) => {
+            Body::Stream(extend(1, generation, last, third, server_request()))
+        }
+        Ask::Trim => Body::Stream(trim()),
+        Ask::Modify => Body::Stream(modify(alloc)),
+    }
+}

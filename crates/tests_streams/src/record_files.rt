@@ -1,0 +1,359 @@
+//! Record files on a disk in memory and on a real one.
+ghost use Rattle.std.specs.Prelude.{◌≡◌, false, IfOk};
+ghost use Rattle.blocks.specs.Record.{Fits};
+ghost use Rattle.disk.specs.Appends.{Appends};
+ghost use Rattle.block_types.specs.declared.record.Version.{Version};
+ghost use Rattle.block_types.specs.declared.record.Version.TheVariants.{V1};
+
+use crate::groups::group_of;
+use block_types::{Nodes, Record, Version};
+use disk::{Disk, DiskFault, FileDisk, FileFault, MemDisk, RecordFile};
+use std::alloc::Global;
+use std::fs;
+use std::test::Fail;
+
+// Make(1, 1, 4096; 1, 2, 3) and Append(1, 0, `abc` `de`) in version 1: the header, two open gates with their records,
+// and a closed gate.
+const TWO_RECORDS: [u8; 66] = *b"XRF1\
+    \x01\0\0\0\x18\x01\0\0\0\0\0\0\0\x01\0\0\0\0\0\0\0\x01\0\0\x10\0\x01\x02\x03\
+    \x01\0\0\0\x1b\x02\0\0\0\0\0\0\0\x01\0\0\0\0\x02\0\0\0\x03abc\0\0\0\x02de\
+    \0";
+
+fn make() -> Record
+    ensures first { Fits V1 result }
+    ensures any { (v : Version) → Fits v result }
+{
+    Record::Make {
+        extent: 1,
+        fence: 1,
+        target: 4096,
+        nodes: Nodes {
+            primary: 1,
+            second: 2,
+            third: 3,
+        },
+    }
+}
+
+fn abc_de(alloc: Global) -> Result<Record, Fail>
+    ensures { IfOk result (Fits V1) }
+{
+    let group = group_of(alloc, &[b"abc", b"de"])?;
+    let _size = group.size();
+    Ok(Record::Append {
+        extent: 1,
+        offset: 0,
+        group,
+    })
+}
+
+// Records, files and disks are handed over whole: a local that lives on is dropped at each exit, and each costs the proof.
+fn append<D: Disk>(alloc: Global, file: &mut RecordFile<D>, added: Record) -> Result<(), DiskFault>
+    requires running { file.old.stopped ≡ false }
+    requires fits { Fits file.old.version added }
+    ensures { Appends D.state file.old file.new added result }
+{
+    file.append(alloc, &added)
+}
+
+fn append_two<D: Disk>(alloc: Global, file: &mut RecordFile<D>) -> Result<(), Fail>
+    requires running { file.old.stopped ≡ false }
+    requires version { file.old.version ≡ V1 }
+{
+    append(alloc, file, make())?;
+    Ok(append(alloc, file, abc_de(alloc)?)?)
+}
+
+fn empty(alloc: Global) -> Result<RecordFile<MemDisk>, Fail>
+    ensures running { IfOk result (λ file. file.stopped ≡ false) }
+    ensures version { IfOk result (λ file. file.version ≡ V1) }
+{
+    let file = RecordFile::format(Version::V1, MemDisk::new(alloc));
+    Ok(file.ok().ok_or("formatted")?)
+}
+
+fn reopened<D: Disk + Drop>(alloc: Global, disk: D) -> Result<RecordFile<D>, Fail>
+    ensures { IfOk result (λ file. file.stopped ≡ false) }
+{
+    Ok(RecordFile::open(alloc, disk).ok().ok_or("opened")?)
+}
+
+fn count(alloc: Global, file: RecordFile<MemDisk>) -> Result<usize, FileFault> {
+    let mut file = file;
+    let records = file.records(alloc);
+    drop(file);
+    Ok(records?.len())
+}
+
+fn two_written(alloc: Global) -> Result<MemDisk, Fail> {
+    let mut file = empty(alloc)?;
+    append_two(alloc, &mut file)?;
+    Ok(file.into_disk())
+}
+
+fn has_bytes(alloc: Global, disk: &mut MemDisk, wanted: &[u8]) -> Result<bool, DiskFault> {
+    Ok(disk.read(alloc)?.as_slice() == wanted)
+}
+
+fn are_the_two(records: &[Record]) -> bool {
+    matches!(
+        records,
+        [
+            Record::Make { target: 4096, .. },
+            Record::Append {
+                extent: 1,
+                offset: 0,
+                ..
+            }
+        ]
+    )
+}
+
+/// Whether a file has the two records, and takes none once it is halted.
+fn has_the_two(alloc: Global, file: RecordFile<MemDisk>) -> Result<bool, FileFault> {
+    let mut file = file;
+    let records = file.records(alloc);
+    file.halt();
+    let is_stopped = file.is_stopped();
+    drop(file);
+    Ok(are_the_two(records?.as_slice()) && is_stopped)
+}
+
+#[test]
+fn a_file_of_two_records(rt: HostRuntime) -> Result<(), Fail> {
+    let mut disk = two_written(rt.alloc())?;
+    assert!(rt; has_bytes(rt.alloc(), &mut disk, &TWO_RECORDS)?);
+    assert!(rt; has_the_two(rt.alloc(), reopened(rt.alloc(), disk)?)?);
+    Ok(())
+}
+
+/// A byte that is changed, how many bytes are kept, and how many records are found: none where the file is damaged.
+const CUT_FILES: &[(usize, u8, usize, Option<usize>)] = &[
+    (0, b'X', 66, Some(2)),
+    (33, 0, 50, Some(1)),
+    (33, 7, 66, Some(1)),
+    (37, 0xff, 66, None),
+    (65, 1, 66, None),
+    (0, b'X', 33, None),
+    (0, b'X', 4, None),
+    (0, b'X', 0, None),
+    (0, b'Y', 66, None),
+    (3, b'3', 66, None),
+];
+
+fn disk_of(alloc: Global, bytes: &[u8]) -> Result<MemDisk, DiskFault> {
+    let mut disk = MemDisk::new(alloc);
+    disk.write_at(0, bytes)?;
+    disk.sync()?;
+    Ok(disk)
+}
+
+fn found_in(
+    alloc: Global,
+    opened: Result<RecordFile<MemDisk>, (FileFault, MemDisk)>,
+    len: usize,
+) -> Result<Option<usize>, FileFault> {
+    match opened {
+        Ok(file) => Ok(Some(count(alloc, file)?)),
+        Err((fault, disk)) => {
+            let is_whole = disk.len() == len;
+            drop(disk);
+            if is_whole && fault == FileFault::Damaged {
+                Ok(None)
+            } else {
+                Err(fault)
+            }
+        }
+    }
+}
+
+fn found(alloc: Global, at: usize, byte: u8, len: usize) -> Result<Option<usize>, FileFault> {
+    let mut bytes = TWO_RECORDS;
+    if let Some(changed) = bytes.get_mut(at) {
+        *changed = byte;
+    }
+    let kept = &bytes[..len.min(66)];
+    found_in(
+        alloc,
+        RecordFile::open(alloc, disk_of(alloc, kept)?),
+        kept.len(),
+    )
+}
+
+#[test]
+fn what_is_found_in_other_files(rt: HostRuntime) {
+    for (at, byte, len, wanted) in CUT_FILES {
+        assert!(rt;
+            found(rt.alloc(), *at, *byte, *len) == Ok(*wanted),
+            "{at} {byte} {len}"
+        );
+    }
+}
+
+/// A stop at each device call, and whether the bytes are kept: how many records stand.
+const STOPS: &[(u64, bool, usize)] = &[
+    (1, false, 1),
+    (1, true, 1),
+    (2, false, 1),
+    (2, true, 1),
+    (3, false, 1),
+    (3, true, 2),
+    (4, false, 1),
+    (4, true, 2),
+    (5, false, 2),
+];
+
+/// Whether a second append fails in the stop.
+fn fails_in_a_stop(
+    alloc: Global,
+    file: &mut RecordFile<MemDisk>,
+    calls: u64,
+    keep: bool,
+) -> Result<bool, DiskFault>
+    requires running { file.old.stopped ≡ false }
+    requires version { file.old.version ≡ V1 }
+{
+    append(alloc, file, make())?;
+    file.stop_at(calls, keep);
+    Ok(append(alloc, file, make()) == Err(DiskFault::Failed))
+}
+
+/// Whether an append failed just where its disk was told to stop in one of the four calls. A stop behind them is put off.
+fn stopped_there(file: &mut RecordFile<MemDisk>, calls: u64, failed: bool) -> bool {
+    if !failed {
+        file.stop_at(9, false);
+    }
+    failed == (calls <= 4) && failed == file.is_stopped()
+}
+
+fn stopped(alloc: Global, calls: u64, keep: bool) -> Result<usize, Fail> {
+    let mut file = empty(alloc)?;
+    let failed = fails_in_a_stop(alloc, &mut file, calls, keep)?;
+    if !stopped_there(&mut file, calls, failed) {
+        return Err(Fail::new("stopped at another call"));
+    }
+    Ok(count(alloc, reopened(alloc, file.into_disk())?)?)
+}
+
+#[test]
+fn a_stop_at_each_call(rt: HostRuntime) -> Result<(), Fail> {
+    for (calls, keep, wanted) in STOPS {
+        assert!(rt;
+            stopped(rt.alloc(), *calls, *keep)? == *wanted,
+            "{calls} {keep}"
+        );
+    }
+    Ok(())
+}
+
+const PATH: &str = "disk_test.records";
+
+fn two_real_records(rt: &HostRuntime) -> Result<(), Fail> {
+    let mut disk = FileDisk::open(rt, PATH)?;
+    disk.sync()?;
+    if disk.len() > 0 {
+        return Err(Fail::new("it is not empty"));
+    }
+    let mut file = RecordFile::format(Version::V1, disk)
+        .ok()
+        .ok_or("formatted")?;
+    append_two(rt.alloc(), &mut file)
+}
+
+// It answers how many records were found before.
+fn one_more_record<D: Disk>(alloc: Global, file: &mut RecordFile<D>) -> Result<usize, Fail>
+    requires { file.old.stopped ≡ false }
+{
+    let count = file.records(alloc)?.len();
+    append(alloc, file, make())?;
+    Ok(count)
+}
+
+// Opens the file again, and appends a record to it.
+fn one_more_real_record(rt: &HostRuntime) -> Result<usize, Fail> {
+    let mut file = reopened(rt.alloc(), FileDisk::open(rt, PATH)?)?;
+    one_more_record(rt.alloc(), &mut file)
+}
+
+/// Whether these parts are the bytes, with zeros behind them.
+fn are_parts(bytes: &[u8], parts: &[&[u8]]) -> bool {
+    let mut rest = bytes;
+    for part in parts {
+        rest = match rest.strip_prefix(*part) {
+            Some(behind) => behind,
+            None => return false,
+        };
+    }
+    for byte in rest {
+        if *byte != 0 {
+            return false;
+        }
+    }
+    true
+}
+
+fn is_file(rt: &HostRuntime, path: &str, len: usize, parts: &[&[u8]]) -> Result<bool, Fail> {
+    let bytes = fs::read(rt, path)?;
+    Ok(bytes.len() == len && are_parts(bytes.as_slice(), parts))
+}
+
+#[test]
+fn a_real_file(rt: HostRuntime) -> Result<(), Fail> {
+    let _ = fs::remove_file(&rt, PATH);
+    two_real_records(&rt)?;
+    assert!(rt; is_file(&rt, PATH, 65_536, &[&TWO_RECORDS])?);
+    assert!(rt; one_more_real_record(&rt)? == 2);
+    let three_records = [&TWO_RECORDS[..65], &TWO_RECORDS[4..33]];
+    assert!(rt; is_file(&rt, PATH, 65_536, &three_records)?);
+    assert!(rt; one_more_real_record(&rt)? == 3);
+    fs::remove_file(&rt, PATH)?;
+    Ok(())
+}
+
+const OTHER_PATH: &str = "disk_test.bytes";
+
+static SEVENS: [u8; 70_000] = [7; 70_000];
+
+// Whether neither a write nor a sync is taken.
+fn takes_nothing(disk: &mut FileDisk) -> bool {
+    let failed = Err(DiskFault::Failed);
+    disk.write_at(0, b"abc") == failed && disk.sync() == failed
+}
+
+// Whether a file that is open for reading alone takes nothing, and then has these bytes.
+fn is_unwritten(rt: &HostRuntime, wanted: &[u8]) -> Result<bool, Fail> {
+    let file = fs::open(rt, OTHER_PATH)?;
+    let mut disk = FileDisk::new(rt.alloc(), file)?;
+    let took_nothing = takes_nothing(&mut disk);
+    let bytes = disk.read(rt.alloc());
+    drop(disk.into_file());
+    Ok(took_nothing && bytes?.as_slice() == wanted)
+}
+
+fn is_damaged(rt: &HostRuntime, len: usize) -> Result<bool, Fail> {
+    match RecordFile::open(rt.alloc(), FileDisk::open(rt, OTHER_PATH)?) {
+        Err((FileFault::Damaged, disk)) => Ok(disk.len() == len),
+        _ => Ok(false),
+    }
+}
+
+// It grows over the next multiple of 65,536, from no multiple on.
+fn grows(disk: &mut FileDisk) -> bool {
+    disk.len() == 3 && disk.write_at(3, &SEVENS).is_ok() && disk.len() == 70_003
+}
+
+fn is_grown(rt: &HostRuntime) -> Result<bool, Fail> {
+    let mut disk = FileDisk::open(rt, OTHER_PATH)?;
+    Ok(grows(&mut disk))
+}
+
+#[test]
+fn other_real_files(rt: HostRuntime) -> Result<(), Fail> {
+    fs::write(&rt, OTHER_PATH, b"XRF".as_slice())?;
+    assert!(rt; is_unwritten(&rt, b"XRF")?);
+    assert!(rt; is_damaged(&rt, 3)?);
+    assert!(rt; is_grown(&rt)?);
+    assert!(rt; is_file(&rt, OTHER_PATH, 131_072, &[b"XRF", &SEVENS])?);
+    fs::remove_file(&rt, OTHER_PATH)?;
+    Ok(())
+}

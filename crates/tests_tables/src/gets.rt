@@ -1,0 +1,306 @@
+//! What no clause says: that calls succeed where there is memory, and one value from the Get to the answer.
+ghost use Rattle.std.specs.Prelude.{◌≡◌, ◌+◌, ◌<◌, ◌^◌};
+ghost use Rattle.memtable.specs.Cell.{IsCell};
+
+use crate::asking::{context, extent, number};
+use crate::cases::{Case, Tested, holds};
+use bytes::Bytes;
+use memtable::{Cell, MemTable, Place};
+use range_reads::{Asking, Lookups, MAX_GETS, Tried};
+use std::alloc::{AllocError, Global};
+use std::test::Fail;
+use wire::{ActorId, AppendBody, Body, ExtentId, Packet, ReadBody, Refusal, ReqNo, TableBody};
+
+/// What the Gets of a table are called for.
+pub(crate) enum Call {
+    /// A Get of this key comes.
+    Get(&'static [u8]),
+    /// The read of this number brings 5,000 bytes.
+    Bytes(u32),
+    GiveUp,
+}
+
+/// The one packet that a call sends.
+pub(crate) enum Sent {
+    /// A value of this length.
+    Value(usize),
+    /// A read at this node and this offset.
+    Read(u8, u32),
+    Refusal(Refusal),
+}
+
+/// What is done, or what is known then.
+pub(crate) enum Step {
+    /// The lease ends at this moment, and no more at 9.
+    LeaseEnds(u64),
+    /// It is called where the server's next request has the first number, which has the second then, and sends one packet.
+    Does(u32, Call, u64, Sent),
+    /// How many Gets wait.
+    Waits(usize),
+    /// Whether the request of this number is awaited.
+    Awaits(u32, bool),
+    /// So many are refused.
+    Refuses(usize),
+}
+
+/// A Get of `b` reads what stands elsewhere.
+const READS: Step = Step::Does(4, Call::Get(b"b"), 5, Sent::Read(1, 100));
+
+const CASES: &[Case<Step>] = &[
+    (
+        "a small value is answered",
+        &[&[
+            Step::Does(4, Call::Get(b"a"), 4, Sent::Value(1)),
+            Step::Waits(0),
+        ]],
+    ),
+    (
+        "a large value is read once",
+        &[&[
+            READS,
+            Step::Awaits(4, true),
+            Step::Awaits(5, false),
+            Step::Does(20, Call::Bytes(4), 20, Sent::Value(5_000)),
+            Step::Waits(0),
+            Step::Does(4, Call::Get(b"b"), 4, Sent::Value(5_000)),
+        ]],
+    ),
+    (
+        "what was not asked for is not held",
+        &[&[
+            READS,
+            Step::Does(20, Call::Bytes(6), 21, Sent::Read(1, 100)),
+            Step::Waits(1),
+        ]],
+    ),
+    (
+        "the next node is asked",
+        &[&[
+            READS,
+            Step::Does(30, Call::GiveUp, 30, Sent::Read(2, 100)),
+            Step::Refuses(1),
+        ]],
+    ),
+    (
+        "an ended lease refuses",
+        &[&[
+            Step::LeaseEnds(5),
+            Step::Does(4, Call::Get(b"a"), 4, Sent::Refusal(Refusal::LeaseEnded)),
+            Step::Waits(0),
+        ]],
+    ),
+];
+
+/// The place of the value at `b`.
+fn place() -> Place
+    ensures { result.length ≡ 5000 }
+{
+    Place {
+        extent: ExtentId(7),
+        offset: 100,
+        length: 5_000,
+    }
+}
+
+/// A table under a lease, and the Gets that wait for what is in it.
+#[derive(Drop)]
+struct Getting {
+    table: MemTable,
+    lookups: Lookups,
+    /// The moment when the lease ends.
+    until: u64,
+}
+
+fn put(alloc: Global, table: &mut MemTable, key: &'static [u8; 1], cell: Cell) -> Result<(), Fail>
+    requires { IsCell cell }
+{
+    let mut changes = Vec::new(alloc);
+    changes.push((Bytes::from_static(key), cell))?;
+    table.apply(alloc, changes)?;
+    Ok(())
+}
+
+fn fill(alloc: Global, table: &mut MemTable) -> Result<(), Fail> {
+    put(alloc, table, b"a", Cell::Inline(Bytes::from_static(b"x")))?;
+    put(alloc, table, b"b", Cell::Placed(place()))
+}
+
+/// A table with a small value at `a` and a large one at `b`.
+fn filled(alloc: Global) -> Result<MemTable, Fail> {
+    let mut table = MemTable::new(alloc);
+    let told = fill(alloc, &mut table);
+    match told {
+        Ok(()) => Ok(table),
+        Err(fail) => {
+            drop(table);
+            Err(fail)
+        }
+    }
+}
+
+/// Such a table, for which no Get waits.
+fn begun(alloc: Global) -> Result<Getting, Fail> {
+    let table = filled(alloc)?;
+    match Lookups::new(alloc) {
+        Ok(lookups) => Ok(Getting {
+            table,
+            lookups,
+            until: 9,
+        }),
+        Err(full) => {
+            drop(table);
+            Err(Fail::from(full))
+        }
+    }
+}
+
+fn gets(
+    alloc: Global,
+    lookups: &mut Lookups,
+    asking: &Asking<'_>,
+    key: &'static [u8],
+) -> Result<Option<Tried>, AllocError>
+    requires { asking.now.context.now.count + 1024 < 2 ^ 64 }
+{
+    if lookups.count() >= MAX_GETS {
+        return Ok(None);
+    }
+    let number = ReqNo::User { user: 9, ticket: 2 };
+    let key = Bytes::from_static(key);
+    Ok(Some(lookups.get(alloc, asking, ActorId::User(9), number, key)?))
+}
+
+/// What 5,000 bytes bring, as the answer of the read of this number.
+fn brings(
+    alloc: Global,
+    lookups: &mut Lookups,
+    asking: &Asking<'_>,
+    count: u32,
+) -> Result<Option<Tried>, AllocError>
+    requires { asking.now.context.now.count + 1024 < 2 ^ 64 }
+{
+    let value = Bytes::from_vec(vec![in alloc; b'y'; 5_000]?)?;
+    let extent = ExtentId(7);
+    let tried = lookups.bytes(
+        alloc,
+        asking,
+        &number(u64::from(count)),
+        extent,
+        100,
+        &value,
+    );
+    drop(value);
+    Ok(Some(tried?))
+}
+
+fn gives_up(
+    alloc: Global,
+    lookups: &mut Lookups,
+    asking: &Asking<'_>,
+) -> Result<Option<Tried>, AllocError> {
+    Ok(Some(Tried {
+        count: asking.context.count,
+        packets: lookups.give_up(alloc, asking)?,
+    }))
+}
+
+/// What a call leaves where the server's next request has this number; nothing where there is no room for a Get.
+fn called(
+    alloc: Global,
+    getting: &mut Getting,
+    count: u32,
+    call: &Call,
+) -> Result<Option<Tried>, AllocError> {
+    let context = context(count, 5);
+    let log = [extent(None)];
+    let asking = Asking {
+        context: &context,
+        until: getting.until,
+        table: &getting.table,
+        log: &log,
+        blob: &[],
+        rows: &[],
+    };
+    match call {
+        Call::Get(key) => gets(alloc, &mut getting.lookups, &asking, key),
+        Call::Bytes(count) => brings(alloc, &mut getting.lookups, &asking, *count),
+        Call::GiveUp => gives_up(alloc, &mut getting.lookups, &asking),
+    }
+}
+
+fn is_sent(packet: &Packet, sent: &Sent) -> bool {
+    match (&packet.body, sent) {
+        (
+            Body::Table(
+                TableBody::Value {
+                    value: Some(bytes),
+                    ..
+                },
+            ),
+            Sent::Value(length),
+        ) => bytes.len() == *length,
+        (Body::Read(ReadBody::ReadAt { offset: at, .. }), Sent::Read(node, offset)) => {
+            packet.to == ActorId::Node(*node) && *at == *offset
+        }
+        (Body::Append(AppendBody::Refused { refusal, .. }), Sent::Refusal(wanted)) => {
+            *refusal == *wanted
+        }
+        _ => false,
+    }
+}
+
+fn comes_to(tried: &Option<Tried>, count: u64, sent: &Sent) -> bool {
+    match tried {
+        Some(tried) => match tried.packets.as_slice() {
+            [only] => tried.count == count && is_sent(only, sent),
+            _ => false,
+        },
+        None => false,
+    }
+}
+
+fn does(
+    alloc: Global,
+    getting: &mut Getting,
+    count: u32,
+    call: &Call,
+    next: u64,
+    sent: &Sent,
+) -> Result<bool, Fail> {
+    let tried = called(alloc, getting, count, call)?;
+    let told = comes_to(&tried, next, sent);
+    drop(tried);
+    Ok(told)
+}
+
+fn refusal_count(alloc: Global, lookups: &Lookups) -> Result<usize, Fail> {
+    Ok(lookups.refusals(alloc, &context(4, 5))?.len())
+}
+
+impl Tested for Getting {
+    type Step = Step;
+
+    fn takes(&mut self, alloc: Global, step: &Step) -> Result<bool, Fail> {
+        match step {
+            Step::LeaseEnds(until) => {
+                self.until = *until;
+                Ok(true)
+            }
+            Step::Does(count, call, next, sent) => does(alloc, self, *count, call, *next, sent),
+            Step::Waits(count) => Ok(self.lookups.count() == *count),
+            Step::Awaits(count, awaited) => Ok(
+                self.lookups.awaits(&number(u64::from(*count))) == *awaited,
+            ),
+            Step::Refuses(count) => Ok(refusal_count(alloc, &self.lookups)? == *count),
+        }
+    }
+}
+
+#[test]
+fn gets_go_as_their_cases_say(rt: HostRuntime) -> Result<(), Fail> {
+    for (name, parts) in CASES {
+        let getting = begun(rt.alloc())?;
+        assert!(rt; holds(rt.alloc(), getting, *parts)?, "{name}");
+    }
+    Ok(())
+}

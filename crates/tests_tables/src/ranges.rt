@@ -1,0 +1,260 @@
+//! What no clause says: that calls succeed where there is memory, and each refusal once.
+mod answers;
+
+use crate::asking::{context, number, puts};
+use crate::cases::{Case, Tested, holds};
+use answers::{Answer, body_of};
+use bytes::Bytes;
+use model_partition::Stage;
+use range_core::{RangeState, RangeStep};
+use std::alloc::Global;
+use std::test::Fail;
+use wire::{ActorId, AppendBody, Body, Fence, RangeId, Refusal, ReqNo};
+
+/// What is done with a range, or what is known of it.
+pub(crate) enum Step {
+    /// The request of the first number is answered, where the server's next request has the second. Whether the range is dropped.
+    Answered(u64, u32, Answer, bool),
+    /// At a moment, a key, the length of each value, and how many changes are put there. Why they are refused, if they are.
+    Transacts(u64, &'static [u8], usize, usize, Option<Refusal>),
+    /// So many transactions of one byte at `a` are taken.
+    TakesMany(u32),
+    /// At a moment, the key of a Get, and why it is refused, if it is.
+    Gets(u64, &'static [u8], Option<Refusal>),
+    /// The lease ends at this moment.
+    Renews(u64),
+    /// No answer comes, and so many packets are sent.
+    GivesUp(usize),
+    /// The number of the next transaction.
+    Next(u64),
+    /// The request of this number is awaited.
+    Awaits(u64),
+    /// So many are refused.
+    Refuses(usize),
+    /// It is served, has nothing in it, and tells what it was assigned as.
+    IsEmpty,
+}
+
+/// The range is served, and has no extent.
+const SERVED: &[Step] = &[
+    Step::Answered(1, 2, Answer::Empty, false),
+    Step::Answered(2, 3, Answer::Confirmed, false),
+];
+
+/// The range is served, and has the keys below `m`.
+const SERVED_BELOW_M: &[Step] = &[
+    Step::Answered(1, 2, Answer::Metadata(15), false),
+    Step::Answered(
+        2,
+        3,
+        Answer::Group(&[0, 0, 0, 0, 0, 0, 0, 1, 1, 0, 0, 1, 0, 1, b'm']),
+        false,
+    ),
+    Step::Answered(3, 5, Answer::Confirmed, false),
+];
+
+const CASES: &[Case<Step>] = &[
+    (
+        "transactions are refused by name",
+        &[
+            SERVED_BELOW_M,
+            &[
+                Step::Transacts(100, b"a", 1, 1, Some(Refusal::LeaseEnded)),
+                Step::Transacts(1, b"a", 1, 0, Some(Refusal::TooLarge)),
+                Step::Transacts(1, b"a", 1, 33, Some(Refusal::TooLarge)),
+                Step::Transacts(1, b"", 1, 1, Some(Refusal::BadKey)),
+                Step::Transacts(1, &[b'a'; 257], 1, 1, Some(Refusal::BadKey)),
+                Step::Transacts(1, b"a", 65_537, 1, Some(Refusal::TooLarge)),
+                Step::Transacts(1, b"m", 1, 1, Some(Refusal::OutOfRange)),
+                Step::Next(1),
+                Step::Transacts(99, b"a", 65_536, 32, None),
+                Step::Next(2),
+            ],
+        ],
+    ),
+    (
+        "a range that is loaded refuses",
+        &[&[
+            Step::Transacts(1, b"a", 1, 1, Some(Refusal::Loading)),
+            Step::Gets(1, b"a", Some(Refusal::Loading)),
+        ]],
+    ),
+    (
+        "no more than 1,024 wait",
+        &[
+            SERVED,
+            &[
+                Step::TakesMany(1_024),
+                Step::Transacts(1, b"a", 1, 1, Some(Refusal::Busy)),
+                Step::Refuses(1_024),
+            ],
+        ],
+    ),
+    (
+        "Gets are refused by name",
+        &[
+            SERVED_BELOW_M,
+            &[
+                Step::Gets(100, b"a", Some(Refusal::LeaseEnded)),
+                Step::Gets(1, b"", Some(Refusal::BadKey)),
+                Step::Gets(1, b"z", Some(Refusal::OutOfRange)),
+                Step::Renews(200),
+                Step::Gets(100, b"a", None),
+            ],
+        ],
+    ),
+    (
+        "a damaged log drops the range",
+        &[&[
+            Step::Answered(1, 2, Answer::Log(3), false),
+            Step::Answered(2, 3, Answer::Group(b"bad"), true),
+        ]],
+    ),
+    (
+        "damaged metadata drops the range",
+        &[&[
+            Step::Answered(1, 2, Answer::Metadata(3), false),
+            Step::Answered(2, 3, Answer::Group(b"bad"), true),
+        ]],
+    ),
+    (
+        "a range is known by its readers",
+        &[SERVED, &[Step::IsEmpty]],
+    ),
+    (
+        "a group that is not answered is asked for again",
+        &[
+            SERVED,
+            &[
+                Step::Transacts(1, b"a", 1, 1, None),
+                Step::Awaits(9),
+                Step::GivesUp(1),
+            ],
+        ],
+    ),
+];
+
+const USER: ActorId = ActorId::User(7);
+
+const TICKET: ReqNo = ReqNo::User { user: 7, ticket: 0 };
+
+/// A range under the generation 2 and a lease up to the moment 100, whose streams are asked for under the number 1.
+fn begun(alloc: Global) -> Result<RangeState, Fail> {
+    let (state, packet) = RangeState::assign(alloc, &context(1, 1), RangeId(1), Fence(2), 100)?;
+    drop(packet);
+    Ok(state)
+}
+
+/// Whether an answer drops the range.
+fn drops(
+    state: &mut RangeState,
+    alloc: Global,
+    asked: u64,
+    count: u32,
+    answer: &Answer,
+) -> Result<bool, Fail> {
+    let request = number(asked);
+    let body = body_of(alloc, request, answer)?;
+    let taken = state.answer(alloc, &context(count, 1), &request, &body);
+    drop(body);
+    Ok(taken?.dropped)
+}
+
+/// Why the first packet refuses, if it does.
+fn refusal_of(taken: &RangeStep) -> Option<Refusal> {
+    match taken.packets.as_slice() {
+        [packet, ..] => match &packet.body {
+            Body::Append(AppendBody::Refused { refusal, .. }) => Some(*refusal),
+            _ => None,
+        },
+        [] => None,
+    }
+}
+
+fn transacted(
+    state: &mut RangeState,
+    alloc: Global,
+    moment: u64,
+    key: &'static [u8],
+    length: usize,
+    count: usize,
+) -> Result<Option<Refusal>, Fail> {
+    let changes = puts(alloc, key, length, count)?;
+    let taken = state.transact(alloc, &context(9, moment), USER, &TICKET, &changes);
+    drop(changes);
+    Ok(refusal_of(&taken?))
+}
+
+fn takes_many(state: &mut RangeState, alloc: Global, times: u32) -> Result<bool, Fail> {
+    for _ in 0..times {
+        if transacted(state, alloc, 1, b"a", 1, 1)?.is_some() {
+            return Ok(false);
+        }
+    }
+    Ok(true)
+}
+
+fn got(
+    state: &mut RangeState,
+    alloc: Global,
+    moment: u64,
+    key: &'static [u8],
+) -> Result<Option<Refusal>, Fail> {
+    let key = Bytes::from_static(key);
+    let taken = state.get(alloc, &context(9, moment), USER, &TICKET, &key);
+    drop(key);
+    Ok(refusal_of(&taken?))
+}
+
+fn given_up(state: &mut RangeState, alloc: Global) -> Result<usize, Fail> {
+    Ok(state.give_up(alloc, &context(10, 1))?.packets.len())
+}
+
+fn refusal_count(state: &RangeState, alloc: Global) -> Result<usize, Fail> {
+    Ok(state.refusals(alloc, &context(9, 1))?.len())
+}
+
+fn is_empty(state: &RangeState) -> bool {
+    state.content.stage == Stage::Serving
+        && state.content.load.generation == Fence(2)
+        && state.content.load.range == RangeId(1)
+        && state.content.said.indexes.items.is_empty()
+        && state.content.regions.len() == 1
+        && state.position.index == 0
+        && state.content.table.live().is_empty()
+}
+
+impl Tested for RangeState {
+    type Step = Step;
+
+    fn takes(&mut self, alloc: Global, step: &Step) -> Result<bool, Fail> {
+        match step {
+            Step::Answered(asked, count, answer, dropped) => {
+                Ok(drops(self, alloc, *asked, *count, answer)? == *dropped)
+            }
+            Step::Transacts(moment, key, length, count, refusal) => {
+                Ok(transacted(self, alloc, *moment, *key, *length, *count)? == *refusal)
+            }
+            Step::TakesMany(times) => takes_many(self, alloc, *times),
+            Step::Gets(moment, key, refusal) => Ok(got(self, alloc, *moment, *key)? == *refusal),
+            Step::Renews(until) => {
+                self.renew(*until);
+                Ok(true)
+            }
+            Step::GivesUp(packets) => Ok(given_up(self, alloc)? == *packets),
+            Step::Next(number) => Ok(self.queue.next() == *number),
+            Step::Awaits(count) => Ok(self.awaits(&number(*count))),
+            Step::Refuses(count) => Ok(refusal_count(self, alloc)? == *count),
+            Step::IsEmpty => Ok(is_empty(self)),
+        }
+    }
+}
+
+#[test]
+fn ranges_go_as_their_cases_say(rt: HostRuntime) -> Result<(), Fail> {
+    for (name, parts) in CASES {
+        let state = begun(rt.alloc())?;
+        assert!(rt; holds(rt.alloc(), state, *parts)?, "{name}");
+    }
+    Ok(())
+}

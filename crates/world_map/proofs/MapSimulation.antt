@@ -1,0 +1,181 @@
+-- What the real map does is what the cluster's map does.
+use Rattle.std.proofs.Common.{◌≡◌, ◌≢◌, ℕ, Bool, true, false, not, ◌==◌, if◌then◌else◌, List, [], ◌++◌, Option, Some, None, Result, Ok, Err, refl, sym, ap, ◌∙◌, subst, append-nil}
+use Rattle.std.proofs.lemmas.Bool.{eqb-true}
+use Rattle.disk.specs.declared.device.DiskFault.{DiskFault}
+use Rattle.disk.specs.declared.device.DiskFault.TheVariants.{Failed, Memory}
+use Rattle.disk.specs.declared.memory.MemDisk.{MemDisk}
+use Rattle.disk.specs.Filed.{Filed}
+use Rattle.disk.specs.Appends.{listed}
+use Rattle.disk.specs.Memory.{memory_state}
+use Rattle.block_types.specs.declared.record.Record.{Record}
+use Rattle.wire.specs.declared.packet.Packet.{Packet}
+use Rattle.wire.specs.declared.packet.Step.{Step}
+use Rattle.wire.specs.declared.refusal.Refusal.{Refusal}
+use Rattle.model_streams.specs.Outcome.{Outcome}
+use Rattle.model_streams.specs.StreamSystem.{StreamSystem, armed, down, running, sent_more, stands_in, stops_in}
+use Rattle.model_streams.proofs.Tests.{if_elim}
+use Rattle.model_partition.specs.Map.{MapState}
+use Rattle.model_partition.specs.Replay.{map_replay}
+use Rattle.model_partition.specs.Cluster.{Cluster, map_performs, map_performs_if, map_halted, map_stops, map_starts}
+use Rattle.world_stops.specs.Plan.{plan_of}
+use Rattle.world_stops.proofs.StopInRecord.{broken_down, broken_records, broken_stops, burnt_up, no_stop, plan_ok, plan_armed, short_same, up_ok}
+use Rattle.pmap.specs.MapWithFile.{MapWithFile, map_of}
+use Rattle.pmap.specs.Performs.{MapPerforms}
+use Rattle.world_map.specs.Seen.{MapSeen, MapMirrors, MapSteps, seen_of, new_map}
+
+-- ---- what is seen
+
+pub seen_up : (x : MapWithFile MemDisk) → x.file.stopped ≡ false → (seen_of x).map ≡ map_of x
+seen_up x up = ap (λ (b : Bool). if b then map_replay x.file.records else map_of x) up
+
+pub seen_down : (x : MapWithFile MemDisk) → x.file.stopped ≡ true → (seen_of x).map ≡ map_replay x.file.records
+seen_down x isdown = ap (λ (b : Bool). if b then map_replay x.file.records else map_of x) isdown
+
+-- a map that runs is what its records make
+abbrev pub IsReplayed : MapWithFile MemDisk → Type 0
+IsReplayed x = map_of x ≡ map_replay x.file.records
+
+nothing_sent : (w : StreamSystem) → w ≡ sent_more w []
+nothing_sent w = ap (λ (l : List Packet). record w { post = l }) (sym (append-nil w.post))
+
+-- the cluster stays as it is
+pub rests_on : (x : MapSeen) (c : Cluster) → MapMirrors x c → MapSteps x c c []
+rests_on x c m = record { world = nothing_sent c.world; servers = refl; now = refl; batch = refl; map = m }
+
+-- it has stopped, with this map
+pub halted_on : (y : MapSeen) (c : Cluster) (m : MapState) → y.stopped ≡ true → m ≡ y.map → MapSteps y c (map_halted (record c { map = m })) []
+halted_on y c m isdown is = record {
+  world = nothing_sent c.world;
+  servers = refl;
+  now = refl;
+  batch = refl;
+  map = record { map = is; up = ap not (sym isdown); plan = λ isup. absurd (let d = isdown in cc) };
+}
+
+-- ---- a rule
+
+-- the record stands before anything is sent
+pub rule_done : (o : Outcome MapState) (x y : MapWithFile MemDisk) (c : Cluster) (s : Step) → x.file.stopped ≡ false → MapMirrors (seen_of x) c → MapPerforms memory_state x y o (Ok s) →
+    MapSteps (seen_of y) c (map_performs c o) s.packets
+rule_done o x y c s up m h =
+    if_elim (λ d. MapSteps (seen_of y) c d s.packets) (stops_in c.map_cell o.written) _ _
+    (λ t. absurd (no_stop x.file y.file o.written s c.map_cell h.file (m.plan up) t))
+    (λ f. record {
+      world = ap (λ (l : List Packet). sent_more c.world l) (sym h.packets);
+      servers = refl;
+      now = refl;
+      batch = refl;
+      map = record {
+        map = sym h.after ∙ sym (seen_up y yup);
+        up = burnt_up c.map_cell o.written ∙ m.up ∙ ap not (up ∙ sym yup);
+        plan = λ _. plan_ok x.file y.file o.written s c.map_cell h.file (m.plan up) f;
+      };
+    })
+  where
+    yup : y.file.stopped ≡ false
+    yup = up_ok x.file y.file o.written s h.file up
+
+-- it stops in the rule's record, which stands or not
+pub rule_broken : (o : Outcome MapState) (x y : MapWithFile MemDisk) (c : Cluster) → x.file.stopped ≡ false → MapMirrors (seen_of x) c → IsReplayed x → MapPerforms memory_state x y o (Err Failed) →
+    MapSteps (seen_of y) c (map_performs c o) []
+rule_broken o x y c up m before h =
+    if_elim (λ d. MapSteps (seen_of y) c d []) (stops_in c.map_cell o.written) _ _
+    (λ t. by_record (stands_in c.map_cell) (broken_records x.file y.file o.written c.map_cell h.file (m.plan up) t))
+    (λ f. absurd (broken_stops x.file y.file o.written c.map_cell h.file (m.plan up) f))
+  where
+    isdown : y.file.stopped ≡ true
+    isdown = broken_down x.file y.file o.written h.file
+
+    by_record : (b : Bool) → y.file.records ≡ (if b then x.file.records ++ listed o.written else x.file.records) →
+        MapSteps (seen_of y) c (if b then map_halted (record c { map = o.after }) else map_halted c) []
+    by_record true is = halted_on (seen_of y) c o.after isdown (sym h.stands.replays ∙ ap map_replay (sym is) ∙ sym (seen_down y isdown))
+    by_record false is = halted_on (seen_of y) c c.map isdown (m.map ∙ seen_up x up ∙ before ∙ ap map_replay (sym is) ∙ sym (seen_down y isdown))
+
+-- where no memory was left all that is seen of it is as it was
+pub rule_short : (o : Outcome MapState) (x y : MapWithFile MemDisk) → x.file.stopped ≡ false → MapPerforms memory_state x y o (Err Memory) → seen_of y ≡ seen_of x
+rule_short o x y up h =
+    let f = short_same x.file y.file o.written h.file in
+    let same : (seen_of y).map ≡ (seen_of x).map = seen_up y (f.1 ∙ up) ∙ h.same ∙ sym (seen_up x up) in
+    λ i. record { map = same i; stopped = f.1 i; stop = f.2 i }
+
+-- ---- one that runs, and one that has stopped
+
+pub goes_up : (x y : MapSeen) (c d : Cluster) (packets : List Packet) → x.stopped ≡ false → MapMirrors x c → MapSteps y c d packets → MapSteps y c (if c.map_cell.up then d else c) packets
+goes_up x y c d packets isup m h =
+    if_elim (λ e. MapSteps y c e packets) c.map_cell.up d c
+    (λ t. h)
+    (λ f. absurd (let a = m.up ∙ ap not isup in cc))
+
+pub goes_down : (x : MapSeen) (c d : Cluster) → x.stopped ≡ true → MapMirrors x c → MapSteps x c (if c.map_cell.up then d else c) []
+goes_down x c d isdown m =
+    if_elim (λ e. MapSteps x c e []) c.map_cell.up d c
+    (λ t. absurd (let a = m.up ∙ ap not isdown in cc))
+    (λ f. rests_on x c m)
+
+-- ---- calls that may be refused
+
+pub not_refused : (c : Cluster) (fault : Option Refusal) (o : Outcome MapState) → fault ≡ None → map_performs_if c fault o ≡ map_performs c o
+not_refused c fault o is = ap (λ (f : Option Refusal). map_performs_if c f o) is
+
+pub is_refused : (c : Cluster) (fault : Option Refusal) (refusal : Refusal) (o : Outcome MapState) → fault ≡ Some refusal → map_performs_if c fault o ≡ c
+is_refused c fault refusal o is = ap (λ (f : Option Refusal). map_performs_if c f o) is
+
+-- ---- stops and restarts
+
+pub stop_down : (call : ℕ) (keep : Bool) (x : MapSeen) (c : Cluster) → x.stopped ≡ true → MapMirrors x c → MapSteps x c (map_stops c call keep) []
+stop_down call keep x c isdown m = goes_down x c _ isdown m
+
+pub stop_now : (call : ℕ) (keep : Bool) (x y : MapWithFile MemDisk) (c : Cluster) → x.file.stopped ≡ false → call ≡ 0 → MapMirrors (seen_of x) c → IsReplayed x →
+    y.file.records ≡ x.file.records → y.file.stopped ≡ true → MapSteps (seen_of y) c (map_stops c call keep) []
+stop_now call keep x y c up now m before same isdown =
+    goes_up (seen_of x) (seen_of y) c _ [] up m
+    (if_elim (λ d. MapSteps (seen_of y) c d []) (call == 0) (map_halted c) _
+    (λ z. halted_on (seen_of y) c c.map isdown (m.map ∙ seen_up x up ∙ before ∙ ap map_replay (sym same) ∙ sym (seen_down y isdown)))
+    (λ z. absurd (let f = subst (λ k. (k == 0) ≡ false) now z in cc)))
+
+pub stop_later : (call : ℕ) (keep : Bool) (x y : MapWithFile MemDisk) (c : Cluster) → x.file.stopped ≡ false → call ≢ 0 → MapMirrors (seen_of x) c →
+    map_of y ≡ map_of x → y.file.stopped ≡ x.file.stopped → (memory_state y.file.disk).stop ≡ Some (call, keep) → MapSteps (seen_of y) c (map_stops c call keep) []
+stop_later call keep x y c up later m kept same told =
+    goes_up (seen_of x) (seen_of y) c _ [] up m
+    (if_elim (λ d. MapSteps (seen_of y) c d []) (call == 0) (map_halted c) _
+    (λ z. absurd (later (eqb-true call 0 z)))
+    (λ z. record {
+      world = nothing_sent c.world;
+      servers = refl;
+      now = refl;
+      batch = refl;
+      map = record {
+        map = m.map ∙ seen_up x up ∙ sym kept ∙ sym (seen_up y (same ∙ up));
+        up = ap not (sym (same ∙ up));
+        plan = λ _. told ∙ sym (plan_armed call keep later);
+      };
+    }))
+
+pub start_up : (x : MapSeen) (c : Cluster) → x.stopped ≡ false → MapMirrors x c → MapSteps x c (map_starts c) []
+start_up x c isup m =
+    if_elim (λ d. MapSteps x c d []) c.map_cell.up c (record c { map_cell = running })
+    (λ t. rests_on x c m)
+    (λ f. absurd (let a = m.up ∙ ap not isup in cc))
+
+pub starts_again : (x y : MapWithFile MemDisk) (c : Cluster) → x.file.stopped ≡ true → MapMirrors (seen_of x) c → y.file.stopped ≡ false → y.file.records ≡ x.file.records →
+    (memory_state y.file.disk).stop ≡ None → IsReplayed y → MapSteps (seen_of y) c (map_starts c) []
+starts_again x y c isdown m isup same untold made =
+    if_elim (λ d. MapSteps (seen_of y) c d []) c.map_cell.up c (record c { map_cell = running })
+    (λ t. absurd (let a = m.up ∙ ap not isdown in cc))
+    (λ f. record {
+      world = nothing_sent c.world;
+      servers = refl;
+      now = refl;
+      batch = refl;
+      map = record {
+        map = m.map ∙ seen_down x isdown ∙ ap map_replay (sym same) ∙ sym made ∙ sym (seen_up y isup);
+        up = ap not (sym isup);
+        plan = λ _. untold;
+      };
+    })
+
+-- a map with nothing on its disk
+pub first_seen : (y : MapWithFile MemDisk) → y.file.stopped ≡ false → y.file.records ≡ [] → (memory_state y.file.disk).stop ≡ None → IsReplayed y → seen_of y ≡ new_map
+first_seen y isup none untold made =
+    let map : (seen_of y).map ≡ map_replay [] = seen_up y isup ∙ made ∙ ap map_replay none in
+    λ i. record { map = map i; stopped = isup i; stop = untold i }

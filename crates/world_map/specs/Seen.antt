@@ -1,0 +1,63 @@
+-- The real map beside the model's.
+use Rattle.std.specs.Prelude.{◌≡◌, ℕ, Bool, false, not, List, Option, None, if◌then◌else◌}
+use Rattle.disk.specs.declared.memory.MemDisk.{MemDisk}
+use Rattle.disk.specs.Memory.{memory_state}
+use Rattle.wire.specs.declared.packet.Packet.{Packet}
+use Rattle.wire.specs.declared.refusal.Refusal.{Refusal}
+use Rattle.model_streams.specs.StreamSystem.{ActorCell, sent_more}
+use Rattle.model_partition.specs.Map.{MapState, first_map, range_at, assign_fault, renew_fault}
+use Rattle.model_partition.specs.Replay.{map_replay}
+use Rattle.model_partition.specs.Cluster.{Cluster}
+use Rattle.world_stops.specs.Plan.{plan_of}
+use Rattle.pmap.specs.MapWithFile.{MapWithFile, map_of}
+
+-- what is seen of the map: of one that has stopped, what its records make; whether it has; and what its disk was told
+pub record MapSeen : Type 0 where
+  pub map : MapState
+  pub stopped : Bool
+  pub stop : Option (ℕ × Bool)
+
+abbrev pub seen_of : MapWithFile MemDisk → MapSeen
+seen_of x =
+    record {
+      map = if x.file.stopped then map_replay x.file.records else map_of x;
+      stopped = x.file.stopped;
+      stop = (memory_state x.file.disk).stop;
+    }
+
+-- the model's map, and whether it runs, are as is seen here
+pub record IsMap (x : MapSeen) (m : MapState) (cell : ActorCell) : Type 0 where
+  pub map : m ≡ x.map
+  pub up : cell.up ≡ not x.stopped
+  pub plan : x.stopped ≡ false → x.stop ≡ plan_of cell
+
+-- the map of the cluster is this one
+abbrev pub MapMirrors : MapSeen → Cluster → Type 0
+MapMirrors x c = IsMap x c.map c.map_cell
+
+-- from c to d the map alone went on; it is y now, and sent these
+pub record MapSteps (y : MapSeen) (c d : Cluster) (packets : List Packet) : Type 0 where
+  pub world : d.world ≡ sent_more c.world packets
+  pub servers : d.servers ≡ c.servers
+  pub now : d.now ≡ c.now
+  pub batch : d.batch ≡ c.batch
+  pub map : MapMirrors y d
+
+-- whatever cluster has the map that was before, this step of it leaves the one after, and sends these
+abbrev pub MapSimulates : MapSeen → MapSeen → (Cluster → Cluster) → List Packet → Type 0
+MapSimulates x y step packets = (c : Cluster) → MapMirrors x c → MapSteps y c (step c) packets
+
+-- the same, of a cluster at this moment
+abbrev pub MapSimulatesAt : ℕ → MapSeen → MapSeen → (Cluster → Cluster) → List Packet → Type 0
+MapSimulatesAt now x y step packets = (c : Cluster) → MapMirrors x c → c.now ≡ now → MapSteps y c (step c) packets
+
+-- a map that runs, of a range that nobody holds
+abbrev pub new_map : MapSeen
+new_map = record { map = first_map; stopped = false; stop = None }
+
+-- why a call is refused; one that has stopped refuses nothing
+abbrev pub assign_refusal : MapSeen → ℕ → ℕ → ℕ → Option Refusal
+assign_refusal x now range server = if x.stopped then None else assign_fault server now (range_at x.map.ranges range)
+
+abbrev pub renew_refusal : MapSeen → ℕ → ℕ → Option Refusal
+renew_refusal x range server = if x.stopped then None else renew_fault server (range_at x.map.ranges range)

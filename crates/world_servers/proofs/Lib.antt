@@ -1,0 +1,3 @@
+pub mod RowEntries
+pub mod GroupReach
+pub mod ServerList

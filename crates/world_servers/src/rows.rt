@@ -1,0 +1,51 @@
+//! The rows of a memory table.
+ghost use Rattle.std.specs.Prelude.{◌≡◌, ◌++◌, IfOk, OnOk};
+ghost use Rattle.model_partition.specs.Servers.{row_of, rows_of};
+
+use crate::place::first_shown;
+use bytes::Bytes;
+use memtable::Cell;
+use std::alloc::{AllocError, Global};
+use std::collections::BTreeMap;
+use wire::{Note, Row, Rows};
+
+fn push_row(
+    alloc: Global,
+    rows: &mut Vec<Row>,
+    notes: &[Note],
+    key: &Bytes,
+    cell: &Cell,
+) -> Result<(), AllocError>
+    ensures { OnOk result (rows.new.items ≡ rows.old.items ++ row_of notes.now key.now cell.now) }
+{
+    let found = match cell {
+        Cell::Deleted => None,
+        Cell::Inline(value) => Some(value.clone()?),
+        Cell::Placed(place) => first_shown(alloc, notes, place)?,
+    };
+    match found {
+        None => Ok(()),
+        Some(value) => {
+            let key = key.clone()?;
+            rows.push(Row { key, value })?;
+            Ok(())
+        }
+    }
+}
+
+/// The rows of these entries, behind these observations: a key that was deleted has none, and neither has one whose value
+/// no observation covers. An error is want of memory (22).
+#[tactic(auto, using(crate::proofs::RowEntries::one_more))]
+pub fn rows_of(
+    alloc: Global,
+    notes: &[Note],
+    entries: &BTreeMap<Bytes, Cell>,
+) -> Result<Rows, AllocError>
+    ensures { IfOk result (λ rows. rows ≡ rows_of notes.now entries.now.entries) }
+{
+    let mut rows = Vec::new(alloc);
+    for (key, cell) in entries {
+        push_row(alloc, &mut rows, notes, key, cell)?;
+    }
+    Ok(Rows { items: rows })
+}

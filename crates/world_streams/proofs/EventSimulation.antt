@@ -1,0 +1,243 @@
+-- What each event does to a run, beside what it does to the world.
+use Rattle.std.proofs.Common.{◌≡◌, ◌≤◌, ◌<◌, ℕ, Bool, true, false, not, List, [], ◌∷◌, ◌++◌, Option, Some, None, Result, Ok, Err, IfOk, OnOk, refl, sym, ap, ◌∙◌, subst, take, ◌+◌, slice_get, slice_index_or, length, zero, suc, if◌then◌else◌, arith, append-nil}
+use Rattle.std.proofs.Math.Seq.{take-suc}
+use Rattle.std.proofs.lemmas.Option.{same_Some}
+use Rattle.wire.specs.declared.actor.ActorId.{ActorId}
+use Rattle.wire.specs.declared.actor.ActorId.TheVariants.{Node, Manager, Map, Server, User}
+use Rattle.wire.specs.declared.body.Body.{Body}
+use Rattle.wire.specs.declared.note.Note.{Note}
+use Rattle.wire.specs.declared.packet.Packet.{Packet}
+use Rattle.wire.specs.declared.packet.Step.{Step}
+use Rattle.model_streams.specs.declared.event.Event.{Event}
+use Rattle.model_streams.specs.declared.event.Event.TheVariants.{Submit, Deliver, Stop, Restart, Decide}
+use Rattle.model_streams.specs.Node.{Replica}
+use Rattle.model_streams.specs.Outcome.{packet}
+use Rattle.model_streams.specs.StreamSystem.Move.{Asks}
+use Rattle.model_streams.specs.StreamSystem.{StreamSystem, ActorCell, happens, moved, is_request, is_server_call, sent_more, delivered, delivered_if, node_takes, manager_takes, manager_decides, stop, restart, run, start}
+use Rattle.model_streams.proofs.Tests.{if_elim}
+use Rattle.world_streams.specs.declared.fault.WorldFault.{WorldFault}
+use Rattle.world_streams.specs.ManagerSeen.{ManagerSeen, ManagerMirrors, IsNewManager, RecordsMakeCatalog, ManagerSteps, CatalogMirrors}
+use Rattle.world_streams.specs.Nodes.{NodeSeen, NodesMirror, NodesStep, AreNew, nothing, plan_of}
+use Rattle.world_streams.specs.StreamLayer.{StreamLayerState, IsFew, StreamLayerMirrors, ActorsStep}
+use Rattle.world_streams.proofs.Seen.{entry_beyond}
+use Rattle.world_streams.proofs.NodeSimulation.{nil}
+use Rattle.world_streams.proofs.NodeList.{begun}
+use Rattle.model_streams.specs.Manager.{Catalog}
+
+-- what is said of nodes says nothing of the packets, the observations and the catalog
+pub nodes_as : (xs : List NodeSeen) (w v : StreamSystem) → NodesMirror xs w → v.replica ≡ w.replica → v.cell ≡ w.cell → v.nodes ≡ w.nodes → NodesMirror xs v
+nodes_as xs w v m replicas cells count = record {
+  each = λ n x e. let k = m.each n x e in record {
+    number = k.number;
+    replica = λ j. k.replica j ∙ sym (ap (λ (f : ℕ → ℕ → Option Replica). f n j) replicas);
+    up = ap (λ (c : ℕ → ActorCell). (c n).up) cells ∙ k.up;
+    plan = λ up. k.plan up ∙ ap (λ (c : ℕ → ActorCell). plan_of (c n)) (sym cells);
+  };
+  absent = λ n e. ap (λ (c : ℕ → ActorCell). (c n).up) cells ∙ m.absent n e;
+  count = count ∙ m.count;
+}
+
+-- and what is said of the manager says nothing of the packets, the observations and the nodes
+pub manager_as : (x : ManagerSeen) (w v : StreamSystem) → ManagerMirrors x w → v.catalog ≡ w.catalog → v.manager_cell ≡ w.manager_cell → ManagerMirrors x v
+manager_as x w v m catalog manager = record {
+  running = λ up. subst (λ (b : Catalog). CatalogMirrors x b) (sym catalog) (m.running up);
+  stopped = λ isdown. subst (λ (b : Catalog). RecordsMakeCatalog x.records b) (sym catalog) (m.stopped isdown);
+  up = ap (λ (c : ActorCell). c.up) manager ∙ m.up;
+  plan = λ up. m.plan up ∙ ap plan_of (sym manager);
+}
+
+-- a run of these parts
+abbrev pub state : List NodeSeen → ManagerSeen → List Packet → List Note → StreamLayerState
+state nodes manager post notes = record { nodes = nodes; manager = manager; post = post; notes = notes }
+
+-- a step of the actors is one of the run
+pub stepped : (r x : StreamLayerState) (w v : StreamSystem) (s : Step) → StreamLayerMirrors r w → ActorsStep x.nodes x.manager w v s → x.post ≡ r.post ++ s.packets → x.notes ≡ r.notes ++ s.notes → StreamLayerMirrors x v
+stepped r x w v s m g sent told = record {
+  post = sent ∙ ap (λ l. l ++ s.packets) m.post ∙ sym g.post;
+  notes = told ∙ ap (λ l. l ++ s.notes) m.notes ∙ sym g.notes;
+  nodes = g.nodes;
+  manager = g.manager;
+}
+
+-- a node went on
+moved_nodes : (ys : List NodeSeen) (d : ManagerSeen) (w v : StreamSystem) (s : Step) → NodesStep ys w v s → ManagerMirrors d w → ActorsStep ys d w v s
+moved_nodes ys d w v s g k = record { post = g.post; notes = g.notes; nodes = g.nodes; manager = manager_as d w v k g.catalog g.manager }
+
+-- the manager went on
+moved_by_manager : (xs : List NodeSeen) (y : ManagerSeen) (w v : StreamSystem) (s : Step) → ManagerSteps y w v s → NodesMirror xs w → ActorsStep xs y w v s
+moved_by_manager xs y w v s g m = record { post = g.post; notes = g.notes; nodes = nodes_as xs w v m g.replica g.cell g.nodes; manager = g.manager }
+
+-- ---- a submission
+
+-- a run with more packets
+abbrev pub sent_in : StreamLayerState → List Packet → StreamLayerState
+sent_in r packets = record r { post = r.post ++ packets }
+
+pub submitted : (r x : StreamLayerState) (user : ℕ) (to : ActorId) (body : Body) → is_request body ≡ true → x ≡ sent_in r (packet (User user) to body ∷ []) →
+    (w : StreamSystem) → StreamLayerMirrors r w → StreamLayerMirrors x (happens w (Submit user to body))
+submitted r x user to body may is w m =
+    subst (λ z. StreamLayerMirrors z (happens w (Submit user to body))) (sym is)
+    (if_elim (λ v. StreamLayerMirrors (sent_in r (packet (User user) to body ∷ [])) v) (is_request body) (sent_more w (packet (User user) to body ∷ [])) w
+    (λ t. record {
+      post = ap (λ l. l ++ packet (User user) to body ∷ []) m.post;
+      notes = m.notes;
+      nodes = nodes_as r.nodes w (sent_more w (packet (User user) to body ∷ [])) m.nodes refl refl refl;
+      manager = manager_as r.manager w (sent_more w (packet (User user) to body ∷ [])) m.manager refl refl;
+    })
+    (λ f. absurd cc))
+
+pub unsubmitted : (r : StreamLayerState) (user : ℕ) (to : ActorId) (body : Body) → is_request body ≡ false → (w : StreamSystem) → StreamLayerMirrors r w → StreamLayerMirrors r (happens w (Submit user to body))
+unsubmitted r user to body never w m =
+    if_elim (λ v. StreamLayerMirrors r v) (is_request body) (sent_more w (packet (User user) to body ∷ [])) w (λ t. absurd cc) (λ f. m)
+
+-- ---- a server
+
+pub asked : (r x : StreamLayerState) (server : ℕ) (to : ActorId) (body : Body) → is_server_call body ≡ true → x ≡ sent_in r (packet (Server server) to body ∷ []) →
+    (w : StreamSystem) → StreamLayerMirrors r w → StreamLayerMirrors x (moved w (Asks server to body))
+asked r x server to body may is w m =
+    subst (λ z. StreamLayerMirrors z (moved w (Asks server to body))) (sym is)
+    (if_elim (λ v. StreamLayerMirrors (sent_in r (packet (Server server) to body ∷ [])) v) (is_server_call body) (sent_more w (packet (Server server) to body ∷ [])) w
+    (λ t. record {
+      post = ap (λ l. l ++ packet (Server server) to body ∷ []) m.post;
+      notes = m.notes;
+      nodes = nodes_as r.nodes w (sent_more w (packet (Server server) to body ∷ [])) m.nodes refl refl refl;
+      manager = manager_as r.manager w (sent_more w (packet (Server server) to body ∷ [])) m.manager refl refl;
+    })
+    (λ f. absurd cc))
+
+pub unasked : (r : StreamLayerState) (server : ℕ) (to : ActorId) (body : Body) → is_server_call body ≡ false → (w : StreamSystem) → StreamLayerMirrors r w → StreamLayerMirrors r (moved w (Asks server to body))
+unasked r server to body never w m =
+    if_elim (λ v. StreamLayerMirrors r v) (is_server_call body) (sent_more w (packet (Server server) to body ∷ [])) w (λ t. absurd cc) (λ f. m)
+
+-- what `request` answers tells whether it is one
+pub is_asked : (b : Bool) (body copy : Body) → Some copy ≡ (if b then Some body else None) → (b ≡ true) × (copy ≡ body)
+is_asked true body copy e = (refl, same_Some copy body e)
+is_asked false body copy e = absurd cc
+
+pub is_unasked : (b : Bool) (body : Body) → None ≡ (if b then Some body else None) → b ≡ false
+is_unasked true body e = absurd cc
+is_unasked false body e = refl
+
+-- ---- a delivery
+
+-- a packet of a node
+pub moved_node : (xs ys : List NodeSeen) (d : ManagerSeen) (n : ℕ) (p : Packet) (s : Step) → p.to ≡ Node n →
+    ((w : StreamSystem) → NodesMirror xs w → NodesStep ys w (node_takes w n p) s) →
+    (w : StreamSystem) → NodesMirror xs w → ManagerMirrors d w → ActorsStep ys d w (delivered w p p.to) s
+moved_node xs ys d n p s to h w m k = subst (λ a. ActorsStep ys d w (delivered w p a) s) (sym to) (moved_nodes ys d w (node_takes w n p) s (h w m) k)
+
+-- a packet of the manager
+pub moved_manager : (xs : List NodeSeen) (d y : ManagerSeen) (p : Packet) (s : Step) → p.to ≡ Manager →
+    ((w : StreamSystem) → ManagerMirrors d w → ManagerSteps y w (manager_takes w p) s) →
+    (w : StreamSystem) → NodesMirror xs w → ManagerMirrors d w → ActorsStep xs y w (delivered w p p.to) s
+moved_manager xs d y p s to h w m k = subst (λ a. ActorsStep xs y w (delivered w p a) s) (sym to) (moved_by_manager xs y w (manager_takes w p) s (h w k) m)
+
+-- a packet of somebody else
+pub moved_nowhere : (xs : List NodeSeen) (d : ManagerSeen) (p : Packet) (s : Step) → ((w : StreamSystem) → delivered w p p.to ≡ w) → s.packets ≡ [] → s.notes ≡ [] →
+    (w : StreamSystem) → NodesMirror xs w → ManagerMirrors d w → ActorsStep xs d w (delivered w p p.to) s
+moved_nowhere xs d p s same sent told w m k =
+    subst (λ v. ActorsStep xs d w v s) (sym (same w))
+    (record { post = nil w.post sent; notes = nil w.notes told; nodes = m; manager = k })
+
+pub to_map : (p : Packet) → p.to ≡ Map → (w : StreamSystem) → delivered w p p.to ≡ w
+to_map p to w = ap (λ a. delivered w p a) to
+
+pub to_server : (p : Packet) (n : ℕ) → p.to ≡ Server n → (w : StreamSystem) → delivered w p p.to ≡ w
+to_server p n to w = ap (λ a. delivered w p a) to
+
+pub to_user : (p : Packet) (n : ℕ) → p.to ≡ User n → (w : StreamSystem) → delivered w p p.to ≡ w
+to_user p n to w = ap (λ a. delivered w p a) to
+
+delivers : (r : StreamLayerState) (k : ℕ) (o : Option Packet) (w : StreamSystem) → slice_get r.post k ≡ o → StreamLayerMirrors r w → happens w (Deliver k) ≡ delivered_if w o
+delivers r k o w got m = ap (λ l. delivered_if w (slice_get l k)) (sym m.post) ∙ ap (λ z. delivered_if w z) got
+
+-- a packet that was never sent
+pub undelivered : (r : StreamLayerState) (k : ℕ) → length r.post ≤ k → (w : StreamSystem) → StreamLayerMirrors r w → StreamLayerMirrors r (happens w (Deliver k))
+undelivered r k far w m = subst (λ v. StreamLayerMirrors r v) (sym (delivers r k None w (entry_beyond r.post k far) m)) m
+
+pub get_at : {A : Type 0} (xs : List A) (n : ℕ) (d : A) → n < length xs → slice_get xs n ≡ Some (slice_index_or xs n d)
+get_at [] n d l = absurd (omega arith)
+get_at (x ∷ xs) zero d l = refl
+get_at (x ∷ xs) (suc n) d l = get_at xs n d (omega arith)
+
+pub delivered_one : (r x : StreamLayerState) (k : ℕ) (p : Packet) (s : Step) → k < length r.post → p ≡ slice_index_or r.post k p →
+    ((w : StreamSystem) → NodesMirror r.nodes w → ManagerMirrors r.manager w → ActorsStep x.nodes x.manager w (delivered w p p.to) s) →
+    x.post ≡ r.post ++ s.packets → x.notes ≡ r.notes ++ s.notes →
+    (w : StreamSystem) → StreamLayerMirrors r w → StreamLayerMirrors x (happens w (Deliver k))
+delivered_one r x k p s there is h sent told w m =
+    subst (λ v. StreamLayerMirrors x v) (sym (delivers r k (Some p) w (get_at r.post k p there ∙ ap Some (sym is)) m))
+    (stepped r x w (delivered w p p.to) s m (h w m.nodes m.manager) sent told)
+
+-- ---- a stop, a restart, a decision
+
+pub same_post : (r : StreamLayerState) → (r.post ≡ r.post ++ nothing.packets) × (r.notes ≡ r.notes ++ nothing.notes)
+same_post r = (sym (append-nil r.post), sym (append-nil r.notes))
+
+-- the nodes of a run become these, and nothing is sent
+pub nodes_go : (r : StreamLayerState) (ys : List NodeSeen) (goes : StreamSystem → StreamSystem) → ((w : StreamSystem) → NodesMirror r.nodes w → NodesStep ys w (goes w) nothing) →
+    (w : StreamSystem) → StreamLayerMirrors r w → StreamLayerMirrors (record r { nodes = ys }) (goes w)
+nodes_go r ys goes h w m = stepped r (record r { nodes = ys }) w (goes w) nothing m (moved_nodes ys r.manager w (goes w) nothing (h w m.nodes) m.manager) (same_post r).0 (same_post r).1
+
+-- the manager becomes this, and nothing is sent
+pub manager_goes : (r : StreamLayerState) (y : ManagerSeen) (goes : StreamSystem → StreamSystem) → ((w : StreamSystem) → ManagerMirrors r.manager w → ManagerSteps y w (goes w) nothing) →
+    (w : StreamSystem) → StreamLayerMirrors r w → StreamLayerMirrors (record r { manager = y }) (goes w)
+manager_goes r y goes h w m = stepped r (record r { manager = y }) w (goes w) nothing m (moved_by_manager r.nodes y w (goes w) nothing (h w m.manager) m.nodes) (same_post r).0 (same_post r).1
+
+pub manager_came : (r : StreamLayerState) (y : ManagerSeen) (actor : ActorId) (x : Result Unit WorldFault) → actor ≡ Manager → OnOk x ((w : StreamSystem) → ManagerMirrors r.manager w → ManagerSteps y w (restart w Manager) nothing) →
+    OnOk x ((w : StreamSystem) → StreamLayerMirrors r w → StreamLayerMirrors (record r { manager = y }) (restart w actor))
+manager_came r y actor (Ok x) is h = manager_goes r y (λ w. restart w actor) (subst (λ (a : ActorId). (w : StreamSystem) → ManagerMirrors r.manager w → ManagerSteps y w (restart w a) nothing) (sym is) h)
+manager_came r y actor (Err x) is h = tt
+
+pub decided_one : (r x : StreamLayerState) (e : ℕ) (s : Step) → x.nodes ≡ r.nodes → ((w : StreamSystem) → ManagerMirrors r.manager w → ManagerSteps x.manager w (manager_decides w e) s) →
+    x.post ≡ r.post ++ s.packets → x.notes ≡ r.notes ++ s.notes →
+    (w : StreamSystem) → StreamLayerMirrors r w → StreamLayerMirrors x (happens w (Decide e))
+decided_one r x e s nodes h sent told w m =
+    stepped r x w (manager_decides w e) s m (moved_by_manager x.nodes x.manager w (manager_decides w e) s (h w m.manager) (subst (λ xs. NodesMirror xs w) (sym nodes) m.nodes)) sent told
+
+-- ---- a whole run
+
+begun_manager : (d : ManagerSeen) (nodes target : ℕ) → IsNewManager nodes target d → ManagerMirrors d (start nodes target)
+begun_manager d nodes target h = record {
+  running = λ _. h.tells;
+  stopped = λ isdown. absurd (let u = h.running in cc);
+  up = ap not (sym h.running);
+  plan = λ _. h.untold;
+}
+
+pub started : (xs : List NodeSeen) (d : ManagerSeen) (nodes target : ℕ) → AreNew xs → length xs ≡ nodes → IsNewManager nodes target d → StreamLayerMirrors (state xs d [] []) (start nodes target)
+started xs d nodes target h count new = record {
+  post = refl;
+  notes = refl;
+  nodes = subst (λ n. NodesMirror xs (start n target)) count (begun xs target h);
+  manager = begun_manager d nodes target new;
+}
+
+-- one event more
+pub ran : (r : StreamLayerState) (events : List Event) (event : Event) (w : StreamSystem) → StreamLayerMirrors r (happens (run events w) event) → StreamLayerMirrors r (run (events ++ event ∷ []) w)
+ran r [] event w m = m
+ran r (e ∷ events) event w m = ran r events event (happens w e) m
+
+pub ran_next : (r : StreamLayerState) (events : List Event) (i : ℕ) (event : Event) (w : StreamSystem) → event ≡ slice_index_or events i event → i < length events →
+    StreamLayerMirrors r (happens (run (take i events) w) event) → StreamLayerMirrors r (run (take (i + 1) events) w)
+ran_next r events i event w is l m =
+    subst (λ es. StreamLayerMirrors r (run es w)) (sym (taken ∙ ap (λ e. take i events ++ e ∷ []) (sym is))) (ran r (take i events) event w m)
+  where
+    one_more : i + 1 ≡ suc i
+    one_more = omega arith
+
+    taken : take (i + 1) events ≡ take i events ++ slice_index_or events i event ∷ []
+    taken = ap (λ k. take k events) one_more ∙ take-suc events i event l
+
+-- ---- in the words of the answers
+
+pub node_moved : (xs ys : List NodeSeen) (d : ManagerSeen) (n : ℕ) (p : Packet) (r : Result Step WorldFault) → p.to ≡ Node n →
+    IfOk r (λ s. (w : StreamSystem) → NodesMirror xs w → NodesStep ys w (node_takes w n p) s) →
+    IfOk r (λ s. (w : StreamSystem) → NodesMirror xs w → ManagerMirrors d w → ActorsStep ys d w (delivered w p p.to) s)
+node_moved xs ys d n p (Ok s) to h = moved_node xs ys d n p s to h
+node_moved xs ys d n p (Err x) to h = tt
+
+pub manager_moved : (xs : List NodeSeen) (d y : ManagerSeen) (p : Packet) (r : Result Step WorldFault) → p.to ≡ Manager →
+    IfOk r (λ s. (w : StreamSystem) → ManagerMirrors d w → ManagerSteps y w (manager_takes w p) s) →
+    IfOk r (λ s. (w : StreamSystem) → NodesMirror xs w → ManagerMirrors d w → ActorsStep xs y w (delivered w p p.to) s)
+manager_moved xs d y p (Ok s) to h = moved_manager xs d y p s to h
+manager_moved xs d y p (Err x) to h = tt

@@ -1,0 +1,9 @@
+pub mod Seen
+pub mod NodeSimulation
+pub mod NodeList
+pub mod Stopping
+pub mod ManagerNotes
+pub mod ManagerSimulation
+pub mod ManagerCalls
+pub mod EventSimulation
+pub mod ServerOutput

@@ -1,0 +1,45 @@
+use Rattle.std.proofs.Common.{◌≡◌, sym, ap, ◌∙◌, inl, inr, refl, subst}
+use Rattle.wire.specs.declared.packet.Step.{Step}
+use Rattle.wire.specs.declared.refusal.Refusal.TheVariants as refusals
+use Rattle.manager.specs.declared.fault.ManagerFault.TheVariants as faults
+use Rattle.model_streams.specs.Maps.{entry_at}
+use Rattle.disk.specs.Memory.{memory_state}
+use Rattle.model_streams.specs.StreamSystem.{StreamSystem, manager_decides}
+use Rattle.manager.specs.Performs.{sealing_at, sealing_notes}
+use Rattle.world_streams.specs.ManagerSeen.{ManagerMirrors, ManagerSteps, manager_seen_of}
+use Rattle.world_streams.specs.Stopping.{shown_if, stands_told}
+use Rattle.world_streams.proofs.ManagerCalls.{decided_broken, decided_fine, decided_ok, decided_short, failed_fine, refused_ok, refused_tells}
+use Rattle.world_streams.proofs.manager_actor.decide.Goals as goal
+
+pub returns-in-Ok-decide-clause-ok : goal.returns-in-Ok-decide-clause-ok
+returns-in-Ok-decide-clause-ok c = subst (λ (s : Step). (w : StreamSystem) → ManagerMirrors (manager_seen_of c.args.manager.now) w → ManagerSteps (manager_seen_of c.decide.new.self) w (manager_decides w c.args.extent) s) (sym c.taken-in-Ok-decide.ensures.0)
+    (decided_ok c.args.extent c.args.manager.now c.decide.new.self c.in-Ok-decide.step (sym c.is_stopped.ensures ∙ c.if-is_stopped.false) (c.in-Ok-decide.ensures.replays (sym c.is_stopped.ensures ∙ c.if-is_stopped.false)) (record { refused = c.in-Ok-decide.ensures.refused (sym c.is_stopped.ensures ∙ c.if-is_stopped.false); performed = c.in-Ok-decide.ensures.performed (sym c.is_stopped.ensures ∙ c.if-is_stopped.false); taken = c.in-Ok-decide.ensures.taken }))
+
+pub returns-in-Ok-decide-clause-refusal : goal.returns-in-Ok-decide-clause-refusal
+returns-in-Ok-decide-clause-refusal c = c.taken-in-Ok-decide.ensures.1 ∙ decided_fine c.args.extent c.args.manager.now c.decide.new.self c.in-Ok-decide.step (sym c.is_stopped.ensures ∙ c.if-is_stopped.false) (record { refused = c.in-Ok-decide.ensures.refused (sym c.is_stopped.ensures ∙ c.if-is_stopped.false); performed = c.in-Ok-decide.ensures.performed (sym c.is_stopped.ensures ∙ c.if-is_stopped.false); taken = c.in-Ok-decide.ensures.taken })
+
+pub returns-in-Err-NoSuchExtent-clause-ok : goal.returns-in-Err-NoSuchExtent-clause-ok
+returns-in-Err-NoSuchExtent-clause-ok c = refused_ok c.args.extent c.args.manager.now c.decide.new.self c.refused.result.step refusals.NoSuchExtent c.in-Err-NoSuchExtent.field-0 faults.NoSuchExtent c.in-Err-NoSuchExtent.field-0-is refl (inl refl) (sym c.is_stopped.ensures ∙ c.if-is_stopped.false) (record { refused = c.in-Err-NoSuchExtent.ensures.refused (sym c.is_stopped.ensures ∙ c.if-is_stopped.false); performed = c.in-Err-NoSuchExtent.ensures.performed (sym c.is_stopped.ensures ∙ c.if-is_stopped.false); taken = c.in-Err-NoSuchExtent.ensures.taken }) c.refused.ensures.0
+
+pub returns-in-Err-NoSuchExtent-clause-refusal : goal.returns-in-Err-NoSuchExtent-clause-refusal
+returns-in-Err-NoSuchExtent-clause-refusal c = c.refused.ensures.1 ∙ refused_tells c.args.extent c.args.manager.now c.decide.new.self refusals.NoSuchExtent c.in-Err-NoSuchExtent.field-0 faults.NoSuchExtent c.in-Err-NoSuchExtent.field-0-is refl (inl refl) (sym c.is_stopped.ensures ∙ c.if-is_stopped.false) (record { refused = c.in-Err-NoSuchExtent.ensures.refused (sym c.is_stopped.ensures ∙ c.if-is_stopped.false); performed = c.in-Err-NoSuchExtent.ensures.performed (sym c.is_stopped.ensures ∙ c.if-is_stopped.false); taken = c.in-Err-NoSuchExtent.ensures.taken })
+
+pub returns-in-Err-NoReply-clause-ok : goal.returns-in-Err-NoReply-clause-ok
+returns-in-Err-NoReply-clause-ok c = refused_ok c.args.extent c.args.manager.now c.decide.new.self c.refused-in-Err-NoReply.result.step refusals.NoReply c.in-Err-NoReply.field-0 faults.NoReply c.in-Err-NoReply.field-0-is refl (inr refl) (sym c.is_stopped.ensures ∙ c.if-is_stopped.false) (record { refused = c.in-Err-NoReply.ensures.refused (sym c.is_stopped.ensures ∙ c.if-is_stopped.false); performed = c.in-Err-NoReply.ensures.performed (sym c.is_stopped.ensures ∙ c.if-is_stopped.false); taken = c.in-Err-NoReply.ensures.taken }) c.refused-in-Err-NoReply.ensures.0
+
+pub returns-in-Err-NoReply-clause-refusal : goal.returns-in-Err-NoReply-clause-refusal
+returns-in-Err-NoReply-clause-refusal c = c.refused-in-Err-NoReply.ensures.1 ∙ refused_tells c.args.extent c.args.manager.now c.decide.new.self refusals.NoReply c.in-Err-NoReply.field-0 faults.NoReply c.in-Err-NoReply.field-0-is refl (inr refl) (sym c.is_stopped.ensures ∙ c.if-is_stopped.false) (record { refused = c.in-Err-NoReply.ensures.refused (sym c.is_stopped.ensures ∙ c.if-is_stopped.false); performed = c.in-Err-NoReply.ensures.performed (sym c.is_stopped.ensures ∙ c.if-is_stopped.false); taken = c.in-Err-NoReply.ensures.taken })
+
+pub returns-in-Err-DiskFailed-clause-ok : goal.returns-in-Err-DiskFailed-clause-ok
+returns-in-Err-DiskFailed-clause-ok c =
+    let shown : c.in-Ok.notes ≡ shown_if (stands_told c.told.result) (sealing_notes c.args.extent (sealing_at (entry_at c.args.manager.now.extents c.args.extent))) =
+    c.in-Ok.ensures ∙ (λ i. shown_if (c.stands-stands.ensures i) (sealing_notes c.args.extent (c.sealing.ensures i))) in
+    subst (λ (s : Step). (w : StreamSystem) → ManagerMirrors (manager_seen_of c.args.manager.now) w → ManagerSteps (manager_seen_of c.decide.new.self) w (manager_decides w c.args.extent) s) (sym c.taken-in-Err-DiskFailed.ensures.0)
+    (decided_broken c.args.extent c.args.manager.now c.decide.new.self c.unsent.result c.in-Err-DiskFailed.field-0 c.told.result c.in-Err-DiskFailed.field-0-is (sym c.is_stopped.ensures ∙ c.if-is_stopped.false) (c.in-Err-DiskFailed.ensures.replays (sym c.is_stopped.ensures ∙ c.if-is_stopped.false))
+    (c.told.ensures ∙ (λ i. (memory_state (c.file.ensures i).disk).stop)) c.unsent.ensures.0 (c.unsent.ensures.1 ∙ shown) (record { refused = c.in-Err-DiskFailed.ensures.refused (sym c.is_stopped.ensures ∙ c.if-is_stopped.false); performed = c.in-Err-DiskFailed.ensures.performed (sym c.is_stopped.ensures ∙ c.if-is_stopped.false); taken = c.in-Err-DiskFailed.ensures.taken }))
+
+pub returns-in-Err-DiskFailed-clause-refusal : goal.returns-in-Err-DiskFailed-clause-refusal
+returns-in-Err-DiskFailed-clause-refusal c = c.taken-in-Err-DiskFailed.ensures.1 ∙ failed_fine c.args.extent c.args.manager.now c.decide.new.self c.in-Err-DiskFailed.field-0 c.in-Err-DiskFailed.field-0-is (sym c.is_stopped.ensures ∙ c.if-is_stopped.false) (record { refused = c.in-Err-DiskFailed.ensures.refused (sym c.is_stopped.ensures ∙ c.if-is_stopped.false); performed = c.in-Err-DiskFailed.ensures.performed (sym c.is_stopped.ensures ∙ c.if-is_stopped.false); taken = c.in-Err-DiskFailed.ensures.taken })
+
+pub returns-in-Err-Memory-clause-err : goal.returns-in-Err-Memory-clause-err
+returns-in-Err-Memory-clause-err c = decided_short c.args.extent c.args.manager.now c.decide.new.self c.in-Err-Memory.field-0 c.in-Err-Memory.field-0-is (record { refused = c.in-Err-Memory.ensures.refused (sym c.is_stopped.ensures ∙ c.if-is_stopped.false); performed = c.in-Err-Memory.ensures.performed (sym c.is_stopped.ensures ∙ c.if-is_stopped.false); taken = c.in-Err-Memory.ensures.taken })

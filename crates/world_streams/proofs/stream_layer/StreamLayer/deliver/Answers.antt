@@ -1,0 +1,22 @@
+use Rattle.std.proofs.Common.{◌++◌, ◌∙◌, ap, subst, arith, slice_index_or}
+use Rattle.model_streams.specs.declared.event.Event.TheVariants.{Deliver}
+use Rattle.model_streams.specs.StreamSystem.{StreamSystem, happens}
+use Rattle.world_streams.specs.StreamLayer.{StreamLayerState, StreamLayerMirrors}
+use Rattle.world_streams.proofs.EventSimulation.{state, undelivered, delivered_one}
+use Rattle.world_streams.proofs.stream_layer.StreamLayer.deliver.Goals as goal
+
+pub returns-then-number-len-clause-ok : goal.returns-then-number-len-clause-ok
+returns-then-number-len-clause-ok c =
+    subst (λ (r : StreamLayerState). (w : StreamSystem) → StreamLayerMirrors r w → StreamLayerMirrors r (happens w (Deliver c.args.number))) c.self.view_is
+    (undelivered (state c.self.inside.nodes c.self.inside.manager c.self.inside.post.items c.self.inside.notes.items) c.args.number (omega (arith, c.self.inside.post.ok, c.len.ensures, c.if-number-len.true)))
+
+pub returns-in-Ok-clause-ok : goal.returns-in-Ok-clause-ok
+returns-in-Ok-clause-ok c =
+    subst (λ (r : StreamLayerState). (w : StreamSystem) → StreamLayerMirrors r w → StreamLayerMirrors (state c.take.new.nodes c.take.new.manager c.move_in.new.list.items c.move_in-in-Ok.new.list.items) (happens w (Deliver c.args.number))) c.self.view_is
+    (delivered_one (state c.self.inside.nodes c.self.inside.manager c.self.inside.post.items c.self.inside.notes.items) (state c.take.new.nodes c.take.new.manager c.move_in.new.list.items c.move_in-in-Ok.new.list.items)
+    c.args.number c.index.result.now c.in-Ok.step
+    (omega (arith, c.self.inside.post.ok, c.len.ensures, c.if-number-len.false))
+    (c.index.ensures ∙ ap (λ l. slice_index_or l c.args.number c.index.result.now) c.make_room.ensures.same)
+    c.in-Ok.ensures.ok
+    (c.move_in.ensures ∙ (λ i. c.make_room.ensures.same i ++ c.into_vec.ensures i))
+    (c.move_in-in-Ok.ensures ∙ (λ i. c.make_room-2.ensures.same i ++ c.into_vec-in-Ok.ensures i)))

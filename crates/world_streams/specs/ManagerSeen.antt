@@ -1,0 +1,85 @@
+-- The real manager beside the model's.
+use Rattle.std.specs.Prelude.{◌≡◌, ℕ, length, Bool, true, false, not, ◌++◌, List, [], ◌∷◌, Option, Some, None, if◌then◌else◌}
+use Rattle.block_types.specs.declared.record.Record.{Record}
+use Rattle.disk.specs.declared.memory.MemDisk.{MemDisk}
+use Rattle.disk.specs.Memory.{memory_state}
+use Rattle.streams.specs.Streams.{Streams}
+use Rattle.wire.specs.declared.packet.Step.{Step}
+use Rattle.wire.specs.declared.refusal.Refusal.{Refusal}
+use Rattle.model_streams.specs.declared.extent.Extent.{Extent}
+use Rattle.model_streams.specs.Maps.{entry_at}
+use Rattle.model_streams.specs.Manager.{Catalog, first_catalog, decide_refusal}
+use Rattle.model_streams.specs.Replay.{catalog_replay}
+use Rattle.model_streams.specs.StreamSystem.{StreamSystem}
+use Rattle.manager.specs.Manager.{ManagerState}
+use Rattle.world_streams.specs.Nodes.{plan_of}
+
+-- what is seen of the manager: its extents, the records of its file, whether it has stopped, and what its disk was told
+pub record ManagerSeen : Type 0 where
+  pub nodes : ℕ
+  pub target : ℕ
+  pub extents : List Extent
+  pub records : List Record
+  pub stopped : Bool
+  pub stop : Option (ℕ × Bool)
+
+abbrev pub manager_seen_of : ManagerState MemDisk → ManagerSeen
+manager_seen_of x =
+    record {
+      nodes = x.nodes;
+      target = x.target;
+      extents = x.extents;
+      records = x.file.records;
+      stopped = x.file.stopped;
+      stop = (memory_state x.file.disk).stop;
+    }
+
+-- these records make just these streams
+pub record RecordsMakeStreams (rs : List Record) (streams : Streams) : Type 0 where
+  pub catalog : Catalog
+  pub replays : catalog_replay rs ≡ Some catalog
+  pub stream : (range kind : ℕ) → catalog.stream range kind ≡ streams range kind
+
+-- the catalog says what is seen of a manager that runs, and its streams are those that the manager's records make
+pub record CatalogMirrors (x : ManagerSeen) (b : Catalog) : Type 0 where
+  pub nodes : b.nodes ≡ x.nodes
+  pub target : b.target ≡ x.target
+  pub count : b.count ≡ length x.extents
+  pub extent : (e : ℕ) → b.extent e ≡ entry_at x.extents e
+  pub streams : RecordsMakeStreams x.records b.stream
+
+-- these records make just this catalog
+pub record RecordsMakeCatalog (rs : List Record) (b : Catalog) : Type 0 where
+  pub catalog : Catalog
+  pub replays : catalog_replay rs ≡ Some catalog
+  pub nodes : catalog.nodes ≡ b.nodes
+  pub target : catalog.target ≡ b.target
+  pub count : catalog.count ≡ b.count
+  pub stream : (range kind : ℕ) → catalog.stream range kind ≡ b.stream range kind
+  pub extent : (e : ℕ) → catalog.extent e ≡ b.extent e
+
+-- the manager of the world is this one: of one that has stopped, what its records make
+pub record ManagerMirrors (x : ManagerSeen) (w : StreamSystem) : Type 0 where
+  pub running : x.stopped ≡ false → CatalogMirrors x w.catalog
+  pub stopped : x.stopped ≡ true → RecordsMakeCatalog x.records w.catalog
+  pub up : w.manager_cell.up ≡ not x.stopped
+  pub plan : x.stopped ≡ false → x.stop ≡ plan_of w.manager_cell
+
+-- from w to v the manager alone went on, and is y now
+pub record ManagerSteps (y : ManagerSeen) (w v : StreamSystem) (s : Step) : Type 0 where
+  pub post : v.post ≡ w.post ++ s.packets
+  pub notes : v.notes ≡ w.notes ++ s.notes
+  pub manager : ManagerMirrors y v
+  pub replica : v.replica ≡ w.replica
+  pub cell : v.cell ≡ w.cell
+  pub nodes : v.nodes ≡ w.nodes
+
+-- a manager with its first record, which runs
+pub record IsNewManager (nodes target : ℕ) (x : ManagerSeen) : Type 0 where
+  pub tells : CatalogMirrors x (first_catalog nodes target)
+  pub running : x.stopped ≡ false
+  pub untold : x.stop ≡ None
+
+-- why a decision is refused; one that has stopped refuses nothing
+abbrev pub decision_refusal : ManagerSeen → ℕ → Option Refusal
+decision_refusal x e = if x.stopped then None else decide_refusal (entry_at x.extents e)

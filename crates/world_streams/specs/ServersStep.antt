@@ -1,0 +1,52 @@
+-- What servers add to the stream layer.
+use Rattle.std.specs.Prelude.{◌≡◌, ◌⊎◌, ◌++◌, ℕ, List, [], ◌∷◌}
+use Rattle.wire.specs.declared.note.Note.{Note}
+use Rattle.wire.specs.declared.note.Note.TheVariants as notes
+use Rattle.wire.specs.declared.packet.Packet.{Packet}
+use Rattle.wire.specs.declared.rows.Row.{Row}
+use Rattle.memtable.specs.Entries.{Entries}
+use Rattle.metadata.specs.declared.record.IndexRange.{IndexRange}
+use Rattle.model_partition.specs.declared.table_note.TableNote.{TableNote}
+use Rattle.model_partition.specs.declared.table_note.TableNote.TheVariants as tables
+use Rattle.model_partition.specs.Servers.{ArePlain, CacheContent, ServerCell, ServersOutcome, noted, rows_of, server_takes}
+use Rattle.world_streams.specs.StreamLayer.{StreamLayerState}
+
+-- the layer with what servers send and show
+abbrev pub with_sent : StreamLayerState → List Packet → List TableNote → StreamLayerState
+with_sent r packets notes = record r { post = r.post ++ packets; notes = noted r.notes notes }
+
+-- the layer and the servers after a step of the servers
+pub record AfterServers (r x : StreamLayerState) (servers : List ServerCell) (o : ServersOutcome) : Type 0 where
+  pub layer : x ≡ with_sent r o.packets o.notes
+  pub servers_are : servers ≡ o.servers
+
+-- the server of a number took this packet, whatever its caches hold after it
+pub record AfterServerTakes (r x : StreamLayerState) (before after : List ServerCell) (s : ℕ) (p : Packet) : Type 0 where
+  pub held : CacheContent
+  pub took : AfterServers r x after (server_takes before s p held)
+
+-- one loaded table with these rows, and nothing else
+pub record IsLoadOf (shown : List Note) (rows : List Row) (more : List TableNote) : Type 0 where
+  pub range : ℕ
+  pub generation : ℕ
+  pub entries : Entries
+  pub indexes : List IndexRange
+  pub next : ℕ
+  pub is : more ≡ tables.Loaded range generation entries indexes next ∷ []
+  pub rows_are : rows ≡ rows_of shown entries
+
+-- no loaded table, or one with these rows
+abbrev pub ShowsRows : List Note → List Row → List TableNote → Type 0
+ShowsRows shown rows more = ArePlain more ⊎ IsLoadOf shown rows more
+
+-- what is told of an observation, with these rows where it is of a loaded table
+abbrev pub told_with : TableNote → List Row → Note
+told_with (tables.Began range generation number changes) rows = notes.Began range generation number changes
+told_with (tables.Done range generation number) rows = notes.Done range generation number
+told_with (tables.Loaded range generation entries indexes next) rows = notes.Loaded range generation rows next
+
+-- the layer with what the map sends in a step, of which this holds
+pub record AfterMap (r x : StreamLayerState) (steps : List Packet → Type 0) : Type 0 where
+  pub packets : List Packet
+  pub layer : x ≡ record r { post = r.post ++ packets }
+  pub steps_are : steps packets

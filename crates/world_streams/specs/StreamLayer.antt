@@ -1,0 +1,40 @@
+-- The stream layer beside the model's world.
+use Rattle.std.specs.Prelude.{◌≡◌, ◌++◌, ◌≤◌, List, Option, None, length}
+use Rattle.wire.specs.declared.note.Note.{Note}
+use Rattle.wire.specs.declared.packet.Packet.{Packet}
+use Rattle.wire.specs.declared.packet.Step.{Step}
+use Rattle.model_streams.specs.declared.event.Event.{Event}
+use Rattle.model_streams.specs.StreamSystem.{StreamSystem}
+use Rattle.wire.specs.declared.refusal.Refusal.{Refusal}
+use Rattle.model_streams.specs.declared.event.Event.TheVariants.{Decide}
+use Rattle.world_streams.specs.ManagerSeen.{ManagerSeen, ManagerMirrors, decision_refusal}
+use Rattle.world_streams.specs.Nodes.{NodeSeen, NodesMirror}
+
+pub record StreamLayerState : Type 0 where
+  pub nodes : List NodeSeen
+  pub manager : ManagerSeen
+  pub post : List Packet
+  pub notes : List Note
+
+-- the world is this layer
+pub record StreamLayerMirrors (r : StreamLayerState) (w : StreamSystem) : Type 0 where
+  pub post : r.post ≡ w.post
+  pub notes : r.notes ≡ w.notes
+  pub nodes : NodesMirror r.nodes w
+  pub manager : ManagerMirrors r.manager w
+
+-- from w to v the actors became these, and this step was sent and shown
+pub record ActorsStep (xs : List NodeSeen) (d : ManagerSeen) (w v : StreamSystem) (s : Step) : Type 0 where
+  pub post : v.post ≡ w.post ++ s.packets
+  pub notes : v.notes ≡ w.notes ++ s.notes
+  pub nodes : NodesMirror xs v
+  pub manager : ManagerMirrors d v
+
+-- no more than a run makes room for before it hands a packet out
+abbrev pub IsFew : Step → Type 0
+IsFew s = (length s.packets ≤ 2048) × (length s.notes ≤ 2048)
+
+-- why an event is refused: a decision for the manager's reason, and nothing else
+abbrev pub refusal_of : StreamLayerState → Event → Option Refusal
+refusal_of r (Decide e) = decision_refusal r.manager e
+refusal_of r event = None

@@ -1,0 +1,69 @@
+//! What servers may ask of nodes and of the manager.
+ghost use Rattle.std.specs.Prelude.{◌≡◌};
+ghost use Rattle.model_streams.specs.StreamSystem.{is_append, is_check, is_read, is_seal, is_server_call, is_server_stream_call};
+
+use wire::{AppendBody, Body, CheckBody, ReadBody, SealBody, StreamBody};
+
+fn is_append(body: &AppendBody) -> bool
+    ensures { result ≡ is_append body.now }
+{
+    match body {
+        AppendBody::Append { .. } => true,
+        _ => false,
+    }
+}
+
+fn is_check(body: &CheckBody) -> bool
+    ensures { result ≡ is_check body.now }
+{
+    match body {
+        CheckBody::Check { .. } => true,
+        _ => false,
+    }
+}
+
+fn is_seal(body: &SealBody) -> bool
+    ensures { result ≡ is_seal body.now }
+{
+    match body {
+        SealBody::SealExtent { .. } => true,
+        _ => false,
+    }
+}
+
+fn is_read(body: &ReadBody) -> bool
+    ensures { result ≡ is_read body.now }
+{
+    match body {
+        ReadBody::ReadAt { .. } => true,
+        ReadBody::ReadGroups { .. } => true,
+        _ => false,
+    }
+}
+
+fn is_stream_call(body: &StreamBody) -> bool
+    ensures { result ≡ is_server_stream_call body.now }
+{
+    match body {
+        StreamBody::CreateStream { .. } => true,
+        StreamBody::OpenStreams { .. } => true,
+        StreamBody::Confirm { .. } => true,
+        StreamBody::Extend { .. } => true,
+        _ => false,
+    }
+}
+
+/// Whether a server may ask this.
+pub(crate) fn is_call(body: &Body) -> bool
+    ensures { result ≡ is_server_call body.now }
+{
+    match body {
+        Body::Append(body) => is_append(body),
+        Body::Check(body) => is_check(body),
+        Body::Seal(body) => is_seal(body),
+        Body::Read(body) => is_read(body),
+        Body::Stream(body) => is_stream_call(body),
+        Body::Map(_body) => false,
+        Body::Table(_body) => false,
+    }
+}

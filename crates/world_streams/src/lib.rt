@@ -1,0 +1,22 @@
+//! The stream layer of a run: real extent nodes and the stream manager, on disks in memory, which may stop inside any device
+//! call and come back.
+//!
+//! This crate touches memory only. The network of a run is the list of all packets that were sent, and an event has one
+//! of them delivered, or a user send one more. After each event the layer is what the model makes of its world, exactly:
+//! the packets, the observations, the replicas of each node and the manager's catalog. A refusal for want of memory changes
+//! nothing.
+#![tactic(auto)]
+
+mod calls;
+mod fault;
+mod manager_actor;
+mod nodes;
+mod post;
+mod setup;
+mod showing;
+mod stream_layer;
+mod submitting;
+
+pub use fault::WorldFault;
+pub use setup::Setup;
+pub use stream_layer::StreamLayer;

@@ -1,0 +1,131 @@
+//! What servers show.
+ghost use Rattle.std.specs.Prelude.{◌≡◌, ◌++◌, ◌∷◌, [], ◌+◌, ◌<◌, ◌≤◌, suc, Some, IfOk, OnErr, option_map, vec_len, vec_capacity};
+ghost use Rattle.memtable.specs.Entries.{Entries};
+ghost use Rattle.model_partition.specs.Servers.{noted, rows_of};
+ghost use Rattle.world_servers.specs.Servers.{ServersTakePacket, NoMore};
+ghost use Rattle.world_streams.specs.ServersStep.{ShowsRows, told_with};
+
+use bytes::Bytes;
+use memtable::Cell;
+use model_partition::TableNote;
+use range::Sent;
+use std::alloc::{AllocError, Global};
+use std::collections::BTreeMap;
+use wire::{Note, Packet, Rows, ServerNo};
+use world_servers::{Servers, rows_of};
+
+/// What a server sends and shows, and the rows of the one table that it may show as loaded.
+#[derive(Drop)]
+pub(crate) struct Given {
+    pub(crate) sent: Sent,
+    pub(crate) rows: Rows,
+}
+
+/// The rows of a table that is about to be shown, behind these observations.
+fn rows_for(
+    alloc: Global,
+    notes: &[Note],
+    loading: Option<&BTreeMap<Bytes, Cell>>,
+) -> Result<Rows, AllocError>
+    ensures { IfOk result (λ rows. (entries : Entries) → option_map (λ table. table.now.entries) loading.entry ≡ Some entries → rows ≡ rows_of notes.now entries) }
+{
+    match loading {
+        None => Ok(Rows {
+            items: Vec::new(alloc),
+        }),
+        Some(entries) => match rows_of(alloc, notes, entries) {
+            Ok(rows) => Ok(rows),
+            Err(full) => Err(full),
+        },
+    }
+}
+
+/// Gives a packet to a server. The rows of what it may show are made before it makes its step.
+pub(crate) fn give(
+    servers: &mut Servers,
+    alloc: Global,
+    server: ServerNo,
+    packet: &Packet,
+    notes: &[Note],
+) -> Result<Given, AllocError>
+    ensures ok { IfOk result (λ t. ServersTakePacket servers.old servers.new server packet.now t.sent) }
+    ensures rows { IfOk result (λ t. ShowsRows notes.now t.rows t.sent.notes) }
+    ensures err { OnErr result (servers.new ≡ servers.old) }
+    ensures few { IfOk result (λ t. NoMore t.sent) }
+{
+    let rows = match rows_for(alloc, notes, servers.loading(server, &packet.body)) {
+        Ok(rows) => rows,
+        Err(full) => return Err(full),
+    };
+    match servers.give(alloc, server, packet) {
+        Ok(sent) => Ok(Given { sent, rows }),
+        Err(full) => Err(full),
+    }
+}
+
+/// An observation of a server, with these rows where it is of a loaded table.
+fn told(note: TableNote, rows: Rows) -> Note
+    ensures { result ≡ told_with note rows }
+{
+    match note {
+        TableNote::Began {
+            range,
+            generation,
+            number,
+            changes,
+        } => Note::Began {
+            range,
+            generation,
+            number,
+            changes,
+        },
+        TableNote::Done {
+            range,
+            generation,
+            number,
+        } => Note::Done {
+            range,
+            generation,
+            number,
+        },
+        TableNote::Loaded {
+            range,
+            generation,
+            next,
+            ..
+        } => Note::Loaded {
+            range,
+            generation,
+            rows,
+            next,
+        },
+    }
+}
+
+/// Puts one more at the end, into room that is there.
+fn put(list: &mut Vec<Note>, note: Note)
+    requires { vec_len list.old < vec_capacity list.old }
+    ensures items { list.new.items ≡ list.old.items ++ note ∷ [] }
+    ensures count { vec_len list.new ≡ suc (vec_len list.old) }
+    ensures room { vec_capacity list.old ≤ vec_capacity list.new }
+{
+    if let Err(_full) = list.push(note) {}
+}
+
+/// Puts what a server shows at the end, into room that is there. These are the rows of the one table that it may show.
+pub(crate) fn show(alloc: Global, list: &mut Vec<Note>, more: Vec<TableNote>, rows: Rows)
+    requires room { vec_len list.old + vec_len more ≤ vec_capacity list.old }
+    requires rows { ShowsRows list.old.items rows more.items }
+    ensures { list.new.items ≡ noted list.old.items more.items }
+{
+    let mut left = rows;
+    for note in more {
+        let rows = std::mem::replace(
+            &mut left,
+            Rows {
+                items: Vec::new(alloc),
+            },
+        );
+        put(list, told(note, rows));
+    }
+}

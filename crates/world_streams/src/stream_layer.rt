@@ -1,0 +1,458 @@
+//! The stream layer: real nodes and the real manager, the packets sent, and what was observed.
+ghost use Rattle.std.specs.Prelude.{◌≡◌, ◌++◌, ◌<◌, [], ◌∷◌, None, Some, IfOk, OnOk, OnErr, length, option_map, slice_get};
+ghost use Rattle.wire.specs.declared.actor.ActorId.TheVariants as actors;
+ghost use Rattle.wire.specs.declared.packet.Packet.{Packet};
+ghost use Rattle.model_streams.specs.Maps.{entry_at};
+ghost use Rattle.model_streams.specs.StreamSystem.{StreamSystem, happens, moved, delivered, start};
+ghost use Rattle.model_streams.specs.StreamSystem.Move.{Asks};
+ghost use Rattle.model_streams.specs.declared.event.Event.TheVariants as events;
+ghost use Rattle.model_streams.specs.Outcome.{packet};
+ghost use Rattle.model_partition.specs.Servers.{give_up_refusal, server_gives_up};
+ghost use Rattle.world_streams.specs.ManagerSeen.{ManagerMirrors, decision_refusal};
+ghost use Rattle.world_streams.specs.Nodes.{NodesMirror, seen_of, running_at};
+ghost use Rattle.world_streams.specs.StreamLayer.{IsFew, StreamLayerMirrors, ActorsStep, refusal_of};
+ghost use Rattle.world_streams.specs.ServersStep.{AfterMap, AfterServers, AfterServerTakes};
+ghost use Rattle.world_map.specs.Seen.{MapSimulates, MapSimulatesAt, assign_refusal, renew_refusal};
+ghost use Rattle.model_partition.specs.Cluster.{assigns, map_takes, renews};
+
+use crate::calls::is_call;
+use crate::fault::WorldFault;
+use crate::manager_actor::{Decision, ManagerActor};
+use crate::nodes::NodeList;
+use crate::post::{make_room, move_in};
+use crate::setup::Setup;
+use crate::showing::{Given, give, show};
+use crate::submitting::request;
+use block_types::Nodes;
+use disk::MemDisk;
+use enode::Node;
+use model_streams::Event;
+use range::Sent;
+use std::alloc::Global;
+use std::marker::Model;
+use wire::{ActorId, Body, ExtentId, Note, Packet, RangeId, Refusal, Rows, ServerNo, Step};
+use world_map::{MapActor, MapAnswer};
+use world_servers::{GiveUpAnswer, Servers};
+
+/// Real extent nodes and the stream manager on disks in memory, all packets that were sent, numbered from 0, and all
+/// observations. The packets stay, since each may be delivered any number of times.
+pub struct StreamLayer {
+    nodes: NodeList,
+    manager: ManagerActor,
+    post: Vec<Packet>,
+    notes: Vec<Note>,
+}
+
+// Written out, so that a crate above that lets one go has no proof of what is in it.
+impl Drop for StreamLayer {
+    fn drop(self) {
+        let StreamLayer {
+            nodes: _,
+            manager: _,
+            post: _,
+            notes: _,
+        } = self;
+    }
+}
+
+impl Model for StreamLayer {
+    ghost use Rattle.world_streams.specs.StreamLayer.{StreamLayerState};
+
+    ghost Value = { StreamLayerState };
+
+    ghost view = { λ run. record { nodes = run.nodes; manager = run.manager; post = run.post.items; notes = run.notes.items } };
+}
+
+/// What the addressee does with a packet. Nothing comes of one to a stopped or absent actor, or to a user.
+fn take(
+    nodes: &mut NodeList,
+    manager: &mut ManagerActor,
+    alloc: Global,
+    packet: &Packet,
+) -> Result<Step, WorldFault>
+    ensures ok { IfOk result (λ step. (w : StreamSystem) → NodesMirror nodes.old w → ManagerMirrors manager.old w → ActorsStep nodes.new manager.new w (delivered w packet.now packet.now.to) step) }
+    ensures nodes { OnErr result (nodes.new ≡ nodes.old) }
+    ensures manager { OnErr result (manager.new ≡ manager.old) }
+    ensures few { IfOk result IsFew }
+{
+    match packet.to {
+        ActorId::Node(number) => nodes.give(alloc, number, packet),
+        ActorId::Manager => manager.give(alloc, packet),
+        ActorId::Map => Ok(Step::silent(alloc)),
+        ActorId::Server(_) => Ok(Step::silent(alloc)),
+        ActorId::User(_) => Ok(Step::silent(alloc)),
+    }
+}
+
+impl StreamLayer {
+    /// The actors of this setup, with nothing on their disks, and nothing sent or observed. An error is want of memory
+    /// (22).
+    pub fn start(alloc: Global, setup: &Setup) -> Result<StreamLayer, WorldFault>
+        ensures mirrors { IfOk result (λ run. StreamLayerMirrors run (start setup.now.nodes setup.now.target)) }
+    {
+        let nodes = match NodeList::start(alloc, setup.nodes) {
+            Ok(nodes) => nodes,
+            Err(fault) => return Err(fault),
+        };
+        match ManagerActor::start(alloc, setup.nodes, setup.target) {
+            Ok(manager) => Ok(StreamLayer {
+                nodes,
+                manager,
+                post: Vec::new(alloc),
+                notes: Vec::new(alloc),
+            }),
+            Err(fault) => Err(fault),
+        }
+    }
+
+    /// A user asks something. Nothing comes of a body that users may not ask. An error is want of memory (22), and nothing has
+    /// changed.
+    pub fn submit(
+        &mut self,
+        alloc: Global,
+        user: u64,
+        to: ActorId,
+        body: &Body,
+    ) -> Result<Option<Refusal>, WorldFault>
+        ensures none { IfOk result (λ refusal. refusal ≡ None) }
+        ensures ok { OnOk result ((w : StreamSystem) → StreamLayerMirrors self.old w → StreamLayerMirrors self.new (happens w (events.Submit user to body.now))) }
+        ensures err { OnErr result (self.new ≡ self.old) }
+    {
+        match request(alloc, body) {
+            Err(_full) => Err(WorldFault::Memory),
+            Ok(None) => Ok(None),
+            Ok(Some(body)) => match self.send(ActorId::User(user), to, body) {
+                Ok(()) => Ok(None),
+                Err(fault) => Err(fault),
+            },
+        }
+    }
+
+    /// A server asks a node or the manager: an append, a check, a seal, a read, or a call for streams, under any generation.
+    /// Nothing comes of another body. The packet is the next of those sent, and its answer is sent to the server. An error
+    /// is want of memory (22), and nothing has changed.
+    pub fn ask(&mut self, server: ServerNo, to: ActorId, body: Body) -> Result<(), WorldFault>
+        ensures ok { OnOk result ((w : StreamSystem) → StreamLayerMirrors self.old w → StreamLayerMirrors self.new (moved w (Asks server to body))) }
+        ensures err { OnErr result (self.new ≡ self.old) }
+    {
+        if !is_call(&body) {
+            return Ok(());
+        }
+        match self.send(ActorId::Server(server), to, body) {
+            Ok(()) => Ok(()),
+            Err(fault) => Err(fault),
+        }
+    }
+
+    fn send(&mut self, from: ActorId, to: ActorId, body: Body) -> Result<(), WorldFault>
+        ensures ok { OnOk result (self.new ≡ record self.old { post = self.old.post ++ packet from to body ∷ [] }) }
+        ensures err { OnErr result (self.new ≡ self.old) }
+    {
+        match self.post.push(Packet { from, to, body }) {
+            Ok(()) => Ok(()),
+            Err(_full) => Err(WorldFault::Memory),
+        }
+    }
+
+    /// The packet of a number comes to its node, or to the manager; nothing comes of one to somebody else, or that was never
+    /// sent. The room for what the step may give is made before an actor is called. An error is want of memory (22), and
+    /// nothing has changed.
+    pub fn deliver(&mut self, alloc: Global, number: usize) -> Result<Option<Refusal>, WorldFault>
+        ensures none { IfOk result (λ refusal. refusal ≡ None) }
+        ensures ok { OnOk result ((w : StreamSystem) → StreamLayerMirrors self.old w → StreamLayerMirrors self.new (happens w (events.Deliver number))) }
+        ensures err { OnErr result (self.new ≡ self.old) }
+    {
+        if number >= self.post.len() {
+            return Ok(None);
+        }
+        if let Err(_full) = make_room(&mut self.post) {
+            return Err(WorldFault::Memory);
+        }
+        if let Err(_full) = make_room(&mut self.notes) {
+            return Err(WorldFault::Memory);
+        }
+        match take(
+            &mut self.nodes,
+            &mut self.manager,
+            alloc,
+            &self.post[number],
+        ) {
+            Ok(step) => {
+                let Step { packets, notes } = step;
+                move_in(&mut self.post, packets.into_vec());
+                move_in(&mut self.notes, notes.into_vec());
+                Ok(None)
+            }
+            Err(fault) => Err(fault),
+        }
+    }
+
+    /// A node or the manager stops, at once or in a device call.
+    pub fn stop(&mut self, actor: ActorId, call: u64, keep: bool)
+        ensures { (w : StreamSystem) → StreamLayerMirrors self.old w → StreamLayerMirrors self.new (happens w (events.Stop actor call keep)) }
+    {
+        match actor {
+            ActorId::Node(number) => self.nodes.stop(number, call, keep),
+            ActorId::Manager => self.manager.stop(call, keep),
+            ActorId::Map => {}
+            ActorId::Server(_) => {}
+            ActorId::User(_) => {}
+        }
+    }
+
+    /// A node or the manager comes back with nothing but its records. An error is want of memory (22), and nothing has changed.
+    pub fn restart(&mut self, alloc: Global, actor: ActorId) -> Result<(), WorldFault>
+        ensures ok { OnOk result ((w : StreamSystem) → StreamLayerMirrors self.old w → StreamLayerMirrors self.new (happens w (events.Restart actor))) }
+        ensures err { OnErr result (self.new ≡ self.old) }
+    {
+        match actor {
+            ActorId::Node(number) => self.nodes.restart(alloc, number),
+            ActorId::Manager => self.manager.restart(alloc),
+            ActorId::Map => Ok(()),
+            ActorId::Server(_) => Ok(()),
+            ActorId::User(_) => Ok(()),
+        }
+    }
+
+    /// The manager seals an extent. It answers why it does not: there is no such extent (1), or no place has told a length
+    /// (10). An error is want of memory (22), and nothing has changed.
+    pub fn decide(&mut self, alloc: Global, extent: ExtentId) -> Result<Option<Refusal>, WorldFault>
+        ensures refusal { IfOk result (λ refusal. refusal ≡ decision_refusal self.old.manager extent) }
+        ensures ok { OnOk result ((w : StreamSystem) → StreamLayerMirrors self.old w → StreamLayerMirrors self.new (happens w (events.Decide extent))) }
+        ensures err { OnErr result (self.new ≡ self.old) }
+    {
+        if let Err(_short) = make_room(&mut self.post) {
+            return Err(WorldFault::Memory);
+        }
+        if let Err(_short) = make_room(&mut self.notes) {
+            return Err(WorldFault::Memory);
+        }
+        match self.manager.decide(alloc, extent) {
+            Ok(decision) => {
+                let Decision { step, refusal } = decision;
+                let Step {
+                    packets: sent,
+                    notes: shown,
+                } = step;
+                move_in(&mut self.post, sent.into_vec());
+                move_in(&mut self.notes, shown.into_vec());
+                Ok(refusal)
+            }
+            Err(fault) => Err(fault),
+        }
+    }
+
+    /// The next event. What it refuses besides want of memory (22, which leaves all as it was) is answered: a decision is
+    /// refused 1 or 10, and nothing else is.
+    pub fn step(&mut self, alloc: Global, event: &Event) -> Result<Option<Refusal>, WorldFault>
+        ensures ok { OnOk result ((w : StreamSystem) → StreamLayerMirrors self.old w → StreamLayerMirrors self.new (happens w event.now)) }
+        ensures err { OnErr result (self.new ≡ self.old) }
+        ensures refusal { IfOk result (λ refusal. refusal ≡ refusal_of self.old event.now) }
+    {
+        match event {
+            Event::Submit { user, to, body } => self.submit(alloc, *user, *to, body),
+            Event::Deliver { number } => self.deliver(alloc, *number),
+            Event::Stop { actor, call, keep } => {
+                self.stop(*actor, *call, *keep);
+                Ok(None)
+            }
+            Event::Restart { actor } => match self.restart(alloc, *actor) {
+                Ok(()) => Ok(None),
+                Err(fault) => Err(fault),
+            },
+            Event::Decide { extent } => self.decide(alloc, *extent),
+            Event::GiveUp { .. } => Ok(None),
+            Event::Assign { .. } => Ok(None),
+            Event::Renew { .. } => Ok(None),
+            Event::Moment { .. } => Ok(None),
+        }
+    }
+
+    /// The map takes the packet of this number. The room for what it sends is made before it makes its step. An error is want of
+    /// memory (22), and nothing has changed.
+    pub fn route(
+        &mut self,
+        alloc: Global,
+        map: &mut MapActor,
+        number: usize,
+    ) -> Result<(), WorldFault>
+        requires { number < length self.old.post }
+        ensures ok { OnOk result ((p : Packet) → slice_get self.old.post number ≡ Some p →
+            AfterMap self.old self.new (MapSimulates map.old map.new (λ c. map_takes c p))) }
+        ensures err { OnErr result (self.new ≡ self.old) }
+        ensures map_err { OnErr result (map.new ≡ map.old) }
+    {
+        if let Err(_short) = make_room(&mut self.post) {
+            return Err(WorldFault::Memory);
+        }
+        match map.give(alloc, &self.post[number]) {
+            Ok(packets) => {
+                move_in(&mut self.post, packets.into_vec());
+                Ok(())
+            }
+            Err(_full) => Err(WorldFault::Memory),
+        }
+    }
+
+    /// The map assigns a range. It answers why it does not: the range is unknown (30), or another server holds it at this moment
+    /// (31). An error is want of memory (22), and nothing has changed.
+    pub fn assign(
+        &mut self,
+        alloc: Global,
+        map: &mut MapActor,
+        range: RangeId,
+        server: ServerNo,
+        now: u64,
+        until: u64,
+    ) -> Result<Option<Refusal>, WorldFault>
+        ensures ok { OnOk result (AfterMap self.old self.new (MapSimulatesAt now map.old map.new (λ c. assigns c range server until))) }
+        ensures refusal { IfOk result (λ refusal. refusal ≡ assign_refusal map.old now range server) }
+        ensures err { OnErr result (self.new ≡ self.old) }
+        ensures map_err { OnErr result (map.new ≡ map.old) }
+    {
+        if let Err(_short) = make_room(&mut self.post) {
+            return Err(WorldFault::Memory);
+        }
+        match map.assign(alloc, range, server, now, until) {
+            Ok(answer) => {
+                let MapAnswer { packets, refusal } = answer;
+                move_in(&mut self.post, packets.into_vec());
+                Ok(refusal)
+            }
+            Err(_full) => Err(WorldFault::Memory),
+        }
+    }
+
+    /// The map renews the lease of a range. It answers why it does not: the server does not hold the range (30). An error is want
+    /// of memory (22), and nothing has changed.
+    pub fn renew(
+        &mut self,
+        alloc: Global,
+        map: &mut MapActor,
+        range: RangeId,
+        server: ServerNo,
+        until: u64,
+    ) -> Result<Option<Refusal>, WorldFault>
+        ensures ok { OnOk result (AfterMap self.old self.new (MapSimulates map.old map.new (λ c. renews c range server until))) }
+        ensures refusal { IfOk result (λ refusal. refusal ≡ renew_refusal map.old range server) }
+        ensures err { OnErr result (self.new ≡ self.old) }
+        ensures map_err { OnErr result (map.new ≡ map.old) }
+    {
+        if let Err(_short) = make_room(&mut self.post) {
+            return Err(WorldFault::Memory);
+        }
+        match map.renew(alloc, range, server, until) {
+            Ok(answer) => {
+                let MapAnswer { packets, refusal } = answer;
+                move_in(&mut self.post, packets.into_vec());
+                Ok(refusal)
+            }
+            Err(_full) => Err(WorldFault::Memory),
+        }
+    }
+
+    /// A server takes the packet of this number. The room for what it sends and shows, and the rows of a table that it shows,
+    /// are made before it makes its step. An error is want of memory (22), and nothing has changed.
+    pub fn give(
+        &mut self,
+        alloc: Global,
+        servers: &mut Servers,
+        server: ServerNo,
+        number: usize,
+    ) -> Result<(), WorldFault>
+        requires { number < length self.old.post }
+        ensures ok { OnOk result ((p : Packet) → slice_get self.old.post number ≡ Some p → AfterServerTakes self.old self.new servers.old servers.new server p) }
+        ensures err { OnErr result (self.new ≡ self.old) }
+        ensures servers_err { OnErr result (servers.new ≡ servers.old) }
+    {
+        if let Err(_short) = make_room(&mut self.post) {
+            return Err(WorldFault::Memory);
+        }
+        if let Err(_short) = make_room(&mut self.notes) {
+            return Err(WorldFault::Memory);
+        }
+        match give(
+            servers,
+            alloc,
+            server,
+            &self.post[number],
+            self.notes.as_slice(),
+        ) {
+            Ok(given) => {
+                let Given { sent, rows } = given;
+                let Sent { packets, notes } = sent;
+                move_in(&mut self.post, packets);
+                show(alloc, &mut self.notes, notes, rows);
+                Ok(())
+            }
+            Err(_full) => Err(WorldFault::Memory),
+        }
+    }
+
+    /// A server gives up on what a range waits for. It answers why it does not: it does not hold the range (30). An error is
+    /// want of memory (22), and nothing has changed.
+    pub fn give_up(
+        &mut self,
+        alloc: Global,
+        servers: &mut Servers,
+        server: ServerNo,
+        range: RangeId,
+        pick: &Nodes,
+    ) -> Result<Option<Refusal>, WorldFault>
+        ensures ok { OnOk result (AfterServers self.old self.new servers.new (server_gives_up servers.old server range pick.now)) }
+        ensures refusal { IfOk result (λ refusal. refusal ≡ give_up_refusal range pick.now (entry_at servers.old server)) }
+        ensures err { OnErr result (self.new ≡ self.old) }
+        ensures servers_err { OnErr result (servers.new ≡ servers.old) }
+    {
+        if let Err(_short) = make_room(&mut self.post) {
+            return Err(WorldFault::Memory);
+        }
+        if let Err(_short) = make_room(&mut self.notes) {
+            return Err(WorldFault::Memory);
+        }
+        match servers.give_up(alloc, server, range, pick) {
+            Ok(done) => {
+                let GiveUpAnswer {
+                    sent: given,
+                    refusal,
+                } = done;
+                let Sent {
+                    packets: sent,
+                    notes: shown,
+                } = given;
+                move_in(&mut self.post, sent);
+                show(
+                    alloc,
+                    &mut self.notes,
+                    shown,
+                    Rows {
+                        items: Vec::new(alloc),
+                    },
+                );
+                Ok(refusal)
+            }
+            Err(_full) => Err(WorldFault::Memory),
+        }
+    }
+
+    /// All packets that were sent, in order: their places, from 0, are their numbers.
+    pub fn sent(&self) -> &[Packet]
+        ensures { result.now ≡ self.now.post }
+    {
+        self.post.as_slice()
+    }
+
+    /// All observations, in order.
+    pub fn observations(&self) -> &[Note]
+        ensures { result.now ≡ self.now.notes }
+    {
+        self.notes.as_slice()
+    }
+
+    /// The node of a number, from 1; none where it is stopped, or there is none.
+    pub fn node(&self, number: u8) -> Option<&Node<MemDisk>>
+        ensures { option_map (λ node. seen_of node.now) result ≡ running_at self.now.nodes number }
+    {
+        self.nodes.node(number)
+    }
+}
