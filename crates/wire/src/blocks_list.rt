@@ -4,7 +4,7 @@ ghost use Rattle.std.specs.List.{AllByRecursion};
 ghost use Rattle.block_types.specs.Limits.{IsBlock, IsGroup};
 ghost use Rattle.wire.specs.Blocks.{has_bad_block};
 
-use block_types::Group;
+use block_types::{Group, MAX_BLOCK};
 use bytes::Bytes;
 use std::alloc::{AllocError, Global};
 use std::marker::Model;
@@ -52,7 +52,7 @@ fn some_bad(blocks: &[Bytes]) -> bool
     ensures good { result ≡ false → AllByRecursion IsBlock blocks.now }
 {
     for block in blocks {
-        if block.is_empty() || block.len() > 65536 {
+        if block.is_empty() || block.len() > MAX_BLOCK as usize {
             return true;
         }
     }
