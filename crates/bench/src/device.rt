@@ -1,7 +1,7 @@
 //! Appends to a record file over a file of the system, against plain writes of the same bytes.
 use crate::checking::group_of;
 use crate::error::Failure;
-use block_types::{Group, Record, Version};
+use block_types::{Group, Record};
 use blocks::encode;
 use disk::{Disk, FileDisk, RecordFile};
 use std::alloc::Global;
@@ -23,7 +23,7 @@ fn empty_records<R: AllocGlobal + Files<File = fs::File>>(
     if disk.len() > 0 {
         return Err(Failure::Words);
     }
-    let Ok(file) = RecordFile::format(Version::V1, disk) else {
+    let Ok(file) = RecordFile::format(disk) else {
         return Err(Failure::Step);
     };
     Ok(file)

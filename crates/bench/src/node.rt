@@ -1,6 +1,6 @@
 //! Appends to a node over a disk in memory.
 use crate::error::Failure;
-use block_types::{Nodes, Version};
+use block_types::Nodes;
 use bytes::Bytes;
 use disk::{DiskFault, MemDisk, RecordFile};
 use enode::Node;
@@ -56,7 +56,7 @@ fn packets_of(step: Step) -> usize {
 
 /// A new node to which groups of 1 KiB were appended, and how many were taken: so many sent their Puts.
 fn filled(alloc: Global, count: u64) -> Result<(Node<MemDisk>, u64), Failure> {
-    let disk = RecordFile::format(Version::V1, MemDisk::new(alloc))?.into_disk();
+    let disk = RecordFile::format(MemDisk::new(alloc))?.into_disk();
     let mut node = Node::restart(alloc, 1, disk)?;
     let mut taken = 0u64;
     for ticket in 0..count {

@@ -17,6 +17,9 @@ use blocks::encode_as;
 use std::alloc::{AllocError, Global};
 use std::marker::Model;
 
+/// The version that a new file has.
+const NEW_VERSION: Version = Version::V1;
+
 /// A list of records on a disk, to which records are added one by one. In a clause its value shows the disk, the
 /// version, the records and whether it is stopped; in memory it holds none of the records. An append makes four device
 /// calls: it writes the record behind the last gate, which is still closed, and a closed gate behind that; syncs; opens
@@ -68,6 +71,7 @@ impl<D: Disk> RecordFile<D> {
         let mut text = Vec::new(alloc);
         encode_as(self.version, added, &mut text)?;
         text.push(0)?;
+        // Read for its bound: so few bytes are there that the places below fit.
         let _size = self.disk.len();
         let next = self.end + text.len();
         self.disk.reserve(next + 1)?;
@@ -81,13 +85,13 @@ impl<D: Disk> RecordFile<D> {
         Ok(())
     }
 
-    /// Makes a file with no record on an empty disk: five bytes, the version's letters and a closed gate. A refusal
-    /// hands the disk back. `Failed` (20) comes only where the disk's count of failures rose, and leaves no record;
-    /// `Memory` (22) changes nothing.
-    pub fn format(version: Version, disk: D) -> Result<RecordFile<D>, (DiskFault, D)>
+    /// Makes a file with no record on an empty disk, of version 1 for now: five bytes, the version's letters and a closed
+    /// gate. A refusal hands the disk back. `Failed` (20) comes only where the disk's count of failures rose, and leaves
+    /// no record; `Memory` (22) changes nothing.
+    pub fn format(disk: D) -> Result<RecordFile<D>, (DiskFault, D)>
         requires empty { (D.state disk).seen ≡ [] }
         requires durable { Only (D.state disk).seen (D.state disk).may_leave }
-        ensures ok { IfOk result (λ file. (file.stopped ≡ false) × (file.version ≡ version) × (file.records ≡ [])) }
+        ensures ok { IfOk result (λ file. (file.stopped ≡ false) × (file.version ≡ Version.V1) × (file.records ≡ [])) }
         ensures steady { IsSteady (D.state disk) → MatchResult result
             (λ file. IsSteady (D.state file.disk))
             (λ e. (e.0 ≢ DiskFault.Failed) × IsSteady (D.state e.1)) }
@@ -100,10 +104,10 @@ impl<D: Disk> RecordFile<D> {
             (λ e. e.0 ≡ DiskFault.Failed → (D.state disk).failures < (D.state e.1).failures) }
     {
         let mut disk = disk;
-        match write_header(version, &mut disk) {
+        match write_header(NEW_VERSION, &mut disk) {
             Ok(()) => Ok(RecordFile {
                 disk,
-                version,
+                version: NEW_VERSION,
                 end: 4,
                 stopped: false,
             }),

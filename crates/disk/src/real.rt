@@ -210,6 +210,7 @@ impl<F: FileExt + OpenFile> Disk for FileDisk<F> {
         ensures broken { StaysBroken self.old self.new result }
         ensures whole { IsWhole self.old → IsWhole self.new }
     {
+        // Read for its bound: so few bytes are there that the end of these fits.
         let _size = self.image.len();
         self.image.reserve(at + bytes.len())?;
         if !self.put(at, bytes) {

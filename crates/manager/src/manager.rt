@@ -19,7 +19,6 @@ use crate::fault::ManagerFault;
 use crate::performing::{decide_on, handle_on, write};
 use crate::recovery::table_of;
 use crate::sealing::{answer, refusal, sealing_of};
-use block_types::Version;
 use disk::{Disk, DiskFault, FileFault, MemDisk, RecordFile};
 use manager_state::{ManagerTable, reads_back};
 use model_streams::ManagerRecord;
@@ -148,7 +147,7 @@ impl<D: Disk> Manager<D> {
         let Ok(table) = ManagerTable::new(alloc, nodes, target) else {
             return Err((DiskFault::Memory, disk));
         };
-        match RecordFile::format(Version::V1, disk) {
+        match RecordFile::format(disk) {
             Ok(file) => begin(alloc, nodes, target, table, file),
             Err(refused) => Err(refused),
         }

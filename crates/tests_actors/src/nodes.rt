@@ -8,7 +8,6 @@ use crate::answers::{Answer, comes_to};
 use crate::cases::{Actor, holds};
 use crate::senders::{Sender, actor_of};
 use asking::{Ask, body_of};
-use block_types::Version;
 use disk::{DiskFault, MemDisk, RecordFile};
 use enode::Node;
 use std::alloc::Global;
@@ -53,7 +52,7 @@ fn started(alloc: Global, number: u8, disk: MemDisk) -> Option<Node<MemDisk>> {
 }
 
 fn formatted(alloc: Global) -> Option<RecordFile<MemDisk>> {
-    match RecordFile::format(Version::V1, MemDisk::new(alloc)) {
+    match RecordFile::format(MemDisk::new(alloc)) {
         Ok(file) => Some(file),
         Err((_fault, _disk)) => None,
     }

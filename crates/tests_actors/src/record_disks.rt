@@ -1,5 +1,5 @@
 //! Disks of files with an actor's records, spelled by hand.
-use block_types::{Record, Version};
+use block_types::Record;
 use bytes::Bytes;
 use disk::{MemDisk, RecordFile};
 use std::alloc::Global;
@@ -16,7 +16,7 @@ fn adds(alloc: Global, file: &mut RecordFile<MemDisk>, text: &[u8]) -> bool {
 
 /// The disk of a file with a record of each of these texts, which have at most 64 bytes.
 pub fn disk_of(alloc: Global, texts: &[&[u8]]) -> Option<MemDisk> {
-    let Ok(mut file) = RecordFile::format(Version::V1, MemDisk::new(alloc)) else {
+    let Ok(mut file) = RecordFile::format(MemDisk::new(alloc)) else {
         return None;
     };
     for text in texts {

@@ -6,7 +6,7 @@ ghost use Rattle.block_types.specs.declared.record.Version.{Version};
 ghost use Rattle.block_types.specs.declared.record.Version.TheVariants.{V1};
 
 use crate::groups::group_of;
-use block_types::{Nodes, Record, Version};
+use block_types::{Nodes, Record};
 use disk::{Disk, DiskFault, FileDisk, FileFault, MemDisk, RecordFile};
 use std::alloc::Global;
 use std::fs;
@@ -68,7 +68,7 @@ fn empty(alloc: Global) -> Result<RecordFile<MemDisk>, Fail>
     ensures running { IfOk result (λ file. file.stopped ≡ false) }
     ensures version { IfOk result (λ file. file.version ≡ V1) }
 {
-    let file = RecordFile::format(Version::V1, MemDisk::new(alloc));
+    let file = RecordFile::format(MemDisk::new(alloc));
     Ok(file.ok().ok_or("formatted")?)
 }
 
@@ -254,7 +254,7 @@ fn two_real_records(rt: &HostRuntime) -> Result<(), Fail> {
     if disk.len() > 0 {
         return Err(Fail::new("it is not empty"));
     }
-    let mut file = RecordFile::format(Version::V1, disk)
+    let mut file = RecordFile::format(disk)
         .ok()
         .ok_or("formatted")?;
     append_two(rt.alloc(), &mut file)

@@ -4,7 +4,6 @@ ghost use Rattle.model_partition.specs.Cluster.{assigns, renews, map_takes, map_
 ghost use Rattle.world_map.specs.Outcome.{packets_of, refusal_of};
 ghost use Rattle.world_map.specs.Seen.{MapSimulates, MapSimulatesAt, assign_refusal, new_map, renew_refusal};
 
-use block_types::Version;
 use disk::{DiskFault, MemDisk, RecordFile};
 use pmap::{MapFault, PartitionMap};
 use std::alloc::{AllocError, Global};
@@ -77,7 +76,7 @@ impl MapActor {
     pub fn start(alloc: Global) -> Result<MapActor, AllocError>
         ensures { IfOk result (λ map. map ≡ new_map) }
     {
-        let file = match RecordFile::format(Version::V1, MemDisk::new(alloc)) {
+        let file = match RecordFile::format(MemDisk::new(alloc)) {
             Ok(file) => file,
             Err((_fault, _disk)) => return Err(AllocError),
         };

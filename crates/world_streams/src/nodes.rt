@@ -7,7 +7,6 @@ ghost use Rattle.world_streams.specs.Nodes.{NodeMirrors, NodesMirror, OneNodeSte
 ghost use Rattle.world_streams.specs.StreamLayer.{IsFew};
 
 use crate::fault::WorldFault;
-use block_types::Version;
 use disk::{DiskFault, MemDisk, RecordFile};
 use enode::Node;
 use std::alloc::Global;
@@ -33,7 +32,7 @@ impl Model for NodeList {
 fn new_node(alloc: Global, number: u8) -> Result<Node<MemDisk>, WorldFault>
     ensures { IfOk result (λ node. IsNew number (seen_of node)) }
 {
-    let file = match RecordFile::format(Version::V1, MemDisk::new(alloc)) {
+    let file = match RecordFile::format(MemDisk::new(alloc)) {
         Ok(file) => file,
         Err((_fault, _disk)) => return Err(WorldFault::Memory),
     };
