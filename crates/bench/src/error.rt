@@ -42,8 +42,14 @@ impl<D: Drop> From<(disk::DiskFault, D)> for Failure {
     }
 }
 
-impl<D: Drop> From<(disk::FileFault, D)> for Failure {
-    fn from(_refused: (disk::FileFault, D)) -> Self {
+impl From<enode::NodeFault> for Failure {
+    fn from(_fault: enode::NodeFault) -> Self {
+        Failure::Step
+    }
+}
+
+impl<D: Drop> From<(enode::NodeFault, D)> for Failure {
+    fn from(_refused: (enode::NodeFault, D)) -> Self {
         Failure::Step
     }
 }

@@ -2,8 +2,8 @@
 use crate::error::Failure;
 use block_types::Nodes;
 use bytes::Bytes;
-use disk::{DiskFault, MemDisk, RecordFile};
-use enode::Node;
+use disk::{MemDisk, RecordFile};
+use enode::{Node, NodeFault};
 use std::alloc::Global;
 use std::rt::Clock;
 use std::time::Instant;
@@ -46,7 +46,7 @@ fn append(alloc: Global, extent: ExtentId, ticket: u64) -> Result<Packet, Failur
 }
 
 /// How many packets the node sends for this one, which is handed over whole: a local that lives on is dropped at each exit.
-fn given(node: &mut Node<MemDisk>, alloc: Global, packet: Packet) -> Result<usize, DiskFault> {
+fn given(node: &mut Node<MemDisk>, alloc: Global, packet: Packet) -> Result<usize, NodeFault> {
     Ok(packets_of(node.handle(alloc, &packet)?))
 }
 

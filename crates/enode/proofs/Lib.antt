@@ -1,3 +1,4 @@
+pub mod FaultLemmas
 pub mod NewReplica
 pub mod RulesOfNode
 pub mod ReplaysRecords

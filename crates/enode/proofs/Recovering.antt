@@ -1,8 +1,6 @@
 -- One record more, when a node is made from its records.
-use Rattle.std.proofs.Common.{◌≡◌, ◌≢◌, ℕ, true, List, [], ◌∷◌, ◌++◌, Option, Some, None, Result, Ok, Err, MatchResult, ap, sym, subst, arith, ◌≤◌, length, ◌∙◌, refl, ⊎_elim}
+use Rattle.std.proofs.Common.{◌≡◌, ◌≢◌, ℕ, true, List, [], ◌∷◌, ◌++◌, Option, Some, None, Result, Ok, Err, ap, sym, subst, arith, ◌≤◌, length, ◌∙◌, refl, ⊎_elim}
 use Rattle.std.proofs.lemmas.Bool.Decides.{eqb_tells}
-use Rattle.disk.specs.Disk.{DiskState, CountsNow, IsSame, LeavesOnly}
-use Rattle.disk.proofs.Moments.{goes_on}
 use Rattle.disk.specs.declared.fault.FileFault.{FileFault}
 use Rattle.disk.specs.declared.fault.FileFault.TheVariants.{Damaged}
 use Rattle.block_types.specs.declared.record.Record.{Record}

@@ -1,3 +1,4 @@
 pub mod Node
+pub mod Faults
 pub mod Performs
 pub mod Recovery

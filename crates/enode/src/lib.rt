@@ -8,9 +8,11 @@
 
 mod absent;
 mod extents;
+mod fault;
 mod making;
 mod node;
 mod recovery;
 mod rules;
 
+pub use fault::NodeFault;
 pub use node::Node;

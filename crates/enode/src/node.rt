@@ -1,5 +1,5 @@
 //! A node.
-ghost use Rattle.std.specs.Prelude.{◌≡◌, ◌≢◌, ◌<◌, ℕ, List, [], Some, None, false, true, IfOk, IfErr, MatchResult, option_map};
+ghost use Rattle.std.specs.Prelude.{◌≡◌, ◌≢◌, ◌<◌, ℕ, List, [], Some, None, false, true, IfOk, IfErr, IsErrOf, MatchResult, option_map};
 ghost use Rattle.block_types.specs.declared.record.Record.{Record};
 ghost use Rattle.block_types.specs.declared.record.Version.{Version};
 ghost use Rattle.disk.specs.Disk.{IsSame, IsSteady, LeavesOnly};
@@ -8,13 +8,15 @@ ghost use Rattle.disk.specs.Memory.{memory_state};
 ghost use Rattle.replica.specs.State.{content_of};
 ghost use Rattle.replica.specs.Replay.{fit};
 ghost use Rattle.model_streams.specs.Node.{node_rule, extent_of, contents};
+ghost use Rattle.enode.specs.Faults.{as_rule};
 ghost use Rattle.enode.specs.Node.{find, IsReplay, IsRestart};
 ghost use Rattle.enode.specs.Performs.{NodePerforms};
 ghost use Rattle.model_streams.specs.Bounds.{AreFew};
 
+use crate::fault::{NodeFault, answer};
 use crate::recovery::replicas_of;
 use crate::rules::take;
-use disk::{Disk, DiskFault, FileFault, MemDisk, RecordFile};
+use disk::{Disk, MemDisk, RecordFile};
 use enode_replica::NodeReplica;
 use replica::Replica;
 use std::alloc::Global;
@@ -58,13 +60,13 @@ fn recovered<D: Disk>(
     alloc: Global,
     number: u8,
     file: RecordFile<D>,
-) -> Result<Node<D>, (FileFault, D)>
+) -> Result<Node<D>, (NodeFault, D)>
     requires { file.stopped ≡ false }
     ensures number { IfOk result (λ node. node.number ≡ number) }
     ensures same { IfOk result (λ node. (node.file.stopped ≡ false) × (node.file.version ≡ file.version) × (node.file.records ≡ file.records)) }
     ensures replays { IfOk result (λ node. IsRestart number node.replicas file.records) }
-    ensures damaged { fit number file.records ≡ true → IfErr result (λ e. e.0 ≢ FileFault.Damaged) }
-    ensures failed { IfErr result (λ e. e.0 ≡ FileFault.Failed → (D.state file.disk).failures < (D.state e.1).failures) }
+    ensures damaged { fit number file.records ≡ true → IfErr result (λ e. e.0 ≢ NodeFault.Damaged) }
+    ensures failed { IfErr result (λ e. e.0 ≡ NodeFault.Failed → (D.state file.disk).failures < (D.state e.1).failures) }
     ensures steady { IsSteady (D.state file.disk) → IfOk result (λ node. IsSteady (D.state node.file.disk)) }
     ensures disk { MatchResult result
         (λ node. IsSame (D.state file.disk) (D.state node.file.disk))
@@ -77,7 +79,7 @@ fn recovered<D: Disk>(
             replicas,
             file,
         }),
-        Err(fault) => Err((fault, file.into_disk())),
+        Err(fault) => Err((fault.into(), file.into_disk())),
     }
 }
 
@@ -85,7 +87,7 @@ impl<D: Disk> Node<D> {
     /// The node that the records on a disk make, with nothing of what a stop drops. The file is synced, and then read.
     /// A refusal hands the disk back: 20 (a device call failed), 21 (the bytes are no file of records, or a record does
     /// not fit what those before it leave), 22 (no memory).
-    pub fn restart(alloc: Global, number: u8, disk: D) -> Result<Node<D>, (FileFault, D)>
+    pub fn restart(alloc: Global, number: u8, disk: D) -> Result<Node<D>, (NodeFault, D)>
         ensures number { IfOk result (λ node. node.number ≡ number) }
         ensures running { IfOk result (λ node. node.file.stopped ≡ false) }
         ensures file { IfOk result (λ node. IsFileOf node.file.version node.file.records (D.state disk).seen) }
@@ -93,8 +95,8 @@ impl<D: Disk> Node<D> {
 
         // 21 only where the bytes are no file of records that fit.
         ensures damaged { (v : Version) (rs : List Record) → IsFileOf v rs (D.state disk).seen → fit number rs ≡ true
-            → IfErr result (λ e. e.0 ≢ FileFault.Damaged) }
-        ensures failed { IfErr result (λ e. e.0 ≡ FileFault.Failed → (D.state disk).failures < (D.state e.1).failures) }
+            → IfErr result (λ e. e.0 ≢ NodeFault.Damaged) }
+        ensures failed { IfErr result (λ e. e.0 ≡ NodeFault.Failed → (D.state disk).failures < (D.state e.1).failures) }
 
         // No other records make the node than those that the bytes are a file of.
         ensures only { (v : Version) (rs : List Record) → IsFileOf v rs (D.state disk).seen
@@ -110,16 +112,18 @@ impl<D: Disk> Node<D> {
     {
         match RecordFile::open(alloc, disk) {
             Ok(file) => recovered(alloc, number, file),
-            Err(refused) => Err(refused),
+            Err((fault, disk)) => Err((fault.into(), disk)),
         }
     }
 
     /// What the node does with a packet: the rule of its table, exactly. The record, if there is one, is on the disk
     /// before the packets are handed out. A stopped node does nothing. 20: the disk failed, and the node is stopped
-    /// until it is restarted; its records are the old ones, with the new one or without. 22: nothing has changed.
-    pub fn handle(&mut self, alloc: Global, packet: &Packet) -> Result<Step, DiskFault>
+    /// until it is restarted; its records are the old ones, with the new one or without. 22: nothing has changed. 21
+    /// never comes.
+    pub fn handle(&mut self, alloc: Global, packet: &Packet) -> Result<Step, NodeFault>
         ensures performed { self.old.file.stopped ≡ false → NodePerforms D.state self.old.replicas self.new.replicas self.old.file self.new.file
-            (extent_of packet.now.body) (node_rule self.old.number (find self.old.replicas (extent_of packet.now.body)) packet.now packet.now.body) result }
+            (extent_of packet.now.body) (node_rule self.old.number (find self.old.replicas (extent_of packet.now.body)) packet.now packet.now.body) (as_rule result) }
+        ensures undamaged { IsErrOf result NodeFault.Damaged → ⊥ }
         ensures number { self.new.number ≡ self.old.number }
         ensures stopped { self.old.file.stopped ≡ true → (self.new ≡ self.old) × (result ≡ Ok (record { packets = []; notes = [] })) }
 
@@ -132,13 +136,13 @@ impl<D: Disk> Node<D> {
         if self.file.is_stopped() {
             return Ok(Step::silent(alloc));
         }
-        take(
+        answer(take(
             &mut self.replicas,
             &mut self.file,
             alloc,
             self.number,
             packet,
-        )
+        ))
     }
 
     /// The replica of an extent, if there is one; takes no memory.

@@ -1,5 +1,4 @@
 //! What a step of an actor comes to.
-use disk::DiskFault;
 use wire::{
     ActorId, AppendBody, Body, CheckBody, Packet, ReadBody, Refusal, SealBody, Step, StreamBody,
     StreamList,
@@ -166,7 +165,7 @@ pub fn is_answer(step: &Step, wanted: Answer) -> bool {
 }
 
 /// Whether a step comes to an answer. It is handed over whole: a local that lives on costs the proof at each exit.
-pub fn comes_to(taken: Result<Step, DiskFault>, wanted: Answer) -> bool {
+pub fn comes_to<E: Drop>(taken: Result<Step, E>, wanted: Answer) -> bool {
     match taken {
         Ok(step) => is_answer(&step, wanted),
         Err(_fault) => matches!(&wanted, Answer::Fails),

@@ -8,8 +8,8 @@ use crate::answers::{Answer, comes_to};
 use crate::cases::{Actor, holds};
 use crate::senders::{Sender, actor_of};
 use asking::{Ask, body_of};
-use disk::{DiskFault, MemDisk, RecordFile};
-use enode::Node;
+use disk::{MemDisk, RecordFile};
+use enode::{Node, NodeFault};
 use std::alloc::Global;
 use wire::{ActorId, ExtentId, Packet, Step};
 
@@ -63,11 +63,14 @@ fn handled(
     alloc: Global,
     from: Sender,
     ask: Ask,
-) -> Result<Step, DiskFault> {
+) -> Result<Step, NodeFault> {
+    let Ok(body) = body_of(alloc, ask) else {
+        return Err(NodeFault::Memory);
+    };
     let packet = Packet {
         from: actor_of(from),
         to: ActorId::Node(node.number()),
-        body: body_of(alloc, ask)?,
+        body,
     };
     node.handle(alloc, &packet)
 }

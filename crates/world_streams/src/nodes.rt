@@ -7,8 +7,8 @@ ghost use Rattle.world_streams.specs.Nodes.{NodeMirrors, NodesMirror, OneNodeSte
 ghost use Rattle.world_streams.specs.StreamLayer.{IsFew};
 
 use crate::fault::WorldFault;
-use disk::{DiskFault, MemDisk, RecordFile};
-use enode::Node;
+use disk::{MemDisk, RecordFile};
+use enode::{Node, NodeFault};
 use std::alloc::Global;
 use std::marker::Model;
 use wire::{Packet, Step};
@@ -53,8 +53,9 @@ fn give(node: &mut Node<MemDisk>, alloc: Global, packet: &Packet) -> Result<Step
     }
     match node.handle(alloc, packet) {
         Ok(step) => Ok(step),
-        Err(DiskFault::Failed) => Ok(Step::silent(alloc)),
-        Err(DiskFault::Memory) => Err(WorldFault::Memory),
+        Err(NodeFault::Failed) => Ok(Step::silent(alloc)),
+        Err(NodeFault::Damaged) => unreachable!(),
+        Err(NodeFault::Memory) => Err(WorldFault::Memory),
     }
 }
 

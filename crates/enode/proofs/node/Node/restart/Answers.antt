@@ -1,13 +1,14 @@
-use Rattle.std.proofs.Common.{ap, ◌∙◌, rules}
+use Rattle.std.proofs.Common.{ap, sym, ◌∙◌, rules}
 use Rattle.replica.specs.Replay.{fit}
 use Rattle.disk.proofs.Rereading.{read_since, ok_more}
+use Rattle.enode.proofs.FaultLemmas.{file_damaged}
 use Rattle.enode.proofs.node.Node.restart.Goals as goal
 
 pub returns-in-Ok-clause-damaged : goal.returns-in-Ok-clause-damaged
 returns-in-Ok-clause-damaged g c = λ v rs is fits. c.recovered.ensures.damaged (ap (fit c.args.number) (c.in-Ok.ensures.only v rs is).1 ∙ fits)
 
 pub returns-in-Err-clause-damaged : goal.returns-in-Err-clause-damaged
-returns-in-Err-clause-damaged g c = λ v rs is fits. c.in-Err.ensures.only v rs is
+returns-in-Err-clause-damaged g c = λ v rs is fits damaged. c.in-Err.ensures.only v rs is (file_damaged c.in-Err.fault (sym c.into.ensures ∙ damaged))
 
 pub returns-in-Ok-clause-only : goal.returns-in-Ok-clause-only
 returns-in-Ok-clause-only g c = λ v rs is. ok_more c.recovered.result (λ node same. (same.1 ∙ (c.in-Ok.ensures.only v rs is).0, same.2 ∙ (c.in-Ok.ensures.only v rs is).1)) c.recovered.ensures.same
