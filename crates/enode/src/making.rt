@@ -10,7 +10,7 @@ ghost use Rattle.model_streams.specs.Node.{make_rule, make_taken, make_tests};
 ghost use Rattle.enode.specs.Node.{find};
 ghost use Rattle.enode.specs.Performs.{NodePerforms};
 
-use block_types::{Nodes, Record};
+use block_types::{MAX_TARGET, MIN_TARGET, Nodes, Record};
 use disk::{Disk, DiskFault, RecordFile};
 use enode_replica::NodeReplica;
 use enode_rules::is_manager;
@@ -115,13 +115,7 @@ fn may_make(number: u8, packet: &Packet, target: u32, places: &Nodes) -> bool
     if !places.are_distinct_nodes() {
         return false;
     }
-    if target < 4096 {
-        return false;
-    }
-    if target > 16777216 {
-        return false;
-    }
-    true
+    MIN_TARGET <= target && target <= MAX_TARGET
 }
 
 /// A Make of an extent of which there is no replica: one is made, if it may be.

@@ -7,7 +7,7 @@ ghost use Rattle.enode.specs.Node.{find, IsRestart};
 ghost use Rattle.enode.specs.Recovery.{Recovers};
 
 use crate::making::{insert_new, is_place};
-use block_types::{Nodes, Record};
+use block_types::{MAX_TARGET, MIN_TARGET, Nodes, Record};
 use disk::{Disk, FileFault, RecordFile};
 use enode_replica::NodeReplica;
 use std::alloc::Global;
@@ -45,7 +45,7 @@ fn recover_make(
     if !is_place(number, places) || !places.are_distinct_nodes() {
         return Err(FileFault::Damaged);
     }
-    if target < 4096 || target > 16777216 {
+    if target < MIN_TARGET || target > MAX_TARGET {
         return Err(FileFault::Damaged);
     }
     let made = NodeReplica::new(alloc, *places, target, fence);

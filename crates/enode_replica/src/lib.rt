@@ -10,9 +10,7 @@ mod node_replica;
 mod phases;
 mod recording;
 mod recovery;
-mod tails;
 mod writing;
 
 pub use node_replica::NodeReplica;
 pub use phases::{is_frozen, is_open, is_sealed};
-pub use tails::is_tail;

@@ -8,31 +8,19 @@ use replica::Phase;
 pub fn is_open(phase: Phase) -> bool
     ensures { result ≡ is_open_phase phase }
 {
-    match phase {
-        Phase::Open => true,
-        Phase::Frozen => false,
-        Phase::Sealed => false,
-    }
+    phase == Phase::Open
 }
 
 /// Whether it takes only the groups that bring it to its length.
 pub fn is_frozen(phase: Phase) -> bool
     ensures { result ≡ is_frozen_phase phase }
 {
-    match phase {
-        Phase::Open => false,
-        Phase::Frozen => true,
-        Phase::Sealed => false,
-    }
+    phase == Phase::Frozen
 }
 
 /// Whether it takes nothing more.
 pub fn is_sealed(phase: Phase) -> bool
     ensures { result ≡ is_sealed_phase phase }
 {
-    match phase {
-        Phase::Open => false,
-        Phase::Frozen => false,
-        Phase::Sealed => true,
-    }
+    phase == Phase::Sealed
 }

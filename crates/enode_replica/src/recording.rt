@@ -2,7 +2,6 @@
 //! before the change.
 ghost use Rattle.std.specs.Prelude.{◌≡◌, ◌<◌, ◌++◌, ◌∷◌, [], true, false, OnOk, OnErr};
 ghost use Rattle.std.specs.List.{AllByRecursion};
-ghost use Rattle.std.specs.VecDeque.{deque_len, deque_capacity};
 ghost use Rattle.block_types.specs.Limits.{IsGroup};
 ghost use Rattle.block_types.specs.declared.record.Record.TheVariants as records;
 ghost use Rattle.disk.specs.Appends.{Appends, Records, listed};
@@ -20,16 +19,7 @@ use disk::{Disk, DiskFault, RecordFile};
 use model_streams::Waiting;
 use replica::Replica;
 use std::alloc::Global;
-use std::collections::VecDeque;
 use wire::{ActorId, Blocks, ExtentId, Fence, ReqNo};
-
-/// Adds a waiting append into room that is there.
-fn push_waiting(waiting: &mut VecDeque<Waiting>, added: Waiting)
-    requires { deque_len waiting.old < deque_capacity waiting.old }
-    ensures { waiting.new.items ≡ waiting.old.items ++ added ∷ [] }
-{
-    if let Err(_full) = waiting.push_back(added) {}
-}
 
 /// Adds a copy of a group to the end of an open replica below its target, once it is recorded there.
 fn add_group<D: Disk>(
@@ -37,7 +27,6 @@ fn add_group<D: Disk>(
     alloc: Global,
     file: &mut RecordFile<D>,
     extent: ExtentId,
-    end: u32,
     group: &Group,
 ) -> Result<(), DiskFault>
     requires running { file.old.stopped ≡ false }
@@ -45,13 +34,18 @@ fn add_group<D: Disk>(
     requires room { text_length (content_of replica.old).groups < (content_of replica.old).target }
     ensures after { OnOk result (content_of replica.new ≡ appended (content_of replica.old) group.now) }
     ensures same { OnErr result (content_of replica.new ≡ content_of replica.old) }
-    ensures file { Appends D.state file.old file.new (records.Append extent end group.now) result }
+    ensures file { Appends D.state file.old file.new (records.Append extent (text_length (content_of replica.old).groups) group.now) result }
 {
+    let generation = replica.fence();
+    let end = replica.len();
     replica.reserve(1)?;
     let kept = group.copy(alloc)?;
     write_append(alloc, file, extent, end, group)?;
-    replica.add(kept);
-    Ok(())
+    match replica.put(alloc, generation, end, kept) {
+        Ok(()) => Ok(()),
+        // Its generation and its offset are the replica's own, and there is room for it.
+        Err(_refused) => unreachable!(),
+    }
 }
 
 impl NodeReplica {
@@ -80,7 +74,7 @@ impl NodeReplica {
         let offset = self.replica.len();
         self.waiting.reserve(1)?;
         let group = blocks.group(alloc)?;
-        match add_group(&mut self.replica, alloc, file, extent, offset, &group) {
+        match add_group(&mut self.replica, alloc, file, extent, &group) {
             Ok(()) => {
                 let waiting = Waiting {
                     offset,
@@ -88,7 +82,7 @@ impl NodeReplica {
                     asker,
                     request,
                 };
-                push_waiting(&mut self.waiting, waiting);
+                self.waiting.push_back_reserved(waiting);
                 Ok(())
             }
             Err(fault) => Err(fault),
@@ -111,8 +105,7 @@ impl NodeReplica {
         ensures same { OnErr result (self.new ≡ self.old) }
         ensures file { Appends D.state file.old file.new (records.Append extent (text_length self.old.content.groups) group.now) result }
     {
-        let end = self.replica.len();
-        add_group(&mut self.replica, alloc, file, extent, end, group)
+        add_group(&mut self.replica, alloc, file, extent, group)
     }
 
     /// Raises the fence of an open replica to a generation above it, once that is recorded.
@@ -135,8 +128,11 @@ impl NodeReplica {
             generation: generation.0,
         };
         write(alloc, file, raised)?;
-        self.replica.raise(generation.0);
-        Ok(())
+        match self.replica.raise(alloc, generation.0) {
+            Ok(()) => Ok(()),
+            // It is above the fence.
+            Err(_stale) => unreachable!(),
+        }
     }
 
     /// Raises the fence of an open replica to a generation above it, once that is recorded; any other leaves it. 20: the
@@ -229,8 +225,13 @@ impl NodeReplica {
         self.replica.reserve(items.len())?;
         let kept = Groups::copied(alloc, items)?;
         write_fill(alloc, file, extent, from, length, groups)?;
-        self.replica.fill(alloc, kept);
-        self.forget();
-        Ok(())
+        match self.replica.fill_tail(alloc, from, length, kept) {
+            Ok(()) => {
+                self.forget();
+                Ok(())
+            }
+            // They are a tail, and there is room for them.
+            Err(_refused) => unreachable!(),
+        }
     }
 }

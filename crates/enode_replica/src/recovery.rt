@@ -4,34 +4,40 @@ ghost use Rattle.enode_replica.specs.Recovery.{Recovers};
 
 use crate::node_replica::NodeReplica;
 use crate::phases::{is_frozen, is_open, is_sealed};
-use crate::tails::is_tail;
 use block_types::{Group, Groups, Record};
 use disk::FileFault;
+use replica::{FillFault, PutFault};
 use std::alloc::Global;
 
 impl NodeReplica {
     /// The record of a group: it stands at the end of an open replica below its target.
-    fn recover_append(&mut self, extent: u64, offset: u32, group: Group) -> Result<(), FileFault>
+    fn recover_append(
+        &mut self,
+        alloc: Global,
+        extent: u64,
+        offset: u32,
+        group: Group,
+    ) -> Result<(), FileFault>
         ensures { Recovers self.old self.new (records.Append extent offset group) result }
     {
         if !is_open(self.replica.state()) {
             return Err(FileFault::Damaged);
         }
-        let length = self.replica.len();
-        if offset != length || length >= self.replica.target() {
-            return Err(FileFault::Damaged);
-        }
-        match self.replica.reserve(1) {
-            Ok(()) => {
-                self.replica.add(group);
-                Ok(())
-            }
-            Err(_refused) => Err(FileFault::Memory),
+        let generation = self.replica.fence();
+        match self.replica.put(alloc, generation, offset, group) {
+            Ok(()) => Ok(()),
+            Err(PutFault::Memory) => Err(FileFault::Memory),
+            Err(_unfit) => Err(FileFault::Damaged),
         }
     }
 
     /// The record of a higher fence: the replica is open, and its fence is below it.
-    fn recover_fence(&mut self, extent: u64, generation: u64) -> Result<(), FileFault>
+    fn recover_fence(
+        &mut self,
+        alloc: Global,
+        extent: u64,
+        generation: u64,
+    ) -> Result<(), FileFault>
         ensures { Recovers self.old self.new (records.Fence extent generation) result }
     {
         if !is_open(self.replica.state()) {
@@ -40,8 +46,10 @@ impl NodeReplica {
         if self.replica.fence() >= generation {
             return Err(FileFault::Damaged);
         }
-        self.replica.raise(generation);
-        Ok(())
+        match self.replica.raise(alloc, generation) {
+            Ok(()) => Ok(()),
+            Err(_stale) => Err(FileFault::Damaged),
+        }
     }
 
     /// The record of a freeze: the replica is open.
@@ -83,15 +91,10 @@ impl NodeReplica {
         if !is_frozen(self.replica.state()) {
             return Err(FileFault::Damaged);
         }
-        if !is_tail(&self.replica, from, length, &groups) {
-            return Err(FileFault::Damaged);
-        }
-        match self.replica.reserve(groups.items.len()) {
-            Ok(()) => {
-                self.replica.fill(alloc, groups);
-                Ok(())
-            }
-            Err(_refused) => Err(FileFault::Memory),
+        match self.replica.fill_tail(alloc, from, length, groups) {
+            Ok(()) => Ok(()),
+            Err(FillFault::Memory) => Err(FileFault::Memory),
+            Err(_unfit) => Err(FileFault::Damaged),
         }
     }
 
@@ -106,8 +109,8 @@ impl NodeReplica {
                 extent,
                 offset,
                 group,
-            } => self.recover_append(extent, offset, group),
-            Record::Fence { extent, generation } => self.recover_fence(extent, generation),
+            } => self.recover_append(alloc, extent, offset, group),
+            Record::Fence { extent, generation } => self.recover_fence(alloc, extent, generation),
             Record::Freeze { extent } => self.recover_freeze(alloc, extent),
             Record::Seal { extent, length } => self.recover_seal(alloc, extent, length),
             Record::Fill {

@@ -34,6 +34,7 @@ pub(crate) fn write_append<D: Disk>(
     requires running { file.old.stopped ≡ false }
     ensures { Appends D.state file.old file.new (records.Append extent offset group.now) result }
 {
+    // Asked for, so that the proof knows that it is a group.
     let _blocks = group.blocks();
     let added = Record::Append {
         extent: extent.0,

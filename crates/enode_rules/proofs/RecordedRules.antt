@@ -1,5 +1,5 @@
 -- A rule with a record, from what the append to the file says.
-use Rattle.std.proofs.Common.{◌≡◌, refl, List, [], Option, Some, Result, Ok, Err, ap}
+use Rattle.std.proofs.Common.{◌≡◌, refl, List, [], Option, Some, Ok, Err}
 use Rattle.disk.proofs.Steps.{appends_with}
 use Rattle.disk.specs.declared.device.DiskFault.{DiskFault}
 use Rattle.disk.specs.Disk.{DiskState}

@@ -9,26 +9,14 @@ use wire::{ActorId, Fence, Packet};
 pub(crate) fn is_node(number: u8, actor: ActorId) -> bool
     ensures { result ≡ is_the_node number actor }
 {
-    match actor {
-        ActorId::Node(other) => other == number,
-        ActorId::Manager => false,
-        ActorId::Map => false,
-        ActorId::Server(_) => false,
-        ActorId::User(_) => false,
-    }
+    actor == ActorId::Node(number)
 }
 
 /// Whether an actor is the stream manager.
 pub fn is_manager(actor: ActorId) -> bool
     ensures { result ≡ is_the_manager actor }
 {
-    match actor {
-        ActorId::Node(_) => false,
-        ActorId::Manager => true,
-        ActorId::Map => false,
-        ActorId::Server(_) => false,
-        ActorId::User(_) => false,
-    }
+    actor == ActorId::Manager
 }
 
 /// Whether a packet comes from one of an extent's places.
@@ -49,10 +37,7 @@ pub(crate) fn generation_of(from: ActorId, generation: Fence) -> u64
     ensures { result ≡ generation_of from generation }
 {
     match from {
-        ActorId::Node(_) => generation.0,
-        ActorId::Manager => generation.0,
-        ActorId::Map => generation.0,
-        ActorId::Server(_) => generation.0,
         ActorId::User(_) => 0,
+        _ => generation.0,
     }
 }

@@ -8,10 +8,14 @@ ghost use Rattle.enode_rules.specs.Performs.{ReplicaPerforms};
 
 use crate::actors::generation_of;
 use crate::sending::{puts_of, refuse};
+use block_types::MAX_BLOCKS;
 use disk::{Disk, DiskFault, RecordFile};
 use enode_replica::{NodeReplica, is_open};
 use std::alloc::Global;
 use wire::{Blocks, ExtentId, Fence, Packet, Refusal, ReqNo, Step};
+
+/// So many appends wait at a primary for its secondaries, and no more.
+const MAX_WAITING: usize = 256;
 
 /// Why an append is not taken, the first reason.
 fn append_refusal(
@@ -36,7 +40,7 @@ fn append_refusal(
         return Some(Refusal::Stale);
     }
     let count = blocks.items.len();
-    if count == 0 || count > 64 {
+    if count == 0 || count > usize::from(MAX_BLOCKS) {
         return Some(Refusal::TooManyBlocks);
     }
     if blocks.has_bad_block() {
@@ -45,7 +49,7 @@ fn append_refusal(
     if hosted.replica().len() >= hosted.replica().target() {
         return Some(Refusal::ExtentFull);
     }
-    if hosted.waiting.len() >= 256 {
+    if hosted.waiting.len() >= MAX_WAITING {
         return Some(Refusal::Busy);
     }
     None

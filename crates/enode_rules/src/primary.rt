@@ -19,6 +19,7 @@ use wire::{ActorId, ExtentId, Packet, Step};
 fn ends_within(waiting: &Waiting, length: u32) -> bool
     ensures { result ≡ nat_le (waiting.now.offset + size waiting.now.group) length }
 {
+    // Asked for, so that the proof knows that it is a group.
     let _blocks = waiting.group.blocks();
     u64::from(waiting.offset) + u64::from(waiting.group.size()) <= u64::from(length)
 }
@@ -58,16 +59,18 @@ fn answers_of(
     Ok(step)
 }
 
+/// The longer of two lengths.
 fn greater(old: u32, new: u32) -> u32
     ensures { result ≡ greater old new }
 {
-    if old < new { new } else { old }
+    old.max(new)
 }
 
+/// The shorter of two lengths.
 fn lesser(one: u32, other: u32) -> u32
     ensures { result ≡ lesser one other }
 {
-    if one <= other { one } else { other }
+    one.min(other)
 }
 
 /// What a secondary tells of its length. The appends that both have now are answered and wait no more.

@@ -130,6 +130,7 @@ fn text_note(
     ensures note { IfOk result (λ note. note ≡ notes.Seen extent node 0 (text groups.now)) }
     ensures fault { IfErr result (λ e. e ≡ faults.Memory) }
 {
+    // Read, so that the groups are known to the proof.
     let _groups = &groups.items;
     Ok(Note::Seen {
         extent,

@@ -13,7 +13,7 @@ use crate::actors::{is_from_place, is_manager};
 use crate::sending::{one, refuse, tell_manager};
 use block_types::Groups;
 use disk::{Disk, DiskFault, RecordFile};
-use enode_replica::{NodeReplica, is_frozen, is_sealed, is_tail};
+use enode_replica::{NodeReplica, is_frozen, is_sealed};
 use replica::Phase;
 use std::alloc::Global;
 use wire::{ActorId, Body, ExtentId, Packet, Refusal, ReqNo, SealBody, Step};
@@ -213,7 +213,7 @@ pub(crate) fn tail<D: Disk>(
     if !is_frozen(hosted.replica().state()) {
         return Ok(Step::silent(alloc));
     }
-    if !is_tail(hosted.replica(), from, length, groups) {
+    if !hosted.replica().is_tail(from, length, groups) {
         return Ok(Step::silent(alloc));
     }
     fill(hosted, file, alloc, node, extent, from, length, groups)

@@ -60,6 +60,7 @@ fn put_added<D: Disk>(
 {
     let replica = hosted.replica();
     let offset = replica.len();
+    // Asked for, so that the proof knows how long it is at most.
     let _blocks = group.blocks();
     let end = offset + group.size();
     let step = tell_length(alloc, node, replica.places().primary, extent, end)?;

@@ -2,6 +2,7 @@
 use Rattle.std.proofs.Common.{◌≡◌, ◌⊎◌, ℕ, ◌==◌, zero, suc, ◌+◌, ◌-◌, ◌<◌, ◌≤◌, true, false, nat_le, List, [], ◌∷◌, ◌++◌, length, take, drop, get_or, Some, None, refl, sym, ap, ◌∙◌, subst, inl, inr, arith, length-append, length-drop}
 use Rattle.std.proofs.lemmas.Bool.{cases_lt, leb-true, leb-false}
 use Rattle.std.proofs.lemmas.Bool.Decides.{nat_tests}
+use Rattle.std.specs.List.{AllByRecursion}
 use Rattle.std.specs.List.Sorted.{IsPartitionedBy, IsPartitionPoint}
 use Rattle.std.proofs.lemmas.List.{take-append-drop, take_all}
 use Rattle.std.proofs.Math.Seq.{drop-append-add}
@@ -171,3 +172,8 @@ pub from_place : (gs held : List Group) (i offset count start : ℕ) → held �
 from_place gs held i offset count start same before is =
     let rest : take (length held - i) (drop i held) ≡ drop i gs = all_of held i ∙ ap (drop i) same in
     ap (λ l. take count (drop (offset - start) (text l))) rest ∙ ap (λ k. take count (drop (offset - k) (text (drop i gs)))) is ∙ sym (bytes_from gs i offset count before)
+
+-- with one more group at the end each is a group
+pub All-push : {A : Type 0} (P : A → Type 0) (xs : List A) (x : A) → AllByRecursion P xs → P x → AllByRecursion P (xs ++ x ∷ [])
+All-push P [] x all p = (p, tt)
+All-push P (y ∷ xs) x all p = (all.0, All-push P xs x all.1 p)

@@ -1,5 +1,5 @@
 //! A replica that takes nothing but its seal.
-ghost use Rattle.std.specs.Prelude.{◌≡◌, ◌⊎◌, ◌+◌, ◌<◌, ◌≤◌, ◌++◌, ◌==◌, true, false, length, None, Some, IfOk, IfErr, OnOk, MatchResult};
+ghost use Rattle.std.specs.Prelude.{◌≡◌, ◌≢◌, ◌⊎◌, ◌+◌, ◌<◌, ◌≤◌, ◌++◌, true, false, length, None, Some, IfOk, IfErr, IsOk, OnOk, MatchResult};
 ghost use Rattle.block_types.specs.Limits.{IsTarget};
 ghost use Rattle.replica.specs.Groups.{text_length};
 ghost use Rattle.replica.specs.Content.{sealed_with};
@@ -12,12 +12,9 @@ use crate::fault::{FillFault, PastEnd};
 use crate::kept::Kept;
 use crate::phase::Phase;
 use crate::sealed::SealedReplica;
-use block_types::{Group, Groups};
+use block_types::Groups;
 use std::alloc::{AllocError, Global};
 use std::marker::Model;
-
-/// The longest extent, in bytes: the greatest target and a group, less one.
-const LONGEST: u32 = 20_971_519;
 
 /// A frozen replica: it takes no more groups at its end, but what brings it to the length at which it is sealed.
 pub struct FrozenReplica {
@@ -47,20 +44,6 @@ impl Model for FrozenReplica {
     ghost invariant = { λ r. IsTarget r.kept.target × (text_length r.kept.held.groups < r.kept.target + 4194304) };
 }
 
-/// Whether the groups have so many bytes together.
-fn add_up(groups: &[Group], sum: u32) -> bool
-    ensures { result ≡ (text_length groups.now == sum) }
-{
-    let mut left = sum;
-    for group in groups {
-        let Some(rest) = left.checked_sub(group.size()) else {
-            return false;
-        };
-        left = rest;
-    }
-    left == 0
-}
-
 impl FrozenReplica {
     /// What it keeps, once it takes no more groups.
     pub(crate) fn of(kept: Kept) -> FrozenReplica
@@ -76,6 +59,7 @@ impl FrozenReplica {
         ensures content { result ≡ self.now.content.phase }
         ensures value { result ≡ Phase.Frozen }
     {
+        // Read, so that what it keeps is known to the proof.
         let _target = self.kept.target;
         Phase::Frozen
     }
@@ -100,6 +84,7 @@ impl FrozenReplica {
     pub(crate) fn reserve(&mut self, count: usize) -> Result<(), AllocError>
         ensures same { self.new.content ≡ self.old.content }
         ensures room { OnOk result (count ≤ self.new.room) }
+        ensures ready { 0 < count → count ≤ self.old.room → IsOk result }
     {
         self.kept.held.reserve(count)
     }
@@ -120,27 +105,8 @@ impl FrozenReplica {
         }
     }
 
-    /// Why groups do not bring it from an offset to a length.
-    fn fill_fault(&self, from: u32, end: u32, groups: &Groups) -> Option<FillFault>
-        ensures { result ≡ fill_fault self.now.content from end groups.now }
-    {
-        if groups.items.is_empty() {
-            return Some(FillFault::PastEnd);
-        }
-        if from != self.kept.held.len() {
-            return Some(FillFault::PastEnd);
-        }
-        if end > LONGEST {
-            return Some(FillFault::ExtentFull);
-        }
-        match end.checked_sub(from) {
-            Some(sum) if add_up(&groups.items, sum) => None,
-            _ => Some(FillFault::PastEnd),
-        }
-    }
-
     /// Adds groups at the end, into room that was made, for good.
-    pub(crate) fn fill(self, groups: Groups) -> SealedReplica
+    fn fill(self, groups: Groups) -> SealedReplica
         requires room { length groups ≤ self.room }
         requires bound { text_length self.content.groups + text_length groups ≤ longest }
         ensures { result.content ≡ sealed_with self.content (self.content.groups ++ groups) }
@@ -152,21 +118,22 @@ impl FrozenReplica {
 
     /// Adds groups that bring it from its end to a length, for good. The first reason refuses them: 8 (there are none),
     /// 8 (`from` is not its length), 7 (the length is above 20,971,519), 8 (they do not end at the length), 22. A
-    /// refusal hands the replica and the groups back as they were.
+    /// refusal hands the replica and the groups back as they were. Where there is room for the groups it takes no memory.
     pub fn fill_tail(
         self,
         from: u32,
-        length: u32,
+        end: u32,
         groups: Groups,
     ) -> Result<SealedReplica, (FillFault, FrozenReplica, Groups)>
         ensures ok { IfOk result (λ r. r.content ≡ sealed_with self.content (self.content.groups ++ groups)) }
         ensures refused { IfErr result (λ e. (e.1.content ≡ self.content) × (e.2 ≡ groups)) }
-        ensures taken { MatchResult result (λ _. is_tail self.content from length groups ≡ true)
-            (λ e. (e.0 ≡ FillFault.Memory) ⊎ (is_tail self.content from length groups ≡ false)) }
-        ensures fault { MatchResult result (λ _. fill_fault self.content from length groups ≡ None)
-            (λ e. (e.0 ≡ FillFault.Memory) ⊎ (fill_fault self.content from length groups ≡ Some e.0)) }
+        ensures taken { MatchResult result (λ _. is_tail self.content from end groups ≡ true)
+            (λ e. (e.0 ≡ FillFault.Memory) ⊎ (is_tail self.content from end groups ≡ false)) }
+        ensures fault { MatchResult result (λ _. fill_fault self.content from end groups ≡ None)
+            (λ e. (e.0 ≡ FillFault.Memory) ⊎ (fill_fault self.content from end groups ≡ Some e.0)) }
+        ensures room { length groups ≤ self.room → IfErr result (λ e. e.0 ≢ FillFault.Memory) }
     {
-        if let Some(fault) = self.fill_fault(from, length, &groups) {
+        if let Some(fault) = self.kept.fill_fault(from, end, &groups) {
             return Err((fault, self, groups));
         }
         let mut frozen = self;

@@ -1,5 +1,5 @@
 //! A replica that takes groups.
-ghost use Rattle.std.specs.Prelude.{◌≡◌, ◌⊎◌, ◌+◌, ◌<◌, ◌≤◌, true, false, None, Some, IfOk, IfErr, OnOk, MatchResult};
+ghost use Rattle.std.specs.Prelude.{◌≡◌, ◌≢◌, ◌⊎◌, ◌+◌, ◌<◌, ◌≤◌, true, false, None, Some, IfOk, IfErr, IsOk, OnOk, MatchResult};
 ghost use Rattle.block_types.specs.Limits.{IsTarget};
 ghost use Rattle.replica.specs.Groups.{text_length};
 ghost use Rattle.replica.specs.Content.{new_content, appended, fenced, frozen};
@@ -67,6 +67,7 @@ impl OpenReplica {
         ensures content { result ≡ self.now.content.phase }
         ensures value { result ≡ Phase.Open }
     {
+        // Read, so that what it keeps is known to the proof.
         let _target = self.kept.target;
         Phase::Open
     }
@@ -91,30 +92,25 @@ impl OpenReplica {
     pub(crate) fn reserve(&mut self, count: usize) -> Result<(), AllocError>
         ensures same { self.new.content ≡ self.old.content }
         ensures room { OnOk result (count ≤ self.new.room) }
+        ensures ready { 0 < count → count ≤ self.old.room → IsOk result }
     {
         self.kept.held.reserve(count)
     }
 
     /// Adds a group at the end, into room that was made.
-    pub(crate) fn add(&mut self, group: Group)
+    fn add(&mut self, group: Group)
         requires room { 0 < self.old.room }
         requires below { text_length self.old.content.groups < self.old.content.target }
         ensures { self.new.content ≡ appended self.old.content group }
     {
+        // Asked for, so that the proof knows how long it is at most.
         let _size = group.size();
         self.kept.held.push(group);
     }
 
-    /// Listens to no generation below this one.
-    pub(crate) fn set_fence(&mut self, generation: u64)
-        ensures { self.new.content ≡ fenced self.old.content generation }
-    {
-        self.kept.fence = generation;
-    }
-
     /// Adds a group of a generation at an offset, which is to be the replica's length. The first reason refuses it:
     /// 3 (the generation is below the fence), 8 (another offset), 7 (the length has reached the target), 22. A refusal
-    /// hands the replica and the group back as they were.
+    /// hands the replica and the group back as they were. Where there is room for one more group it takes no memory.
     pub fn put(
         self,
         generation: u64,
@@ -125,6 +121,7 @@ impl OpenReplica {
         ensures refused { IfErr result (λ e. (e.1.content ≡ self.content) × (e.2 ≡ group)) }
         ensures fault { MatchResult result (λ _. put_fault self.content generation offset ≡ None)
             (λ e. (e.0 ≡ PutFault.Memory) ⊎ (put_fault self.content generation offset ≡ Some e.0)) }
+        ensures room { 0 < self.room → IfErr result (λ e. e.0 ≢ PutFault.Memory) }
     {
         if generation < self.kept.fence {
             return Err((PutFault::Stale, self, group));
@@ -155,7 +152,7 @@ impl OpenReplica {
             return Err((Stale, self));
         }
         let mut open = self;
-        open.set_fence(generation);
+        open.kept.fence = generation;
         Ok(open)
     }
 

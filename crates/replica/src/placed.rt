@@ -1,5 +1,5 @@
 //! Groups in order, and where each of them ends, so that a place is found by a search.
-ghost use Rattle.std.specs.Prelude.{◌≡◌, ◌+◌, ◌-◌, ◌<◌, ◌≤◌, ◌++◌, [], ◌∷◌, take, drop, length, min, vec_len, vec_capacity, IfOk, IfSome, OnOk, OnErr, MatchResult};
+ghost use Rattle.std.specs.Prelude.{◌≡◌, ◌+◌, ◌-◌, ◌<◌, ◌≤◌, ◌++◌, [], ◌∷◌, take, drop, length, min, vec_len, vec_capacity, IfOk, IfSome, IsOk, OnOk, OnErr, MatchResult};
 ghost use Rattle.replica.specs.Groups.{text, text_length, joined};
 ghost use Rattle.replica.specs.Placed.{IsBefore, first, found_or};
 ghost use Rattle.replica.specs.Reading.{bytes_at, groups_to, groups_from};
@@ -31,16 +31,6 @@ impl Model for PlacedGroups {
     } };
 
     ghost invariant = { λ p. IsPlaced p.groups.items p.ends.items p.length };
-}
-
-/// Adds an element into room that is there.
-fn push<T: Drop>(items: &mut Vec<T>, added: T)
-    requires { vec_len items.old < vec_capacity items.old }
-    ensures value { items.new.items ≡ items.old.items ++ added ∷ [] }
-    ensures len { vec_len items.new ≡ vec_len items.old + 1 }
-    ensures capacity { vec_capacity items.old ≤ vec_capacity items.new }
-{
-    if let Err(_full) = items.push(added) {}
 }
 
 /// Copies a block's bytes from one on, at most so many.
@@ -197,6 +187,7 @@ impl PlacedGroups {
     pub(crate) fn reserve(&mut self, count: usize) -> Result<(), AllocError>
         ensures same { self.new.groups ≡ self.old.groups }
         ensures room { OnOk result (count ≤ self.new.room) }
+        ensures ready { 0 < count → count ≤ self.old.room → IsOk result }
     {
         self.groups.reserve(count)?;
         self.ends.reserve(count)
@@ -209,10 +200,11 @@ impl PlacedGroups {
         ensures value { self.new.groups ≡ self.old.groups ++ group ∷ [] }
         ensures room { self.old.room ≤ self.new.room + 1 }
     {
+        // Asked for, so that the proof knows that it has a byte.
         let _blocks = group.blocks();
         let end = self.length + group.size();
-        push(&mut self.groups, group);
-        push(&mut self.ends, end);
+        self.groups.push_reserved(group);
+        self.ends.push_reserved(end);
         self.length = end;
     }
 
@@ -284,6 +276,7 @@ impl PlacedGroups {
         ensures within { IfSome result (λ n. n ≤ length self.now.groups) }
         ensures start { IfSome result (λ n. text_length (take n self.now.groups) ≡ upto) }
     {
+        // Read, so that where each group ends is known to the proof.
         let _length = self.length;
         let index = self.before(upto);
         if self.start_of(index) == upto {

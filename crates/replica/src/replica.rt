@@ -1,19 +1,21 @@
 //! A replica in any state.
-ghost use Rattle.std.specs.Prelude.{◌≡◌, ◌<◌, ◌+◌, ◌≤◌, ◌++◌, true, false, length, IfOk, OnOk, OnErr, MatchResult};
-ghost use Rattle.block_types.specs.Limits.{IsTarget};
+ghost use Rattle.std.specs.Prelude.{◌≡◌, ◌≢◌, ◌⊎◌, ◌<◌, ◌+◌, ◌≤◌, ◌++◌, true, false, length, None, Some, IfOk, IfErr, IsOk, OnOk, OnErr, MatchResult};
+ghost use Rattle.std.specs.List.{AllByRecursion};
+ghost use Rattle.block_types.specs.Limits.{IsGroup, IsTarget};
 ghost use Rattle.replica.specs.Groups.{text_length};
 ghost use Rattle.replica.specs.Content.{appended, fenced, frozen, new_content, sealed_with};
+ghost use Rattle.replica.specs.Put.{fill_fault, put_fault};
 ghost use Rattle.replica.specs.Reading.{bytes_at, groups_from, groups_to};
-ghost use Rattle.replica.specs.Replay.{cut_to, is_boundary, is_frozen, is_open, is_sealed};
+ghost use Rattle.replica.specs.Replay.{cut_to, is_boundary, is_frozen, is_open, is_sealed, is_tail};
 ghost use Rattle.replica.specs.State.{content_of, room_of};
 
-use crate::fault::PastEnd;
+use crate::fault::{FillFault, PastEnd, PutFault, Stale};
 use crate::frozen::FrozenReplica;
 use crate::kept::Kept;
 use crate::open::OpenReplica;
 use crate::phase::Phase;
 use crate::sealed::SealedReplica;
-use block_types::{Group, Groups, Nodes};
+use block_types::{Group, Groups, MIN_TARGET, Nodes};
 use bytes::Bytes;
 use std::alloc::{AllocError, Global};
 use std::mem;
@@ -67,7 +69,8 @@ impl Replica {
             Replica::Open(open) => open.len(),
             Replica::Frozen(frozen) => frozen.len(),
             Replica::Sealed(sealed) => {
-                let _not_open = sealed.state();
+                // Asked for, so that the proof knows that it is not open.
+                let _sealed = sealed.state();
                 sealed.len()
             }
         }
@@ -130,6 +133,15 @@ impl Replica {
         self.kept().held.is_boundary(length)
     }
 
+    /// Whether groups bring it from its end to a length of at most 20,971,519 bytes, and so fill it where it is frozen:
+    /// there are some, they begin at its end, and end there. Takes no memory.
+    pub fn is_tail(&self, from: u32, length: u32, groups: &Groups) -> bool
+        ensures value { result ≡ is_tail (content_of self.now) from length groups.now }
+        ensures groups { result ≡ true → AllByRecursion IsGroup groups.now }
+    {
+        self.kept().fill_fault(from, length, groups).is_none()
+    }
+
     /// The first groups, of `upto` bytes together, which share their bytes; none where a group goes over that boundary,
     /// or where there are not so many bytes. An error is want of memory (22).
     pub fn groups_to(&self, alloc: Global, upto: u32) -> Result<Option<Groups>, AllocError>
@@ -150,6 +162,7 @@ impl Replica {
     pub fn reserve(&mut self, count: usize) -> Result<(), AllocError>
         ensures same { content_of self.new ≡ content_of self.old }
         ensures room { OnOk result (count ≤ room_of self.new) }
+        ensures ready { 0 < count → count ≤ room_of self.old → IsOk result }
     {
         match self {
             Replica::Open(open) => open.reserve(count),
@@ -158,46 +171,105 @@ impl Replica {
         }
     }
 
-    /// Adds a group at the end of an open replica, into room that was made.
-    pub fn add(&mut self, group: Group)
-        requires open { is_open (content_of self.old).phase ≡ true }
-        requires room { 0 < room_of self.old }
-        requires below { text_length (content_of self.old).groups < (content_of self.old).target }
-        ensures { content_of self.new ≡ appended (content_of self.old) group }
-    {
-        match self {
-            Replica::Open(open) => open.add(group),
-            Replica::Frozen(frozen) => {
-                let _not_open = frozen.state();
-            }
-            Replica::Sealed(sealed) => {
-                let _not_open = sealed.state();
-            }
-        }
-    }
-
-    /// Raises the fence of an open replica to a generation above it.
-    pub fn raise(&mut self, fence: u64)
-        requires open { is_open (content_of self.old).phase ≡ true }
-        requires below { (content_of self.old).fence < fence }
-        ensures { content_of self.new ≡ fenced (content_of self.old) fence }
-    {
-        match self {
-            Replica::Open(open) => open.set_fence(fence),
-            Replica::Frozen(frozen) => {
-                let _not_open = frozen.state();
-            }
-            Replica::Sealed(sealed) => {
-                let _not_open = sealed.state();
-            }
-        }
-    }
-
     /// Hands the replica out, and leaves an empty one; takes no memory.
     fn take(&mut self, alloc: Global) -> Replica
         ensures { result ≡ self.old }
     {
-        mem::replace(self, Replica::new(alloc, NOWHERE, 4096, 0))
+        mem::replace(self, Replica::new(alloc, NOWHERE, MIN_TARGET, 0))
+    }
+
+    /// Hands an open replica out.
+    fn into_open(self) -> OpenReplica
+        requires { is_open (content_of self).phase ≡ true }
+        ensures content { result.content ≡ content_of self }
+        ensures room { result.room ≡ room_of self }
+    {
+        match self {
+            Replica::Open(open) => open,
+            Replica::Frozen(frozen) => {
+                // Asked for, so that the proof knows that it is not open.
+                let _frozen = frozen.state();
+                unreachable!()
+            }
+            Replica::Sealed(sealed) => {
+                // Asked for, so that the proof knows that it is not open.
+                let _sealed = sealed.state();
+                unreachable!()
+            }
+        }
+    }
+
+    /// Hands a frozen replica out.
+    fn into_frozen(self) -> FrozenReplica
+        requires { is_frozen (content_of self).phase ≡ true }
+        ensures content { result.content ≡ content_of self }
+        ensures room { result.room ≡ room_of self }
+    {
+        match self {
+            Replica::Open(open) => {
+                // Asked for, so that the proof knows that it is not frozen.
+                let _open = open.state();
+                unreachable!()
+            }
+            Replica::Frozen(frozen) => frozen,
+            Replica::Sealed(sealed) => {
+                // Asked for, so that the proof knows that it is not frozen.
+                let _sealed = sealed.state();
+                unreachable!()
+            }
+        }
+    }
+
+    /// Adds a group of a generation at an offset to an open replica, as [`OpenReplica::put`] does. The first reason
+    /// refuses it: 3 (the generation is below the fence), 8 (another offset), 7 (the length has reached the target), 22. A
+    /// refusal leaves the replica as it was. Where there is room for one more group it takes no memory.
+    pub fn put(
+        &mut self,
+        alloc: Global,
+        generation: u64,
+        offset: u32,
+        group: Group,
+    ) -> Result<(), PutFault>
+        requires { is_open (content_of self.old).phase ≡ true }
+        ensures ok { OnOk result (content_of self.new ≡ appended (content_of self.old) group) }
+        ensures refused { OnErr result (content_of self.new ≡ content_of self.old) }
+        ensures fault { MatchResult result (λ _. put_fault (content_of self.old) generation offset ≡ None)
+            (λ e. (e ≡ PutFault.Memory) ⊎ (put_fault (content_of self.old) generation offset ≡ Some e)) }
+        ensures room { 0 < room_of self.old → IfErr result (λ e. e ≢ PutFault.Memory) }
+    {
+        let open = self.take(alloc).into_open();
+        match open.put(generation, offset, group) {
+            Ok(open) => {
+                *self = Replica::Open(open);
+                Ok(())
+            }
+            Err((fault, open, _group)) => {
+                *self = Replica::Open(open);
+                Err(fault)
+            }
+        }
+    }
+
+    /// Raises the fence of an open replica to a generation, as [`OpenReplica::raise`] does. One below the fence is
+    /// refused (3), which leaves the replica as it was. Takes no memory.
+    pub fn raise(&mut self, alloc: Global, generation: u64) -> Result<(), Stale>
+        requires { is_open (content_of self.old).phase ≡ true }
+        ensures ok { OnOk result (content_of self.new ≡ fenced (content_of self.old) generation) }
+        ensures refused { OnErr result (content_of self.new ≡ content_of self.old) }
+        ensures fault { MatchResult result (λ _. (content_of self.old).fence ≤ generation)
+            (λ _. generation < (content_of self.old).fence) }
+    {
+        let open = self.take(alloc).into_open();
+        match open.raise(generation) {
+            Ok(open) => {
+                *self = Replica::Open(open);
+                Ok(())
+            }
+            Err((stale, open)) => {
+                *self = Replica::Open(open);
+                Err(stale)
+            }
+        }
     }
 
     /// Lets an open replica take no more groups; takes no memory.
@@ -205,11 +277,7 @@ impl Replica {
         requires { is_open (content_of self.old).phase ≡ true }
         ensures { content_of self.new ≡ frozen (content_of self.old) }
     {
-        *self = match self.take(alloc) {
-            Replica::Open(open) => Replica::Frozen(open.freeze()),
-            Replica::Frozen(frozen) => Replica::Frozen(frozen),
-            Replica::Sealed(sealed) => Replica::Sealed(sealed),
-        };
+        *self = Replica::Frozen(self.take(alloc).into_open().freeze());
     }
 
     /// Keeps the groups up to a length at which one ends, for good, of a replica that is not sealed; takes no memory.
@@ -231,18 +299,36 @@ impl Replica {
         };
     }
 
-    /// Adds groups at the end of a frozen replica, into room that was made, for good; takes no memory. Together there
-    /// are at most 20,971,519 bytes.
-    pub fn fill(&mut self, alloc: Global, groups: Groups)
-        requires frozen { is_frozen (content_of self.old).phase ≡ true }
-        requires room { length groups ≤ room_of self.old }
-        requires bound { text_length (content_of self.old).groups + text_length groups ≤ 20971519 }
-        ensures { content_of self.new ≡ sealed_with (content_of self.old) ((content_of self.old).groups ++ groups) }
+    /// Adds groups that bring a frozen replica from its end to a length, for good, as [`FrozenReplica::fill_tail`] does.
+    /// The first reason refuses them: 8 (there are none), 8 (`from` is not its length), 7 (the length is above 20,971,519),
+    /// 8 (they do not end at the length), 22. A refusal leaves the replica as it was. Where there is room for the groups it
+    /// takes no memory.
+    pub fn fill_tail(
+        &mut self,
+        alloc: Global,
+        from: u32,
+        end: u32,
+        groups: Groups,
+    ) -> Result<(), FillFault>
+        requires { is_frozen (content_of self.old).phase ≡ true }
+        ensures ok { OnOk result (content_of self.new ≡ sealed_with (content_of self.old) ((content_of self.old).groups ++ groups)) }
+        ensures refused { OnErr result (content_of self.new ≡ content_of self.old) }
+        ensures taken { MatchResult result (λ _. is_tail (content_of self.old) from end groups ≡ true)
+            (λ e. (e ≡ FillFault.Memory) ⊎ (is_tail (content_of self.old) from end groups ≡ false)) }
+        ensures fault { MatchResult result (λ _. fill_fault (content_of self.old) from end groups ≡ None)
+            (λ e. (e ≡ FillFault.Memory) ⊎ (fill_fault (content_of self.old) from end groups ≡ Some e)) }
+        ensures room { length groups ≤ room_of self.old → IfErr result (λ e. e ≢ FillFault.Memory) }
     {
-        *self = match self.take(alloc) {
-            Replica::Open(open) => Replica::Open(open),
-            Replica::Frozen(frozen) => Replica::Sealed(frozen.fill(groups)),
-            Replica::Sealed(sealed) => Replica::Sealed(sealed),
-        };
+        let frozen = self.take(alloc).into_frozen();
+        match frozen.fill_tail(from, end, groups) {
+            Ok(sealed) => {
+                *self = Replica::Sealed(sealed);
+                Ok(())
+            }
+            Err((fault, frozen, _groups)) => {
+                *self = Replica::Frozen(frozen);
+                Err(fault)
+            }
+        }
     }
 }

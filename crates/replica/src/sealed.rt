@@ -1,5 +1,5 @@
 //! A replica that never changes again.
-ghost use Rattle.std.specs.Prelude.{◌≡◌, ◌≤◌, OnOk};
+ghost use Rattle.std.specs.Prelude.{◌≡◌, ◌<◌, ◌≤◌, IsOk, OnOk};
 ghost use Rattle.block_types.specs.Limits.{IsTarget};
 ghost use Rattle.replica.specs.Groups.{text_length};
 ghost use Rattle.replica.specs.Kept.{held_as};
@@ -54,6 +54,7 @@ impl SealedReplica {
         ensures content { result ≡ self.now.content.phase }
         ensures value { result ≡ Phase.Sealed }
     {
+        // Read, so that what it keeps is known to the proof.
         let _target = self.kept.target;
         Phase::Sealed
     }
@@ -78,6 +79,7 @@ impl SealedReplica {
     pub(crate) fn reserve(&mut self, count: usize) -> Result<(), AllocError>
         ensures same { self.new.content ≡ self.old.content }
         ensures room { OnOk result (count ≤ self.new.room) }
+        ensures ready { 0 < count → count ≤ self.old.room → IsOk result }
     {
         self.kept.held.reserve(count)
     }

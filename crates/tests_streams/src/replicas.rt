@@ -1,15 +1,12 @@
 //! Replicas in each state, by steps that hand a replica over and by steps in place.
-ghost use Rattle.std.specs.Prelude.{◌≡◌, ◌≤◌, length, IfOk};
-ghost use Rattle.replica.specs.Groups.{text_length};
-
 use crate::cases::{Subject, holds};
 use crate::groups::{group_of, groups_of};
 use Event::{
-    Adds, EndsAt, FillsInPlace, FillsTail, Freezes, FreezesInPlace, GroupsFrom, GroupsTo, Is, Puts,
-    Raises, RaisesInPlace, Reads, ReadsFour, Seals, SealsInPlace,
+    EndsAt, FillsInPlace, FillsTail, Freezes, FreezesInPlace, GroupsFrom, GroupsTo, Is, Puts,
+    PutsInPlace, Raises, RaisesInPlace, Reads, ReadsFour, Seals, SealsInPlace,
 };
 use Phase::{Frozen, Open, Sealed};
-use block_types::{Group, GroupFault, Groups, Nodes};
+use block_types::{Group, Groups, Nodes};
 use bytes::Bytes;
 use replica::{
     FillFault, FrozenReplica, OpenReplica, PastEnd, Phase, PutFault, Replica, SealedReplica, Stale,
@@ -40,13 +37,13 @@ pub(crate) enum Event {
     Seals(u32, Option<PastEnd>),
     /// Groups of one block each fill a frozen one, from a length to another.
     FillsTail(u32, u32, &'static [&'static [u8]], Option<FillFault>),
-    /// A group of one block is added in place.
-    Adds(&'static [u8]),
-    RaisesInPlace(u64),
+    /// A group of one block is put in place.
+    PutsInPlace(u64, u32, &'static [u8], Option<PutFault>),
+    RaisesInPlace(u64, Option<Stale>),
     FreezesInPlace,
     SealsInPlace(u32),
-    /// One group of one block fills it in place.
-    FillsInPlace(&'static [u8]),
+    /// Groups of one block each fill it in place.
+    FillsInPlace(u32, u32, &'static [&'static [u8]], Option<FillFault>),
     /// Its length, its fence and its state, at the target and the places that it was made with.
     Is(u32, u64, Phase),
     /// So many bytes from an offset on are these.
@@ -63,7 +60,22 @@ pub(crate) enum Event {
 const PUTS_TWO: &[Event] = &[Puts(2, 0, b"abc", None), Puts(7, 3, b"de", None)];
 
 /// The same in place.
-const ADDS_TWO: &[Event] = &[Adds(b"abc"), Adds(b"de")];
+const ADDS_TWO: &[Event] = &[
+    PutsInPlace(2, 0, b"abc", None),
+    PutsInPlace(7, 3, b"de", None),
+];
+
+const REFUSES_IN_PLACE: &[Event] = &[
+    PutsInPlace(1, 5, b"f", Some(PutFault::Stale)),
+    PutsInPlace(2, 3, b"f", Some(PutFault::PastEnd)),
+    RaisesInPlace(1, Some(Stale)),
+    Is(5, 2, Open),
+    FreezesInPlace,
+    FillsInPlace(3, 6, TAIL, Some(FillFault::PastEnd)),
+    FillsInPlace(5, 20_971_520, TAIL, Some(FillFault::ExtentFull)),
+    Is(5, 2, Frozen),
+    Reads(0, 9, b"abcde"),
+];
 
 const TAKES_GROUPS: &[Event] = &[Is(5, 2, Open), Reads(2, 2, b"cd")];
 
@@ -153,9 +165,9 @@ const GIVES_GROUPS: &[Event] = &[
 ];
 
 const FILLED_IN_PLACE: &[Event] = &[
-    RaisesInPlace(9),
+    RaisesInPlace(9, None),
     FreezesInPlace,
-    FillsInPlace(b"fgh"),
+    FillsInPlace(5, 8, TAIL, None),
     Is(8, 9, Sealed),
     Reads(0, 9, b"abcdefgh"),
 ];
@@ -197,6 +209,7 @@ const CASES: &[Case] = &[
     ),
     ("it gives groups out", 2, &[ADDS_TWO, GIVES_GROUPS]),
     ("it is filled in place", 2, &[ADDS_TWO, FILLED_IN_PLACE]),
+    ("it refuses in place", 2, &[ADDS_TWO, REFUSES_IN_PLACE]),
     ("it is cut in place", 2, &[ADDS_TWO, CUT_IN_PLACE]),
     (
         "it is cut in place once frozen",
@@ -325,27 +338,34 @@ fn steps(alloc: Global, kept: &mut Replica, event: Event) -> bool {
     }
 }
 
-fn add(alloc: Global, kept: &mut Replica, text: &[u8]) -> Result<bool, GroupFault> {
-    kept.reserve(2)?;
+fn put_in_place(
+    alloc: Global,
+    kept: &mut Replica,
+    generation: u64,
+    offset: u32,
+    text: &[u8],
+    wanted: Option<PutFault>,
+) -> bool {
     let Open = kept.state() else {
-        return Ok(false);
+        return false;
     };
-    if kept.len() >= kept.target() {
-        return Ok(false);
+    let Ok(group) = group_of(alloc, &[text]) else {
+        return false;
+    };
+    match kept.put(alloc, generation, offset, group) {
+        Ok(()) => wanted.is_none(),
+        Err(fault) => wanted == Some(fault),
     }
-    kept.add(group_of(alloc, &[text])?);
-    Ok(true)
 }
 
-fn raise(kept: &mut Replica, fence: u64) -> bool {
+fn raise(alloc: Global, kept: &mut Replica, generation: u64, wanted: Option<Stale>) -> bool {
     let Open = kept.state() else {
         return false;
     };
-    if kept.fence() >= fence {
-        return false;
+    match kept.raise(alloc, generation) {
+        Ok(()) => wanted.is_none(),
+        Err(stale) => wanted == Some(stale),
     }
-    kept.raise(fence);
-    true
 }
 
 fn freeze(alloc: Global, kept: &mut Replica) -> bool {
@@ -366,27 +386,24 @@ fn seal(alloc: Global, kept: &mut Replica, length: u32) -> bool {
     }
 }
 
-// One group.
-fn one(alloc: Global, text: &[u8]) -> Result<Groups, GroupFault>
-    ensures { IfOk result (λ groups. (length groups ≡ 1) × (text_length groups ≤ 4194304)) }
-{
-    let group = group_of(alloc, &[text])?;
-    let _size = group.size();
-    let mut groups = Vec::new(alloc);
-    groups.push(group)?;
-    Ok(Groups { items: groups })
-}
-
-fn fill(alloc: Global, kept: &mut Replica, text: &[u8]) -> Result<bool, GroupFault> {
-    kept.reserve(1)?;
+fn fill(
+    alloc: Global,
+    kept: &mut Replica,
+    from: u32,
+    end: u32,
+    texts: &[&[u8]],
+    wanted: Option<FillFault>,
+) -> bool {
     let Frozen = kept.state() else {
-        return Ok(false);
+        return false;
     };
-    if kept.len() > 5 {
-        return Ok(false);
+    let Ok(groups) = groups_of(alloc, texts) else {
+        return false;
+    };
+    match kept.fill_tail(alloc, from, end, groups) {
+        Ok(()) => wanted.is_none(),
+        Err(fault) => wanted == Some(fault),
     }
-    kept.fill(alloc, one(alloc, text)?);
-    Ok(true)
 }
 
 fn is(kept: &Replica, length: u32, fence: u64, phase: Phase) -> bool {
@@ -436,11 +453,15 @@ impl Subject for Replica {
             Puts(..) | Raises(..) | Freezes | Seals(..) | FillsTail(..) => steps(
                 alloc, self, event,
             ),
-            Adds(text) => add(alloc, self, text) == Ok(true),
-            RaisesInPlace(fence) => raise(self, fence),
+            PutsInPlace(generation, offset, text, wanted) => {
+                put_in_place(alloc, self, generation, offset, text, wanted)
+            }
+            RaisesInPlace(generation, wanted) => raise(alloc, self, generation, wanted),
             FreezesInPlace => freeze(alloc, self),
             SealsInPlace(length) => seal(alloc, self, length),
-            FillsInPlace(text) => fill(alloc, self, text) == Ok(true),
+            FillsInPlace(from, end, texts, wanted) => {
+                fill(alloc, self, from, end, texts, wanted)
+            }
             Is(length, fence, phase) => is(self, length, fence, phase),
             Reads(offset, length, wanted) => reads(self.bytes(alloc, offset, length), wanted),
             ReadsFour(offset, told, wanted) => read_four(self, offset) == (told, wanted),

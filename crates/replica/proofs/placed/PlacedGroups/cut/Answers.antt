@@ -1,4 +1,4 @@
-use Rattle.std.proofs.Common.{◌≡◌, ◌≤◌, take, sym, ap, ◌∙◌, subst, arith}
+use Rattle.std.proofs.Common.{◌≡◌, ◌≤◌, take, ap, ◌∙◌, subst, arith}
 use Rattle.replica.specs.Groups.{text_length}
 use Rattle.replica.specs.Placed.{Placed}
 use Rattle.replica.proofs.Placing.{cut, front_within}

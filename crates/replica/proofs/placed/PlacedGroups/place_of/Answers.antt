@@ -1,4 +1,4 @@
-use Rattle.std.proofs.Common.{◌≡◌, ◌<◌, Some, take, sym, ap, subst, ◌∙◌, arith}
+use Rattle.std.proofs.Common.{◌≡◌, ◌<◌, take, sym, ap, subst, ◌∙◌, arith}
 use Rattle.replica.specs.Groups.{text_length}
 use Rattle.replica.specs.Placed.{Placed, NoneEmpty}
 use Rattle.replica.specs.Reading.{groups_to}

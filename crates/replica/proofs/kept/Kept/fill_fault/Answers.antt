@@ -1,5 +1,5 @@
 use Rattle.std.proofs.Common.{rules}
-use Rattle.replica.proofs.frozen.FrozenReplica.fill_fault.Goals as goal
+use Rattle.replica.proofs.kept.Kept.fill_fault.Goals as goal
 
 pub returns-then-end-gt-LONGEST : goal.returns-then-end-gt-LONGEST
 returns-then-end-gt-LONGEST c = search rules

@@ -2,7 +2,7 @@ use Rattle.std.proofs.Common.{◌≡◌, ◌+◌, take, drop}
 use Rattle.std.specs.List.{AllByRecursion}
 use Rattle.block_types.specs.Limits.{IsGroup}
 use Rattle.replica.specs.Groups.{text_length}
-use Rattle.enode_replica.proofs.tails.add_up.Given as goal
+use Rattle.replica.proofs.kept.add_up.Given as goal
 
 abbrev pub invariant-loop-group : goal.invariant-loop-group
 invariant-loop-group l = record {

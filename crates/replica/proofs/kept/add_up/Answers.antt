@@ -2,11 +2,10 @@ use Rattle.std.proofs.Common.{◌≡◌, ◌+◌, ◌∷◌, ◌++◌, [], take,
 use Rattle.std.specs.List.{AllByRecursion}
 use Rattle.std.proofs.lemmas.List.{drop_more, take_more}
 use Rattle.block_types.specs.Limits.{IsGroup}
-use Rattle.blocks.proofs.Loop.{All-push}
 use Rattle.replica.specs.Groups.{text_length}
 use Rattle.replica.proofs.Lengths.{group_size-size}
-use Rattle.replica.proofs.Placing.{length-cons, apart}
-use Rattle.enode_replica.proofs.tails.add_up.Goals as goal
+use Rattle.replica.proofs.Placing.{All-push, length-cons, apart}
+use Rattle.replica.proofs.kept.add_up.Goals as goal
 
 pub returns-in_default-clause-value : goal.returns-in_default-clause-value
 returns-in_default-clause-value c =

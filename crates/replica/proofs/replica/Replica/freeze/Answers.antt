@@ -1,5 +1,0 @@
-use Rattle.std.proofs.Common.{rules}
-use Rattle.replica.proofs.replica.Replica.freeze.Goals as goal
-
-pub returns : goal.returns
-returns c = search rules
