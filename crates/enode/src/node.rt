@@ -1,5 +1,5 @@
 //! A node.
-ghost use Rattle.std.specs.Prelude.{◌≡◌, ◌≢◌, ◌<◌, ℕ, List, [], Some, None, false, true, IfOk, IfErr, IsErrOf, MatchResult, option_map};
+ghost use Rattle.std.specs.Prelude.{◌≡◌, ◌≢◌, ◌<◌, List, [], Some, None, false, true, IfOk, IfErr, IsErrOf, MatchResult, option_map};
 ghost use Rattle.block_types.specs.declared.record.Record.{Record};
 ghost use Rattle.block_types.specs.declared.record.Version.{Version};
 ghost use Rattle.disk.specs.Disk.{IsSame, IsSteady, LeavesOnly};

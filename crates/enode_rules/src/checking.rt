@@ -1,12 +1,11 @@
 //! The check of an open extent's length, which raises the fence of its replicas.
-ghost use Rattle.std.specs.Prelude.{◌≡◌, [], ◌∷◌, None, Some, true, false, IfNone, IfOk, IfErr, OnOk, OnErr};
+ghost use Rattle.std.specs.Prelude.{◌≡◌, [], ◌∷◌, None, Some, true, false, IfNone, IfOk, IfErr};
 ghost use Rattle.disk.specs.declared.device.DiskFault.TheVariants as faults;
 ghost use Rattle.wire.specs.declared.actor.ActorId.TheVariants.{Node};
 ghost use Rattle.wire.specs.declared.body.Body.TheVariants as bodies;
 ghost use Rattle.wire.specs.declared.body.CheckBody.TheVariants.{Probed};
-ghost use Rattle.replica.specs.Groups.{text_length};
 ghost use Rattle.model_streams.specs.Actors.{generation_of};
-ghost use Rattle.model_streams.specs.Node.{check_begun, check_refusal, check_rule, check_taken, checked_as, common_length, is_open as is_open_phase, probe_refusal, probe_rule, probe_taken, probed_rule, probes, raise_written, raised, settled, with_probed};
+ghost use Rattle.model_streams.specs.Node.{check_begun, check_refusal, check_rule, check_taken, checked_as, common_length, is_open as is_open_phase, probe_refusal, probe_rule, probe_taken, probed_rule, probes, settled, with_probed};
 ghost use Rattle.model_streams.specs.Outcome.{packet as sent};
 ghost use Rattle.enode_rules.specs.Performs.{ReplicaPerforms, ReplicaPerformsInMemory};
 

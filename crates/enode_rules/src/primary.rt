@@ -1,8 +1,8 @@
 //! A replica at its primary: what the secondaries have, and the appends that are answered then.
-ghost use Rattle.std.specs.Prelude.{◌≡◌, ◌≤◌, Some, None, take, drop, IfOk, IfErr, OnOk, OnErr, length, nat_le, ◌+◌};
+ghost use Rattle.std.specs.Prelude.{◌≡◌, ◌≤◌, Some, take, IfOk, IfErr, length, nat_le, ◌+◌};
 ghost use Rattle.std.specs.VecDeque.{deque_len};
 ghost use Rattle.disk.specs.declared.device.DiskFault.TheVariants as faults;
-ghost use Rattle.model_streams.specs.Node.{acked, answered, answers, covered as covers, greater, lesser, have_rule, with_length};
+ghost use Rattle.model_streams.specs.Node.{acked, answered, answers, covered as covers, greater, lesser, have_rule};
 ghost use Rattle.replica.specs.Groups.{size};
 ghost use Rattle.enode_rules.specs.Performs.{ReplicaPerformsInMemory};
 
@@ -13,7 +13,7 @@ use enode_replica::{NodeReplica, is_open};
 use model_streams::Waiting;
 use std::alloc::Global;
 use std::collections::VecDeque;
-use wire::{ActorId, ExtentId, Packet, Step};
+use wire::{ExtentId, Packet, Step};
 
 /// Whether a waiting append ends within a length.
 fn ends_within(waiting: &Waiting, length: u32) -> bool

@@ -1,7 +1,7 @@
 //! What is read from a replica.
-ghost use Rattle.std.specs.Prelude.{◌≡◌, Some, true, IfOk, IfErr, nat_lt, ◌+◌};
+ghost use Rattle.std.specs.Prelude.{◌≡◌, Some, IfOk, IfErr, ◌+◌};
 ghost use Rattle.disk.specs.declared.device.DiskFault.TheVariants as faults;
-ghost use Rattle.replica.specs.Groups.{text, text_length};
+ghost use Rattle.replica.specs.Groups.{text};
 ghost use Rattle.replica.specs.Reading.{groups_to};
 ghost use Rattle.wire.specs.declared.note.Note.TheVariants as notes;
 ghost use Rattle.model_streams.specs.Node.{groups_note, groups_rule, groups_shown, read_rule};
@@ -12,7 +12,7 @@ use block_types::Groups;
 use disk::DiskFault;
 use enode_replica::{NodeReplica, is_sealed};
 use std::alloc::Global;
-use wire::{ActorId, Body, ExtentId, Note, Packet, ReadBody, Refusal, ReqNo, Step};
+use wire::{Body, ExtentId, Note, Packet, ReadBody, Refusal, ReqNo, Step};
 
 /// So many bytes from an offset on, which are shown by it; 8 where they go past the end.
 pub(crate) fn read(

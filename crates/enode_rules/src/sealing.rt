@@ -1,8 +1,7 @@
 //! How an extent ends at a node: its replica is frozen, cut to a length, or brought to one, and then sealed.
-ghost use Rattle.std.specs.Prelude.{◌≡◌, Some, None, true, false, IfOk, IfErr};
+ghost use Rattle.std.specs.Prelude.{◌≡◌, Some, None, true, false};
 ghost use Rattle.std.specs.List.{AllByRecursion};
 ghost use Rattle.block_types.specs.Limits.{IsGroup};
-ghost use Rattle.disk.specs.declared.device.DiskFault.TheVariants as faults;
 ghost use Rattle.replica.specs.Reading.{groups_to};
 ghost use Rattle.replica.specs.Replay.{is_tail};
 ghost use Rattle.model_streams.specs.Node.{cuts, freeze_rule, is_frozen as is_frozen_phase, is_open as is_open_phase, is_sealed as is_sealed_phase, seal_rule, send_tail_rule, shorts, tail_rule, tail_taken};

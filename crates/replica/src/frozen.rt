@@ -13,7 +13,7 @@ use crate::kept::Kept;
 use crate::phase::Phase;
 use crate::sealed::SealedReplica;
 use block_types::Groups;
-use std::alloc::{AllocError, Global};
+use std::alloc::AllocError;
 use std::marker::Model;
 
 /// A frozen replica: it takes no more groups at its end, but what brings it to the length at which it is sealed.

@@ -7,7 +7,7 @@ ghost use Rattle.replica.specs.Replay.{longest};
 
 use crate::kept::Kept;
 use crate::phase::Phase;
-use std::alloc::{AllocError, Global};
+use std::alloc::AllocError;
 use std::marker::Model;
 
 /// A sealed replica: its groups stay as they are.
