@@ -8,7 +8,7 @@ use Rattle.std.proofs.lemmas.List.Sums.{sum_by-cons}
 use Rattle.block_types.specs.Limits.{IsBlock, group_size}
 use Rattle.blocks.specs.Format.{◌>>=◌}
 use Rattle.blocks.proofs.Formats.{bind_some, if_some, some_is}
-use Rattle.commitlog.specs.Record.{cut, piece_count, pieces}
+use Rattle.commitlog.specs.Record.{cut, piece_count}
 use Rattle.commitlog.specs.Reading.{piece_at, joined}
 
 module _ (full : ℕ) (some : 1 ≤ full) where

@@ -1,5 +1,5 @@
 //! One layer, as a map.
-ghost use Rattle.std.specs.Prelude.{◌≡◌, ◌+◌, ◌<◌, ◌≤◌, ◌^◌, ◌++◌, ◌∷◌, ℕ, [], List, vec_len, vec_capacity, IfOk, OnOk, OnErr, if◌then◌else◌};
+ghost use Rattle.std.specs.Prelude.{◌≡◌, ◌+◌, ◌<◌, ◌≤◌, ◌^◌, ℕ, List, IfOk, OnOk, OnErr, if◌then◌else◌};
 ghost use Rattle.std.specs.List.{AllByRecursion};
 ghost use Rattle.std.specs.BTreeMap.{is_at, insert_entry};
 ghost use Rattle.memtable.specs.Cell.{IsEntry};
@@ -41,19 +41,11 @@ fn put(
     match layer.insert(key, cell) {
         Ok(old) => {
             let less = old_size(&back, &old);
-            note(undos, back, old);
+            undos.push_reserved((back, old));
             Ok(grown - less)
         }
         Err(_) => Err(AllocError),
     }
-}
-
-/// Adds how a key was, where there is room.
-fn note(undos: &mut Vec<Undo>, key: Bytes, old: Option<Cell>)
-    requires { vec_len undos.old < vec_capacity undos.old }
-    ensures { undos.new.items ≡ undos.old.items ++ (key, old) ∷ [] }
-{
-    let _ = undos.push((key, old));
 }
 
 /// The size of the entry that was at the key.
@@ -72,11 +64,10 @@ fn take_back(layer: &mut BTreeMap<Bytes, Cell>, key: Bytes, old: Option<Cell>)
     ensures { layer.new.entries ≡ specs.taken_back (key, old) layer.old.entries }
 {
     match old {
-        None => {
-            let _ = layer.remove(&key);
-        }
+        None => drop(layer.remove(&key)),
         Some(cell) => {
             if layer.contains_key(&key) {
+                // The key is there, so that this takes no memory.
                 let _ = layer.insert(key, cell);
             }
         }

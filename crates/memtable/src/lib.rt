@@ -3,7 +3,7 @@
 //!
 //! Changes go into the live layer. A checkpoint fixes it, writes the fixed layer out while changes go into a new live
 //! one, and drops it (after Calder et al., SOSP 2011, section 5). This crate touches memory alone. The limits of keys, values
-//! and transactions stand here for all crates of the table layer, and specs/Cell.antt has them for clauses.
+//! and transactions stand here for all crates of the table layer, and specs/Limits.antt has them for clauses.
 //!
 //! What the layers above may build on, each a clause here:
 //! - `apply` takes all of its changes, a later one of a key over an earlier, or for want of memory none.

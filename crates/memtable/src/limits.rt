@@ -1,4 +1,4 @@
-//! How large things may be. specs/Cell.antt says the same of values.
+//! How large things may be. specs/Limits.antt says the same for clauses.
 ghost use Rattle.std.specs.Prelude.{◌≡◌};
 ghost use Rattle.memtable.specs.Limits as limits;
 

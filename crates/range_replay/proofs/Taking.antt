@@ -63,22 +63,22 @@ added_fit test cells kept before after kept_are after_is fit others_fit =
 length-kept : (r : LogRecord) (extent offset : ℕ) → length (kept r extent offset) ≡ length r.transactions
 length-kept r extent offset = length-running _ _ _ r.transactions
 
-pub is_taken : (keys : KeyRange) (at : Position) (extent : ℕ) (r : LogRecord) (region : Region) (layer : Entries) (count old : ℕ) (cells before after : List (List ℕ × Cell))
-    → holds region at ≡ true → r.first ≤ region.next → count ≡ length r.transactions → old ≡ min (region.next - r.first) count
+pub is_taken : (keys : KeyRange) (at : Position) (extent : ℕ) (r : LogRecord) (region : Region) (layer : Entries) (old next : ℕ) (cells before after : List (List ℕ × Cell))
+    → holds region at ≡ true → r.first ≤ region.next → old ≡ min (region.next - r.first) (length r.transactions) → next ≡ region.next + (length r.transactions - old)
     → cells ≡ flat_map (λ t. t) (drop old (kept r extent at.offset)) → after ≡ before ++ filter (is_of keys region.keys) cells
-    → region_takes keys at extent r (put_all layer before) region ≡ Some (record region { next = region.next + (count - old) }, put_all layer after)
-is_taken keys at extent r region layer count old cells before after held reached count_is old_is cells_are after_is =
-    let seen : ℕ = region.next - r.first in
-    let left : length (drop (region.next - r.first) r.transactions) ≡ count - old = omega (arith, length-drop (region.next - r.first) r.transactions, count_is, old_is) in
-    let bound : min (region.next - r.first) count ≡ min (region.next - r.first) (length (kept r extent at.offset)) = ap (min (region.next - r.first)) (count_is ∙ sym (length-kept r extent at.offset)) in
+    → region_takes keys at extent r (put_all layer before) region ≡ Some (record region { next = next }, put_all layer after)
+is_taken keys at extent r region layer old next cells before after held reached old_is next_is cells_are after_is =
+    let count : ℕ = length r.transactions in
+    let left : region.next + length (drop (region.next - r.first) r.transactions) ≡ next = omega (arith, length-drop (region.next - r.first) r.transactions, old_is, next_is) in
+    let bound : min (region.next - r.first) count ≡ min (region.next - r.first) (length (kept r extent at.offset)) = ap (min (region.next - r.first)) (sym (length-kept r extent at.offset)) in
     let dropped : drop old (kept r extent at.offset) ≡ drop (region.next - r.first) (kept r extent at.offset) =
     ap (λ (n : ℕ). drop n (kept r extent at.offset)) (old_is ∙ bound) ∙ drop_min (region.next - r.first) (kept r extent at.offset) in
     let added : List (List ℕ × Cell) = filter (is_of keys region.keys) (flat_map (λ t. t) (drop (region.next - r.first) (kept r extent at.offset))) in
     let entries : after ≡ before ++ added =
     after_is ∙ ap (λ (cs : List (List ℕ × Cell)). before ++ filter (is_of keys region.keys) cs) (cells_are ∙ ap (flat_map (λ t. t)) dropped) in
     let layers : put_all layer after ≡ put_all (put_all layer before) added = ap (put_all layer) entries ∙ put_all-append layer before added in
-    rw (held, not_below region.next r.first reached) (ap (λ (n : ℕ). Some (record region { next = region.next + n }, put_all (put_all layer before) added)) left
-    ∙ ap (λ (l : Entries). Some (record region { next = region.next + (count - old) }, l)) (sym layers))
+    rw (held, not_below region.next r.first reached) (ap (λ (n : ℕ). Some (record region { next = n }, put_all (put_all layer before) added)) left
+    ∙ ap (λ (l : Entries). Some (record region { next = next }, l)) (sym layers))
 
 -- ---- groups
 

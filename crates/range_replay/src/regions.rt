@@ -1,5 +1,5 @@
 //! What the regions of a log take of its groups.
-ghost use Rattle.std.specs.Prelude.{◌≡◌, ◌+◌, ◌<◌, ◌^◌, ◌++◌, List, Some, None, Err, length, filter, option_map, IfOk, OnOk};
+ghost use Rattle.std.specs.Prelude.{◌≡◌, ◌+◌, ◌-◌, ◌<◌, ◌≤◌, ◌^◌, ◌++◌, List, Some, None, Err, length, min, filter, option_map, IfOk, OnOk, OnErr};
 ghost use Rattle.std.specs.List.{AllByRecursion};
 ghost use Rattle.block_types.specs.declared.fault.BlockFault.TheVariants as faults;
 ghost use Rattle.block_types.specs.Limits.{group_size};
@@ -12,7 +12,7 @@ ghost use Rattle.range_replay.specs.Reload.{is_of};
 
 use block_types::BlockFault;
 use bytes::Bytes;
-use commitlog::{LogRecord, cells_from};
+use commitlog::{LogRecord, Replay, cells_from};
 use memtable::Cell;
 use metadata::{KeyRange, Region};
 use std::alloc::{AllocError, Global};
@@ -63,6 +63,24 @@ fn count_of(written: &LogRecord) -> u64
     written.transactions.items.len() as u64
 }
 
+/// Takes the numbers of a record's transactions, one by one: how many of them, at its front, were taken before. The others are
+/// new. It is refused `Damaged` (21) where the first is above the next number; what is left then is of no use.
+fn take_numbers(replay: &mut Replay, written: &LogRecord) -> Result<usize, BlockFault>
+    requires { Fits written.now }
+    ensures reached { OnOk result (written.now.first ≤ replay.old) }
+    ensures old { IfOk result (λ old. old ≡ min (replay.old - written.now.first) (length written.now.transactions)) }
+    ensures next { IfOk result (λ old. replay.new ≡ replay.old + (length written.now.transactions - old)) }
+    ensures damaged { OnErr result (replay.old < written.now.first) }
+{
+    let mut old = 0;
+    for number in written.first..written.first + count_of(written) {
+        if !replay.take(number)? {
+            old += 1;
+        }
+    }
+    Ok(old)
+}
+
 /// What a region takes of a record whose group stands at the position: its changes go behind the others, and the region comes
 /// back with its new next number. What an error leaves of the changes is of no use.
 fn take_region(
@@ -87,14 +105,11 @@ fn take_region(
     if !holds(&region, at) {
         return Ok(region);
     }
-    if region.next < written.first {
-        return Err(BlockFault::Damaged);
-    }
-    let count = count_of(written);
-    let old = (region.next - written.first).min(count);
-    let cells = cells_from(alloc, written, old as usize, extent, at.offset)?;
+    let mut replay = Replay::new(region.next);
+    let old = take_numbers(&mut replay, written)?;
+    let cells = cells_from(alloc, written, old, extent, at.offset)?;
     add_cells(changes, cells, keys, &region.keys)?;
-    region.next += count - old;
+    region.next = replay.next();
     Ok(region)
 }
 

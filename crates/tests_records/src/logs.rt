@@ -152,20 +152,12 @@ fn is_refused(next: u64, number: u64) -> bool {
     replay.take(number) == Err(BlockFault::Damaged) && replay.next() == next
 }
 
-fn front_taken(next: u64, first: u64, count: u64) -> Option<u64> {
-    Replay::new(next).take_group(first, count).ok()
-}
-
 fn are_refused() -> bool {
     is_refused(4, 5) && is_refused(u64::MAX, u64::MAX)
 }
 
-fn fronts_are_taken() -> bool {
-    front_taken(4, 2, 5) == Some(2) && front_taken(4, 5, 5) == None
-}
-
 #[test]
 fn is_taken_once(rt: HostRuntime) {
-    assert!(rt; are_taken(&mut Replay::new(1)) && are_refused() && fronts_are_taken());
+    assert!(rt; are_taken(&mut Replay::new(1)) && are_refused());
     one_spelling();
 }

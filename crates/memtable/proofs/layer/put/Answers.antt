@@ -1,4 +1,4 @@
-use Rattle.std.proofs.Common.{◌≡◌, ℕ, ◌+◌, List, [], ◌∷◌, ◌++◌, Option, arith, ap, ◌∙◌}
+use Rattle.std.proofs.Common.{◌≡◌, ℕ, List, [], ◌∷◌, ◌++◌, Option, arith, ap, ◌∙◌}
 use Rattle.std.proofs.lemmas.Grind.{common_steps}
 use Rattle.memtable.specs.declared.cell.Cell.{Cell}
 use Rattle.memtable.specs.Cell.{entry_size}
@@ -19,7 +19,7 @@ returns-in-Ok-clause-size c =
 
 pub returns-in-Ok-clause-undos : goal.returns-in-Ok-clause-undos
 returns-in-Ok-clause-undos c =
-    let items = c.note.ensures ∙ ap (λ (us : List (List ℕ × Option Cell)). us ++ (c.in_ok-back.back, c.in-Ok.old) ∷ []) c.reserve.ensures.items ∙ ap (λ (k : List ℕ). c.args.undos.now.items ++ (k, c.in-Ok.old) ∷ []) c.in_ok-back.ensures.cases
+    let items = c.push_reserved.ensures.items ∙ ap (λ (us : List (List ℕ × Option Cell)). us ++ (c.in_ok-back.back, c.in-Ok.old) ∷ []) c.reserve.ensures.items ∙ ap (λ (k : List ℕ). c.args.undos.now.items ++ (k, c.in-Ok.old) ∷ []) c.in_ok-back.ensures.cases
     ∙ ap (λ (o : Option Cell). c.args.undos.now.items ++ (c.args.key, o) ∷ []) c.in-Ok.ensures.old in
     ap (λ (us : List (List ℕ × Option Cell)). all_taken_back us c.insert.new.self.entries) items
     ∙ ap (all_taken_back (c.args.undos.now.items ++ (c.args.key, found c.args.layer.now.entries c.args.key) ∷ [])) c.in-Ok.ensures.entries
