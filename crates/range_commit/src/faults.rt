@@ -1,5 +1,5 @@
 //! Which changes are refused.
-ghost use Rattle.std.specs.Prelude.{◌≡◌, ◌==◌, None, not, nat_lt};
+ghost use Rattle.std.specs.Prelude.{◌≡◌, None, not, nat_lt};
 ghost use Rattle.std.specs.List.{list_any};
 ghost use Rattle.commitlog.specs.Record.{IsTransaction};
 ghost use Rattle.range_commit.specs.Queue.{changes_fault};

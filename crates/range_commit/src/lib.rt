@@ -18,4 +18,4 @@ mod queue;
 
 pub use faults::change_fault;
 pub use forming::Plan;
-pub use queue::Queue;
+pub use queue::{MAX_WAITING, Queue};

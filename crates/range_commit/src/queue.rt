@@ -1,5 +1,5 @@
 //! The queue of a range.
-ghost use Rattle.std.specs.Prelude.{◌≡◌, ◌+◌, ◌-◌, ◌<◌, ◌≤◌, ◌^◌, ◌++◌, ◌∷◌, ℕ, List, [], None, Some, false, is_some, length, map, take, drop, IfOk, IfSome, IfNone, OnOk, OnErr};
+ghost use Rattle.std.specs.Prelude.{◌≡◌, ◌+◌, ◌-◌, ◌<◌, ◌≤◌, ◌^◌, ◌++◌, ◌∷◌, List, [], None, Some, false, is_some, length, map, take, drop, IfOk, IfSome, IfNone, OnOk, OnErr};
 ghost use Rattle.std.specs.List.{AllByRecursion};
 ghost use Rattle.memtable.specs.Cell.{IsEntry};
 ghost use Rattle.commitlog.specs.Record.{spelling, IsTransaction};
@@ -18,6 +18,9 @@ use model_partition::{ServerContext, TableNote, WaitingTransaction};
 use std::alloc::{AllocError, Global};
 use std::marker::Model;
 use wire::{ExtentId, Fence, Packet, RangeId};
+
+/// How many transactions of a range wait at most, those that are out counted.
+pub const MAX_WAITING: usize = 1_024;
 
 /// The transactions that wait at a range, the group of them that is being appended, and the number of the next one, which a
 /// group that is formed gives to its first. At most 1,024 are waiting, those that are out counted.

@@ -1,5 +1,5 @@
 //! The Gets that wait, and the values that are held for them.
-ghost use Rattle.std.specs.Prelude.{◌≡◌, ◌+◌, ◌<◌, ◌≤◌, ◌^◌, ◌++◌, ℕ, List, [], None, Some, Contains, length, map, flat_map, option_to_list, IfOk, IfSome, OnErr, OnOk};
+ghost use Rattle.std.specs.Prelude.{◌≡◌, ◌+◌, ◌<◌, ◌≤◌, ◌^◌, ℕ, List, [], None, Some, Contains, length, map, flat_map, option_to_list, IfOk, OnErr, OnOk};
 ghost use Rattle.std.specs.List.{list_any};
 ghost use Rattle.memtable.specs.declared.cell.Place.{Place as ValuePlace};
 ghost use Rattle.range_reads.specs.ValueCache.{with_fresh};

@@ -1,5 +1,5 @@
 //! One try of a Get.
-ghost use Rattle.std.specs.Prelude.{◌≡◌, ◌+◌, ◌++◌, ◌∷◌, ◌<◌, ◌≤◌, ◌^◌, [], Some, None, List, filter, map, not, length, option_copied, option_to_list, IfOk, OnOk};
+ghost use Rattle.std.specs.Prelude.{◌≡◌, ◌+◌, ◌++◌, ◌∷◌, ◌<◌, ◌≤◌, ◌^◌, [], Some, None, filter, map, not, length, option_copied, option_to_list, IfOk, OnOk};
 ghost use Rattle.client.specs.Requests.{is_same as are_same};
 ghost use Rattle.range_reads.specs.ValueCache.{with_fresh};
 ghost use Rattle.range_reads.specs.Lookups.{seen, tried_of};

@@ -151,6 +151,7 @@ impl ValueCache {
         ensures order { self.new ≡ promoted (is_place place.now) self.old }
         ensures same { (p : ValuePlace) → held_at self.new p ≡ held_at self.old p }
     {
+        // For the proof: `len` says that no place is held twice.
         let _count = self.cache.len();
         let _held = self.cache.promote(&key_of(place));
     }
