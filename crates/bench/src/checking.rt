@@ -4,7 +4,7 @@ use block_types::Group;
 use std::alloc::Global;
 use std::rt::Clock;
 use std::time::Instant;
-use world_checker::{acknowledged, check};
+use world_checker::{acknowledged, check_indexed};
 
 /// The bytes of one append.
 const SIZE: usize = 1024;
@@ -24,7 +24,7 @@ pub fn measure<R: AllocGlobal + Clock + Print>(rt: &R, count: u64) -> Result<(),
     let group = group_of(rt.alloc())?;
     let notes = acknowledged(rt.alloc(), &group, count)?;
     let start = Instant::now(rt)?;
-    let found = check(rt.alloc(), &notes.items);
+    let found = check_indexed(rt.alloc(), &notes.items);
     let micros = start.elapsed(rt)?.as_micros();
     match found {
         None => rt.println(format_args!("check {count} found none micros {micros}"))?,

@@ -10,7 +10,7 @@ use disk::MemDisk;
 use model_streams::Event;
 use std::alloc::Global;
 use wire::{ActorId, AppendBody, Body, ExtentId, Packet, Refusal};
-use world_checker::check;
+use world::check;
 use world_streams::{Setup, StreamLayer, WorldFault};
 
 /// The manager, or the node of this number.
@@ -307,7 +307,7 @@ pub(crate) fn takes(alloc: Global, run: &mut Run, step: Step) -> bool {
         Step::IsSettled => run.layer.sent().len() == run.next,
         Step::Puts(number, to) => puts(run, number, actor_of(to)),
         Step::HasLength(number, wanted) => length(run, number) == wanted,
-        Step::IsHonest => check(alloc, run.layer.observations()).is_none(),
+        Step::IsHonest => check(run.layer.observations()).is_none(),
     }
 }
 

@@ -4,7 +4,7 @@ use block_types::GroupFault;
 use bytes::Bytes;
 use std::alloc::Global;
 use wire::{ExtentId, Note, Notes};
-use world_checker::check;
+use world_checker::{check, check_indexed};
 
 /// What is seen of an extent.
 #[derive(Clone, Copy)]
@@ -106,7 +106,7 @@ fn first_broken(
     for (extent, seen) in parts {
         add(&mut notes, alloc, *extent, seen)?;
     }
-    Ok(check(alloc, &notes.items))
+    Ok(check(&notes.items))
 }
 
 #[test]
@@ -157,7 +157,7 @@ fn first_broken_of_many(alloc: Global, seen: &[Observation]) -> Result<Option<us
     add_to_many(&mut notes, alloc, Acked(0, &[b"ab"]))?;
     add_to_many(&mut notes, alloc, SealedAt(2))?;
     add(&mut notes, alloc, 1, seen)?;
-    Ok(check(alloc, &notes.items))
+    Ok(check_indexed(alloc, &notes.items))
 }
 
 #[test]

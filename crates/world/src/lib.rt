@@ -12,5 +12,5 @@ mod whole;
 
 pub use running::Run;
 pub use whole::run;
-pub use world_checker::check;
+pub use world_checker::{check, check_indexed};
 pub use world_streams::{Setup, WorldFault};

@@ -1,4 +1,4 @@
--- What a comparison of two observations of one extent tells.
+-- What a comparison of two observations of one extent says.
 use Rattle.std.proofs.Common.{◌≡◌, ℕ, Bool, Some, sym, ap, subst, ◌∙◌}
 use Rattle.std.specs.Bool.{Decides}
 use Rattle.wire.specs.declared.note.Note.{Note}

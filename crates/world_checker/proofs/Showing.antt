@@ -42,7 +42,7 @@ module _ (g x : Group) (xs : List Group) where
   length_more : (ys : List Group) → text_length (x ∷ ys) ≡ size x + text_length ys
   length_more ys = length-append (joined x) (text ys)
 
-  -- it stands behind the first, or is the first
+  -- it stands after the first, or is the first
   stands_cases : (o : ℕ) (before after : List Group) → x ∷ xs ≡ before ++ g ∷ after → text_length before ≡ o → ((o ≡ 0) × (x ≡ g)) ⊎ ((size x ≤ o) × Stands g (o - size x) xs)
   stands_cases o [] after e l = inl (sym l, cc)
   stands_cases o (y ∷ before) after e l =

@@ -35,7 +35,7 @@ fn step(last: &mut BTreeMap<u64, usize>, note: &Note, place: usize) -> Result<us
     }
 }
 
-/// For each observation how many stand up to the last one before it of the same extent, or 0 for none. An error is want
+/// For each observation how many stand up to the last one before it of the same extent, or 0 for none. An error is out
 /// of memory.
 pub fn links_of(alloc: Global, notes: &[Note]) -> Result<Vec<usize>, AllocError>
     ensures links { IfOk result (λ links. AreLinks notes.now links.items) }

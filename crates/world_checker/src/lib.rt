@@ -2,7 +2,8 @@
 //!
 //! This crate reads what it is given and touches nothing else but memory.
 //! - `check` is the test of the two laws of honest runs, exactly: it finds nothing where they hold of a list of observations, and
-//!   else the first one that breaks them.
+//!   else the first one that breaks them. It takes no memory.
+//! - `check_indexed` answers the same, and takes memory for an index so that long lists are tested fast.
 //! - `acknowledged` makes the observations of a long run of appends, for those who measure the check.
 #![tactic(auto)]
 
@@ -13,4 +14,4 @@ mod search;
 mod texts;
 
 pub use example::acknowledged;
-pub use search::check;
+pub use search::{check, check_indexed};

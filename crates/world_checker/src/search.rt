@@ -71,16 +71,25 @@ fn first_break(notes: &[Note], links: &[usize]) -> Option<usize>
 /// acknowledged is lost; `None` where all agree and everything acknowledged is kept.
 ///
 /// It compares what was acknowledged, sealed, shown as a whole and seen of each extent, byte by byte and in place, and
-/// passes over all other observations. It always answers. An index takes memory in proportion to the observations, and
-/// each is then compared with the earlier ones of its extent alone; where that memory is refused, it looks through all
-/// earlier ones for them, and answers the same.
-pub fn check(alloc: Global, notes: &[Note]) -> Option<usize>
+/// passes over all other observations. It takes no memory and always answers: each observation is compared with all
+/// earlier ones of its extent, for which it looks through all earlier ones.
+pub fn check(notes: &[Note]) -> Option<usize>
+    ensures none { (result ≡ None) ↔ IsHonest notes.now }
+    ensures least { IfSome result (λ k. (k < length notes.now) × IsHonest (take k notes.now)
+        × (IsHonest (take (suc k) notes.now) → ⊥)) }
+{
+    first_break(notes, &[])
+}
+
+/// The same place as `check` answers, for long lists. An index leads from each observation to the earlier ones of its
+/// extent alone, and takes memory in proportion to the observations; where that memory is refused, this is `check`.
+pub fn check_indexed(alloc: Global, notes: &[Note]) -> Option<usize>
     ensures none { (result ≡ None) ↔ IsHonest notes.now }
     ensures least { IfSome result (λ k. (k < length notes.now) × IsHonest (take k notes.now)
         × (IsHonest (take (suc k) notes.now) → ⊥)) }
 {
     match links_of(alloc, notes) {
         Ok(links) => first_break(notes, &links),
-        Err(_) => first_break(notes, &[]),
+        Err(_) => check(notes),
     }
 }
