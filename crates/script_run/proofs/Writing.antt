@@ -1,33 +1,28 @@
 -- What a whole script writes, and what an event prints.
-use Rattle.std.proofs.Common.{◌≡◌, ◌++◌, ℕ, List, Option, Some, None, Result, Ok, Err, IfOk, IfSome, IsOk, OnOk, drop, length, refl, ap, sym, subst, ◌∙◌}
+use Rattle.std.proofs.Common.{◌≡◌, ◌++◌, ℕ, List, Option, Some, None, IfSome, drop, length, option_map, refl, ap, sym, subst, ◌∙◌}
 use Rattle.std.specs.Io.KnownBytes.{Appends}
 use Rattle.model_streams.specs.declared.event.Event.{Event}
 use Rattle.model_partition.specs.Cluster.{first_cluster}
 use Rattle.script_lines.specs.declared.line.Line.{Line}
 use Rattle.world.specs.Cluster.{ClusterSimulates, ClusterMirrors, ClusterState, refusal_of}
 use Rattle.wire.specs.declared.note.Note.{Note}
-use Rattle.wire.specs.declared.refusal.Refusal.{Refusal}
-use Rattle.script_run.specs.Output.{Prints, PrintsEvent, line_of_refusal, lines_of_notes}
+use Rattle.script_reports.specs.declared.report.Report.{Report}
+use Rattle.script_reports.specs.declared.report.Report.TheVariants.{Refused}
+use Rattle.script_run.specs.Output.{Prints, PrintsEvent, line, line_of_refusal, lines_of_notes}
 use Rattle.script_run.specs.Playing.{IsFresh, PlaysAll, SessionState}
 use Rattle.script_run.specs.Script.{IsScript, Size, Writes}
 use Rattle.script_run.proofs.Texts.{appends_both}
 
 -- the refusal of an event, and what is observed of it
-pub tells : (a b c : Option (List ℕ)) (x y : ClusterState) (event : Event) (refusal : Option Refusal) → ClusterSimulates x y event → refusal ≡ refusal_of x event
-    → Appends a b (line_of_refusal refusal) → Appends b c (lines_of_notes (drop (length x.layer.notes) y.layer.notes)) → Prints a c (λ text. PrintsEvent x event text y)
-tells a b c x y event refusal came is one other =
-    let first : Appends a b (line_of_refusal (refusal_of x event)) = subst (λ (r : Option Refusal). Appends a b (line_of_refusal r)) is one in
+pub tells : (a b c : Option (List ℕ)) (x y : ClusterState) (event : Event) (report : Option Report) (before after : List Note)
+    → before ≡ x.layer.notes → after ≡ y.layer.notes → ClusterSimulates x y event → report ≡ option_map Refused (refusal_of x event)
+    → Appends a b (line report) → Appends b c (lines_of_notes (drop (length before) after)) → Prints a c (λ text. PrintsEvent x event text y)
+tells a b c x y event report before after first last came is one other =
+    let refused : Appends a b (line_of_refusal (refusal_of x event)) = subst (λ (r : Option Report). Appends a b (line r)) is one in
     let shown = lines_of_notes (drop (length x.layer.notes) y.layer.notes) in
-    (line_of_refusal (refusal_of x event) ++ shown, record { came = came; is = refl }, appends_both a b c _ shown first other)
-
--- the same, of a step that answered its refusal
-pub tells_stepped : {E : Type 0} (r : Result (Option Refusal) E) (a b c : Option (List ℕ)) (x y : ClusterState) (event : Event) (before after : List Note)
-    → before ≡ x.layer.notes → after ≡ y.layer.notes → OnOk r (ClusterSimulates x y event) → IfOk r (λ refusal. refusal ≡ refusal_of x event)
-    → IfOk r (λ refusal. Appends a b (line_of_refusal refusal)) → IsOk r → Appends b c (lines_of_notes (drop (length before) after)) → Prints a c (λ text. PrintsEvent x event text y)
-tells_stepped (Ok refusal) a b c x y event before after first last came is one ok other =
     let notes = ap (λ (l : List Note). lines_of_notes (drop (length l) after)) first ∙ ap (λ (l : List Note). lines_of_notes (drop (length x.layer.notes) l)) last in
-    tells a b c x y event refusal came is one (subst (λ (text : List ℕ). Appends b c text) notes other)
-tells_stepped (Err fault) a b c x y event before after first last came is one ok other = absurd (cc)
+    let observed : Appends b c shown = subst (λ (text : List ℕ). Appends b c text) notes other in
+    (line_of_refusal (refusal_of x event) ++ shown, record { came = came; is = refl }, appends_both a b c _ shown refused observed)
 
 -- the lines of a script that was read were run in order
 pub writes : (known : Option (List ℕ)) (text : List ℕ) (a b : Option (List ℕ)) (size : Size) (plan : List Line) (first last : SessionState)

@@ -1,5 +1,5 @@
 -- What a script prints.
-use Rattle.std.specs.Prelude.{◌≡◌, ℕ, List, [], ◌∷◌, ◌++◌, drop, length, Option, Some, None}
+use Rattle.std.specs.Prelude.{◌≡◌, ℕ, List, [], ◌∷◌, ◌++◌, drop, length, Option, Some, None, option_map}
 use Rattle.std.specs.Io.KnownBytes.{Appends}
 use Rattle.wire.specs.declared.note.Note.{Note}
 use Rattle.wire.specs.declared.refusal.Refusal.{Refusal}
@@ -29,9 +29,9 @@ abbrev pub lines_of_notes : List Note → List ℕ
 lines_of_notes [] = []
 lines_of_notes (note ∷ notes) = line (observed note) ++ lines_of_notes notes
 
+-- the line of a refusal, or nothing where nothing is refused
 abbrev pub line_of_refusal : Option Refusal → List ℕ
-line_of_refusal None = []
-line_of_refusal (Some refusal) = line (Some (Refused refusal))
+line_of_refusal refusal = line (option_map Refused refusal)
 
 -- the event leads from one to the other, and these are the lines of it: its refusal, and what is observed
 pub record PrintsEvent (x : ClusterState) (event : Event) (text : List ℕ) (y : ClusterState) : Type 0 where

@@ -1,8 +1,10 @@
 //! How one event of a run happens, and what is printed of it.
-ghost use Rattle.std.specs.Prelude.{◌≡◌, IfErr, IfOk, IsOk, OnOk, Some};
+ghost use Rattle.std.specs.Prelude.{◌≡◌, IfErr, IfOk, OnOk, Option, Some, option_map};
+ghost use Rattle.script_reports.specs.declared.report.Report.TheVariants.{Refused};
 ghost use Rattle.script_run.specs.Failures.{IsRunFailure};
-ghost use Rattle.script_run.specs.Output.{Prints, PrintsEvent, line_of_refusal, node_report, replica_report, standing_of};
-ghost use Rattle.std.specs.Io.KnownBytes.{Appends};
+ghost use Rattle.script_run.specs.Output.{Prints, PrintsEvent, node_report, replica_report, standing_of};
+ghost use Rattle.wire.specs.Refusal.{number_of};
+ghost use Rattle.wire.specs.declared.refusal.Refusal.{Refusal as AnyRefusal};
 ghost use Rattle.enode.specs.Node.{find};
 ghost use Rattle.world_streams.specs.Nodes.{running_at};
 ghost use Rattle.model_streams.specs.Node.{contents};
@@ -10,37 +12,35 @@ ghost use Rattle.replica.specs.State.{content_of};
 ghost use Rattle.world.specs.Cluster.{ClusterSimulates, refusal_of};
 
 use crate::error::Failure;
-use crate::printing::{print, print_since};
+use crate::printing::{print_since, print_some};
 use disk::MemDisk;
 use enode::Node;
-use model_streams::Event;
 use replica::{Phase, Replica};
-use script_reports::{Report, Standing};
+use script_reports::{Report, Standing, refusal_by_number};
 use std::alloc::Global;
 use std::io::Write;
 use wire::{ExtentId, Refusal};
-use world::{Run, WorldFault};
+use world::{Event, Run, WorldFault};
 
-/// The event is handed over whole, since one that lives on is dropped at each exit.
-fn stepped(run: &mut Run, alloc: Global, event: Event) -> Result<Option<Refusal>, WorldFault>
-    ensures came { OnOk result (ClusterSimulates run.old run.new event) }
-    ensures refusal { IfOk result (λ refusal. refusal ≡ refusal_of run.old event) }
+/// What is printed of an event that was refused with this number.
+fn refusal_report(number: Option<u8>) -> Option<Report>
+    ensures { (refusal : Option AnyRefusal) → number ≡ option_map number_of refusal → result ≡ option_map Refused refusal }
 {
-    run.step(alloc, &event)
+    match refusal_by_number(number?) {
+        Some(refusal) => Some(Report::Refused(refusal)),
+        None => None,
+    }
 }
 
-/// A step that is refused says so.
-fn tell_refusal<W: Write>(
-    told: Result<Option<Refusal>, WorldFault>,
-    writer: &mut W,
-) -> Result<(), Failure>
-    ensures stepped { OnOk result (IfOk told (λ refusal. Appends (W.contents writer.old) (W.contents writer.new) (line_of_refusal refusal))) }
-    ensures only { OnOk result (IsOk told) }
+/// The event happens, and what is printed where it is refused. It is handed over whole, since one that lives on is dropped
+/// at each exit.
+fn step(run: &mut Run, alloc: Global, event: Event) -> Result<Option<Report>, Failure>
+    ensures came { OnOk result (ClusterSimulates run.old run.new event) }
+    ensures refusal { IfOk result (λ report. report ≡ option_map Refused (refusal_of run.old event)) }
     ensures failed { IfErr result IsRunFailure }
 {
-    match told {
-        Ok(Some(refusal)) => print(Report::Refused(refusal), writer),
-        Ok(None) => Ok(()),
+    match run.step(alloc, &event) {
+        Ok(number) => Ok(refusal_report(number)),
         Err(WorldFault::Memory) => Err(Failure::Refused(Refusal::Memory)),
     }
 }
@@ -56,7 +56,8 @@ pub fn happen<W: Write>(
     ensures failed { IfErr result IsRunFailure }
 {
     let shown = run.observations().len();
-    tell_refusal(stepped(run, alloc, event), writer)?;
+    let refused = step(run, alloc, event)?;
+    print_some(refused, writer)?;
     print_since(run.observations(), shown, writer)
 }
 

@@ -3,6 +3,7 @@ ghost use Rattle.std.specs.Prelude.{◌≡◌, IfOk, OnOk, OnErr, option_map};
 ghost use Rattle.model_streams.specs.Honest.{Agree, Kept};
 ghost use Rattle.model_partition.specs.Cluster.{first_cluster};
 ghost use Rattle.model_partition.specs.Past.{Replays};
+ghost use Rattle.wire.specs.Refusal.{number_of};
 ghost use Rattle.world_streams.specs.Nodes.{seen_of, running_at};
 ghost use Rattle.world.specs.Cluster.{ClusterSimulates, ClusterMirrors, refusal_of};
 
@@ -12,7 +13,7 @@ use enode::Node;
 use model_streams::Event;
 use std::alloc::Global;
 use std::marker::Model;
-use wire::{Note, Packet, Refusal};
+use wire::{Note, Packet};
 use world_streams::{Setup, WorldFault};
 
 /// A cluster that events made. At each moment it is what the model makes of some list of events, from the start of some
@@ -40,7 +41,7 @@ impl Model for Run {
 }
 
 impl Run {
-    /// The actors of this setup, with nothing on their disks, and nothing sent or observed. An error is want of memory
+    /// The actors of this setup, with nothing on their disks, and nothing sent or observed. An error is out of memory
     /// (22).
     pub fn start(alloc: Global, setup: &Setup) -> Result<Run, WorldFault>
         ensures mirrors { IfOk result (λ run. ClusterMirrors run (first_cluster setup.now.nodes setup.now.servers setup.now.target setup.now.batch)) }
@@ -51,16 +52,20 @@ impl Run {
         }
     }
 
-    /// One event more. It answers the refusal of an event that is refused: a decision, where there is no such extent (1)
-    /// or no place has told a length (10); giving up, where the server does not hold the range (30); an assignment, of an
-    /// unknown range (30) or while another server holds it (31); and nothing has changed then. An error is want of memory
-    /// (22), and nothing has changed then either.
-    pub fn step(&mut self, alloc: Global, event: &Event) -> Result<Option<Refusal>, WorldFault>
+    /// One event more. It answers the number of the refusal where the event is refused: a decision, where there is no such
+    /// extent (1) or no place has answered with its length (10); giving up and a renewal, where the server does not hold the
+    /// range (30); an assignment, of an unknown range (30) or while another server holds it (31). Nothing has changed then. An
+    /// error is out of memory (22), and nothing has changed then either.
+    pub fn step(&mut self, alloc: Global, event: &Event) -> Result<Option<u8>, WorldFault>
         ensures ok { OnOk result (ClusterSimulates self.old self.new event.now) }
         ensures err { OnErr result (self.new ≡ self.old) }
-        ensures refusal { IfOk result (λ refusal. refusal ≡ refusal_of self.old event.now) }
+        ensures refusal { IfOk result (λ number. number ≡ option_map number_of (refusal_of self.old event.now)) }
     {
-        self.cluster.step(alloc, event)
+        match self.cluster.step(alloc, event) {
+            Ok(Some(refusal)) => Ok(Some(refusal.number())),
+            Ok(None) => Ok(None),
+            Err(fault) => Err(fault),
+        }
     }
 
     /// All packets that were sent, in order: their places, from 0, are their numbers.
