@@ -1,4 +1,4 @@
--- What each event does to a run, beside what it does to the world.
+-- What each event does to the stream layer, beside what it does to the model's.
 use Rattle.std.proofs.Common.{◌≡◌, ◌≤◌, ◌<◌, ℕ, Bool, true, false, not, List, [], ◌∷◌, ◌++◌, Option, Some, None, Result, Ok, Err, IfOk, OnOk, refl, sym, ap, ◌∙◌, subst, take, ◌+◌, slice_get, slice_index_or, length, zero, suc, if◌then◌else◌, arith, append-nil}
 use Rattle.std.proofs.Math.Seq.{take-suc}
 use Rattle.std.proofs.lemmas.Option.{same_Some}
@@ -59,11 +59,11 @@ stepped r x w v s m g sent told = record {
   manager = g.manager;
 }
 
--- a node went on
+-- a node steps
 moved_nodes : (ys : List NodeSeen) (d : ManagerSeen) (w v : StreamSystem) (s : Step) → NodesStep ys w v s → ManagerMirrors d w → ActorsStep ys d w v s
 moved_nodes ys d w v s g k = record { post = g.post; notes = g.notes; nodes = g.nodes; manager = manager_as d w v k g.catalog g.manager }
 
--- the manager went on
+-- the manager steps
 moved_by_manager : (xs : List NodeSeen) (y : ManagerSeen) (w v : StreamSystem) (s : Step) → ManagerSteps y w v s → NodesMirror xs w → ActorsStep xs y w v s
 moved_by_manager xs y w v s g m = record { post = g.post; notes = g.notes; nodes = nodes_as xs w v m g.replica g.cell g.nodes; manager = g.manager }
 
@@ -109,7 +109,7 @@ pub unasked : (r : StreamLayerState) (server : ℕ) (to : ActorId) (body : Body)
 unasked r server to body never w m =
     if_elim (λ v. StreamLayerMirrors r v) (is_server_call body) (sent_more w (packet (Server server) to body ∷ [])) w (λ t. absurd cc) (λ f. m)
 
--- what `request` answers tells whether it is one
+-- what `request` answers says whether it is one
 pub is_asked : (b : Bool) (body copy : Body) → Some copy ≡ (if b then Some body else None) → (b ≡ true) × (copy ≡ body)
 is_asked true body copy e = (refl, same_Some copy body e)
 is_asked false body copy e = absurd cc

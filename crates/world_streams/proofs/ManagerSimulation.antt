@@ -1,4 +1,4 @@
--- What the real manager does is what the world's manager does.
+-- What the real manager does is what the model's manager does.
 use Rattle.std.proofs.Common.{◌≡◌, ◌≢◌, ◌⊎◌, ℕ, zero, suc, ◌<◌, Bool, true, false, not, ◌==◌, ◌&&◌, ◌||◌, nat_lt, nat_le, if◌then◌else◌, List, [], ◌∷◌, ◌++◌, length, map, Option, Some, None, option_map, Result, Ok, Err, refl, sym, ap, ◌∙◌, inl, inr, ⊎_elim, arith, subst, append-nil}
 use Rattle.std.proofs.lemmas.List.{length-map}
 use Rattle.std.proofs.lemmas.Option.{same_Some}
@@ -211,7 +211,7 @@ told_as (Some s) c is =
     let same : (s.calls, s.keep) ≡ (c.fuse, c.keep) = same_Some (s.calls, s.keep) (c.fuse, c.keep) is in
     swapped s.keep (nat_le 3 s.calls) ∙ ap (λ (p : ℕ × Bool). nat_le 3 p.0 && p.1) same
 
--- what the disk was told is what the world's manager was
+-- the disk's plan to stop is that of the model's manager
 pub told_stands : (told : Option Stop) (c : ActorCell) (k : Option Record) → option_map {U = ℕ × Bool} (λ (s : Stop). (s.calls, s.keep)) told ≡ plan_of c → stops_in c k ≡ true → stands_told told ≡ stands_in c
 told_stands told c None is t = absurd cc
 told_stands told c (Some r) is t =

@@ -1,4 +1,4 @@
--- The list of nodes, when one of them goes on.
+-- The list of nodes, when one of them steps.
 use Rattle.std.proofs.Common.{◌≡◌, ℕ, zero, suc, ◌<◌, ◌≤◌, ◌+◌, ◌-◌, false, ◌&&◌, nat_lt, nat_le, not, List, [], ◌∷◌, ◌++◌, Some, None, refl, sym, ap, ◌∙◌, inl, inr, ⊎_elim, arith, subst, slice_index_or, slice_set, length, append-nil}
 use Rattle.std.proofs.lemmas.Bool.Decides.{eqb_tells}
 use Rattle.std.proofs.lemmas.Bool.{and_cases, ltb-true, ltb-false, leb-true, leb-false, and_parts}
@@ -39,7 +39,7 @@ went n xs y w v s l m h = record {
   manager = h.manager;
 }
 
--- one of the nodes goes on, as this says of each world
+-- one of the nodes steps, as this says of each state of the model
 pub went_from : (n : ℕ) (xs : List (NodeState MemDisk)) (d y : NodeState MemDisk) (goes : StreamSystem → ℕ → StreamSystem) (s : Step) → n < length xs → d ≡ slice_index_or xs n d →
     ((k : ℕ) (w : StreamSystem) → NodeMirrors k (seen_of d) w → OneNodeSteps k (seen_of y) w (goes w k) s) →
     (w : StreamSystem) → NodesMirror (all_seen xs) w → NodesStep (all_seen (slice_set xs n y)) w (goes w (suc n)) s
@@ -57,7 +57,7 @@ went_nowhere n xs p s none sent told w m =
     nil : {A : Type 0} (zs : List A) {ys : List A} → ys ≡ [] → zs ≡ zs ++ ys
     nil zs is = sym (ap (λ l. zs ++ l) is ∙ append-nil zs)
 
--- a number behind the last node is no node's
+-- a number after the last node's is no node's
 pub is_absent : (xs : List (NodeState MemDisk)) (n at : ℕ) → n ≡ suc at → length xs ≤ at → entry_at (all_seen xs) n ≡ None
 is_absent xs n at is far = subst (λ k. entry_at (all_seen xs) k ≡ None) (sym is) (entry_beyond (all_seen xs) at (let l = length-seen xs in omega (arith, l, far)))
 
@@ -81,7 +81,7 @@ new_push xs y n h count k m x e =
 pub new_none : AreNew (all_seen [])
 new_none n x e = absurd (let l = entry_below [] n x e in omega (arith, l.0, l.1))
 
--- they are the nodes of a world that has just begun
+-- they are the nodes of the model as it begins
 pub begun : (xs : List NodeSeen) (target : ℕ) → AreNew xs → NodesMirror xs (start (length xs) target)
 begun xs target h = record {
   each = λ n x e. let k = h n x e in let l = entry_below xs n x e in record {

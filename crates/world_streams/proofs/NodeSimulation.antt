@@ -1,4 +1,4 @@
--- A step of a real node is the step of the world's node.
+-- A step of a real node is the step of the model's node.
 use Rattle.std.proofs.Common.{◌≡◌, ◌≢◌, ◌⊎◌, ℕ, zero, suc, ◌<◌, Bool, true, false, not, ◌==◌, ◌&&◌, nat_lt, nat_le, if◌then◌else◌, List, [], ◌∷◌, ◌++◌, Option, Some, None, Result, Ok, Err, refl, sym, ap, ◌∙◌, inl, inr, ⊎_elim, arith, subst, append-nil}
 use Rattle.std.proofs.lemmas.Bool.{and_cases, ltb-true, ltb-false, leb-true, leb-false, eqb-true, eqb-false}
 use Rattle.disk.specs.declared.device.DiskFault.{DiskFault}

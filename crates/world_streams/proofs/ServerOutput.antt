@@ -39,7 +39,7 @@ told_is shown rows note more (inr load) =
     subst (λ (n : TableNote). told_with n rows ≡ told shown n) (sym same.0)
     (ap (told_with (tables.Loaded load.range load.generation load.entries load.indexes load.next)) load.rows_are)
 
--- behind it there is none
+-- after it there is none
 pub later_rows : (shown other : List Note) (rows left : List Row) (note : TableNote) (more : List TableNote) → ShowsRows shown rows (note ∷ more) → ShowsRows other left more
 later_rows shown other rows left note more (inl plain) = inl (later_plain note more plain)
 later_rows shown other rows left note more (inr load) =
@@ -61,7 +61,7 @@ rows_shown shown rows loading more (inr load) are = inr (record {
   rows_are = are load.entries load.from;
 })
 
--- ---- beside the world
+-- ---- beside the model
 
 pub sent_mirrors : (r : StreamLayerState) (packets : List Packet) (w : StreamSystem) → StreamLayerMirrors r w → StreamLayerMirrors (record r { post = r.post ++ packets }) (sent_more w packets)
 sent_mirrors r packets w m = record {
@@ -102,7 +102,7 @@ took_packet r x before after s k d sent there is gave nodes manager post notes p
 
 -- ---- steps of the map
 
--- the map took the packet of the number, and what it sends is behind all that was sent
+-- the map takes the packet of the number, and what it sends comes after all that was sent
 pub routed : (r x : StreamLayerState) (k : ℕ) (d : Packet) (sent : List Packet) (steps : Packet → List Packet → Type 0) → k < length r.post → d ≡ slice_index_or r.post k d →
     steps d sent → x ≡ record r { post = r.post ++ sent } → (p : Packet) → slice_get r.post k ≡ Some p → AfterMap r x (steps p)
 routed r x k d sent steps there is holds layer p found = record {

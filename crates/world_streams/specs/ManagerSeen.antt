@@ -14,7 +14,7 @@ use Rattle.model_streams.specs.StreamSystem.{StreamSystem}
 use Rattle.manager.specs.Manager.{ManagerState}
 use Rattle.world_streams.specs.Nodes.{plan_of}
 
--- what is seen of the manager: its extents, the records of its file, whether it has stopped, and what its disk was told
+-- what is seen of the manager: its extents, the records of its file, whether it has stopped, and its disk's plan to stop
 pub record ManagerSeen : Type 0 where
   pub nodes : ℕ
   pub target : ℕ
@@ -58,14 +58,14 @@ pub record RecordsMakeCatalog (rs : List Record) (b : Catalog) : Type 0 where
   pub stream : (range kind : ℕ) → catalog.stream range kind ≡ b.stream range kind
   pub extent : (e : ℕ) → catalog.extent e ≡ b.extent e
 
--- the manager of the world is this one: of one that has stopped, what its records make
+-- the model's manager mirrors what is seen of the real one: of one that has stopped, what its records make
 pub record ManagerMirrors (x : ManagerSeen) (w : StreamSystem) : Type 0 where
   pub running : x.stopped ≡ false → CatalogMirrors x w.catalog
   pub stopped : x.stopped ≡ true → RecordsMakeCatalog x.records w.catalog
   pub up : w.manager_cell.up ≡ not x.stopped
   pub plan : x.stopped ≡ false → x.stop ≡ plan_of w.manager_cell
 
--- from w to v the manager alone went on, and is y now
+-- from w to v the manager alone steps, and y is seen of it then
 pub record ManagerSteps (y : ManagerSeen) (w v : StreamSystem) (s : Step) : Type 0 where
   pub post : v.post ≡ w.post ++ s.packets
   pub notes : v.notes ≡ w.notes ++ s.notes

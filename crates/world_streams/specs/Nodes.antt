@@ -52,20 +52,20 @@ running_at xs n = if_running (entry_at xs n)
 abbrev pub shown : NodeSeen → ℕ → Option Replica
 shown x e = if x.stopped then fresh_of (replay e x.records) else find x.replicas e
 
--- node n of the world is this one
+-- the model's node n mirrors what is seen of the real one
 pub record NodeMirrors (n : ℕ) (x : NodeSeen) (w : StreamSystem) : Type 0 where
   pub number : x.number ≡ n
   pub replica : (e : ℕ) → shown x e ≡ w.replica n e
   pub up : (w.cell n).up ≡ not x.stopped
   pub plan : x.stopped ≡ false → x.stop ≡ plan_of (w.cell n)
 
--- the nodes of the world are these, numbered from 1
+-- the model's nodes mirror what is seen of the real ones, numbered from 1
 pub record NodesMirror (xs : List NodeSeen) (w : StreamSystem) : Type 0 where
   pub each : (n : ℕ) (x : NodeSeen) → entry_at xs n ≡ Some x → NodeMirrors n x w
   pub absent : (n : ℕ) → entry_at xs n ≡ None → (w.cell n).up ≡ false
   pub count : w.nodes ≡ length xs
 
--- from w to v node n alone went on, and is y now
+-- from w to v node n alone steps, and y is seen of it then
 pub record OneNodeSteps (n : ℕ) (y : NodeSeen) (w v : StreamSystem) (s : Step) : Type 0 where
   pub post : v.post ≡ w.post ++ s.packets
   pub notes : v.notes ≡ w.notes ++ s.notes
@@ -75,7 +75,7 @@ pub record OneNodeSteps (n : ℕ) (y : NodeSeen) (w v : StreamSystem) (s : Step)
   pub catalog : v.catalog ≡ w.catalog
   pub manager : v.manager_cell ≡ w.manager_cell
 
--- from w to v the nodes became these
+-- from w to v the nodes step, and these are seen of them then
 pub record NodesStep (xs : List NodeSeen) (w v : StreamSystem) (s : Step) : Type 0 where
   pub post : v.post ≡ w.post ++ s.packets
   pub notes : v.notes ≡ w.notes ++ s.notes

@@ -20,7 +20,7 @@ pub record AfterServers (r x : StreamLayerState) (servers : List ServerCell) (o 
   pub layer : x ≡ with_sent r o.packets o.notes
   pub servers_are : servers ≡ o.servers
 
--- the server of a number took this packet, whatever its caches hold after it
+-- the server of a number takes this packet, whatever its caches hold after it
 pub record AfterServerTakes (r x : StreamLayerState) (before after : List ServerCell) (s : ℕ) (p : Packet) : Type 0 where
   pub held : CacheContent
   pub took : AfterServers r x after (server_takes before s p held)
@@ -39,7 +39,7 @@ pub record IsLoadOf (shown : List Note) (rows : List Row) (more : List TableNote
 abbrev pub ShowsRows : List Note → List Row → List TableNote → Type 0
 ShowsRows shown rows more = ArePlain more ⊎ IsLoadOf shown rows more
 
--- what is told of an observation, with these rows where it is of a loaded table
+-- the observation that a server makes, with these rows where it is of a loaded table
 abbrev pub told_with : TableNote → List Row → Note
 told_with (tables.Began range generation number changes) rows = notes.Began range generation number changes
 told_with (tables.Done range generation number) rows = notes.Done range generation number

@@ -3,7 +3,7 @@ use Rattle.std.specs.Prelude.{ℕ, Bool, true, false, ◌&&◌, List, [], Option
 use Rattle.disk.specs.declared.memory.Stop.{Stop}
 use Rattle.wire.specs.declared.note.Note.{Note}
 
--- whether it stands, where the disk was told this
+-- whether it stands, where the disk has this plan to stop
 abbrev pub stands_told : Option Stop → Bool
 stands_told None = false
 stands_told (Some stop) = stop.keep && nat_le 3 stop.calls

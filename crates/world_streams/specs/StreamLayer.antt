@@ -16,14 +16,14 @@ pub record StreamLayerState : Type 0 where
   pub post : List Packet
   pub notes : List Note
 
--- the world is this layer
+-- the model's stream layer mirrors what is seen of the real one
 pub record StreamLayerMirrors (r : StreamLayerState) (w : StreamSystem) : Type 0 where
   pub post : r.post ≡ w.post
   pub notes : r.notes ≡ w.notes
   pub nodes : NodesMirror r.nodes w
   pub manager : ManagerMirrors r.manager w
 
--- from w to v the actors became these, and this step was sent and shown
+-- from w to v the actors step: these are seen of them then, and this is sent and shown
 pub record ActorsStep (xs : List NodeSeen) (d : ManagerSeen) (w v : StreamSystem) (s : Step) : Type 0 where
   pub post : v.post ≡ w.post ++ s.packets
   pub notes : v.notes ≡ w.notes ++ s.notes

@@ -3,11 +3,13 @@ ghost use Rattle.std.specs.Prelude.{◌≡◌};
 ghost use Rattle.world_streams.specs.declared.fault.WorldFault.TheVariants as faults;
 
 use std::alloc::{AllocError, AllocFailed};
+use thiserror::Error;
 
 /// Why an event did not happen.
-#[derive(Clone, Copy, Debug, PartialEq, Eq)]
+#[derive(Clone, Copy, Debug, PartialEq, Eq, Error)]
 pub enum WorldFault {
     /// 22: no memory was left.
+    #[error("no memory was left")]
     Memory,
 }
 

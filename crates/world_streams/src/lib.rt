@@ -3,7 +3,7 @@
 //!
 //! This crate touches memory only. The network of a run is the list of all packets that were sent, and an event has one
 //! of them delivered, or a user send one more. After each event the layer is what the model makes of its world, exactly:
-//! the packets, the observations, the replicas of each node and the manager's catalog. A refusal for want of memory changes
+//! the packets, the observations, the replicas of each node and the manager's catalog. A step that runs out of memory changes
 //! nothing.
 #![tactic(auto)]
 

@@ -38,7 +38,7 @@ pub(crate) struct Decision {
     pub(crate) refusal: Option<Refusal>,
 }
 
-/// Whether a record that is being written stands, where the disk stops in it as it was told.
+/// Whether a record that is being written stands, where the disk stops in it by this plan.
 fn stands(told: Option<Stop>) -> bool
     ensures { result ≡ stands_told told }
 {

@@ -9,7 +9,7 @@ pub(crate) const MOST: usize = 2048;
 /// Makes room for what a step may give. Nothing else changes.
 pub(crate) fn make_room<T>(list: &mut Vec<T>) -> Result<(), AllocError>
     ensures same { list.new.items ≡ list.old.items }
-    ensures room { OnOk result (vec_len list.new + 2048 ≤ vec_capacity list.new) }
+    ensures room { OnOk result (vec_len list.new + MOST ≤ vec_capacity list.new) }
 {
     list.reserve(MOST)
 }
@@ -19,6 +19,7 @@ pub(crate) fn move_in<T: Drop>(list: &mut Vec<T>, more: Vec<T>)
     requires { vec_len list.old + vec_len more ≤ vec_capacity list.old }
     ensures { list.new.items ≡ list.old.items ++ more.items }
 {
-    let mut more = more;
-    if let Err(_full) = list.append(&mut more) {}
+    for item in more {
+        list.push_reserved(item);
+    }
 }

@@ -1,8 +1,17 @@
-//! How large a stamp is.
+//! How large a run is.
 ghost use Rattle.std.specs.Prelude.{◌≡◌, ◌≤◌, ◌↔◌, IsSome, IfSome};
 ghost use Rattle.world_streams.specs.Limits.{IsWithinLimits};
 
-/// How many actors a stamp has, and how large an extent and a group of the log may grow.
+use block_types::{MAX_NODE, MAX_TARGET, MIN_TARGET};
+use memtable::MAX_BATCH;
+
+/// The fewest nodes, so that an extent has three places.
+const MIN_NODES: u64 = 3;
+
+/// The most servers. The fewest is 1.
+const MAX_SERVERS: u64 = 4;
+
+/// How many actors a run has, and how large an extent and a group of the log may grow.
 #[derive(Clone, Copy)]
 pub struct Setup {
     pub nodes: u8,
@@ -21,10 +30,10 @@ impl Setup {
         ensures target { IfSome result (λ setup. setup.target ≡ target) }
         ensures batch { IfSome result (λ setup. setup.batch ≡ batch) }
     {
-        if (3..=12).contains(&nodes)
-            && (1..=4).contains(&servers)
-            && (4096..=16_777_216).contains(&target)
-            && (1..=1024).contains(&batch)
+        if (MIN_NODES..=u64::from(MAX_NODE)).contains(&nodes)
+            && (1..=MAX_SERVERS).contains(&servers)
+            && (u64::from(MIN_TARGET)..=u64::from(MAX_TARGET)).contains(&target)
+            && (1..=MAX_BATCH as u64).contains(&batch)
         {
             Some(Setup {
                 nodes: nodes as u8,

@@ -1,5 +1,5 @@
 //! What servers show.
-ghost use Rattle.std.specs.Prelude.{◌≡◌, ◌++◌, ◌∷◌, [], ◌+◌, ◌<◌, ◌≤◌, suc, Some, IfOk, OnErr, option_map, vec_len, vec_capacity};
+ghost use Rattle.std.specs.Prelude.{◌≡◌, ◌+◌, ◌≤◌, Some, IfOk, OnErr, option_map, vec_len, vec_capacity};
 ghost use Rattle.memtable.specs.Entries.{Entries};
 ghost use Rattle.model_partition.specs.Servers.{noted, rows_of};
 ghost use Rattle.world_servers.specs.Servers.{ServersTakePacket, NoMore};
@@ -21,7 +21,7 @@ pub(crate) struct Given {
     pub(crate) rows: Rows,
 }
 
-/// The rows of a table that is about to be shown, behind these observations.
+/// The rows of a table that is about to be shown, after these observations.
 fn rows_for(
     alloc: Global,
     notes: &[Note],
@@ -102,16 +102,6 @@ fn told(note: TableNote, rows: Rows) -> Note
     }
 }
 
-/// Puts one more at the end, into room that is there.
-fn put(list: &mut Vec<Note>, note: Note)
-    requires { vec_len list.old < vec_capacity list.old }
-    ensures items { list.new.items ≡ list.old.items ++ note ∷ [] }
-    ensures count { vec_len list.new ≡ suc (vec_len list.old) }
-    ensures room { vec_capacity list.old ≤ vec_capacity list.new }
-{
-    if let Err(_full) = list.push(note) {}
-}
-
 /// Puts what a server shows at the end, into room that is there. These are the rows of the one table that it may show.
 pub(crate) fn show(alloc: Global, list: &mut Vec<Note>, more: Vec<TableNote>, rows: Rows)
     requires room { vec_len list.old + vec_len more ≤ vec_capacity list.old }
@@ -126,6 +116,6 @@ pub(crate) fn show(alloc: Global, list: &mut Vec<Note>, more: Vec<TableNote>, ro
                 items: Vec::new(alloc),
             },
         );
-        put(list, told(note, rows));
+        list.push_reserved(told(note, rows));
     }
 }

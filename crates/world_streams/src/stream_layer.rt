@@ -85,7 +85,7 @@ fn take(
 }
 
 impl StreamLayer {
-    /// The actors of this setup, with nothing on their disks, and nothing sent or observed. An error is want of memory
+    /// The actors of this setup, with nothing on their disks, and nothing sent or observed. An error is out of memory
     /// (22).
     pub fn start(alloc: Global, setup: &Setup) -> Result<StreamLayer, WorldFault>
         ensures mirrors { IfOk result (λ run. StreamLayerMirrors run (start setup.now.nodes setup.now.target)) }
@@ -105,7 +105,7 @@ impl StreamLayer {
         }
     }
 
-    /// A user asks something. Nothing comes of a body that users may not ask. An error is want of memory (22), and nothing has
+    /// A user asks something. Nothing comes of a body that users may not ask. An error is out of memory (22), and nothing has
     /// changed.
     pub fn submit(
         &mut self,
@@ -130,7 +130,7 @@ impl StreamLayer {
 
     /// A server asks a node or the manager: an append, a check, a seal, a read, or a call for streams, under any generation.
     /// Nothing comes of another body. The packet is the next of those sent, and its answer is sent to the server. An error
-    /// is want of memory (22), and nothing has changed.
+    /// is out of memory (22), and nothing has changed.
     pub fn ask(&mut self, server: ServerNo, to: ActorId, body: Body) -> Result<(), WorldFault>
         ensures ok { OnOk result ((w : StreamSystem) → StreamLayerMirrors self.old w → StreamLayerMirrors self.new (moved w (Asks server to body))) }
         ensures err { OnErr result (self.new ≡ self.old) }
@@ -155,7 +155,7 @@ impl StreamLayer {
     }
 
     /// The packet of a number comes to its node, or to the manager; nothing comes of one to somebody else, or that was never
-    /// sent. The room for what the step may give is made before an actor is called. An error is want of memory (22), and
+    /// sent. The room for what the step may give is made before an actor is called. An error is out of memory (22), and
     /// nothing has changed.
     pub fn deliver(&mut self, alloc: Global, number: usize) -> Result<Option<Refusal>, WorldFault>
         ensures none { IfOk result (λ refusal. refusal ≡ None) }
@@ -165,12 +165,8 @@ impl StreamLayer {
         if number >= self.post.len() {
             return Ok(None);
         }
-        if let Err(_full) = make_room(&mut self.post) {
-            return Err(WorldFault::Memory);
-        }
-        if let Err(_full) = make_room(&mut self.notes) {
-            return Err(WorldFault::Memory);
-        }
+        make_room(&mut self.post)?;
+        make_room(&mut self.notes)?;
         match take(
             &mut self.nodes,
             &mut self.manager,
@@ -200,7 +196,7 @@ impl StreamLayer {
         }
     }
 
-    /// A node or the manager comes back with nothing but its records. An error is want of memory (22), and nothing has changed.
+    /// A node or the manager comes back with nothing but its records. An error is out of memory (22), and nothing has changed.
     pub fn restart(&mut self, alloc: Global, actor: ActorId) -> Result<(), WorldFault>
         ensures ok { OnOk result ((w : StreamSystem) → StreamLayerMirrors self.old w → StreamLayerMirrors self.new (happens w (events.Restart actor))) }
         ensures err { OnErr result (self.new ≡ self.old) }
@@ -214,19 +210,15 @@ impl StreamLayer {
         }
     }
 
-    /// The manager seals an extent. It answers why it does not: there is no such extent (1), or no place has told a length
-    /// (10). An error is want of memory (22), and nothing has changed.
+    /// The manager seals an extent. It answers why it does not: there is no such extent (1), or no place has answered with its
+    /// length (10). An error is out of memory (22), and nothing has changed.
     pub fn decide(&mut self, alloc: Global, extent: ExtentId) -> Result<Option<Refusal>, WorldFault>
         ensures refusal { IfOk result (λ refusal. refusal ≡ decision_refusal self.old.manager extent) }
         ensures ok { OnOk result ((w : StreamSystem) → StreamLayerMirrors self.old w → StreamLayerMirrors self.new (happens w (events.Decide extent))) }
         ensures err { OnErr result (self.new ≡ self.old) }
     {
-        if let Err(_short) = make_room(&mut self.post) {
-            return Err(WorldFault::Memory);
-        }
-        if let Err(_short) = make_room(&mut self.notes) {
-            return Err(WorldFault::Memory);
-        }
+        make_room(&mut self.post)?;
+        make_room(&mut self.notes)?;
         match self.manager.decide(alloc, extent) {
             Ok(decision) => {
                 let Decision { step, refusal } = decision;
@@ -242,8 +234,8 @@ impl StreamLayer {
         }
     }
 
-    /// The next event. What it refuses besides want of memory (22, which leaves all as it was) is answered: a decision is
-    /// refused 1 or 10, and nothing else is.
+    /// The next event. It answers why an event is refused: a decision 1 or 10, and nothing else is. An error is out of memory
+    /// (22), and nothing has changed.
     pub fn step(&mut self, alloc: Global, event: &Event) -> Result<Option<Refusal>, WorldFault>
         ensures ok { OnOk result ((w : StreamSystem) → StreamLayerMirrors self.old w → StreamLayerMirrors self.new (happens w event.now)) }
         ensures err { OnErr result (self.new ≡ self.old) }
@@ -268,7 +260,7 @@ impl StreamLayer {
         }
     }
 
-    /// The map takes the packet of this number. The room for what it sends is made before it makes its step. An error is want of
+    /// The map takes the packet of this number. The room for what it sends is made before it makes its step. An error is out of
     /// memory (22), and nothing has changed.
     pub fn route(
         &mut self,
@@ -282,9 +274,7 @@ impl StreamLayer {
         ensures err { OnErr result (self.new ≡ self.old) }
         ensures map_err { OnErr result (map.new ≡ map.old) }
     {
-        if let Err(_short) = make_room(&mut self.post) {
-            return Err(WorldFault::Memory);
-        }
+        make_room(&mut self.post)?;
         match map.give(alloc, &self.post[number]) {
             Ok(packets) => {
                 move_in(&mut self.post, packets.into_vec());
@@ -295,7 +285,7 @@ impl StreamLayer {
     }
 
     /// The map assigns a range. It answers why it does not: the range is unknown (30), or another server holds it at this moment
-    /// (31). An error is want of memory (22), and nothing has changed.
+    /// (31). An error is out of memory (22), and nothing has changed.
     pub fn assign(
         &mut self,
         alloc: Global,
@@ -310,9 +300,7 @@ impl StreamLayer {
         ensures err { OnErr result (self.new ≡ self.old) }
         ensures map_err { OnErr result (map.new ≡ map.old) }
     {
-        if let Err(_short) = make_room(&mut self.post) {
-            return Err(WorldFault::Memory);
-        }
+        make_room(&mut self.post)?;
         match map.assign(alloc, range, server, now, until) {
             Ok(answer) => {
                 let MapAnswer { packets, refusal } = answer;
@@ -323,7 +311,7 @@ impl StreamLayer {
         }
     }
 
-    /// The map renews the lease of a range. It answers why it does not: the server does not hold the range (30). An error is want
+    /// The map renews the lease of a range. It answers why it does not: the server does not hold the range (30). An error is out
     /// of memory (22), and nothing has changed.
     pub fn renew(
         &mut self,
@@ -338,9 +326,7 @@ impl StreamLayer {
         ensures err { OnErr result (self.new ≡ self.old) }
         ensures map_err { OnErr result (map.new ≡ map.old) }
     {
-        if let Err(_short) = make_room(&mut self.post) {
-            return Err(WorldFault::Memory);
-        }
+        make_room(&mut self.post)?;
         match map.renew(alloc, range, server, until) {
             Ok(answer) => {
                 let MapAnswer { packets, refusal } = answer;
@@ -352,7 +338,7 @@ impl StreamLayer {
     }
 
     /// A server takes the packet of this number. The room for what it sends and shows, and the rows of a table that it shows,
-    /// are made before it makes its step. An error is want of memory (22), and nothing has changed.
+    /// are made before it makes its step. An error is out of memory (22), and nothing has changed.
     pub fn give(
         &mut self,
         alloc: Global,
@@ -365,12 +351,8 @@ impl StreamLayer {
         ensures err { OnErr result (self.new ≡ self.old) }
         ensures servers_err { OnErr result (servers.new ≡ servers.old) }
     {
-        if let Err(_short) = make_room(&mut self.post) {
-            return Err(WorldFault::Memory);
-        }
-        if let Err(_short) = make_room(&mut self.notes) {
-            return Err(WorldFault::Memory);
-        }
+        make_room(&mut self.post)?;
+        make_room(&mut self.notes)?;
         match give(
             servers,
             alloc,
@@ -390,7 +372,7 @@ impl StreamLayer {
     }
 
     /// A server gives up on what a range waits for. It answers why it does not: it does not hold the range (30). An error is
-    /// want of memory (22), and nothing has changed.
+    /// out of memory (22), and nothing has changed.
     pub fn give_up(
         &mut self,
         alloc: Global,
@@ -404,12 +386,8 @@ impl StreamLayer {
         ensures err { OnErr result (self.new ≡ self.old) }
         ensures servers_err { OnErr result (servers.new ≡ servers.old) }
     {
-        if let Err(_short) = make_room(&mut self.post) {
-            return Err(WorldFault::Memory);
-        }
-        if let Err(_short) = make_room(&mut self.notes) {
-            return Err(WorldFault::Memory);
-        }
+        make_room(&mut self.post)?;
+        make_room(&mut self.notes)?;
         match servers.give_up(alloc, server, range, pick) {
             Ok(done) => {
                 let GiveUpAnswer {

@@ -1,0 +1,8 @@
+use Rattle.std.proofs.Common.{◌≡◌, ◌++◌, ◌≤◌, ◌+◌, length, vec_len, vec_capacity}
+use Rattle.std.specs.Vec.Iter.{into_iter_items}
+use Rattle.world_streams.proofs.post.move_in.Given as goal
+
+abbrev pub invariant-loop-item : goal.invariant-loop-item
+invariant-loop-item g l =
+    (l.list.items ++ into_iter_items l.item-iterator ≡ l.fn.list.items ++ l.fn.more.items)
+    × (vec_len l.list + length (into_iter_items l.item-iterator) ≤ vec_capacity l.list)
