@@ -33,7 +33,7 @@ state layer servers map moment batch = record { layer = layer; servers = servers
 
 -- ---- events of the stream layer
 
--- the stream layer went on, and all else stands
+-- the stream layer steps, and all else stays
 pub in_layer : (x : ClusterState) (l : StreamLayerState) (c : Cluster) (w : StreamSystem) → ClusterMirrors x c → StreamLayerMirrors l w → ClusterMirrors (record x { layer = l }) (record c { world = w })
 in_layer x l c w m h = record { layer = h; servers = m.servers; map = m.map; moment = m.moment; batch = m.batch }
 
@@ -186,7 +186,7 @@ restart_server_came x servers s is = record {
 
 -- ---- the map
 
--- the map went on, and sent these
+-- the map steps, and sends these
 map_went : (x : ClusterState) (l : StreamLayerState) (y : MapSeen) (c d : Cluster) (packets : List Packet) → l ≡ record x.layer { post = x.layer.post ++ packets } → MapSteps y c d packets →
     ClusterMirrors x c → ClusterMirrors (record x { layer = l; map = y }) d
 map_went x l y c d packets is went m = record {

@@ -21,7 +21,7 @@ pub record ClusterState : Type 0 where
   pub moment : ℕ
   pub batch : ℕ
 
--- the cluster of the model is this one
+-- the model's cluster mirrors what is seen of the real one
 pub record ClusterMirrors (x : ClusterState) (c : Cluster) : Type 0 where
   pub layer : StreamLayerMirrors x.layer c.world
   pub servers : x.servers ≡ c.servers

@@ -41,7 +41,7 @@ impl Model for Cluster {
     ghost view = { λ c. record { layer = c.layer; servers = c.servers; map = c.map; moment = c.moment; batch = c.batch } };
 }
 
-/// Brings the map back, with what is on its disk. An error is want of memory (22), and nothing has changed.
+/// Brings the map back, with what is on its disk. An error is out of memory (22), and nothing has changed.
 fn restart_map(map: &mut MapActor, alloc: Global) -> Result<(), WorldFault>
     ensures ok { OnOk result (MapSimulates map.old map.new map_starts []) }
     ensures err { OnErr result (map.new ≡ map.old) }
@@ -53,7 +53,7 @@ fn restart_map(map: &mut MapActor, alloc: Global) -> Result<(), WorldFault>
 }
 
 impl Cluster {
-    /// The actors of this setup, with nothing on their disks, and nothing sent or observed. An error is want of memory
+    /// The actors of this setup, with nothing on their disks, and nothing sent or observed. An error is out of memory
     /// (22).
     pub(crate) fn start(alloc: Global, setup: &Setup) -> Result<Cluster, WorldFault>
         ensures { IfOk result (λ run. ClusterMirrors run (first_cluster setup.now.nodes setup.now.servers setup.now.target setup.now.batch)) }
@@ -257,8 +257,8 @@ impl Cluster {
         self.servers.moment(moment);
     }
 
-    /// The next event. What it refuses besides want of memory (22, which leaves all as it was) is answered: a decision is
-    /// refused 1 or 10, giving up and a renewal 30, and an assignment 30 or 31; nothing else is.
+    /// The next event. It answers why an event is refused: a decision 1 or 10, giving up and a renewal 30, and an assignment 30
+    /// or 31; nothing else is. An error is out of memory (22), and nothing has changed.
     pub(crate) fn step(
         &mut self,
         alloc: Global,

@@ -11,7 +11,7 @@ use model_streams::Event;
 use std::alloc::Global;
 use world_streams::{Setup, WorldFault};
 
-/// The run of these events, from the start of a setup. An error is want of memory (22). It is the run of the model that they
+/// The run of these events, from the start of a setup. An error is out of memory (22). It is the run of the model that they
 /// lead to, whatever caches of servers hold; and what is observed is honest, whatever was delivered, again and in any order:
 /// all that is shown of an extent agrees, every acknowledged append stands in it at its answered offset, and each table that
 /// is loaded is that of a line of transactions that has every one that was acknowledged under an earlier generation, in order,

@@ -11,7 +11,7 @@ use Rattle.model_partition.specs.Cluster.{Cluster}
 use Rattle.world_stops.specs.Plan.{plan_of}
 use Rattle.pmap.specs.MapWithFile.{MapWithFile, map_of}
 
--- what is seen of the map: of one that has stopped, what its records make; whether it has; and what its disk was told
+-- what is seen of the map: of one that has stopped, what its records make; whether it has; and its disk's plan to stop
 pub record MapSeen : Type 0 where
   pub map : MapState
   pub stopped : Bool
@@ -31,11 +31,11 @@ pub record IsMap (x : MapSeen) (m : MapState) (cell : ActorCell) : Type 0 where
   pub up : cell.up ≡ not x.stopped
   pub plan : x.stopped ≡ false → x.stop ≡ plan_of cell
 
--- the map of the cluster is this one
+-- the model's map mirrors what is seen of the real one
 abbrev pub MapMirrors : MapSeen → Cluster → Type 0
 MapMirrors x c = IsMap x c.map c.map_cell
 
--- from c to d the map alone went on; it is y now, and sent these
+-- from c to d the map alone steps: y is seen of it then, and it sends these
 pub record MapSteps (y : MapSeen) (c d : Cluster) (packets : List Packet) : Type 0 where
   pub world : d.world ≡ sent_more c.world packets
   pub servers : d.servers ≡ c.servers

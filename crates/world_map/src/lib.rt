@@ -1,7 +1,7 @@
-//! The partition map of a run: the map on a disk in memory, which is told to stop and comes back.
+//! The partition map of a run: the map on a disk in memory, which stops by a plan and comes back.
 //!
 //! This crate touches memory only. Each call of a `MapActor` is the step of the model's cluster exactly: the rule of the map, or a
-//! stop inside the rule's record, after which the record stands or not as the disk was told. A refusal for want of memory
+//! stop inside the rule's record, after which the record stands or not as the disk's plan says. A step that runs out of memory
 //! changes nothing.
 #![tactic(auto)]
 

@@ -72,7 +72,7 @@ fn outcome(alloc: Global, done: Result<Step, MapFault>) -> Result<MapAnswer, All
 }
 
 impl MapActor {
-    /// A map with nothing on its disk: range 1 has all keys, and nobody holds it. An error is want of memory (22).
+    /// A map with nothing on its disk: range 1 has all keys, and nobody holds it. An error is out of memory (22).
     pub fn start(alloc: Global) -> Result<MapActor, AllocError>
         ensures { IfOk result (λ map. map ≡ new_map) }
     {
@@ -86,7 +86,7 @@ impl MapActor {
         }
     }
 
-    /// Gives it a packet, and answers what it sends. An error is want of memory (22), and nothing has changed.
+    /// Gives it a packet, and answers what it sends. An error is out of memory (22), and nothing has changed.
     pub fn give(&mut self, alloc: Global, packet: &Packet) -> Result<Packets, AllocError>
         ensures ok { IfOk result (λ packets. MapSimulates self.old self.new (λ c. map_takes c packet.now) packets) }
         ensures err { OnErr result (self.new ≡ self.old) }
@@ -103,7 +103,7 @@ impl MapActor {
     }
 
     /// Has it assign a range, and answers what it sends, or why it refuses: the range is unknown (30), or another server holds
-    /// it at this moment (31). An error is want of memory (22), and nothing has changed.
+    /// it at this moment (31). An error is out of memory (22), and nothing has changed.
     pub fn assign(
         &mut self,
         alloc: Global,
@@ -125,7 +125,7 @@ impl MapActor {
     }
 
     /// Has it renew the lease of a range, and answers what it sends, or why it refuses: the server does not hold the range
-    /// (30). An error is want of memory (22), and nothing has changed.
+    /// (30). An error is out of memory (22), and nothing has changed.
     pub fn renew(
         &mut self,
         alloc: Global,
@@ -159,7 +159,7 @@ impl MapActor {
         }
     }
 
-    /// Brings it back, with what is on its disk. Nothing comes of it where it runs. An error is want of memory (22), and
+    /// Brings it back, with what is on its disk. Nothing comes of it where it runs. An error is out of memory (22), and
     /// nothing has changed.
     pub fn restart(&mut self, alloc: Global) -> Result<(), AllocError>
         ensures ok { OnOk result (MapSimulates self.old self.new map_starts []) }

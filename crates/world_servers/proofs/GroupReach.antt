@@ -14,7 +14,7 @@ both_ways true b f g = sym (f refl)
 both_ways false true f g = g refl
 both_ways false false f g = refl
 
--- behind the first group, so much less has to be there
+-- after the first group, so much less has to be there
 pub less : (end n : ℕ) (group : Group) (groups : List Group) → n ≡ counted group → nat_le end (text_length (group ∷ groups)) ≡ nat_le (end - n) (text_length groups)
 less end n group groups is =
     both_ways (nat_le end (text_length (group ∷ groups))) (nat_le (end - n) (text_length groups))

@@ -2,7 +2,7 @@
 use Rattle.std.proofs.Common.{◌≡◌, ℕ, zero, suc, ◌<◌, ◌≤◌, ◌+◌, ◌-◌, List, [], ◌∷◌, ◌++◌, refl, sym, ap, ◌∙◌, arith, length, slice_index_or, slice_set, map, append-nil}
 use Rattle.model_partition.specs.Servers.{ServerCell, told_moment, first_server, first_servers}
 
--- ---- all of them are told the moment, one after the other
+-- ---- all of them see the moment, one after the other
 
 abbrev pub first_told : ℕ → ℕ → List ServerCell → List ServerCell
 first_told now zero xs = xs

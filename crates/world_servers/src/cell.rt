@@ -12,7 +12,7 @@ use std::collections::BTreeMap;
 use std::marker::Model;
 use wire::{Body, Packet, RangeId, Refusal, ServerNo};
 
-/// The nodes that a server's new extents are made on, until it is told others.
+/// The nodes that a server's new extents are made on, until a give-up names others.
 const FIRST_PICK: Nodes = Nodes {
     primary: 1,
     second: 2,
@@ -34,7 +34,7 @@ impl Model for ServerCell {
     ghost view = { λ c. record { session = c.session; state = c.server } };
 }
 
-/// What a server does when it is told to give up, or why it does not.
+/// What a server does when it is to give up, or why it does not.
 #[derive(Drop)]
 pub struct GiveUpAnswer {
     pub sent: Sent,

@@ -1,15 +1,15 @@
-//! The partition servers of a stamp, each over its starts and stops, and the rows that a loaded table shows.
+//! The partition servers of a run, each over its starts and stops, and the rows that a loaded table shows.
 //!
 //! This crate touches memory only. `Servers` is the list of the servers as model_partition/specs/Servers has it, and each call is
 //! a row of it exactly, but for what caches hold:
 //! - `start`: so many servers that run; `stop` and `restart`: what a server holds goes, and it comes back under another number.
 //! - `give` and `give_up`: what one server does; nothing where there is none of the number, or where it has stopped.
 //! - `loading`: the table that an answer to a server is about to show.
-//! - `moment`: the clock of leases, told to all.
+//! - `moment`: the clock of leases, which all see.
 //! - `rows_of`: the rows of a memory table, each value that stands elsewhere taken from the earliest observation that covers
 //!   its place.
 //!
-//! For want of memory (22) nothing has changed; that is the one error that no clause limits.
+//! An error is out of memory (22), and nothing has changed; that is the one error that no clause limits.
 #![tactic(auto)]
 
 mod cell;

@@ -1,4 +1,4 @@
-//! The servers of a stamp.
+//! The servers of a run.
 ghost use Rattle.std.specs.Prelude.{◌≡◌, ◌<◌, suc, [], length, map, option_map, IfOk, OnErr, IfSome, IfNone};
 ghost use Rattle.model_streams.specs.Maps.{entry_at};
 ghost use Rattle.model_partition.specs.Servers.{first_servers, give_up_refusal, server_gives_up, server_loads, server_stops, server_starts, told_moment};

@@ -57,7 +57,7 @@ fn in_group(
     Ok(Some(part_of_group(alloc, group, from, place.length as usize)?))
 }
 
-/// How many bytes are to be there behind a group.
+/// How many bytes are to be there after a group.
 #[tactic(auto, using(crate::proofs::GroupReach::less))]
 fn behind(end: u64, group: &Group) -> u64
     ensures { (groups : List (List (List ℕ))) → nat_le end (text_length (group.now ∷ groups)) ≡ nat_le result (text_length groups) }
@@ -129,7 +129,7 @@ fn shown_in(alloc: Global, note: &Note, place: &Place) -> Result<Option<Bytes>, 
     }
 }
 
-/// What the earliest observation that covers the place shows of it. An error is want of memory (22).
+/// What the earliest observation that covers the place shows of it. An error is out of memory (22).
 pub(crate) fn first_shown(
     alloc: Global,
     notes: &[Note],

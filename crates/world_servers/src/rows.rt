@@ -33,8 +33,8 @@ fn push_row(
     }
 }
 
-/// The rows of these entries, behind these observations: a key that was deleted has none, and neither has one whose value
-/// no observation covers. An error is want of memory (22).
+/// The rows of these entries, after these observations: a key that was deleted has none, and neither has one whose value
+/// no observation covers. An error is out of memory (22).
 #[tactic(auto, using(crate::proofs::RowEntries::one_more))]
 pub fn rows_of(
     alloc: Global,

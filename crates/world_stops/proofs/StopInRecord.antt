@@ -31,7 +31,7 @@ pub up_ok : (old new : Filed MemDisk) (k : Option Record) (s : Step) → Records
 up_ok old new None s h up = ap (λ (f : Filed MemDisk). f.stopped) h.0 ∙ up
 up_ok old new (Some r) s h up = h.ok.0
 
--- and its disk is told what the world says
+-- and its disk's plan is the one of the model
 pub plan_ok : (old new : Filed MemDisk) (k : Option Record) (s : Step) (c : ActorCell) → Records memory_state old new (listed k) (Ok s) → (memory_state old.disk).stop ≡ plan_of c → stops_in c k ≡ false →
     (memory_state new.disk).stop ≡ plan_of (burnt c k)
 plan_ok old new None s c h told f = ap (λ (x : Filed MemDisk). (memory_state x.disk).stop) h.0 ∙ told

@@ -1,4 +1,4 @@
--- What an actor's disk was told.
+-- When an actor's disk stops.
 use Rattle.std.specs.Prelude.{ℕ, Bool, ◌==◌, Option, Some, None, if◌then◌else◌}
 use Rattle.model_streams.specs.StreamSystem.{ActorCell}
 
