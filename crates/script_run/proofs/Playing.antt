@@ -80,16 +80,16 @@ handed_over a b c s r t n answer noted same happens told =
     )
 
 -- a number that was never sent
-pub never_sent : (a : Option (List ℕ)) (s : SessionState) (n : ℕ) → length s.run.layer.post ≤ n → Prints a a (λ text. Delivers s n text s)
+pub never_sent : (a : Option (List ℕ)) (s : SessionState) (n : ℕ) → length s.run.stream_layer.post ≤ n → Prints a a (λ text. Delivers s n text s)
 never_sent a s n past =
-    subst (λ (o : Option Packet). Prints a a (λ text. DeliversIf s n o text s)) (sym (slice_get_past s.run.layer.post n past))
+    subst (λ (o : Option Packet). Prints a a (λ text. DeliversIf s n o text s)) (sym (slice_get_past s.run.stream_layer.post n past))
     (prints_nothing a (λ text. (text ≡ []) × (s ≡ s)) (refl, refl))
 
 -- a number that was sent: its packet is delivered, and brings its answer
-pub sent_before : (a b : Option (List ℕ)) (s t : SessionState) (n : ℕ) (post : List Packet) (p : Packet) (answer : Option Report) → post ≡ s.run.layer.post → n < length post
+pub sent_before : (a b : Option (List ℕ)) (s t : SessionState) (n : ℕ) (post : List Packet) (p : Packet) (answer : Option Report) → post ≡ s.run.stream_layer.post → n < length post
     → p ≡ slice_index_or post n p → answer ≡ told_to p.to p.body → Prints a b (λ text. DeliversPacket s n answer text t) → Prints a b (λ text. Delivers s n text t)
 sent_before a b s t n post p answer is within here told one =
-    let found : slice_get s.run.layer.post n ≡ Some p = ap (λ (l : List Packet). slice_get l n) (sym is) ∙ slice_get_read post (length post) n p refl within here in
+    let found : slice_get s.run.stream_layer.post n ≡ Some p = ap (λ (l : List Packet). slice_get l n) (sym is) ∙ slice_get_read post (length post) n p refl within here in
     subst (λ (o : Option Packet). Prints a b (λ text. DeliversIf s n o text t)) (sym found)
     (subst (λ (r : Option Report). Prints a b (λ text. DeliversPacket s n r text t)) told one)
 
@@ -111,13 +111,13 @@ plays_nothing a s t line other is one = plays_as a a s t line other is (prints_n
 
 -- a line that shows what a node has
 pub shows : (a b : Option (List ℕ)) (s v : SessionState) (line : Line) (node extent : ℕ) (report : Report) → line ≡ Show node extent → v ≡ s
-    → report ≡ node_report node extent (running_at v.run.layer.nodes node) → Appends a b (report_text report ++ 10 ∷ []) → Prints a b (λ text. Plays s line text s)
+    → report ≡ node_report node extent (running_at v.run.stream_layer.nodes node) → Appends a b (report_text report ++ 10 ∷ []) → Prints a b (λ text. Plays s line text s)
 shows a b s v line node extent report is same told one =
-    let seen = told ∙ ap (λ (x : SessionState). node_report node extent (running_at x.run.layer.nodes node)) same in
+    let seen = told ∙ ap (λ (x : SessionState). node_report node extent (running_at x.run.stream_layer.nodes node)) same in
     plays_as a b s s line (Show node extent) is (report_text report ++ 10 ∷ [], (ap (λ (r : Report). report_text r ++ 10 ∷ []) seen, refl), one)
 
 -- the lowest packet, which is delivered once those below it were passed over
-pub lowest_delivered : (a b : Option (List ℕ)) (s r t : SessionState) (n : ℕ) → IsLowest s.cut s.run.layer.post s.noted n × Passed s.noted n r.noted → r ≡ record s { noted = r.noted }
+pub lowest_delivered : (a b : Option (List ℕ)) (s r t : SessionState) (n : ℕ) → IsLowest s.cut s.run.stream_layer.post s.noted n × Passed s.noted n r.noted → r ≡ record s { noted = r.noted }
     → Prints a b (λ text. Delivers r n text t) → Prints a b (λ text. DeliversLowest s text t)
 lowest_delivered a b s r t n found same delivers = (
   delivers.0,

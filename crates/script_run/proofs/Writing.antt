@@ -15,12 +15,12 @@ use Rattle.script_run.proofs.Texts.{appends_both}
 
 -- the refusal of an event, and what is observed of it
 pub tells : (a b c : Option (List ℕ)) (x y : ClusterState) (event : Event) (report : Option Report) (before after : List Note)
-    → before ≡ x.layer.notes → after ≡ y.layer.notes → ClusterSimulates x y event → report ≡ option_map Refused (refusal_of x event)
+    → before ≡ x.stream_layer.notes → after ≡ y.stream_layer.notes → ClusterSimulates x y event → report ≡ option_map Refused (refusal_of x event)
     → Appends a b (line report) → Appends b c (lines_of_notes (drop (length before) after)) → Prints a c (λ text. PrintsEvent x event text y)
 tells a b c x y event report before after first last came is one other =
     let refused : Appends a b (line_of_refusal (refusal_of x event)) = subst (λ (r : Option Report). Appends a b (line r)) is one in
-    let shown = lines_of_notes (drop (length x.layer.notes) y.layer.notes) in
-    let notes = ap (λ (l : List Note). lines_of_notes (drop (length l) after)) first ∙ ap (λ (l : List Note). lines_of_notes (drop (length x.layer.notes) l)) last in
+    let shown = lines_of_notes (drop (length x.stream_layer.notes) y.stream_layer.notes) in
+    let notes = ap (λ (l : List Note). lines_of_notes (drop (length l) after)) first ∙ ap (λ (l : List Note). lines_of_notes (drop (length x.stream_layer.notes) l)) last in
     let observed : Appends b c shown = subst (λ (text : List ℕ). Appends b c text) notes other in
     (line_of_refusal (refusal_of x event) ++ shown, record { came = came; is = refl }, appends_both a b c _ shown refused observed)
 

@@ -36,7 +36,7 @@ line_of_refusal refusal = line (option_map Refused refusal)
 -- the event leads from one to the other, and these are the lines of it: its refusal, and what is observed
 pub record PrintsEvent (x : ClusterState) (event : Event) (text : List ℕ) (y : ClusterState) : Type 0 where
   pub came : ClusterSimulates x y event
-  pub is : text ≡ line_of_refusal (refusal_of x event) ++ lines_of_notes (drop (length x.layer.notes) y.layer.notes)
+  pub is : text ≡ line_of_refusal (refusal_of x event) ++ lines_of_notes (drop (length x.stream_layer.notes) y.stream_layer.notes)
 
 abbrev pub standing_of : Phase → Standing
 standing_of phases.Open = standings.Open

@@ -63,13 +63,13 @@ DeliversIf s n None text t = (text ≡ []) × (t ≡ s)
 DeliversIf s n (Some p) text t = DeliversPacket s n (told_to p.to p.body) text t
 
 abbrev pub Delivers : SessionState → ℕ → List ℕ → SessionState → Type 0
-Delivers s n text t = DeliversIf s n (slice_get s.run.layer.post n) text t
+Delivers s n text t = DeliversIf s n (slice_get s.run.stream_layer.post n) text t
 
 -- the lowest packet that a settle takes is delivered
 pub record DeliversLowest (s : SessionState) (text : List ℕ) (t : SessionState) : Type 0 where
   pub number : ℕ
   pub noted : List Bool
-  pub lowest : IsLowest s.cut s.run.layer.post s.noted number
+  pub lowest : IsLowest s.cut s.run.stream_layer.post s.noted number
   pub passed : Passed s.noted number noted
   pub delivers : Delivers (record s { noted = noted }) number text t
 
@@ -81,8 +81,8 @@ DeliversSome (suc count) s text t =
 
 -- none was left then
 pub record IsSettled (s t : SessionState) : Type 0 where
-  pub none : NoneLeft s.cut s.run.layer.post s.noted
-  pub passed : Passed s.noted (length s.run.layer.post) t.noted
+  pub none : NoneLeft s.cut s.run.stream_layer.post s.noted
+  pub passed : Passed s.noted (length s.run.stream_layer.post) t.noted
   pub is : t ≡ record s { noted = t.noted }
 
 -- a settle delivers until none is left, or until it has delivered the most
@@ -96,11 +96,11 @@ pub record Settles (s : SessionState) (text : List ℕ) (t : SessionState) : Typ
 abbrev pub Plays : SessionState → Line → List ℕ → SessionState → Type 0
 Plays s (lines.Submit user request) text t = Submits s user request text t
 Plays s (lines.Deliver n) text t = Delivers s n text t
-Plays s lines.DeliverLast text t = Delivers s (length s.run.layer.post - 1) text t
+Plays s lines.DeliverLast text t = Delivers s (length s.run.stream_layer.post - 1) text t
 Plays s lines.Settle text t = Settles s text t
 Plays s (lines.Cut actor) text t = (text ≡ []) × (t ≡ record s { cut = s.cut ++ actor ∷ [] })
 Plays s (lines.Heal actor) text t = (text ≡ []) × (t ≡ record s { cut = filter (λ other. not (is_same other actor)) s.cut })
-Plays s (lines.Show node extent) text t = (text ≡ line (Some (node_report node extent (running_at s.run.layer.nodes node)))) × (t ≡ s)
+Plays s (lines.Show node extent) text t = (text ≡ line (Some (node_report node extent (running_at s.run.stream_layer.nodes node)))) × (t ≡ s)
 Plays s (lines.Happens event) text t = Happens s event text t
 
 -- ---- all lines, in order

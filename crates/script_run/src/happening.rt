@@ -95,7 +95,7 @@ fn look_at(looked: &Node<MemDisk>, node: u8, extent: u64) -> Report
 
 /// What a node has of an extent.
 pub fn look(run: &Run, node: u8, extent: u64) -> Report
-    ensures { result ≡ node_report node extent (running_at run.now.layer.nodes node) }
+    ensures { result ≡ node_report node extent (running_at run.now.stream_layer.nodes node) }
 {
     match run.node(node) {
         Some(looked) => look_at(looked, node, extent),

@@ -12,14 +12,13 @@ use crate::error::Failure;
 use crate::happening::{happen, look};
 use crate::printing::{print, print_some};
 use crate::tickets::Tickets;
-use model_streams::Event;
 use script_lines::{Line, Request, event_of};
 use script_reports::{Report, report_answer};
 use std::alloc::{AllocError, Global};
 use std::io::Write;
 use std::marker::Model;
 use wire::{ActorId, Refusal, ReqNo};
-use world::{Run, Setup, WorldFault};
+use world::{Event, Run, Setup, WorldFault};
 
 /// The most packets that one settle delivers.
 const MOST_DELIVERIES: usize = 100_000;
@@ -144,7 +143,7 @@ impl Session {
     /// The packet that was sent last is delivered.
     fn deliver_last<W: Write>(&mut self, writer: &mut W) -> Result<(), Failure>
         ensures delivers { OnOk result (Prints (W.contents writer.old) (W.contents writer.new)
-            (λ text. Delivers self.old (length self.old.run.layer.post - 1) text self.new)) }
+            (λ text. Delivers self.old (length self.old.run.stream_layer.post - 1) text self.new)) }
         ensures failed { IfErr result IsRunFailure }
     {
         let last = self.run.sent().len().saturating_sub(1);
@@ -177,7 +176,7 @@ impl Session {
 
     /// The lowest packet that a settle takes, where there is one; those below it are passed over.
     fn lowest(&mut self) -> Result<Option<usize>, AllocError>
-        ensures found { IfOk result (λ found. IfSome found (λ n. IsLowest self.old.cut self.old.run.layer.post self.old.noted n
+        ensures found { IfOk result (λ found. IfSome found (λ n. IsLowest self.old.cut self.old.run.stream_layer.post self.old.noted n
             × Passed self.old.noted n self.new.noted)) }
         ensures none { IfOk result (λ found. IfNone found (IsSettled self.old self.new)) }
         ensures same { OnOk result (self.new ≡ record self.old { noted = self.new.noted }) }

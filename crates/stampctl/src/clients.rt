@@ -103,16 +103,16 @@ fn number(server: u8, count: u64) -> ReqNo {
 /// Whether a server sends what its client says, and all comes but for what is sent to these nodes.
 fn asks(alloc: Global, run: &mut Run, server: u8, packet: Packet, cut: &[u8]) -> bool {
     let Packet { from: _, to, body } = packet;
-    match run.layer.ask(ServerNo(server), to, body) {
+    match run.stream_layer.ask(ServerNo(server), to, body) {
         Ok(()) => settles(alloc, run, cut),
         Err(_fault) => false,
     }
 }
 
 /// The first packet to a server from this one on.
-fn answer(layer: &StreamLayer, server: u8, from: usize) -> Option<&Packet> {
+fn answer(stream_layer: &StreamLayer, server: u8, from: usize) -> Option<&Packet> {
     let to = ActorId::Server(ServerNo(server));
-    let sent = layer.sent();
+    let sent = stream_layer.sent();
     for number in from..sent.len() {
         if sent[number].to == to {
             return Some(&sent[number]);
@@ -170,7 +170,7 @@ fn opens(alloc: Global, run: &mut Run, server: u8) -> Option<Server> {
         alloc,
         &mut load,
         server,
-        answer(&run.layer, server, before)?,
+        answer(&run.stream_layer, server, before)?,
     )?;
     Some(Server {
         number: server,
@@ -195,7 +195,7 @@ fn confirms(alloc: Global, run: &mut Run, server: &mut Server) -> Option<LoadPha
     if !asks(alloc, run, server.number, packet, &[]) {
         return None;
     }
-    let answer = answer(&run.layer, server.number, before)?;
+    let answer = answer(&run.stream_layer, server.number, before)?;
     Some(server.load.on_reply(answer))
 }
 
@@ -208,7 +208,7 @@ fn hears(
     from: usize,
 ) -> Option<Reaction> {
     let request = number(server.number, count);
-    match answer(&run.layer, server.number, from) {
+    match answer(&run.stream_layer, server.number, from) {
         Some(packet) => server.log.on_reply(alloc, &request, packet).ok(),
         None => Some(Reaction {
             packet: None,

@@ -152,7 +152,7 @@ const CASES: &[Case] = &[
 /// The stream layer of three nodes.
 #[derive(Drop)]
 pub(crate) struct Run {
-    pub(crate) layer: StreamLayer,
+    pub(crate) stream_layer: StreamLayer,
     /// The number behind that of the last packet that came or was lost.
     pub(crate) next: usize,
 }
@@ -167,14 +167,17 @@ fn actor_of(actor: Actor) -> ActorId {
 // These calls pass no contract on, so that what calls them is proved from what it reads alone.
 pub(crate) fn started(alloc: Global) -> Option<Run> {
     match StreamLayer::start(alloc, &Setup::new(3, 1, 4096, 1)?) {
-        Ok(layer) => Some(Run { layer, next: 0 }),
+        Ok(stream_layer) => Some(Run {
+            stream_layer,
+            next: 0,
+        }),
         Err(_fault) => None,
     }
 }
 
 // The event is handed over whole: a local that lives on is dropped at each exit, and each costs the proof.
 fn happens(alloc: Global, run: &mut Run, event: Event) -> Result<Option<Refusal>, WorldFault> {
-    let answer = run.layer.step(alloc, &event);
+    let answer = run.stream_layer.step(alloc, &event);
     drop(event);
     answer
 }
@@ -241,7 +244,7 @@ fn is_cut_off(to: ActorId, cut: &[u8]) -> bool {
 
 /// To whom the packet of this number goes, if it was sent.
 fn addressee(run: &Run, number: usize) -> Option<ActorId> {
-    match run.layer.sent().get(number) {
+    match run.stream_layer.sent().get(number) {
         Some(packet) => Some(packet.to),
         None => None,
     }
@@ -272,7 +275,7 @@ fn is_put(packet: &Packet, to: ActorId) -> bool {
 }
 
 fn puts(run: &Run, number: usize, to: ActorId) -> bool {
-    match run.layer.sent().get(number) {
+    match run.stream_layer.sent().get(number) {
         Some(packet) => is_put(packet, to),
         None => false,
     }
@@ -286,7 +289,7 @@ fn replica_length(node: &enode::Node<MemDisk>) -> Option<u32> {
 }
 
 fn length(run: &Run, number: u8) -> Option<u32> {
-    match run.layer.node(number) {
+    match run.stream_layer.node(number) {
         Some(node) => replica_length(node),
         None => None,
     }
@@ -302,12 +305,12 @@ pub(crate) fn takes(alloc: Global, run: &mut Run, step: Step) -> bool {
         Step::MayDecide => may_decide(alloc, run),
         Step::Stops(actor, call, keep) => stops(alloc, run, actor, call, keep),
         Step::Restarts(actor) => restarts(alloc, run, actor),
-        Step::HasSent(count) => run.layer.sent().len() == count,
-        Step::HasObserved(count) => run.layer.observations().len() == count,
-        Step::IsSettled => run.layer.sent().len() == run.next,
+        Step::HasSent(count) => run.stream_layer.sent().len() == count,
+        Step::HasObserved(count) => run.stream_layer.observations().len() == count,
+        Step::IsSettled => run.stream_layer.sent().len() == run.next,
         Step::Puts(number, to) => puts(run, number, actor_of(to)),
         Step::HasLength(number, wanted) => length(run, number) == wanted,
-        Step::IsHonest => check(run.layer.observations()).is_none(),
+        Step::IsHonest => check(run.stream_layer.observations()).is_none(),
     }
 }
 

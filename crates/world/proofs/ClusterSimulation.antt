@@ -29,20 +29,20 @@ if_ok (Err x) f h = tt
 
 -- a cluster of these parts
 abbrev pub state : StreamLayerState → List ServerCell → MapSeen → ℕ → ℕ → ClusterState
-state layer servers map moment batch = record { layer = layer; servers = servers; map = map; moment = moment; batch = batch }
+state stream_layer servers map moment batch = record { stream_layer = stream_layer; servers = servers; map = map; moment = moment; batch = batch }
 
 -- ---- events of the stream layer
 
 -- the stream layer steps, and all else stays
-pub in_layer : (x : ClusterState) (l : StreamLayerState) (c : Cluster) (w : StreamSystem) → ClusterMirrors x c → StreamLayerMirrors l w → ClusterMirrors (record x { layer = l }) (record c { world = w })
-in_layer x l c w m h = record { layer = h; servers = m.servers; map = m.map; moment = m.moment; batch = m.batch }
+pub in_layer : (x : ClusterState) (l : StreamLayerState) (c : Cluster) (w : StreamSystem) → ClusterMirrors x c → StreamLayerMirrors l w → ClusterMirrors (record x { stream_layer = l }) (record c { world = w })
+in_layer x l c w m h = record { stream_layer = h; servers = m.servers; map = m.map; moment = m.moment; batch = m.batch }
 
-pub submit_came : (x : ClusterState) (l : StreamLayerState) (user : ℕ) (to : ActorId) (body : Body) → ((w : StreamSystem) → StreamLayerMirrors x.layer w → StreamLayerMirrors l (happens w (Submit user to body))) →
-    ClusterSimulates x (record x { layer = l }) (Submit user to body)
-submit_came x l user to body h = record { held = []; mirrors = λ c m. in_layer x l c (happens c.world (Submit user to body)) m (h c.world m.layer) }
+pub submit_came : (x : ClusterState) (l : StreamLayerState) (user : ℕ) (to : ActorId) (body : Body) → ((w : StreamSystem) → StreamLayerMirrors x.stream_layer w → StreamLayerMirrors l (happens w (Submit user to body))) →
+    ClusterSimulates x (record x { stream_layer = l }) (Submit user to body)
+submit_came x l user to body h = record { held = []; mirrors = λ c m. in_layer x l c (happens c.world (Submit user to body)) m (h c.world m.stream_layer) }
 
-pub decide_came : (x : ClusterState) (l : StreamLayerState) (e : ℕ) → ((w : StreamSystem) → StreamLayerMirrors x.layer w → StreamLayerMirrors l (happens w (Decide e))) → ClusterSimulates x (record x { layer = l }) (Decide e)
-decide_came x l e h = record { held = []; mirrors = λ c m. in_layer x l c (happens c.world (Decide e)) m (h c.world m.layer) }
+pub decide_came : (x : ClusterState) (l : StreamLayerState) (e : ℕ) → ((w : StreamSystem) → StreamLayerMirrors x.stream_layer w → StreamLayerMirrors l (happens w (Decide e))) → ClusterSimulates x (record x { stream_layer = l }) (Decide e)
+decide_came x l e h = record { held = []; mirrors = λ c m. in_layer x l c (happens c.world (Decide e)) m (h c.world m.stream_layer) }
 
 stops_below : (c : Cluster) (a : ActorId) (call : ℕ) (keep : Bool) → IsBelow a → stops c a call keep ≡ record c { world = happens c.world (Stop a call keep) }
 stops_below c (Node n) call keep h = refl
@@ -51,12 +51,12 @@ stops_below c Map call keep h = absurd h
 stops_below c (Server s) call keep h = absurd h
 stops_below c (User u) call keep h = refl
 
-pub stop_came : (x : ClusterState) (l : StreamLayerState) (a : ActorId) (call : ℕ) (keep : Bool) → IsBelow a → ((w : StreamSystem) → StreamLayerMirrors x.layer w → StreamLayerMirrors l (happens w (Stop a call keep))) →
-    ClusterSimulates x (record x { layer = l }) (Stop a call keep)
+pub stop_came : (x : ClusterState) (l : StreamLayerState) (a : ActorId) (call : ℕ) (keep : Bool) → IsBelow a → ((w : StreamSystem) → StreamLayerMirrors x.stream_layer w → StreamLayerMirrors l (happens w (Stop a call keep))) →
+    ClusterSimulates x (record x { stream_layer = l }) (Stop a call keep)
 stop_came x l a call keep below h = record {
   held = [];
   mirrors = λ c m.
-      subst (ClusterMirrors (record x { layer = l })) (sym (stops_below c a call keep below)) (in_layer x l c (happens c.world (Stop a call keep)) m (h c.world m.layer));
+      subst (ClusterMirrors (record x { stream_layer = l })) (sym (stops_below c a call keep below)) (in_layer x l c (happens c.world (Stop a call keep)) m (h c.world m.stream_layer));
 }
 
 restarts_below : (c : Cluster) (a : ActorId) → IsBelow a → restarts c a ≡ record c { world = happens c.world (Restart a) }
@@ -66,11 +66,11 @@ restarts_below c Map h = absurd h
 restarts_below c (Server s) h = absurd h
 restarts_below c (User u) h = refl
 
-pub restart_came : (x : ClusterState) (l : StreamLayerState) (a : ActorId) → IsBelow a → ((w : StreamSystem) → StreamLayerMirrors x.layer w → StreamLayerMirrors l (happens w (Restart a))) →
-    ClusterSimulates x (record x { layer = l }) (Restart a)
+pub restart_came : (x : ClusterState) (l : StreamLayerState) (a : ActorId) → IsBelow a → ((w : StreamSystem) → StreamLayerMirrors x.stream_layer w → StreamLayerMirrors l (happens w (Restart a))) →
+    ClusterSimulates x (record x { stream_layer = l }) (Restart a)
 restart_came x l a below h = record {
   held = [];
-  mirrors = λ c m. subst (ClusterMirrors (record x { layer = l })) (sym (restarts_below c a below)) (in_layer x l c (happens c.world (Restart a)) m (h c.world m.layer));
+  mirrors = λ c m. subst (ClusterMirrors (record x { stream_layer = l })) (sym (restarts_below c a below)) (in_layer x l c (happens c.world (Restart a)) m (h c.world m.stream_layer));
 }
 
 -- ---- deliveries
@@ -86,14 +86,14 @@ delivers_below : (c : Cluster) (held : CacheContent) (found : Option Packet) →
 delivers_below c held None h = refl
 delivers_below c held (Some p) h = goes_below c p held p.to (h p refl)
 
-pub deliver_came : (x : ClusterState) (l : StreamLayerState) (number : ℕ) → ((p : Packet) → slice_get x.layer.post number ≡ Some p → IsBelow p.to) →
-    ((w : StreamSystem) → StreamLayerMirrors x.layer w → StreamLayerMirrors l (happens w (Deliver number))) → ClusterSimulates x (record x { layer = l }) (Deliver number)
+pub deliver_came : (x : ClusterState) (l : StreamLayerState) (number : ℕ) → ((p : Packet) → slice_get x.stream_layer.post number ≡ Some p → IsBelow p.to) →
+    ((w : StreamSystem) → StreamLayerMirrors x.stream_layer w → StreamLayerMirrors l (happens w (Deliver number))) → ClusterSimulates x (record x { stream_layer = l }) (Deliver number)
 deliver_came x l number below h = record {
   held = [];
   mirrors = λ c m.
-      subst (ClusterMirrors (record x { layer = l }))
-      (sym (delivers_below c [] (slice_get c.world.post number) (λ p is. below p (ap (λ (post : List Packet). slice_get post number) m.layer.post ∙ is))))
-      (in_layer x l c (happens c.world (Deliver number)) m (h c.world m.layer));
+      subst (ClusterMirrors (record x { stream_layer = l }))
+      (sym (delivers_below c [] (slice_get c.world.post number) (λ p is. below p (ap (λ (post : List Packet). slice_get post number) m.stream_layer.post ∙ is))))
+      (in_layer x l c (happens c.world (Deliver number)) m (h c.world m.stream_layer));
 }
 
 -- the packet goes to nobody above
@@ -112,10 +112,10 @@ is_there (x ∷ xs) zero to is = omega arith
 is_there (x ∷ xs) (suc n) to is = let l = is_there xs n to is in omega (arith, l)
 
 -- nothing comes of a number that was never sent
-pub unsent_came : (x : ClusterState) (number : ℕ) → addressee_of (slice_get x.layer.post number) ≡ None → ClusterSimulates x x (Deliver number)
+pub unsent_came : (x : ClusterState) (number : ℕ) → addressee_of (slice_get x.stream_layer.post number) ≡ None → ClusterSimulates x x (Deliver number)
 unsent_came x number is = record {
   held = [];
-  mirrors = λ c m. subst (λ (o : Option Packet). ClusterMirrors x (delivers c [] o)) (sym (none_there (slice_get c.world.post number) (ap (λ (post : List Packet). addressee_of (slice_get post number)) (sym m.layer.post) ∙ is))) m;
+  mirrors = λ c m. subst (λ (o : Option Packet). ClusterMirrors x (delivers c [] o)) (sym (none_there (slice_get c.world.post number) (ap (λ (post : List Packet). addressee_of (slice_get post number)) (sym m.stream_layer.post) ∙ is))) m;
 }
   where
     none_there : (found : Option Packet) → addressee_of found ≡ None → found ≡ None
@@ -124,46 +124,46 @@ unsent_came x number is = record {
 
 -- ---- steps of servers
 
-does_mirrors : (x : ClusterState) (l : StreamLayerState) (servers : List ServerCell) (o : ServersOutcome) → AfterServers x.layer l servers o → (c : Cluster) → ClusterMirrors x c →
-    ClusterMirrors (record x { layer = l; servers = servers }) (servers_perform c o)
+does_mirrors : (x : ClusterState) (l : StreamLayerState) (servers : List ServerCell) (o : ServersOutcome) → AfterServers x.stream_layer l servers o → (c : Cluster) → ClusterMirrors x c →
+    ClusterMirrors (record x { stream_layer = l; servers = servers }) (servers_perform c o)
 does_mirrors x l servers o t c m = record {
-  layer = subst (λ (r : StreamLayerState). StreamLayerMirrors r (with_told c.world o.packets o.notes)) (sym t.layer) (told_mirrors x.layer o.packets o.notes c.world m.layer);
+  stream_layer = subst (λ (r : StreamLayerState). StreamLayerMirrors r (with_told c.world o.packets o.notes)) (sym t.stream_layer) (told_mirrors x.stream_layer o.packets o.notes c.world m.stream_layer);
   servers = t.servers_are;
   map = m.map;
   moment = m.moment;
   batch = m.batch;
 }
 
-give_came : (x : ClusterState) (l : StreamLayerState) (servers : List ServerCell) (number s : ℕ) (p : Packet) → slice_get x.layer.post number ≡ Some p → p.to ≡ Server s →
-    AfterServerTakes x.layer l x.servers servers s p → ClusterSimulates x (record x { layer = l; servers = servers }) (Deliver number)
+give_came : (x : ClusterState) (l : StreamLayerState) (servers : List ServerCell) (number s : ℕ) (p : Packet) → slice_get x.stream_layer.post number ≡ Some p → p.to ≡ Server s →
+    AfterServerTakes x.stream_layer l x.servers servers s p → ClusterSimulates x (record x { stream_layer = l; servers = servers }) (Deliver number)
 give_came x l servers number s p found to t = record {
   held = t.held;
   mirrors = λ c m.
-      let there : slice_get c.world.post number ≡ Some p = ap (λ (post : List Packet). slice_get post number) (sym m.layer.post) ∙ found in
+      let there : slice_get c.world.post number ≡ Some p = ap (λ (post : List Packet). slice_get post number) (sym m.stream_layer.post) ∙ found in
       let is : delivers c t.held (slice_get c.world.post number) ≡ servers_perform c (server_takes x.servers s p t.held) =
       ap (delivers c t.held) there ∙ ap (delivered_to c p t.held) to ∙ ap (λ (l : List ServerCell). servers_perform c (server_takes l s p t.held)) (sym m.servers) in
-      subst (ClusterMirrors (record x { layer = l; servers = servers })) (sym is) (does_mirrors x l servers (server_takes x.servers s p t.held) t.took c m);
+      subst (ClusterMirrors (record x { stream_layer = l; servers = servers })) (sym is) (does_mirrors x l servers (server_takes x.servers s p t.held) t.took c m);
 }
 
-pub give_came_if : (x : ClusterState) (l : StreamLayerState) (servers : List ServerCell) (number s : ℕ) → addressee_of (slice_get x.layer.post number) ≡ Some (Server s) →
-    ((p : Packet) → slice_get x.layer.post number ≡ Some p → AfterServerTakes x.layer l x.servers servers s p) → ClusterSimulates x (record x { layer = l; servers = servers }) (Deliver number)
+pub give_came_if : (x : ClusterState) (l : StreamLayerState) (servers : List ServerCell) (number s : ℕ) → addressee_of (slice_get x.stream_layer.post number) ≡ Some (Server s) →
+    ((p : Packet) → slice_get x.stream_layer.post number ≡ Some p → AfterServerTakes x.stream_layer l x.servers servers s p) → ClusterSimulates x (record x { stream_layer = l; servers = servers }) (Deliver number)
 give_came_if x l servers number s is t =
-    let there = goes_there (slice_get x.layer.post number) (Server s) is in
+    let there = goes_there (slice_get x.stream_layer.post number) (Server s) is in
     give_came x l servers number s there.0 there.1 there.2 (t there.0 there.1)
 
-pub give_up_came : (x : ClusterState) (l : StreamLayerState) (servers : List ServerCell) (s range : ℕ) (pick : Nodes) → AfterServers x.layer l servers (server_gives_up x.servers s range pick) →
-    ClusterSimulates x (record x { layer = l; servers = servers }) (GiveUp s range pick)
+pub give_up_came : (x : ClusterState) (l : StreamLayerState) (servers : List ServerCell) (s range : ℕ) (pick : Nodes) → AfterServers x.stream_layer l servers (server_gives_up x.servers s range pick) →
+    ClusterSimulates x (record x { stream_layer = l; servers = servers }) (GiveUp s range pick)
 give_up_came x l servers s range pick t = record {
   held = [];
   mirrors = λ c m.
-      subst (λ (cells : List ServerCell). ClusterMirrors (record x { layer = l; servers = servers }) (servers_perform c (server_gives_up cells s range pick))) m.servers
+      subst (λ (cells : List ServerCell). ClusterMirrors (record x { stream_layer = l; servers = servers }) (servers_perform c (server_gives_up cells s range pick))) m.servers
       (does_mirrors x l servers (server_gives_up x.servers s range pick) t c m);
 }
 
 -- nothing is sent and shown
-rests : (x : ClusterState) (servers : List ServerCell) (o : ServersOutcome) → o ≡ record { servers = servers; packets = []; notes = [] } → AfterServers x.layer x.layer servers o
-rests x servers o is = subst (AfterServers x.layer x.layer servers) (sym is)
-    (record { layer = ap (λ (l : List Packet). record x.layer { post = l }) (sym (append-nil x.layer.post)); servers_are = refl })
+rests : (x : ClusterState) (servers : List ServerCell) (o : ServersOutcome) → o ≡ record { servers = servers; packets = []; notes = [] } → AfterServers x.stream_layer x.stream_layer servers o
+rests x servers o is = subst (AfterServers x.stream_layer x.stream_layer servers) (sym is)
+    (record { stream_layer = ap (λ (l : List Packet). record x.stream_layer { post = l }) (sym (append-nil x.stream_layer.post)); servers_are = refl })
 
 pub stop_server_came : (x : ClusterState) (servers : List ServerCell) (s call : ℕ) (keep : Bool) → server_stops x.servers s call ≡ record { servers = servers; packets = []; notes = [] } →
     ClusterSimulates x (record x { servers = servers }) (Stop (Server s) call keep)
@@ -171,7 +171,7 @@ stop_server_came x servers s call keep is = record {
   held = [];
   mirrors = λ c m.
       subst (λ (cells : List ServerCell). ClusterMirrors (record x { servers = servers }) (servers_perform c (server_stops cells s call))) m.servers
-      (does_mirrors x x.layer servers (server_stops x.servers s call) (rests x servers (server_stops x.servers s call) is) c m);
+      (does_mirrors x x.stream_layer servers (server_stops x.servers s call) (rests x servers (server_stops x.servers s call) is) c m);
 }
 
 pub restart_server_came : (x : ClusterState) (servers : List ServerCell) (s : ℕ) → server_starts x.servers s x.moment x.batch ≡ record { servers = servers; packets = []; notes = [] } →
@@ -181,50 +181,50 @@ restart_server_came x servers s is = record {
   mirrors = λ c m.
       let same : server_starts x.servers s x.moment x.batch ≡ server_starts c.servers s c.now c.batch = λ i. server_starts (m.servers i) s (m.moment i) (m.batch i) in
       subst (λ (o : ServersOutcome). ClusterMirrors (record x { servers = servers }) (servers_perform c o)) same
-      (does_mirrors x x.layer servers (server_starts x.servers s x.moment x.batch) (rests x servers (server_starts x.servers s x.moment x.batch) is) c m);
+      (does_mirrors x x.stream_layer servers (server_starts x.servers s x.moment x.batch) (rests x servers (server_starts x.servers s x.moment x.batch) is) c m);
 }
 
 -- ---- the map
 
 -- the map steps, and sends these
-map_went : (x : ClusterState) (l : StreamLayerState) (y : MapSeen) (c d : Cluster) (packets : List Packet) → l ≡ record x.layer { post = x.layer.post ++ packets } → MapSteps y c d packets →
-    ClusterMirrors x c → ClusterMirrors (record x { layer = l; map = y }) d
+map_went : (x : ClusterState) (l : StreamLayerState) (y : MapSeen) (c d : Cluster) (packets : List Packet) → l ≡ record x.stream_layer { post = x.stream_layer.post ++ packets } → MapSteps y c d packets →
+    ClusterMirrors x c → ClusterMirrors (record x { stream_layer = l; map = y }) d
 map_went x l y c d packets is went m = record {
-  layer = subst (StreamLayerMirrors l) (sym went.world) (subst (λ (r : StreamLayerState). StreamLayerMirrors r (sent_more c.world packets)) (sym is) (sent_mirrors x.layer packets c.world m.layer));
+  stream_layer = subst (StreamLayerMirrors l) (sym went.world) (subst (λ (r : StreamLayerState). StreamLayerMirrors r (sent_more c.world packets)) (sym is) (sent_mirrors x.stream_layer packets c.world m.stream_layer));
   servers = m.servers ∙ sym went.servers;
   map = went.map;
   moment = m.moment ∙ sym went.now;
   batch = m.batch ∙ sym went.batch;
 }
 
-route_came : (x : ClusterState) (l : StreamLayerState) (y : MapSeen) (number : ℕ) (p : Packet) → slice_get x.layer.post number ≡ Some p → p.to ≡ Map →
-    AfterMap x.layer l (MapSimulates x.map y (λ c. map_takes c p)) → ClusterSimulates x (record x { layer = l; map = y }) (Deliver number)
+route_came : (x : ClusterState) (l : StreamLayerState) (y : MapSeen) (number : ℕ) (p : Packet) → slice_get x.stream_layer.post number ≡ Some p → p.to ≡ Map →
+    AfterMap x.stream_layer l (MapSimulates x.map y (λ c. map_takes c p)) → ClusterSimulates x (record x { stream_layer = l; map = y }) (Deliver number)
 route_came x l y number p found to o = record {
   held = [];
   mirrors = λ c m.
-      let there : slice_get c.world.post number ≡ Some p = ap (λ (post : List Packet). slice_get post number) (sym m.layer.post) ∙ found in
+      let there : slice_get c.world.post number ≡ Some p = ap (λ (post : List Packet). slice_get post number) (sym m.stream_layer.post) ∙ found in
       let is : delivers c [] (slice_get c.world.post number) ≡ map_takes c p = ap (delivers c []) there ∙ ap (delivered_to c p []) to in
-      subst (ClusterMirrors (record x { layer = l; map = y })) (sym is) (map_went x l y c (map_takes c p) o.packets o.layer (o.steps_are c m.map) m);
+      subst (ClusterMirrors (record x { stream_layer = l; map = y })) (sym is) (map_went x l y c (map_takes c p) o.packets o.stream_layer (o.steps_are c m.map) m);
 }
 
-pub route_came_if : (x : ClusterState) (l : StreamLayerState) (y : MapSeen) (number : ℕ) → addressee_of (slice_get x.layer.post number) ≡ Some Map →
-    ((p : Packet) → slice_get x.layer.post number ≡ Some p → AfterMap x.layer l (MapSimulates x.map y (λ c. map_takes c p))) → ClusterSimulates x (record x { layer = l; map = y }) (Deliver number)
+pub route_came_if : (x : ClusterState) (l : StreamLayerState) (y : MapSeen) (number : ℕ) → addressee_of (slice_get x.stream_layer.post number) ≡ Some Map →
+    ((p : Packet) → slice_get x.stream_layer.post number ≡ Some p → AfterMap x.stream_layer l (MapSimulates x.map y (λ c. map_takes c p))) → ClusterSimulates x (record x { stream_layer = l; map = y }) (Deliver number)
 route_came_if x l y number is o =
-    let there = goes_there (slice_get x.layer.post number) Map is in
+    let there = goes_there (slice_get x.stream_layer.post number) Map is in
     route_came x l y number there.0 there.1 there.2 (o there.0 there.1)
 
-pub assign_came : (x : ClusterState) (l : StreamLayerState) (y : MapSeen) (range server until : ℕ) → AfterMap x.layer l (MapSimulatesAt x.moment x.map y (λ c. assigns c range server until)) →
-    ClusterSimulates x (record x { layer = l; map = y }) (Assign range server until)
+pub assign_came : (x : ClusterState) (l : StreamLayerState) (y : MapSeen) (range server until : ℕ) → AfterMap x.stream_layer l (MapSimulatesAt x.moment x.map y (λ c. assigns c range server until)) →
+    ClusterSimulates x (record x { stream_layer = l; map = y }) (Assign range server until)
 assign_came x l y range server until o = record {
   held = [];
-  mirrors = λ c m. map_went x l y c (assigns c range server until) o.packets o.layer (o.steps_are c m.map (sym m.moment)) m;
+  mirrors = λ c m. map_went x l y c (assigns c range server until) o.packets o.stream_layer (o.steps_are c m.map (sym m.moment)) m;
 }
 
-pub renew_came : (x : ClusterState) (l : StreamLayerState) (y : MapSeen) (range server until : ℕ) → AfterMap x.layer l (MapSimulates x.map y (λ c. renews c range server until)) →
-    ClusterSimulates x (record x { layer = l; map = y }) (Renew range server until)
+pub renew_came : (x : ClusterState) (l : StreamLayerState) (y : MapSeen) (range server until : ℕ) → AfterMap x.stream_layer l (MapSimulates x.map y (λ c. renews c range server until)) →
+    ClusterSimulates x (record x { stream_layer = l; map = y }) (Renew range server until)
 renew_came x l y range server until o = record {
   held = [];
-  mirrors = λ c m. map_went x l y c (renews c range server until) o.packets o.layer (o.steps_are c m.map) m;
+  mirrors = λ c m. map_went x l y c (renews c range server until) o.packets o.stream_layer (o.steps_are c m.map) m;
 }
 
 nothing_more : (r : StreamLayerState) → r ≡ record r { post = r.post ++ [] }
@@ -233,13 +233,13 @@ nothing_more r = ap (λ (l : List Packet). record r { post = l }) (sym (append-n
 pub stop_map_came : (x : ClusterState) (y : MapSeen) (call : ℕ) (keep : Bool) → MapSimulates x.map y (λ c. map_stops c call keep) [] → ClusterSimulates x (record x { map = y }) (Stop Map call keep)
 stop_map_came x y call keep steps = record {
   held = [];
-  mirrors = λ c m. map_went x x.layer y c (map_stops c call keep) [] (nothing_more x.layer) (steps c m.map) m;
+  mirrors = λ c m. map_went x x.stream_layer y c (map_stops c call keep) [] (nothing_more x.stream_layer) (steps c m.map) m;
 }
 
 pub restart_map_came : (x : ClusterState) (y : MapSeen) → MapSimulates x.map y map_starts [] → ClusterSimulates x (record x { map = y }) (Restart Map)
 restart_map_came x y steps = record {
   held = [];
-  mirrors = λ c m. map_went x x.layer y c (map_starts c) [] (nothing_more x.layer) (steps c m.map) m;
+  mirrors = λ c m. map_went x x.stream_layer y c (map_starts c) [] (nothing_more x.stream_layer) (steps c m.map) m;
 }
 
 -- ---- the clock
@@ -257,5 +257,5 @@ on_came x moment servers is told = record {
   mirrors = λ c m.
       if_elim (ClusterMirrors (record x { moment = moment; servers = servers })) (nat_lt moment c.now) _ _
       (λ t. absurd (let same = ap (nat_lt moment) m.moment in cc))
-      (λ f. record { layer = m.layer; servers = told ∙ ap (map (told_moment moment)) m.servers; map = m.map; moment = refl; batch = m.batch });
+      (λ f. record { stream_layer = m.stream_layer; servers = told ∙ ap (map (told_moment moment)) m.servers; map = m.map; moment = refl; batch = m.batch });
 }

@@ -35,17 +35,17 @@ led_next x y first events i event is l h came = record {
     taken : take (i + 1) events ≡ take i events ++ slice_index_or events i event ∷ []
     taken = ap (λ k. take k events) one_more ∙ take-suc events i event l
 
-pub led_agree : (nodes servers target batch : ℕ) (events : List Event) (x : ClusterState) → ReachedBy events (first_cluster nodes servers target batch) x → Agree x.layer.notes
+pub led_agree : (nodes servers target batch : ℕ) (events : List Event) (x : ClusterState) → ReachedBy events (first_cluster nodes servers target batch) x → Agree x.stream_layer.notes
 led_agree nodes servers target batch events x h =
-    subst Agree (sym h.mirrors.layer.notes) (moves_agree nodes target h.cluster.world (led_by events (first_cluster nodes servers target batch) h.cluster h.led))
+    subst Agree (sym h.mirrors.stream_layer.notes) (moves_agree nodes target h.cluster.world (led_by events (first_cluster nodes servers target batch) h.cluster h.led))
 
-pub led_keep : (nodes servers target batch : ℕ) (events : List Event) (x : ClusterState) → ReachedBy events (first_cluster nodes servers target batch) x → Kept x.layer.notes
+pub led_keep : (nodes servers target batch : ℕ) (events : List Event) (x : ClusterState) → ReachedBy events (first_cluster nodes servers target batch) x → Kept x.stream_layer.notes
 led_keep nodes servers target batch events x h =
-    subst Kept (sym h.mirrors.layer.notes) (moves_keep nodes target h.cluster.world (led_by events (first_cluster nodes servers target batch) h.cluster h.led))
+    subst Kept (sym h.mirrors.stream_layer.notes) (moves_keep nodes target h.cluster.world (led_by events (first_cluster nodes servers target batch) h.cluster h.led))
 
-pub led_replays : (nodes servers target batch : ℕ) (events : List Event) (x : ClusterState) → ReachedBy events (first_cluster nodes servers target batch) x → Replays x.layer.notes
+pub led_replays : (nodes servers target batch : ℕ) (events : List Event) (x : ClusterState) → ReachedBy events (first_cluster nodes servers target batch) x → Replays x.stream_layer.notes
 led_replays nodes servers target batch events x h =
-    subst Replays (sym h.mirrors.layer.notes) (all_replays nodes servers target batch events h.cluster h.led)
+    subst Replays (sym h.mirrors.stream_layer.notes) (all_replays nodes servers target batch events h.cluster h.led)
 
 -- ---- runs
 
@@ -74,11 +74,11 @@ goes_on old new event (Ok x) h ok err = record {
 }
 goes_on old new event (Err x) h ok err = subst IsRun (sym err) h
 
-pub agrees : (x : ClusterState) → IsRun x → Agree x.layer.notes
+pub agrees : (x : ClusterState) → IsRun x → Agree x.stream_layer.notes
 agrees x h = led_agree h.nodes h.servers h.target h.batch h.events x h.led
 
-pub keeps : (x : ClusterState) → IsRun x → Kept x.layer.notes
+pub keeps : (x : ClusterState) → IsRun x → Kept x.stream_layer.notes
 keeps x h = led_keep h.nodes h.servers h.target h.batch h.events x h.led
 
-pub tables_replay : (x : ClusterState) → IsRun x → Replays x.layer.notes
+pub tables_replay : (x : ClusterState) → IsRun x → Replays x.stream_layer.notes
 tables_replay x h = led_replays h.nodes h.servers h.target h.batch h.events x h.led

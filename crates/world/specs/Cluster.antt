@@ -15,7 +15,7 @@ use Rattle.world_streams.specs.StreamLayer.{StreamLayerState, StreamLayerMirrors
 
 -- the stream layer, the servers, the map, the last moment, and how many transactions a group may hold
 pub record ClusterState : Type 0 where
-  pub layer : StreamLayerState
+  pub stream_layer : StreamLayerState
   pub servers : List ServerCell
   pub map : MapSeen
   pub moment : ℕ
@@ -23,7 +23,7 @@ pub record ClusterState : Type 0 where
 
 -- the model's cluster mirrors what is seen of the real one
 pub record ClusterMirrors (x : ClusterState) (c : Cluster) : Type 0 where
-  pub layer : StreamLayerMirrors x.layer c.world
+  pub stream_layer : StreamLayerMirrors x.stream_layer c.world
   pub servers : x.servers ≡ c.servers
   pub map : MapMirrors x.map c
   pub moment : x.moment ≡ c.now
@@ -64,7 +64,7 @@ IsBelow (User u) = Unit {0}
 
 -- why an event is refused: the manager's, a server's or the map's reason, and nothing else
 abbrev pub refusal_of : ClusterState → Event → Option Refusal
-refusal_of x (Decide e) = decision_refusal x.layer.manager e
+refusal_of x (Decide e) = decision_refusal x.stream_layer.manager e
 refusal_of x (GiveUp server range pick) = give_up_refusal range pick (entry_at x.servers server)
 refusal_of x (Assign range server until) = assign_refusal x.map x.moment range server
 refusal_of x (Renew range server until) = renew_refusal x.map range server

@@ -26,7 +26,7 @@ use world_streams::{Setup, StreamLayer, WorldFault};
 /// the last moment of the clock; and how many transactions a group may hold.
 #[derive(Drop)]
 pub(crate) struct Cluster {
-    layer: StreamLayer,
+    stream_layer: StreamLayer,
     servers: Servers,
     map: MapActor,
     moment: u64,
@@ -38,7 +38,7 @@ impl Model for Cluster {
 
     ghost Value = { ClusterState };
 
-    ghost view = { λ c. record { layer = c.layer; servers = c.servers; map = c.map; moment = c.moment; batch = c.batch } };
+    ghost view = { λ c. record { stream_layer = c.stream_layer; servers = c.servers; map = c.map; moment = c.moment; batch = c.batch } };
 }
 
 /// Brings the map back, with what is on its disk. An error is out of memory (22), and nothing has changed.
@@ -58,8 +58,8 @@ impl Cluster {
     pub(crate) fn start(alloc: Global, setup: &Setup) -> Result<Cluster, WorldFault>
         ensures { IfOk result (λ run. ClusterMirrors run (first_cluster setup.now.nodes setup.now.servers setup.now.target setup.now.batch)) }
     {
-        let layer = match StreamLayer::start(alloc, setup) {
-            Ok(layer) => layer,
+        let stream_layer = match StreamLayer::start(alloc, setup) {
+            Ok(stream_layer) => stream_layer,
             Err(fault) => return Err(fault),
         };
         let Ok(map) = MapActor::start(alloc) else {
@@ -67,7 +67,7 @@ impl Cluster {
         };
         match Servers::start(alloc, setup.servers, setup.batch) {
             Ok(servers) => Ok(Cluster {
-                layer,
+                stream_layer,
                 servers,
                 map,
                 moment: 0,
@@ -88,14 +88,14 @@ impl Cluster {
         ensures ok { OnOk result (ClusterSimulates self.old self.new (events.Submit user to body.now)) }
         ensures err { OnErr result (self.new ≡ self.old) }
     {
-        self.layer.submit(alloc, user, to, body)
+        self.stream_layer.submit(alloc, user, to, body)
     }
 
     /// Whom the packet of a number is for; none where no packet has it.
     fn addressee(&self, number: usize) -> Option<ActorId>
-        ensures { result ≡ addressee_of (slice_get self.now.layer.post number) }
+        ensures { result ≡ addressee_of (slice_get self.now.stream_layer.post number) }
     {
-        match self.layer.sent().get(number) {
+        match self.stream_layer.sent().get(number) {
             None => None,
             Some(packet) => Some(packet.to),
         }
@@ -103,20 +103,21 @@ impl Cluster {
 
     /// The server takes the packet of this number, which is for it.
     fn give(&mut self, alloc: Global, server: ServerNo, number: usize) -> Result<(), WorldFault>
-        requires { addressee_of (slice_get self.old.layer.post number) ≡ Some (actors.Server server) }
+        requires { addressee_of (slice_get self.old.stream_layer.post number) ≡ Some (actors.Server server) }
         ensures ok { OnOk result (ClusterSimulates self.old self.new (events.Deliver number)) }
         ensures err { OnErr result (self.new ≡ self.old) }
     {
-        self.layer.give(alloc, &mut self.servers, server, number)
+        self.stream_layer
+            .give(alloc, &mut self.servers, server, number)
     }
 
     /// The map takes the packet of this number, which is for it.
     fn route(&mut self, alloc: Global, number: usize) -> Result<(), WorldFault>
-        requires { addressee_of (slice_get self.old.layer.post number) ≡ Some actors.Map }
+        requires { addressee_of (slice_get self.old.stream_layer.post number) ≡ Some actors.Map }
         ensures ok { OnOk result (ClusterSimulates self.old self.new (events.Deliver number)) }
         ensures err { OnErr result (self.new ≡ self.old) }
     {
-        self.layer.route(alloc, &mut self.map, number)
+        self.stream_layer.route(alloc, &mut self.map, number)
     }
 
     /// The packet of this number comes to whom it is for.
@@ -126,7 +127,7 @@ impl Cluster {
         to: ActorId,
         number: usize,
     ) -> Result<Option<Refusal>, WorldFault>
-        requires { addressee_of (slice_get self.old.layer.post number) ≡ Some to }
+        requires { addressee_of (slice_get self.old.stream_layer.post number) ≡ Some to }
         ensures none { IfOk result (λ refusal. refusal ≡ None) }
         ensures ok { OnOk result (ClusterSimulates self.old self.new (events.Deliver number)) }
         ensures err { OnErr result (self.new ≡ self.old) }
@@ -148,12 +149,12 @@ impl Cluster {
 
     /// The packet of this number comes to the stream layer.
     fn pass_on(&mut self, alloc: Global, number: usize) -> Result<Option<Refusal>, WorldFault>
-        requires { IfSome (addressee_of (slice_get self.old.layer.post number)) IsBelow }
+        requires { IfSome (addressee_of (slice_get self.old.stream_layer.post number)) IsBelow }
         ensures none { IfOk result (λ refusal. refusal ≡ None) }
         ensures ok { OnOk result (ClusterSimulates self.old self.new (events.Deliver number)) }
         ensures err { OnErr result (self.new ≡ self.old) }
     {
-        self.layer.deliver(alloc, number)
+        self.stream_layer.deliver(alloc, number)
     }
 
     fn deliver(&mut self, alloc: Global, number: usize) -> Result<Option<Refusal>, WorldFault>
@@ -172,8 +173,8 @@ impl Cluster {
     {
         match actor {
             ActorId::Server(server) => self.servers.stop(server, call),
-            ActorId::Node(_) => self.layer.stop(actor, call, keep),
-            ActorId::Manager => self.layer.stop(actor, call, keep),
+            ActorId::Node(_) => self.stream_layer.stop(actor, call, keep),
+            ActorId::Manager => self.stream_layer.stop(actor, call, keep),
             ActorId::Map => self.map.stop(call, keep),
             ActorId::User(_) => {}
         }
@@ -188,19 +189,19 @@ impl Cluster {
                 self.servers.restart(alloc, server, self.moment, self.batch);
                 Ok(())
             }
-            ActorId::Node(_) => self.layer.restart(alloc, actor),
-            ActorId::Manager => self.layer.restart(alloc, actor),
+            ActorId::Node(_) => self.stream_layer.restart(alloc, actor),
+            ActorId::Manager => self.stream_layer.restart(alloc, actor),
             ActorId::Map => restart_map(&mut self.map, alloc),
             ActorId::User(_) => Ok(()),
         }
     }
 
     fn decide(&mut self, alloc: Global, extent: ExtentId) -> Result<Option<Refusal>, WorldFault>
-        ensures refusal { IfOk result (λ refusal. refusal ≡ decision_refusal self.old.layer.manager extent) }
+        ensures refusal { IfOk result (λ refusal. refusal ≡ decision_refusal self.old.stream_layer.manager extent) }
         ensures ok { OnOk result (ClusterSimulates self.old self.new (events.Decide extent)) }
         ensures err { OnErr result (self.new ≡ self.old) }
     {
-        self.layer.decide(alloc, extent)
+        self.stream_layer.decide(alloc, extent)
     }
 
     fn give_up(
@@ -214,7 +215,7 @@ impl Cluster {
         ensures ok { OnOk result (ClusterSimulates self.old self.new (events.GiveUp server range pick.now)) }
         ensures err { OnErr result (self.new ≡ self.old) }
     {
-        self.layer
+        self.stream_layer
             .give_up(alloc, &mut self.servers, server, range, pick)
     }
 
@@ -229,7 +230,7 @@ impl Cluster {
         ensures ok { OnOk result (ClusterSimulates self.old self.new (events.Assign range server until)) }
         ensures err { OnErr result (self.new ≡ self.old) }
     {
-        self.layer
+        self.stream_layer
             .assign(alloc, &mut self.map, range, server, self.moment, until)
     }
 
@@ -244,7 +245,8 @@ impl Cluster {
         ensures ok { OnOk result (ClusterSimulates self.old self.new (events.Renew range server until)) }
         ensures err { OnErr result (self.new ≡ self.old) }
     {
-        self.layer.renew(alloc, &mut self.map, range, server, until)
+        self.stream_layer
+            .renew(alloc, &mut self.map, range, server, until)
     }
 
     fn show_moment(&mut self, moment: u64)
@@ -304,22 +306,22 @@ impl Cluster {
 
     /// All packets that were sent, in order.
     pub(crate) fn sent(&self) -> &[Packet]
-        ensures { result.now ≡ self.now.layer.post }
+        ensures { result.now ≡ self.now.stream_layer.post }
     {
-        self.layer.sent()
+        self.stream_layer.sent()
     }
 
     /// All observations, in order.
     pub(crate) fn observations(&self) -> &[Note]
-        ensures { result.now ≡ self.now.layer.notes }
+        ensures { result.now ≡ self.now.stream_layer.notes }
     {
-        self.layer.observations()
+        self.stream_layer.observations()
     }
 
     /// The node of a number, from 1; none where it is stopped, or there is none.
     pub(crate) fn node(&self, number: u8) -> Option<&Node<MemDisk>>
-        ensures { option_map (λ node. seen_of node.now) result ≡ running_at self.now.layer.nodes number }
+        ensures { option_map (λ node. seen_of node.now) result ≡ running_at self.now.stream_layer.nodes number }
     {
-        self.layer.node(number)
+        self.stream_layer.node(number)
     }
 }

@@ -70,7 +70,7 @@ impl Run {
 
     /// All packets that were sent, in order: their places, from 0, are their numbers.
     pub fn sent(&self) -> &[Packet]
-        ensures { result.now ≡ self.now.layer.post }
+        ensures { result.now ≡ self.now.stream_layer.post }
     {
         self.cluster.sent()
     }
@@ -79,7 +79,7 @@ impl Run {
     /// agrees, and every acknowledged append stands in it at its answered offset; and each table that a load shows is that
     /// of a line of transactions that has every one that was acknowledged under an earlier generation, in order, each once.
     pub fn observations(&self) -> &[Note]
-        ensures notes { result.now ≡ self.now.layer.notes }
+        ensures notes { result.now ≡ self.now.stream_layer.notes }
         ensures agree { Agree result.now }
         ensures kept { Kept result.now }
         ensures replays { Replays result.now }
@@ -89,7 +89,7 @@ impl Run {
 
     /// The node of a number, from 1; none where it is stopped, or where there is none.
     pub fn node(&self, number: u8) -> Option<&Node<MemDisk>>
-        ensures { option_map (λ node. seen_of node.now) result ≡ running_at self.now.layer.nodes number }
+        ensures { option_map (λ node. seen_of node.now) result ≡ running_at self.now.stream_layer.nodes number }
     {
         self.cluster.node(number)
     }

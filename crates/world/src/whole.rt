@@ -18,9 +18,9 @@ use world_streams::{Setup, WorldFault};
 /// each once.
 pub fn run(alloc: Global, setup: &Setup, events: &[Event]) -> Result<Finished, WorldFault>
     ensures led { IfOk result (λ r. ReachedBy events.now (first_cluster setup.now.nodes setup.now.servers setup.now.target setup.now.batch) r) }
-    ensures agree { IfOk result (λ r. Agree r.layer.notes) }
-    ensures kept { IfOk result (λ r. Kept r.layer.notes) }
-    ensures replays { IfOk result (λ r. Replays r.layer.notes) }
+    ensures agree { IfOk result (λ r. Agree r.stream_layer.notes) }
+    ensures kept { IfOk result (λ r. Kept r.stream_layer.notes) }
+    ensures replays { IfOk result (λ r. Replays r.stream_layer.notes) }
 {
     let mut made = Finished::start(alloc, setup)?;
     for event in events {

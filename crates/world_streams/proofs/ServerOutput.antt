@@ -88,7 +88,7 @@ took r x after o sent is nodes manager post notes =
     let posts : x.post ≡ r.post ++ o.packets = post ∙ ap (λ (p : ServersOutcome). r.post ++ p.packets) (sym is) in
     let all : x.notes ≡ noted r.notes o.notes = notes ∙ ap (λ (p : ServersOutcome). noted r.notes p.notes) (sym is) in
     record {
-      layer = λ i. record { nodes = nodes i; manager = manager i; post = posts i; notes = all i };
+      stream_layer = λ i. record { nodes = nodes i; manager = manager i; post = posts i; notes = all i };
       servers_are = ap (λ (p : ServersOutcome). p.servers) (sym is);
     }
 
@@ -107,6 +107,6 @@ pub routed : (r x : StreamLayerState) (k : ℕ) (d : Packet) (sent : List Packet
     steps d sent → x ≡ record r { post = r.post ++ sent } → (p : Packet) → slice_get r.post k ≡ Some p → AfterMap r x (steps p)
 routed r x k d sent steps there is holds layer p found = record {
   packets = sent;
-  layer = layer;
+  stream_layer = layer;
   steps_are = subst (λ (q : Packet). steps q sent) (same_Some d p (ap Some is ∙ sym (get_at r.post k d there) ∙ found)) holds;
 }

@@ -17,7 +17,7 @@ with_sent r packets notes = record r { post = r.post ++ packets; notes = noted r
 
 -- the layer and the servers after a step of the servers
 pub record AfterServers (r x : StreamLayerState) (servers : List ServerCell) (o : ServersOutcome) : Type 0 where
-  pub layer : x ≡ with_sent r o.packets o.notes
+  pub stream_layer : x ≡ with_sent r o.packets o.notes
   pub servers_are : servers ≡ o.servers
 
 -- the server of a number takes this packet, whatever its caches hold after it
@@ -48,5 +48,5 @@ told_with (tables.Loaded range generation entries indexes next) rows = notes.Loa
 -- the layer with what the map sends in a step, of which this holds
 pub record AfterMap (r x : StreamLayerState) (steps : List Packet → Type 0) : Type 0 where
   pub packets : List Packet
-  pub layer : x ≡ record r { post = r.post ++ packets }
+  pub stream_layer : x ≡ record r { post = r.post ++ packets }
   pub steps_are : steps packets

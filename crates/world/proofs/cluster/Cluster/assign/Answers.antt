@@ -6,6 +6,6 @@ use Rattle.world.proofs.cluster.Cluster.assign.Goals as goal
 
 pub returns-clause-ok : goal.returns-clause-ok
 returns-clause-ok c =
-    let was : ClusterState = state c.self.inside.layer c.self.inside.servers c.self.inside.map c.self.inside.moment c.self.inside.batch in
-    subst (λ (x : ClusterState). OnOk c.assign.result (ClusterSimulates x (record was { layer = c.assign.new.self; map = c.assign.new.map }) (Assign c.args.range c.args.server c.args.until))) c.self.view_is
+    let was : ClusterState = state c.self.inside.stream_layer c.self.inside.servers c.self.inside.map c.self.inside.moment c.self.inside.batch in
+    subst (λ (x : ClusterState). OnOk c.assign.result (ClusterSimulates x (record was { stream_layer = c.assign.new.self; map = c.assign.new.map }) (Assign c.args.range c.args.server c.args.until))) c.self.view_is
     (if_ok c.assign.result (assign_came was c.assign.new.self c.assign.new.map c.args.range c.args.server c.args.until) c.assign.ensures.ok)

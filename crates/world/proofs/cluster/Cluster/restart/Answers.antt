@@ -7,19 +7,19 @@ use Rattle.world.proofs.cluster.Cluster.restart.Goals as goal
 
 pub returns-in-Node-clause-ok : goal.returns-in-Node-clause-ok
 returns-in-Node-clause-ok c =
-    let was : ClusterState = state c.self.inside.layer c.self.inside.servers c.self.inside.map c.self.inside.moment c.self.inside.batch in
-    subst (λ (x : ClusterState). OnOk c.restart-in-Node.result (ClusterSimulates x (record was { layer = c.restart-in-Node.new.self }) (Restart c.args.actor))) c.self.view_is
+    let was : ClusterState = state c.self.inside.stream_layer c.self.inside.servers c.self.inside.map c.self.inside.moment c.self.inside.batch in
+    subst (λ (x : ClusterState). OnOk c.restart-in-Node.result (ClusterSimulates x (record was { stream_layer = c.restart-in-Node.new.self }) (Restart c.args.actor))) c.self.view_is
     (if_ok c.restart-in-Node.result (restart_came was c.restart-in-Node.new.self c.args.actor (subst IsBelow (sym c.in-Node.is) tt)) c.restart-in-Node.ensures.ok)
 
 pub returns-in-Manager-clause-ok : goal.returns-in-Manager-clause-ok
 returns-in-Manager-clause-ok c =
-    let was : ClusterState = state c.self.inside.layer c.self.inside.servers c.self.inside.map c.self.inside.moment c.self.inside.batch in
-    subst (λ (x : ClusterState). OnOk c.restart-in-Manager.result (ClusterSimulates x (record was { layer = c.restart-in-Manager.new.self }) (Restart c.args.actor))) c.self.view_is
+    let was : ClusterState = state c.self.inside.stream_layer c.self.inside.servers c.self.inside.map c.self.inside.moment c.self.inside.batch in
+    subst (λ (x : ClusterState). OnOk c.restart-in-Manager.result (ClusterSimulates x (record was { stream_layer = c.restart-in-Manager.new.self }) (Restart c.args.actor))) c.self.view_is
     (if_ok c.restart-in-Manager.result (restart_came was c.restart-in-Manager.new.self c.args.actor (subst IsBelow (sym c.in-Manager.is) tt)) c.restart-in-Manager.ensures.ok)
 
 pub returns-in-Map-clause-ok : goal.returns-in-Map-clause-ok
 returns-in-Map-clause-ok c =
-    let was : ClusterState = state c.self.inside.layer c.self.inside.servers c.self.inside.map c.self.inside.moment c.self.inside.batch in
+    let was : ClusterState = state c.self.inside.stream_layer c.self.inside.servers c.self.inside.map c.self.inside.moment c.self.inside.batch in
     subst (λ (x : ClusterState). OnOk c.restart_map.result (ClusterSimulates x (record was { map = c.restart_map.new.map }) (Restart c.args.actor))) c.self.view_is
     (subst (λ (a : ActorId). OnOk c.restart_map.result (ClusterSimulates was (record was { map = c.restart_map.new.map }) (Restart a))) (sym c.in-Map.is)
     (if_ok c.restart_map.result (restart_map_came was c.restart_map.new.map) c.restart_map.ensures.ok))

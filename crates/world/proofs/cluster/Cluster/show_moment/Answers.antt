@@ -7,7 +7,7 @@ use Rattle.world.proofs.cluster.Cluster.show_moment.Goals as goal
 
 pub returns : goal.returns
 returns c =
-    let was : ClusterState = state c.self.inside.layer c.self.inside.servers c.self.inside.map c.self.inside.moment c.self.inside.batch in
+    let was : ClusterState = state c.self.inside.stream_layer c.self.inside.servers c.self.inside.map c.self.inside.moment c.self.inside.batch in
     let on : c.self.inside.moment ≤ c.args.moment = c.if-moment-self.false in
     let test : nat_lt c.args.moment c.self.inside.moment ≡ false = grind (arith, nat_tests) in
     subst (λ (x : ClusterState). ClusterSimulates x (record was { moment = c.args.moment; servers = c.moment.new.self }) (Moment c.args.moment)) c.self.view_is

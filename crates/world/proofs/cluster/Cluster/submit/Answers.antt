@@ -6,6 +6,6 @@ use Rattle.world.proofs.cluster.Cluster.submit.Goals as goal
 
 pub returns-clause-ok : goal.returns-clause-ok
 returns-clause-ok c =
-    let was : ClusterState = state c.self.inside.layer c.self.inside.servers c.self.inside.map c.self.inside.moment c.self.inside.batch in
-    subst (λ (x : ClusterState). OnOk c.submit.result (ClusterSimulates x (record was { layer = c.submit.new.self }) (Submit c.args.user c.args.to c.args.body.now))) c.self.view_is
+    let was : ClusterState = state c.self.inside.stream_layer c.self.inside.servers c.self.inside.map c.self.inside.moment c.self.inside.batch in
+    subst (λ (x : ClusterState). OnOk c.submit.result (ClusterSimulates x (record was { stream_layer = c.submit.new.self }) (Submit c.args.user c.args.to c.args.body.now))) c.self.view_is
     (if_ok c.submit.result (submit_came was c.submit.new.self c.args.user c.args.to c.args.body.now) c.submit.ensures.ok)

@@ -2,7 +2,7 @@ use Rattle.std.proofs.Common.{rules}
 use Rattle.world_streams.proofs.stream_layer.StreamLayer.assign.Goals as goal
 
 pub returns-in-Ok-clause-ok : goal.returns-in-Ok-clause-ok
-returns-in-Ok-clause-ok c = rw (← c.self.view_is) (record { packets = c.in-Ok.answer.packets; layer = cc; steps_are = c.in-Ok.ensures.ok })
+returns-in-Ok-clause-ok c = rw (← c.self.view_is) (record { packets = c.in-Ok.answer.packets; stream_layer = cc; steps_are = c.in-Ok.ensures.ok })
 
 pub returns-in-Ok-clause-refusal : goal.returns-in-Ok-clause-refusal
 returns-in-Ok-clause-refusal c = search rules
