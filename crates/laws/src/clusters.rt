@@ -26,11 +26,11 @@ pub fn servers_take_steps()
 /// Whatever servers and the map do, each event is some moves of the stream layer. So in every run with servers all that is
 /// shown of an extent agrees, and what is acknowledged is kept where it was acknowledged.
 pub fn runs_are_moves()
-    ensures event { (c : Cluster) (event : Event) (held : CacheContent) → ByMoves c.world (cluster_after c event held).world }
+    ensures event { (c : Cluster) (event : Event) (held : CacheContent) → ByMoves c.stream_layer (cluster_after c event held).stream_layer }
     ensures agree { (nodes servers target batch : ℕ) (events : List Event) (c : Cluster) →
-        LeadTo events (first_cluster nodes servers target batch) c → Agree c.world.notes }
+        LeadTo events (first_cluster nodes servers target batch) c → Agree c.stream_layer.notes }
     ensures kept { (nodes servers target batch : ℕ) (events : List Event) (c : Cluster) →
-        LeadTo events (first_cluster nodes servers target batch) c → Kept c.world.notes }
+        LeadTo events (first_cluster nodes servers target batch) c → Kept c.stream_layer.notes }
 {}
 
 /// Whatever is asked, delivered, lost or repeated, whoever stops, comes back or gives up, and whoever is assigned the range: each
@@ -38,7 +38,7 @@ pub fn runs_are_moves()
 /// order, each once; and it comes of streams that keep their order.
 pub fn runs_replay()
     ensures replays { (nodes servers target batch : ℕ) (events : List Event) (c : Cluster) →
-        LeadTo events (first_cluster nodes servers target batch) c → Replays c.world.notes }
+        LeadTo events (first_cluster nodes servers target batch) c → Replays c.stream_layer.notes }
     ensures ordered { (nodes servers target batch : ℕ) (events : List Event) (c : Cluster) →
-        LeadTo events (first_cluster nodes servers target batch) c → ComesOfStreams c.world.notes }
+        LeadTo events (first_cluster nodes servers target batch) c → ComesOfStreams c.stream_layer.notes }
 {}

@@ -23,13 +23,13 @@ use Rattle.laws_ranges.specs.Sound.{IsSound}
 use Rattle.laws_ranges.proofs.TurnsAsMoves.{stand_of}
 use Rattle.laws_log_reads.specs.Reads.{HasRead}
 use Rattle.laws_clusters.specs.Fitting.{AreFitMoves, AreUnformedMoves}
-use Rattle.laws_clusters.proofs.StreamMachines.{world, Beside}
+use Rattle.laws_clusters.proofs.StreamMachines.{system, Beside}
 use Rattle.laws_clusters.proofs.OneRange.{IsWord, AreFirst}
 use Rattle.laws_clusters.proofs.RequestNumbers.{AllPast}
 use Rattle.laws_clusters.proofs.ObservedNotes.{Tells}
 
 module _ (generation : ℕ → ℕ) (nodes target : ℕ) where
-  -- the machines of both streams, after these moves of the world
+  -- the machines of both streams, after these moves of the system
   pub record Streams (moves : List Move) : Type 0 where
     pub m : List (machine.Move Group generation)
     pub l : List (machine.Move Group generation)
@@ -44,7 +44,7 @@ module _ (generation : ℕ → ℕ) (nodes target : ℕ) where
     pub apart : Apart m_sent l_sent
 
   abbrev pub here : List Move → StreamSystem
-  here moves = world generation 1 nodes target moves
+  here moves = system generation 1 nodes target moves
 
   module _ (moves : List Move) (x : Streams moves) where
     abbrev pub m_side : ℕ → Side
@@ -73,11 +73,11 @@ module _ (generation : ℕ → ℕ) (nodes target : ℕ) where
   -- all of a cluster
   pub record Standing (c : Cluster) : Type 0 where
     pub moves : List Move
-    pub leads : here moves ≡ c.world
+    pub leads : here moves ≡ c.stream_layer
     pub streams : Streams moves
     pub m_past : AllPast c.servers streams.m_sent
     pub l_past : AllPast c.servers streams.l_sent
-    pub from_map : (to : ActorId) (body : Body) → Contains c.world.post (packet Map to body) → IsWord body
+    pub from_map : (to : ActorId) (body : Body) → Contains c.stream_layer.post (packet Map to body) → IsWord body
     pub first_range : AreFirst c.map.ranges
     -- the incarnation that a server's range is of, if it has one; those from a bound on have done nothing
     pub incarnation : ℕ → Option ℕ
@@ -89,5 +89,5 @@ module _ (generation : ℕ → ℕ) (nodes target : ℕ) where
     pub servers : (s : ℕ) (cell : ServerCell) (st : ServerState) → entry_at c.servers s ≡ Some cell → cell.state ≡ Some st → Runs moves streams (incarnation s) s cell st
     -- what was observed, and the rows of each load
     pub rows : ℕ → List Row
-    pub tells : Tells rows c.world.notes (after_all Group generation streams.l).state.story
+    pub tells : Tells rows c.stream_layer.notes (after_all Group generation streams.l).state.story
     pub shows : ShowsTables rows (renamed decoded (after_all Group generation streams.l).state.story)

@@ -20,12 +20,12 @@ module _ (generation : ℕ → ℕ) (nodes target : ℕ) where
   another_map c m cell first x = rests_as generation nodes target c (record c { map = m; map_cell = cell }) x refl first (λ q past. past) (still_runs c.servers)
 
   sends_stand : (c : Cluster) (m : MapState) (cell : ActorCell) (packets : List Packet) → AreFirst m.ranges → Tells packets → Stands c →
-      Stands (record c { map = m; map_cell = cell; world = sent_more c.world packets })
+      Stands (record c { map = m; map_cell = cell; stream_layer = sent_more c.stream_layer packets })
   sends_stand c m cell packets first (Nothing is) x =
-      subst (λ ps. Stands (record c { map = m; map_cell = cell; world = sent_more c.world ps })) (sym is)
-      (rests_as generation nodes target c (record c { map = m; map_cell = cell; world = sent_more c.world [] }) x (told_nothing c.world) first (λ q past. past) (still_runs c.servers))
+      subst (λ ps. Stands (record c { map = m; map_cell = cell; stream_layer = sent_more c.stream_layer ps })) (sym is)
+      (rests_as generation nodes target c (record c { map = m; map_cell = cell; stream_layer = sent_more c.stream_layer [] }) x (told_nothing c.stream_layer) first (λ q past. past) (still_runs c.servers))
   sends_stand c m cell packets first (Word to body is word) x =
-      subst (λ ps. Stands (record c { map = m; map_cell = cell; world = sent_more c.world ps })) (sym is) (map_says_stands generation nodes target c x to body word m cell first)
+      subst (λ ps. Stands (record c { map = m; map_cell = cell; stream_layer = sent_more c.stream_layer ps })) (sym is) (map_says_stands generation nodes target c x to body word m cell first)
 
   does_stand : (c : Cluster) (o : Outcome MapState) → IsRule o → Stands c → Stands (map_performs c o)
   does_stand c o rule x =

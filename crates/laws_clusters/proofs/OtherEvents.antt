@@ -163,8 +163,8 @@ module _ (generation : ℕ → ℕ) (nodes target : ℕ) where
     held = subst (λ z. HeldAs generation nodes target x.moves x.streams (x.incarnation s) z) (sym none) tt;
   }
 
-  -- the same world, and the same streams
-  pub rests_as : (c d : Cluster) (x : Standing generation nodes target c) → d.world ≡ c.world → AreFirst d.map.ranges → ((q : ReqNo) → IsPast c.servers q → IsPast d.servers q) →
+  -- the same stream system, and the same streams
+  pub rests_as : (c d : Cluster) (x : Standing generation nodes target c) → d.stream_layer ≡ c.stream_layer → AreFirst d.map.ranges → ((q : ReqNo) → IsPast c.servers q → IsPast d.servers q) →
       ((s : ℕ) (cell : ServerCell) (st : ServerState) → entry_at d.servers s ≡ Some cell → cell.state ≡ Some st → RunsAs c.servers s cell st) → Standing generation nodes target d
   rests_as c d x same first past runs = record {
     moves = x.moves;
@@ -200,8 +200,8 @@ module _ (generation : ℕ → ℕ) (nodes target : ℕ) where
             subst (λ k. RunsAs c.servers k other z) same (subst (λ y. RunsAs c.servers s y z) cell_is (runs z (ap (λ (y : ServerCell). y.state) cell_is ∙ up)))
         go false e = still_runs c.servers u other z (sym (entry_other c.servers s cell next at u (λ q. grind (arith, nat_tests))) ∙ there) up
 
-    pub one_stands : (w : StreamSystem) → w ≡ c.world → Standing generation nodes target c → Standing generation nodes target (record c { world = w; servers = slice_set c.servers (s - 1) next })
-    one_stands w same x = rests_as c (record c { world = w; servers = slice_set c.servers (s - 1) next }) x same x.first_range (past_on c.servers s cell next at past) all_run
+    pub one_stands : (w : StreamSystem) → w ≡ c.stream_layer → Standing generation nodes target c → Standing generation nodes target (record c { stream_layer = w; servers = slice_set c.servers (s - 1) next })
+    one_stands w same x = rests_as c (record c { stream_layer = w; servers = slice_set c.servers (s - 1) next }) x same x.first_range (past_on c.servers s cell next at past) all_run
 
   -- what the server of a number does, if there is one
   pub cell_stands : (c : Cluster) (s : ℕ) (rule : ServerCell → ServerCell) → ((cell : ServerCell) (n k : ℕ) → PastAt cell n k → PastAt (rule cell) n k) →
@@ -210,8 +210,8 @@ module _ (generation : ℕ → ℕ) (nodes target : ℕ) where
   cell_stands c s rule past runs x = go (entry_at c.servers s) refl
     where
       go : (o : Option ServerCell) → entry_at c.servers s ≡ o → Standing generation nodes target (servers_perform c (at_server c.servers s (λ cell. cell_rests (rule cell)) o))
-      go None at = rests_as c (record c { world = with_told c.world [] [] }) x (told_nothing c.world) x.first_range (λ q p. p) (still_runs c.servers)
-      go (Some cell) at = one_stands c s cell (rule cell) at (past cell) (λ st up. runs cell st at up) (with_told c.world [] []) (told_nothing c.world) x
+      go None at = rests_as c (record c { stream_layer = with_told c.stream_layer [] [] }) x (told_nothing c.stream_layer) x.first_range (λ q p. p) (still_runs c.servers)
+      go (Some cell) at = one_stands c s cell (rule cell) at (past cell) (λ st up. runs cell st at up) (with_told c.stream_layer [] []) (told_nothing c.stream_layer) x
 
   -- a server stops
   pub stops_stand : (c : Cluster) (s call : ℕ) → Standing generation nodes target c → Standing generation nodes target (servers_perform c (server_stops c.servers s call))
@@ -273,13 +273,13 @@ module _ (generation : ℕ → ℕ) (nodes target : ℕ) where
       same_runs : (z : ServerState) → Some after ≡ Some z → RunsAs c.servers s (record cell { state = Some after }) z
       same_runs z e = let same : after ≡ z = cc in subst (λ y. RunsAs c.servers s (record cell { state = Some after }) y) same (Ran cell st at is server session refl ranges)
 
-      same_world_stands : (w : StreamSystem) → w ≡ c.world → Standing generation nodes target c →
-          Standing generation nodes target (record c { world = w; servers = slice_set c.servers (s - 1) (record cell { state = Some after }) })
-      same_world_stands w same x = one_stands c s cell (record cell { state = Some after }) at same_past same_runs w same x
+      same_system_stands : (w : StreamSystem) → w ≡ c.stream_layer → Standing generation nodes target c →
+          Standing generation nodes target (record c { stream_layer = w; servers = slice_set c.servers (s - 1) (record cell { state = Some after }) })
+      same_system_stands w same x = one_stands c s cell (record cell { state = Some after }) at same_past same_runs w same x
 
       -- the same ranges, up to the ends of their leases
       pub same_ranges_stand : Standing generation nodes target c → Standing generation nodes target (record c { servers = slice_set c.servers (s - 1) (record cell { state = Some after }) })
-      same_ranges_stand x = same_world_stands c.world refl x
+      same_ranges_stand x = same_system_stands c.stream_layer refl x
 
     pub picks_stand : (pick : Nodes) → Standing generation nodes target c →
         Standing generation nodes target (record c { servers = slice_set c.servers (s - 1) (record cell { state = Some (record st { context = record st.context { pick = pick } }) }) })
@@ -288,8 +288,8 @@ module _ (generation : ℕ → ℕ) (nodes target : ℕ) where
     -- a rule that sends and shows nothing
     pub quiet_stands : (o : ServerOutcome) → IsQuiet st o → Standing generation nodes target c → Standing generation nodes target (rule_done c s cell o)
     quiet_stands o q x =
-        same_world_stands o.after q.server q.session q.count q.ranges (with_told c.world o.packets o.notes)
-        (ap (λ ps. with_told c.world ps o.notes) q.packets ∙ ap (λ ns. with_told c.world [] ns) q.notes ∙ told_nothing c.world) x
+        same_system_stands o.after q.server q.session q.count q.ranges (with_told c.stream_layer o.packets o.notes)
+        (ap (λ ps. with_told c.stream_layer ps o.notes) q.packets ∙ ap (λ ns. with_told c.stream_layer [] ns) q.notes ∙ told_nothing c.stream_layer) x
 
     pub renew_stands : (range g until : ℕ) → Standing generation nodes target c → Standing generation nodes target (rule_done c s cell (renew_rule st range g until (range_of st.ranges range)))
     renew_stands range g until x = quiet_stands (renew_rule st range g until (range_of st.ranges range)) (renew_quiet st range g until) x
@@ -370,16 +370,16 @@ module _ (generation : ℕ → ℕ) (nodes target : ℕ) where
           held = held_on generation nodes target x.moves later x.streams streams (x.incarnation s) (x.incarnation s) refl st.ranges (λ j r mine h. still_holds j r h) before.held;
         }
 
-    still_from_map : (other : ActorId) (body : Body) → Contains (c.world.post ++ packet Map to told ∷ []) (packet Map other body) → IsWord body
+    still_from_map : (other : ActorId) (body : Body) → Contains (c.stream_layer.post ++ packet Map to told ∷ []) (packet Map other body) → IsWord body
     still_from_map other body there =
-        elim (Contains-append_cases c.world.post (packet Map to told ∷ []) (packet Map other body) there) [
+        elim (Contains-append_cases c.stream_layer.post (packet Map to told ∷ []) (packet Map other body) there) [
           | inl old ↦ x.from_map other body old
           | inr new ↦ subst IsWord (ap (λ (p : Packet). p.body) (only_one (packet Map other body) new)) word
         ]
 
     -- the map tells of range 1 alone
     pub map_says_stands : (told_map : MapState) (map_cell : MapCell) → AreFirst told_map.ranges →
-        Standing generation nodes target (record c { map = told_map; map_cell = map_cell; world = sent_more c.world (packet Map to told ∷ []) })
+        Standing generation nodes target (record c { map = told_map; map_cell = map_cell; stream_layer = sent_more c.stream_layer (packet Map to told ∷ []) })
     unfolding streams
     map_says_stands told_map map_cell first = record {
       moves = later;

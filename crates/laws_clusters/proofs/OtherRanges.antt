@@ -55,7 +55,7 @@ module _ (generation : ℕ → ℕ) (nodes target : ℕ) where
       let b = subst (λ z. StageIs generation 1 w i m l r z) stage f.stage in
       job_up (log_of 1) w i l.stand l.sent r.log r.log.job b.log.job
 
-  -- the same machine in a world with the same catalog
+  -- the same machine in a stream system with the same catalog
   pub wider_same : (name : StreamName) (w v : StreamSystem) (s : extents.MachineState Group) (sent : List Sent) → v.catalog ≡ w.catalog → Wider name w v s s sent sent
   wider_same name w v s sent same = record {
     facts = λ f m. m;

@@ -32,7 +32,7 @@ module _ (generation : ℕ → ℕ) (nodes target : ℕ) where
   pub same_at : (v w : StreamSystem) (name : StreamName) → v.catalog ≡ w.catalog → (index e : ℕ) → IsAt w name index e → IsAt v name index e
   same_at v w name same index e at = subst (λ (b : Catalog). slice_get (extents_of (stream_of b.stream name)) index ≡ Some e) (sym same) at
 
-  -- turns of an incarnation and one more number, in a world with the same catalog
+  -- turns of an incarnation and one more number, in a stream system with the same catalog
   wider_on : (name : StreamName) (v w : StreamSystem) → v.catalog ≡ w.catalog → (earlier : List (machine.Move Group generation)) (i : ℕ) (ts : List (Turn Group)) (sent more : List Sent) →
       ((q : ReqNo) (p : Purpose) → purpose_of sent q ≡ Some p → purpose_of more q ≡ Some p) →
       Wider name w v (after_all Group generation earlier).state (after_all Group generation (moves_of generation i ts ++ earlier)).state sent more

@@ -263,12 +263,12 @@ module _ (generation : ℕ → ℕ) (plenty : (g n : ℕ) → (i : ℕ) × (n �
     word_good (maps.Renew range g until) word = renew_stands generation nodes target c s cell st at is range g until x
     word_good body word = rests_good
 
-    from_map_good : (p : Packet) (body : MapBody) → p.body ≡ bodies.Map body → Contains c.world.post p → Good (map_rule st p.from body)
+    from_map_good : (p : Packet) (body : MapBody) → p.body ≡ bodies.Map body → Contains c.stream_layer.post p → Good (map_rule st p.from body)
     from_map_good p body e there = go p.from refl
       where
         told : p.from ≡ Map → Good (told_by_map st body)
         told from_it =
-            word_good body (subst IsWord e (x.from_map p.to p.body (subst (λ z. Contains c.world.post (packet z p.to p.body)) from_it there)))
+            word_good body (subst IsWord e (x.from_map p.to p.body (subst (λ z. Contains c.stream_layer.post (packet z p.to p.body)) from_it there)))
 
         go : (f : ActorId) → p.from ≡ f → Good (map_rule st f body)
         go Map from_it = told from_it
@@ -277,7 +277,7 @@ module _ (generation : ℕ → ℕ) (plenty : (g n : ℕ) → (i : ℕ) × (n �
         go (Server t) from_it = rests_good
         go (actors.User u) from_it = rests_good
 
-    taken_body : (p : Packet) → Contains c.world.post p → p.to ≡ Server s → (held : List (Place × List ℕ)) (b : Body) → p.body ≡ b → Good (taken_rule st p b held)
+    taken_body : (p : Packet) → Contains c.stream_layer.post p → p.to ≡ Server s → (held : List (Place × List ℕ)) (b : Body) → p.body ≡ b → Good (taken_rule st p b held)
     taken_body p there to held b e = go b e
       where
         in_post : Contains w.post (packet p.from (Server s) p.body)
@@ -292,7 +292,7 @@ module _ (generation : ℕ → ℕ) (plenty : (g n : ℕ) → (i : ℕ) × (n �
         go (bodies.Read body) e = numbered_good p in_post held (answered_number (bodies.Read body)) (ap answered_number e)
         go (bodies.Stream body) e = numbered_good p in_post held (answered_number (bodies.Stream body)) (ap answered_number e)
 
-    rule_good : (p : Packet) → Contains c.world.post p → p.to ≡ Server s → (held : List (Place × List ℕ)) → Good (server_rule st p p.body held)
+    rule_good : (p : Packet) → Contains c.stream_layer.post p → p.to ≡ Server s → (held : List (Place × List ℕ)) → Good (server_rule st p p.body held)
     rule_good p there to held = go (has_numbers st.context)
       where
         go : (b : Bool) → Good (if b then taken_rule st p p.body held else rests st)
@@ -312,7 +312,7 @@ module _ (generation : ℕ → ℕ) (plenty : (g n : ℕ) → (i : ℕ) × (n �
       (cell_stands generation nodes target c s (λ z. z) (λ z n k past. past) (λ z st found up. still_runs c.servers s z st found up) x)
 
   -- a server takes a packet
-  pub takes_stands : (c : Cluster) → Standing generation nodes target c → (s : ℕ) (p : Packet) (held : CacheContent) → Contains c.world.post p → p.to ≡ Server s → Standing generation nodes target (servers_perform c (server_takes c.servers s p held))
+  pub takes_stands : (c : Cluster) → Standing generation nodes target c → (s : ℕ) (p : Packet) (held : CacheContent) → Contains c.stream_layer.post p → p.to ≡ Server s → Standing generation nodes target (servers_perform c (server_takes c.servers s p held))
   takes_stands c x s p held there to = go (entry_at c.servers s) refl
     where
       by_state : (cell : ServerCell) → entry_at c.servers s ≡ Some cell → (o : Option ServerState) → cell.state ≡ o →
@@ -322,7 +322,7 @@ module _ (generation : ℕ → ℕ) (plenty : (g n : ℕ) → (i : ℕ) × (n �
       by_state cell at (Some st) is = rule_good c x s cell st at is p there to held
 
       go : (o : Option ServerCell) → entry_at c.servers s ≡ o → Standing generation nodes target (servers_perform c (at_server c.servers s (λ cell. cell_takes cell p held cell.state) o))
-      go None at = subst (λ (z : StreamSystem). Standing generation nodes target (record c { world = z })) (sym (told_nothing c.world)) x
+      go None at = subst (λ (z : StreamSystem). Standing generation nodes target (record c { stream_layer = z })) (sym (told_nothing c.stream_layer)) x
       go (Some cell) at = by_state cell at cell.state refl
 
   -- a server is told to give up
@@ -337,7 +337,7 @@ module _ (generation : ℕ → ℕ) (plenty : (g n : ℕ) → (i : ℕ) × (n �
           let d : Cluster = record c { servers = slice_set c.servers (s - 1) next } in
           let y : Standing generation nodes target d = picks_stand generation nodes target c s cell st at is pick x in
           let given : Standing generation nodes target (rule_done d s next o) = give_up_rule_good d y s next now (entry_set c.servers s cell next at) refl range o e in
-          subst (λ z. Standing generation nodes target (record c { world = with_told c.world o.packets o.notes; servers = z })) (set_twice c.servers (s - 1) next (cell_performs cell o).cell) given
+          subst (λ z. Standing generation nodes target (record c { stream_layer = with_told c.stream_layer o.packets o.notes; servers = z })) (set_twice c.servers (s - 1) next (cell_performs cell o).cell) given
 
       by_rule : (cell : ServerCell) (st : ServerState) → entry_at c.servers s ≡ Some cell → cell.state ≡ Some st → (o : Option ServerOutcome) → give_up_rule st range pick ≡ o →
           Standing generation nodes target
@@ -352,5 +352,5 @@ module _ (generation : ℕ → ℕ) (plenty : (g n : ℕ) → (i : ℕ) × (n �
       by_state cell at (Some st) is = by_rule cell st at is (give_up_rule st range pick) refl
 
       go : (o : Option ServerCell) → entry_at c.servers s ≡ o → Standing generation nodes target (servers_perform c (at_server c.servers s (λ cell. cell_gives_up cell range pick cell.state) o))
-      go None at = subst (λ (z : StreamSystem). Standing generation nodes target (record c { world = z })) (sym (told_nothing c.world)) x
+      go None at = subst (λ (z : StreamSystem). Standing generation nodes target (record c { stream_layer = z })) (sym (told_nothing c.stream_layer)) x
       go (Some cell) at = by_state cell at cell.state refl

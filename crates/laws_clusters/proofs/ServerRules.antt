@@ -101,7 +101,7 @@ module _ (generation : ℕ → ℕ) (nodes target : ℕ) where
       next_cell = record cell { state = Some after }
 
       abbrev pub next_cluster : Cluster
-      next_cluster = record c { world = with_told c.world ps o.notes; servers = slice_set c.servers (s - 1) next_cell }
+      next_cluster = record c { stream_layer = with_told c.stream_layer ps o.notes; servers = slice_set c.servers (s - 1) next_cell }
 
       next : Next generation nodes target x.moves x.streams i st.context sent_by o t ps
       next = goes_on generation nodes target x.moves x.streams i st.context sent_by o t ps may asked
@@ -133,9 +133,9 @@ module _ (generation : ℕ → ℕ) (nodes target : ℕ) where
 
       -- ---- packets of the map
 
-      map_tells : (to : ActorId) (body : Body) → Contains (c.world.post ++ ps) (packet Map to body) → IsWord body
+      map_tells : (to : ActorId) (body : Body) → Contains (c.stream_layer.post ++ ps) (packet Map to body) → IsWord body
       map_tells to body there =
-          ⊎_elim {C = IsWord body} (λ old. x.from_map to body old) (λ new. absurd (senders (packet Map to body) new refl)) (Contains-append_cases c.world.post ps (packet Map to body) there)
+          ⊎_elim {C = IsWord body} (λ old. x.from_map to body old) (λ new. absurd (senders (packet Map to body) new refl)) (Contains-append_cases c.stream_layer.post ps (packet Map to body) there)
 
       -- ---- incarnations
 
@@ -208,7 +208,7 @@ module _ (generation : ℕ → ℕ) (nodes target : ℕ) where
       -- the cluster after the rule
       pub stepped : Standing generation nodes target next_cluster
       stepped =
-          let leads : here generation nodes target later ≡ with_told c.world ps o.notes = next.leads ∙ ap (λ z. with_told z ps o.notes) x.leads in
+          let leads : here generation nodes target later ≡ with_told c.stream_layer ps o.notes = next.leads ∙ ap (λ z. with_told z ps o.notes) x.leads in
           let story = ap (λ (z : Side). z.stand.state.story) next.l_side_is in
           record {
             moves = later;
@@ -225,6 +225,6 @@ module _ (generation : ℕ → ℕ) (nodes target : ℕ) where
             idle = idle_one;
             servers = all_run;
             rows = rows;
-            tells = subst (λ z. Tells rows (noted c.world.notes o.notes) z) (sym story) (subst (λ (z : StreamSystem). Tells rows (noted z.notes o.notes) (l_after generation nodes target x.moves x.streams i st.context sent_by o t).stand.state.story) x.leads tells);
+            tells = subst (λ z. Tells rows (noted c.stream_layer.notes o.notes) z) (sym story) (subst (λ (z : StreamSystem). Tells rows (noted z.notes o.notes) (l_after generation nodes target x.moves x.streams i st.context sent_by o t).stand.state.story) x.leads tells);
             shows = subst (λ z. ShowsTables rows (renamed decoded z)) (sym story) shows;
           }

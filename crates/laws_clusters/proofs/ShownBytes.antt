@@ -69,8 +69,8 @@ all_tell texts (note ∷ notes) each =
     (each note (0, omega arith, refl), all_tell texts notes (λ x c. each x (suc c.0, (let b : c.0 < length notes = c.1 in omega arith), c.2)))
 
 module _ (nodes target : ℕ) (moves : List Move) where
-  abbrev world : StreamSystem
-  world = run_moves moves (start nodes target)
+  abbrev system : StreamSystem
+  system = run_moves moves (start nodes target)
 
   -- the groups of each extent, one after the other
   abbrev pub script : ℕ → List Group
@@ -82,7 +82,7 @@ module _ (nodes target : ℕ) (moves : List Move) where
   known_all : moves ++ [] ≡ moves
   known_all = append-nil moves
 
-  tells : TellsAll texts world.notes
+  tells : TellsAll texts system.notes
   tells note c = go note (subst (λ m. Contains (run_moves m (start nodes target)).notes note) (sym known_all) c)
     where
       go : (note : Note) → Contains (run_moves (moves ++ []) (start nodes target)).notes note → TellsRightly texts note
@@ -97,5 +97,5 @@ module _ (nodes target : ℕ) (moves : List Move) where
       go (Merged left right range) c = tt
 
   -- all observations of extents tell what stands there
-  pub all_right : AllTellRightly texts world.notes
-  all_right = all_tell texts world.notes tells
+  pub all_right : AllTellRightly texts system.notes
+  all_right = all_tell texts system.notes tells

@@ -314,7 +314,7 @@ decide_bare b e (Some x) =
 abbrev AreOfLayer : List Packet → Type 0
 AreOfLayer ps = (p : Packet) → Contains ps p → IsOfLayer p.from
 
--- the second world shows no more of tables than the first, and whatever else is in its post is of the layer
+-- the second stream system shows no more of tables than the first, and whatever else is in its post is of the layer
 record Leaves (w v : StreamSystem) : Type 0 where
   tables : table_notes v.notes ≡ table_notes w.notes
   senders : (p : Packet) → Contains v.post p → Contains w.post p ⊎ IsOfLayer p.from

@@ -112,14 +112,14 @@ module _ (generation : ℕ → ℕ) (nodes target : ℕ) where
     }
 
     -- an event of the stream layer
-    pub happens_stands : Standing generation nodes target (record c { world = happens c.world event })
+    pub happens_stands : Standing generation nodes target (record c { stream_layer = happens c.stream_layer event })
     happens_stands = record {
       moves = later;
       leads = v_is ∙ ap (λ z. happens z event) x.leads;
       streams = streams;
       m_past = x.m_past;
       l_past = x.l_past;
-      from_map = λ to body there. x.from_map to body (happens_map c.world event to body there);
+      from_map = λ to body there. x.from_map to body (happens_map c.stream_layer event to body there);
       first_range = x.first_range;
       incarnation = x.incarnation;
       bound = x.bound;
@@ -134,6 +134,6 @@ module _ (generation : ℕ → ℕ) (nodes target : ℕ) where
             held = held_on generation nodes target x.moves later x.streams streams (x.incarnation s) (x.incarnation s) refl st.ranges (λ j r mine h. holds_on j r h) old.held;
           });
       rows = x.rows;
-      tells = happens_tables c.world event ∙ x.tells ∙ ap (λ z. observed x.rows (renamed decoded z)) (sym story);
+      tells = happens_tables c.stream_layer event ∙ x.tells ∙ ap (λ z. observed x.rows (renamed decoded z)) (sym story);
       shows = subst (λ z. ShowsTables x.rows (renamed decoded z)) (sym story) x.shows;
     }

@@ -38,8 +38,8 @@ use Rattle.laws_servers.specs.Sending.{MaySend, MaySendAll}
 use Rattle.laws_servers.proofs.EventsAsMoves.{is_shown}
 
 module _ (generation : ℕ → ℕ) (range nodes target : ℕ) where
-  abbrev pub world : List Move → StreamSystem
-  world moves = run_moves moves (start nodes target)
+  abbrev pub system : List Move → StreamSystem
+  system moves = run_moves moves (start nodes target)
 
   abbrev pub Machine : Type 0
   Machine = Whole Group generation
@@ -52,7 +52,7 @@ module _ (generation : ℕ → ℕ) (range nodes target : ℕ) where
   pub record Beside (moves : List Move) (m : Machine) (m_sent : List Sent) (l : Machine) (l_sent : List Sent) : Type 0 where
     pub metadata : Below generation (metadata_of range) nodes target moves m m_sent
     pub log : Below generation (log_of range) nodes target moves l l_sent
-    pub known : AllKnown (world moves) m_sent l_sent
+    pub known : AllKnown (system moves) m_sent l_sent
 
   -- ---- answers were asked for
 
@@ -66,21 +66,21 @@ module _ (generation : ℕ → ℕ) (range nodes target : ℕ) where
     all_moves : moves ++ [] ≡ moves
     all_moves = append-nil moves
 
-    append_asked : (b : AppendBody) → Contains (world moves).post (packet from (Server server) (bodies.Append b)) → meant_number (bodies.Append b) ≡ Some q → WasAsked (world moves) server q
+    append_asked : (b : AppendBody) → Contains (system moves).post (packet from (Server server) (bodies.Append b)) → meant_number (bodies.Append b) ≡ Some q → WasAsked (system moves) server q
     append_asked (Appended v e offset) c is =
         let a = (content_answered nodes target moves []).appended from (Server server) v e offset c in
         let same : v ≡ q = cc in
         record { to = from; body = bodies.Append (Append e a.generation a.blocks v); asked = a.asked; number = ap Some same }
     append_asked b c is = absurd cc
 
-    check_asked : (b : CheckBody) → Contains (world moves).post (packet from (Server server) (bodies.Check b)) → meant_number (bodies.Check b) ≡ Some q → WasAsked (world moves) server q
+    check_asked : (b : CheckBody) → Contains (system moves).post (packet from (Server server) (bodies.Check b)) → meant_number (bodies.Check b) ≡ Some q → WasAsked (system moves) server q
     check_asked (CheckedAt v (Some found)) c is =
         let a = (content_answered nodes target moves []).fences.checked (packet from (Server server) (bodies.Check (CheckedAt v (Some found)))) v found c refl in
         let same : v ≡ q = cc in
         record { to = from; body = bodies.Check (Check a.extent a.generation v); asked = a.asked; number = ap Some same }
     check_asked b c is = absurd cc
 
-    stream_asked : (b : StreamBody) → Contains (world moves).post (packet from (Server server) (bodies.Stream b)) → meant_number (bodies.Stream b) ≡ Some q → WasAsked (world moves) server q
+    stream_asked : (b : StreamBody) → Contains (system moves).post (packet from (Server server) (bodies.Stream b)) → meant_number (bodies.Stream b) ≡ Some q → WasAsked (system moves) server q
     stream_asked (Opened v lists) c is =
         let a = openings_answered nodes target moves from (Server server) v lists c in
         let same : v ≡ q = cc in
@@ -95,18 +95,18 @@ module _ (generation : ℕ → ℕ) (range nodes target : ℕ) where
         record { to = Manager; body = bodies.Stream (Extend a.name a.generation a.last a.pick v); asked = a.asked; number = ap Some same }
     stream_asked b c is = absurd cc
 
-    meant_asked : (b : Body) → Contains (world moves).post (packet from (Server server) b) → meant_number b ≡ Some q → WasAsked (world moves) server q
+    meant_asked : (b : Body) → Contains (system moves).post (packet from (Server server) b) → meant_number b ≡ Some q → WasAsked (system moves) server q
     meant_asked (bodies.Append b) c is = append_asked b c is
     meant_asked (bodies.Check b) c is = check_asked b c is
     meant_asked (bodies.Stream b) c is = stream_asked b c is
     meant_asked b c is = absurd cc
 
   -- a number that has no purpose in either stream is not used
-  pub is_unused : (moves : List Move) (m l : List Sent) (q : ReqNo) → AllKnown (world moves) m l → purpose_of m q ≡ None → purpose_of l q ≡ None → Unused (world moves) q
+  pub is_unused : (moves : List Move) (m l : List Sent) (q : ReqNo) → AllKnown (system moves) m l → purpose_of m q ≡ None → purpose_of l q ≡ None → Unused (system moves) q
   is_unused moves m l q known none other p c server v why = elim why [
-    | inl a ↦ differs (known server p.to p.body (subst (λ z. Contains (world moves).post (packet z p.to p.body)) a.0 c) v a.1)
+    | inl a ↦ differs (known server p.to p.body (subst (λ z. Contains (system moves).post (packet z p.to p.body)) a.0 c) v a.1)
     | inr b ↦
-        let a = meant_asked moves p.from server v p.body (subst (λ z. Contains (world moves).post (packet p.from z p.body)) b.0 c) b.1 in
+        let a = meant_asked moves p.from server v p.body (subst (λ z. Contains (system moves).post (packet p.from z p.body)) b.0 c) b.1 in
         differs (known server a.to a.body a.asked v a.number)
   ]
     where
@@ -146,7 +146,7 @@ module _ (generation : ℕ → ℕ) (range nodes target : ℕ) where
       go true t = absurd cc
       go false t = t
 
-  below_adds : (name : StreamName) (moves : List Move) (x : Machine) (sent : List Sent) (q : ReqNo) (o : Option Purpose) → purpose_of sent q ≡ None → Unused (world moves) q →
+  below_adds : (name : StreamName) (moves : List Move) (x : Machine) (sent : List Sent) (q : ReqNo) (o : Option Purpose) → purpose_of sent q ≡ None → Unused (system moves) q →
       Below generation name nodes target moves x sent → Below generation name nodes target moves x (sent_with q o sent)
   below_adds name moves x sent q None fresh unused b = b
   below_adds name moves x sent q (Some p) fresh unused b = below_sends generation name nodes target moves x sent b (record { request = q; purpose = p }) fresh unused
@@ -185,14 +185,14 @@ module _ (generation : ℕ → ℕ) (range nodes target : ℕ) where
   -- more moves lead there, and the machines are beside them
   pub record Further (moves : List Move) (v : StreamSystem) (m : Machine) (m_sent : List Sent) (l : Machine) (l_sent : List Sent) : Type 0 where
     pub after : List Move
-    pub leads : world (moves ++ after) ≡ v
+    pub leads : system (moves ++ after) ≡ v
     pub beside : Beside (moves ++ after) m m_sent l l_sent
 
   module _ (m : Machine) (m_sent : List Sent) (l : Machine) (l_sent : List Sent) where
-    known_more : (moves : List Move) (move : Move) (p : Packet) → (world (moves ++ move ∷ [])).post ≡ (world moves).post ++ p ∷ [] → AskedBoth (world moves) m m_sent l l_sent p.body →
-        AllKnown (world moves) m_sent l_sent → AllKnown (world (moves ++ move ∷ [])) m_sent l_sent
+    known_more : (moves : List Move) (move : Move) (p : Packet) → (system (moves ++ move ∷ [])).post ≡ (system moves).post ++ p ∷ [] → AskedBoth (system moves) m m_sent l l_sent p.body →
+        AllKnown (system moves) m_sent l_sent → AllKnown (system (moves ++ move ∷ [])) m_sent l_sent
     known_more moves move p is a known server to body c q asked none other =
-        elim (Contains-append_cases (world moves).post (p ∷ []) (packet (Server server) to body) (subst (λ ps. Contains ps (packet (Server server) to body)) is c)) [
+        elim (Contains-append_cases (system moves).post (p ∷ []) (packet (Server server) to body) (subst (λ ps. Contains ps (packet (Server server) to body)) is c)) [
           | inl old ↦ known server to body old q asked none other
           | inr new ↦ a.2 q (ap (λ (z : Packet). asked_number z.body) (only_one new) ∙ asked) none other
         ]
@@ -201,13 +201,13 @@ module _ (generation : ℕ → ℕ) (range nodes target : ℕ) where
         only_one (zero, less, is) = is
         only_one (suc k, less, is) = absurd (omega arith)
 
-    one_posted : (moves : List Move) (p : Packet) → MaySend p → AskedBoth (world moves) m m_sent l l_sent p.body → Beside moves m m_sent l l_sent → Further moves (sent_more (world moves) (p ∷ [])) m m_sent l l_sent
+    one_posted : (moves : List Move) (p : Packet) → MaySend p → AskedBoth (system moves) m m_sent l l_sent p.body → Beside moves m m_sent l l_sent → Further moves (sent_more (system moves) (p ∷ [])) m m_sent l l_sent
     one_posted moves p (inl may) a b =
         let move : Move = Asks may.server p.to p.body in
-        let leads : world (moves ++ move ∷ []) ≡ sent_more (world moves) (p ∷ []) =
+        let leads : system (moves ++ move ∷ []) ≡ sent_more (system moves) (p ∷ []) =
         run_moves_push moves move (start nodes target)
-        ∙ ap (λ (t : Bool). if t then sent_more (world moves) (packet (Server may.server) p.to p.body ∷ []) else world moves) may.call
-        ∙ ap (λ (from : ActorId). sent_more (world moves) (packet from p.to p.body ∷ [])) (sym may.from) in
+        ∙ ap (λ (t : Bool). if t then sent_more (system moves) (packet (Server may.server) p.to p.body ∷ []) else system moves) may.call
+        ∙ ap (λ (from : ActorId). sent_more (system moves) (packet from p.to p.body ∷ [])) (sym may.from) in
         record {
           after = move ∷ [];
           leads = leads;
@@ -219,8 +219,8 @@ module _ (generation : ℕ → ℕ) (range nodes target : ℕ) where
         }
     one_posted moves p (inr is) a b =
         let move : Move = Says p.from p.to p.body in
-        let leads : world (moves ++ move ∷ []) ≡ sent_more (world moves) (p ∷ []) =
-        run_moves_push moves move (start nodes target) ∙ ap (λ (t : Bool). if t then sent_more (world moves) (p ∷ []) else world moves) is in
+        let leads : system (moves ++ move ∷ []) ≡ sent_more (system moves) (p ∷ []) =
+        run_moves_push moves move (start nodes target) ∙ ap (λ (t : Bool). if t then sent_more (system moves) (p ∷ []) else system moves) is in
         record {
           after = move ∷ [];
           leads = leads;
@@ -234,34 +234,34 @@ module _ (generation : ℕ → ℕ) (range nodes target : ℕ) where
     further : (moves : List Move) (u v : StreamSystem) → (one : Further moves u m m_sent l l_sent) → Further (moves ++ one.after) v m m_sent l l_sent → Further moves v m m_sent l l_sent
     further moves u v one two = record {
       after = one.after ++ two.after;
-      leads = ap world (sym (append_assoc moves one.after two.after)) ∙ two.leads;
+      leads = ap system (sym (append_assoc moves one.after two.after)) ∙ two.leads;
       beside = subst (λ z. Beside z m m_sent l l_sent) (append_assoc moves one.after two.after) two.beside;
     }
 
-    pub all_posted : (moves : List Move) (ps : List Packet) → MaySendAll ps → AllAskedBoth (world moves) m m_sent l l_sent ps → Beside moves m m_sent l l_sent →
-        Further moves (sent_more (world moves) ps) m m_sent l l_sent
+    pub all_posted : (moves : List Move) (ps : List Packet) → MaySendAll ps → AllAskedBoth (system moves) m m_sent l l_sent ps → Beside moves m m_sent l l_sent →
+        Further moves (sent_more (system moves) ps) m m_sent l l_sent
     all_posted moves [] may a b = record {
       after = [];
-      leads = ap world (append-nil moves) ∙ ap (λ (k : List Packet). record (world moves) { post = k }) (sym (append-nil (world moves).post));
+      leads = ap system (append-nil moves) ∙ ap (λ (k : List Packet). record (system moves) { post = k }) (sym (append-nil (system moves).post));
       beside = subst (λ z. Beside z m m_sent l l_sent) (sym (append-nil moves)) b;
     }
     all_posted moves (p ∷ ps) may a b =
-        let w : StreamSystem = world moves in
+        let w : StreamSystem = system moves in
         let one : Further moves (sent_more w (p ∷ [])) m m_sent l l_sent = one_posted moves p may.0 a.0 b in
         let next : List Move = moves ++ one.after in
-        let two : Further next (sent_more (world next) ps) m m_sent l l_sent =
-        all_posted next ps may.1 (asked_there w (world next) m m_sent l l_sent (ap (λ z. z.catalog) one.leads) ps a.1) one.beside in
-        let ends : sent_more (world next) ps ≡ sent_more w (p ∷ ps) =
+        let two : Further next (sent_more (system next) ps) m m_sent l l_sent =
+        all_posted next ps may.1 (asked_there w (system next) m m_sent l l_sent (ap (λ z. z.catalog) one.leads) ps a.1) one.beside in
+        let ends : sent_more (system next) ps ≡ sent_more w (p ∷ ps) =
         ap (λ z. sent_more z ps) one.leads ∙ ap (λ (k : List Packet). record w { post = k }) (append_assoc w.post (p ∷ []) ps) in
-        subst (λ v. Further moves v m m_sent l l_sent) ends (further moves (sent_more w (p ∷ [])) (sent_more (world next) ps) one two)
+        subst (λ v. Further moves v m m_sent l l_sent) ends (further moves (sent_more w (p ∷ [])) (sent_more (system next) ps) one two)
 
     -- ---- observations
 
-    one_shown : (moves : List Move) (note : TableNote) → Beside moves m m_sent l l_sent → Further moves (record (world moves) { notes = (world moves).notes ++ told (world moves).notes note ∷ [] }) m m_sent l l_sent
+    one_shown : (moves : List Move) (note : TableNote) → Beside moves m m_sent l l_sent → Further moves (record (system moves) { notes = (system moves).notes ++ told (system moves).notes note ∷ [] }) m m_sent l l_sent
     one_shown moves note b =
-        let w : StreamSystem = world moves in
+        let w : StreamSystem = system moves in
         let x : Note = told w.notes note in
-        let leads : world (moves ++ Observes x ∷ []) ≡ record w { notes = w.notes ++ x ∷ [] } =
+        let leads : system (moves ++ Observes x ∷ []) ≡ record w { notes = w.notes ++ x ∷ [] } =
         run_moves_push moves (Observes x) (start nodes target) ∙ ap (λ (t : Bool). if t then record w { notes = w.notes ++ x ∷ [] } else w) (is_shown w.notes note) in
         record {
           after = Observes x ∷ [];
@@ -273,24 +273,24 @@ module _ (generation : ℕ → ℕ) (range nodes target : ℕ) where
           };
         }
 
-    pub all_shown : (moves : List Move) (ns : List TableNote) → Beside moves m m_sent l l_sent → Further moves (record (world moves) { notes = noted (world moves).notes ns }) m m_sent l l_sent
-    all_shown moves [] b = record { after = []; leads = ap world (append-nil moves); beside = subst (λ z. Beside z m m_sent l l_sent) (sym (append-nil moves)) b }
+    pub all_shown : (moves : List Move) (ns : List TableNote) → Beside moves m m_sent l l_sent → Further moves (record (system moves) { notes = noted (system moves).notes ns }) m m_sent l l_sent
+    all_shown moves [] b = record { after = []; leads = ap system (append-nil moves); beside = subst (λ z. Beside z m m_sent l l_sent) (sym (append-nil moves)) b }
     all_shown moves (n ∷ ns) b =
-        let w : StreamSystem = world moves in
+        let w : StreamSystem = system moves in
         let v : StreamSystem = record w { notes = w.notes ++ told w.notes n ∷ [] } in
         let one : Further moves v m m_sent l l_sent = one_shown moves n b in
         let next : List Move = moves ++ one.after in
-        let two : Further next (record (world next) { notes = noted (world next).notes ns }) m m_sent l l_sent = all_shown next ns one.beside in
-        let ends : record (world next) { notes = noted (world next).notes ns } ≡ record w { notes = noted w.notes (n ∷ ns) } = ap (λ (z : StreamSystem). record z { notes = noted z.notes ns }) one.leads in
-        subst (λ z. Further moves z m m_sent l l_sent) ends (further moves v (record (world next) { notes = noted (world next).notes ns }) one two)
+        let two : Further next (record (system next) { notes = noted (system next).notes ns }) m m_sent l l_sent = all_shown next ns one.beside in
+        let ends : record (system next) { notes = noted (system next).notes ns } ≡ record w { notes = noted w.notes (n ∷ ns) } = ap (λ (z : StreamSystem). record z { notes = noted z.notes ns }) one.leads in
+        subst (λ z. Further moves z m m_sent l l_sent) ends (further moves v (record (system next) { notes = noted (system next).notes ns }) one two)
 
     -- what a server sends and shows
-    pub all_told : (moves : List Move) (ps : List Packet) (ns : List TableNote) → MaySendAll ps → AllAskedBoth (world moves) m m_sent l l_sent ps → Beside moves m m_sent l l_sent →
-        Further moves (with_told (world moves) ps ns) m m_sent l l_sent
+    pub all_told : (moves : List Move) (ps : List Packet) (ns : List TableNote) → MaySendAll ps → AllAskedBoth (system moves) m m_sent l l_sent ps → Beside moves m m_sent l l_sent →
+        Further moves (with_told (system moves) ps ns) m m_sent l l_sent
     all_told moves ps ns may a b =
-        let w : StreamSystem = world moves in
+        let w : StreamSystem = system moves in
         let one : Further moves (sent_more w ps) m m_sent l l_sent = all_posted moves ps may a b in
         let next : List Move = moves ++ one.after in
-        let two : Further next (record (world next) { notes = noted (world next).notes ns }) m m_sent l l_sent = all_shown next ns one.beside in
-        let ends : record (world next) { notes = noted (world next).notes ns } ≡ with_told w ps ns = ap (λ (z : StreamSystem). record z { notes = noted z.notes ns }) one.leads in
-        subst (λ z. Further moves z m m_sent l l_sent) ends (further moves (sent_more w ps) (record (world next) { notes = noted (world next).notes ns }) one two)
+        let two : Further next (record (system next) { notes = noted (system next).notes ns }) m m_sent l l_sent = all_shown next ns one.beside in
+        let ends : record (system next) { notes = noted (system next).notes ns } ≡ with_told w ps ns = ap (λ (z : StreamSystem). record z { notes = noted z.notes ns }) one.leads in
+        subst (λ z. Further moves z m m_sent l l_sent) ends (further moves (sent_more w ps) (record (system next) { notes = noted (system next).notes ns }) one two)

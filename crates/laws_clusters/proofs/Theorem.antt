@@ -102,16 +102,16 @@ module _ (nodes target : ℕ) where
 
   -- ---- events
 
-  delivers_stand : (c : Cluster) → Stands c → (number : ℕ) (held : CacheContent) (o : Option Packet) → slice_get c.world.post number ≡ o → Stands (delivers c held o)
+  delivers_stand : (c : Cluster) → Stands c → (number : ℕ) (held : CacheContent) (o : Option Packet) → slice_get c.stream_layer.post number ≡ o → Stands (delivers c held o)
   delivers_stand c x number held None at = x
   delivers_stand c x number held (Some p) at = go p.to refl
     where
-      layer : (to : ActorId) → p.to ≡ to → Stands (record c { world = delivered c.world p to })
+      layer : (to : ActorId) → p.to ≡ to → Stands (record c { stream_layer = delivered c.stream_layer p to })
       layer to is =
-          subst (λ z. Stands (record c { world = z })) (ap (delivered_if c.world) at ∙ ap (delivered c.world p) is) (happens_stands generation_at nodes target c x (Deliver number))
+          subst (λ z. Stands (record c { stream_layer = z })) (ap (delivered_if c.stream_layer) at ∙ ap (delivered c.stream_layer p) is) (happens_stands generation_at nodes target c x (Deliver number))
 
       go : (to : ActorId) → p.to ≡ to → Stands (delivered_to c p held to)
-      go (Server s) is = takes_stands generation_at plenty nodes target c x s p held (contains_get c.world.post number p at) is
+      go (Server s) is = takes_stands generation_at plenty nodes target c x s p held (contains_get c.stream_layer.post number p at) is
       go (Node n) is = layer (Node n) is
       go Manager is = layer Manager is
       go Map is = map_takes_stand generation_at nodes target c p x
@@ -134,7 +134,7 @@ module _ (nodes target : ℕ) where
   -- whatever comes
   comes_stands : (c : Cluster) (event : Event) (held : CacheContent) → Stands c → Stands (cluster_after c event held)
   comes_stands c (Submit user to body) held x = happens_stands generation_at nodes target c x (Submit user to body)
-  comes_stands c (Deliver number) held x = delivers_stand c x number held (slice_get c.world.post number) refl
+  comes_stands c (Deliver number) held x = delivers_stand c x number held (slice_get c.stream_layer.post number) refl
   comes_stands c (Stop actor call keep) held x = stops_all c x actor call keep
   comes_stands c (Restart actor) held x = restarts_all c x actor
   comes_stands c (Decide e) held x = happens_stands generation_at nodes target c x (Decide e)
@@ -150,7 +150,7 @@ module _ (nodes target : ℕ) where
   -- ---- what is shown
 
   -- what a cluster shows of tables comes of streams that keep their order
-  stands_ordered : (c : Cluster) → Stands c → ComesOfStreams c.world.notes
+  stands_ordered : (c : Cluster) → Stands c → ComesOfStreams c.stream_layer.notes
   stands_ordered c x = record {
     metadata = (after_all Group generation_at x.streams.m).state.story;
     log = (after_all Group generation_at x.streams.l).state.story;
@@ -161,20 +161,20 @@ module _ (nodes target : ℕ) where
   }
 
   -- what a cluster shows replays
-  stands_replays : (c : Cluster) → Stands c → Replays c.world.notes
+  stands_replays : (c : Cluster) → Stands c → Replays c.stream_layer.notes
   stands_replays c x =
       let raw : Story Group = (after_all Group generation_at x.streams.l).state.story in
       let story : Story (Numbered Transaction) = renamed decoded raw in
       let order : KeepsOrder story = renamed_keeps decoded raw (clients_keep_order Group generation_at x.streams.l x.streams.l_are) in
       let served : IsServed story = story_is_served generation_at x.streams.l x.streams.l_are x.streams.fit in
-      with_others c.world.notes (subst Replays (sym x.tells) (replays x.rows story x.shows served order))
+      with_others c.stream_layer.notes (subst Replays (sym x.tells) (replays x.rows story x.shows served order))
 
 -- whatever happens, what a run with servers shows replays
-pub led_replays : (nodes servers target batch : ℕ) (events : List Event) (c : Cluster) → LeadTo events (first_cluster nodes servers target batch) c → Replays c.world.notes
+pub led_replays : (nodes servers target batch : ℕ) (events : List Event) (c : Cluster) → LeadTo events (first_cluster nodes servers target batch) c → Replays c.stream_layer.notes
 led_replays nodes servers target batch events c led =
     stands_replays nodes target c (led_stands nodes target events (first_cluster nodes servers target batch) c led (first_stands nodes target servers batch))
 
 -- and comes of streams that keep their order
-pub led_ordered : (nodes servers target batch : ℕ) (events : List Event) (c : Cluster) → LeadTo events (first_cluster nodes servers target batch) c → ComesOfStreams c.world.notes
+pub led_ordered : (nodes servers target batch : ℕ) (events : List Event) (c : Cluster) → LeadTo events (first_cluster nodes servers target batch) c → ComesOfStreams c.stream_layer.notes
 led_ordered nodes servers target batch events c led =
     stands_ordered nodes target c (led_stands nodes target events (first_cluster nodes servers target batch) c led (first_stands nodes target servers batch))

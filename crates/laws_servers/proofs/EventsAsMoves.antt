@@ -104,82 +104,82 @@ map_says : (m : MapState) (p : Packet) (body : Body) → MaySendAll (map_rule m 
 map_says m p (bodies.Map body) = told_says m p body
 map_says m p body = tt
 
-does_by : (c : Cluster) (o : Outcome MapState) → MaySendAll o.packets → ByMoves c.world (map_performs c o).world
+does_by : (c : Cluster) (o : Outcome MapState) → MaySendAll o.packets → ByMoves c.stream_layer (map_performs c o).stream_layer
 does_by c o may =
-    if_elim (λ (d : Cluster). ByMoves c.world d.world) (stops_in c.map_cell o.written) _ _
-    (λ t. if_elim (λ (d : Cluster). ByMoves c.world d.world) (stands_in c.map_cell) _ _ (λ s. none c.world) (λ s. none c.world))
-    (λ f. sent_by c.world o.packets may)
+    if_elim (λ (d : Cluster). ByMoves c.stream_layer d.stream_layer) (stops_in c.map_cell o.written) _ _
+    (λ t. if_elim (λ (d : Cluster). ByMoves c.stream_layer d.stream_layer) (stands_in c.map_cell) _ _ (λ s. none c.stream_layer) (λ s. none c.stream_layer))
+    (λ f. sent_by c.stream_layer o.packets may)
 
-does_if_by : (c : Cluster) (refusal : Option Refusal) (o : Outcome MapState) → MaySendAll o.packets → ByMoves c.world (map_performs_if c refusal o).world
-does_if_by c (Some refusal) o may = none c.world
+does_if_by : (c : Cluster) (refusal : Option Refusal) (o : Outcome MapState) → MaySendAll o.packets → ByMoves c.stream_layer (map_performs_if c refusal o).stream_layer
+does_if_by c (Some refusal) o may = none c.stream_layer
 does_if_by c None o may = does_by c o may
 
-map_takes_by : (c : Cluster) (p : Packet) → ByMoves c.world (map_takes c p).world
-map_takes_by c p = if_elim (λ (d : Cluster). ByMoves c.world d.world) c.map_cell.up _ _ (λ up. does_by c (map_rule c.map p p.body) (map_says c.map p p.body)) (λ up. none c.world)
+map_takes_by : (c : Cluster) (p : Packet) → ByMoves c.stream_layer (map_takes c p).stream_layer
+map_takes_by c p = if_elim (λ (d : Cluster). ByMoves c.stream_layer d.stream_layer) c.map_cell.up _ _ (λ up. does_by c (map_rule c.map p p.body) (map_says c.map p p.body)) (λ up. none c.stream_layer)
 
 -- ---- events
 
-goes_by : (c : Cluster) (held : CacheContent) (number : ℕ) (p : Packet) (to : ActorId) → happens c.world (Deliver number) ≡ delivered c.world p to → ByMoves c.world (delivered_to c p held to).world
-goes_by c held number p (Node n) is = subst (ByMoves c.world) is (one c.world (Happens (Deliver number)))
-goes_by c held number p Manager is = subst (ByMoves c.world) is (one c.world (Happens (Deliver number)))
+goes_by : (c : Cluster) (held : CacheContent) (number : ℕ) (p : Packet) (to : ActorId) → happens c.stream_layer (Deliver number) ≡ delivered c.stream_layer p to → ByMoves c.stream_layer (delivered_to c p held to).stream_layer
+goes_by c held number p (Node n) is = subst (ByMoves c.stream_layer) is (one c.stream_layer (Happens (Deliver number)))
+goes_by c held number p Manager is = subst (ByMoves c.stream_layer) is (one c.stream_layer (Happens (Deliver number)))
 goes_by c held number p Map is = map_takes_by c p
 goes_by c held number p (Server s) is =
     let o : ServersOutcome = server_takes c.servers s p held in
-    told_by c.world o.packets o.notes (server_takes_shows c.servers s p held).0
-goes_by c held number p (User u) is = none c.world
+    told_by c.stream_layer o.packets o.notes (server_takes_shows c.servers s p held).0
+goes_by c held number p (User u) is = none c.stream_layer
 
-delivers_by : (c : Cluster) (held : CacheContent) (number : ℕ) (found : Option Packet) → slice_get c.world.post number ≡ found → ByMoves c.world (delivers c held found).world
-delivers_by c held number None is = none c.world
-delivers_by c held number (Some p) is = goes_by c held number p p.to (ap (delivered_if c.world) is)
+delivers_by : (c : Cluster) (held : CacheContent) (number : ℕ) (found : Option Packet) → slice_get c.stream_layer.post number ≡ found → ByMoves c.stream_layer (delivers c held found).stream_layer
+delivers_by c held number None is = none c.stream_layer
+delivers_by c held number (Some p) is = goes_by c held number p p.to (ap (delivered_if c.stream_layer) is)
 
-stops_by : (c : Cluster) (actor : ActorId) (call : ℕ) (keep : Bool) → ByMoves c.world (stops c actor call keep).world
-stops_by c (Node n) call keep = one c.world (Happens (Stop (Node n) call keep))
-stops_by c Manager call keep = one c.world (Happens (Stop Manager call keep))
-stops_by c Map call keep = if_elim (λ (d : Cluster). ByMoves c.world d.world) c.map_cell.up _ _ (λ up. if_elim (λ (d : Cluster). ByMoves c.world d.world) (call == 0) _ _ (λ now. none c.world) (λ later. none c.world)) (λ up. none c.world)
-stops_by c (Server s) call keep = still_by c.world (server_stops c.servers s call) (server_stops_still c.servers s call)
-stops_by c (User u) call keep = none c.world
+stops_by : (c : Cluster) (actor : ActorId) (call : ℕ) (keep : Bool) → ByMoves c.stream_layer (stops c actor call keep).stream_layer
+stops_by c (Node n) call keep = one c.stream_layer (Happens (Stop (Node n) call keep))
+stops_by c Manager call keep = one c.stream_layer (Happens (Stop Manager call keep))
+stops_by c Map call keep = if_elim (λ (d : Cluster). ByMoves c.stream_layer d.stream_layer) c.map_cell.up _ _ (λ up. if_elim (λ (d : Cluster). ByMoves c.stream_layer d.stream_layer) (call == 0) _ _ (λ now. none c.stream_layer) (λ later. none c.stream_layer)) (λ up. none c.stream_layer)
+stops_by c (Server s) call keep = still_by c.stream_layer (server_stops c.servers s call) (server_stops_still c.servers s call)
+stops_by c (User u) call keep = none c.stream_layer
 
-restarts_by : (c : Cluster) (actor : ActorId) → ByMoves c.world (restarts c actor).world
-restarts_by c (Node n) = one c.world (Happens (Restart (Node n)))
-restarts_by c Manager = one c.world (Happens (Restart Manager))
-restarts_by c Map = if_elim (λ (d : Cluster). ByMoves c.world d.world) c.map_cell.up _ _ (λ up. none c.world) (λ up. none c.world)
-restarts_by c (Server s) = still_by c.world (server_starts c.servers s c.now c.batch) (server_starts_still c.servers s c.now c.batch)
-restarts_by c (User u) = none c.world
+restarts_by : (c : Cluster) (actor : ActorId) → ByMoves c.stream_layer (restarts c actor).stream_layer
+restarts_by c (Node n) = one c.stream_layer (Happens (Restart (Node n)))
+restarts_by c Manager = one c.stream_layer (Happens (Restart Manager))
+restarts_by c Map = if_elim (λ (d : Cluster). ByMoves c.stream_layer d.stream_layer) c.map_cell.up _ _ (λ up. none c.stream_layer) (λ up. none c.stream_layer)
+restarts_by c (Server s) = still_by c.stream_layer (server_starts c.servers s c.now c.batch) (server_starts_still c.servers s c.now c.batch)
+restarts_by c (User u) = none c.stream_layer
 
-assigns_by : (c : Cluster) (range server until : ℕ) → ByMoves c.world (assigns c range server until).world
+assigns_by : (c : Cluster) (range server until : ℕ) → ByMoves c.stream_layer (assigns c range server until).stream_layer
 assigns_by c range server until =
     let found = range_at c.map.ranges range in
-    if_elim (λ (d : Cluster). ByMoves c.world d.world) c.map_cell.up _ _
-    (λ up. does_if_by c (assign_fault server c.now found) (assign_rule c.map range server until found) (assign_says c.map range server until found)) (λ up. none c.world)
+    if_elim (λ (d : Cluster). ByMoves c.stream_layer d.stream_layer) c.map_cell.up _ _
+    (λ up. does_if_by c (assign_fault server c.now found) (assign_rule c.map range server until found) (assign_says c.map range server until found)) (λ up. none c.stream_layer)
 
-renews_by : (c : Cluster) (range server until : ℕ) → ByMoves c.world (renews c range server until).world
+renews_by : (c : Cluster) (range server until : ℕ) → ByMoves c.stream_layer (renews c range server until).stream_layer
 renews_by c range server until =
     let found = range_at c.map.ranges range in
-    if_elim (λ (d : Cluster). ByMoves c.world d.world) c.map_cell.up _ _
-    (λ up. does_if_by c (renew_fault server found) (renew_rule c.map range server until found) (renew_says c.map range server until found)) (λ up. none c.world)
+    if_elim (λ (d : Cluster). ByMoves c.stream_layer d.stream_layer) c.map_cell.up _ _
+    (λ up. does_if_by c (renew_fault server found) (renew_rule c.map range server until found) (renew_says c.map range server until found)) (λ up. none c.stream_layer)
 
-moment_by : (c : Cluster) (now : ℕ) → ByMoves c.world (shows_moment c now).world
-moment_by c now = if_elim (λ (d : Cluster). ByMoves c.world d.world) (nat_lt now c.now) _ _ (λ t. none c.world) (λ f. none c.world)
+moment_by : (c : Cluster) (now : ℕ) → ByMoves c.stream_layer (shows_moment c now).stream_layer
+moment_by c now = if_elim (λ (d : Cluster). ByMoves c.stream_layer d.stream_layer) (nat_lt now c.now) _ _ (λ t. none c.stream_layer) (λ f. none c.stream_layer)
 
-pub comes_by : (c : Cluster) (event : Event) (held : CacheContent) → ByMoves c.world (cluster_after c event held).world
-comes_by c (Submit user to body) held = one c.world (Happens (Submit user to body))
-comes_by c (Deliver number) held = delivers_by c held number (slice_get c.world.post number) refl
+pub comes_by : (c : Cluster) (event : Event) (held : CacheContent) → ByMoves c.stream_layer (cluster_after c event held).stream_layer
+comes_by c (Submit user to body) held = one c.stream_layer (Happens (Submit user to body))
+comes_by c (Deliver number) held = delivers_by c held number (slice_get c.stream_layer.post number) refl
 comes_by c (Stop actor call keep) held = stops_by c actor call keep
 comes_by c (Restart actor) held = restarts_by c actor
-comes_by c (Decide e) held = one c.world (Happens (Decide e))
+comes_by c (Decide e) held = one c.stream_layer (Happens (Decide e))
 comes_by c (GiveUp server range pick) held =
     let o : ServersOutcome = server_gives_up c.servers server range pick in
-    told_by c.world o.packets o.notes (server_gives_up_tidy c.servers server range pick).0
+    told_by c.stream_layer o.packets o.notes (server_gives_up_tidy c.servers server range pick).0
 comes_by c (Assign range server until) held = assigns_by c range server until
 comes_by c (Renew range server until) held = renews_by c range server until
 comes_by c (Moment now) held = moment_by c now
 
 -- ---- whole runs
 
-pub led_by : (events : List Event) (c d : Cluster) → LeadTo events c d → ByMoves c.world d.world
-led_by [] c d h = subst (λ (x : Cluster). ByMoves c.world x.world) h (none c.world)
+pub led_by : (events : List Event) (c d : Cluster) → LeadTo events c d → ByMoves c.stream_layer d.stream_layer
+led_by [] c d h = subst (λ (x : Cluster). ByMoves c.stream_layer x.stream_layer) h (none c.stream_layer)
 led_by (event ∷ events) c d h =
-    both c.world (cluster_after c event h.0).world d.world (comes_by c event h.0) (led_by events (cluster_after c event h.0) d h.1)
+    both c.stream_layer (cluster_after c event h.0).stream_layer d.stream_layer (comes_by c event h.0) (led_by events (cluster_after c event h.0) d h.1)
 
 pub moves_agree : (nodes target : ℕ) (w : StreamSystem) → ByMoves (start nodes target) w → Agree w.notes
 moves_agree nodes target w h = subst (λ (v : StreamSystem). Agree v.notes) h.is (agree_in_moves nodes target h.moves)

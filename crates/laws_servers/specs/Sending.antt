@@ -26,7 +26,7 @@ abbrev pub AllFromServers : List Packet → Type 0
 AllFromServers [] = Unit {0}
 AllFromServers (p ∷ packets) = IsFromServer p × AllFromServers packets
 
--- some moves lead from one world to the other
+-- some moves lead from one stream system to the other
 pub record ByMoves (v w : StreamSystem) : Type 0 where
   pub moves : List Move
   pub is : run_moves moves v ≡ w

@@ -42,7 +42,7 @@ use Rattle.laws_stream_machine.proofs.StepSequences.{onward_refl, Walk, stand, s
 use Rattle.laws_stream_machine.proofs.MachineCore.{same_got}
 use Rattle.laws_stream_machine.proofs.SentPackets.{ahead_same}
 use Rattle.laws_stream_machine.proofs.Refines.{Follows, submit_follows}
-use Rattle.laws_stream_machine.proofs.WorldSteps.{ahead_goes, next_follows}
+use Rattle.laws_stream_machine.proofs.SystemSteps.{ahead_goes, next_follows}
 use Rattle.laws_stream_machine.proofs.ToldLists.{sealed_or_last}
 use Rattle.laws_stream_machine.proofs.ManagerSteps.{manager_event, decide_event}
 use Rattle.laws_stream_machine.proofs.NodeSteps.{node_event, is_in_or}

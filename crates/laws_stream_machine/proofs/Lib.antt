@@ -4,7 +4,7 @@ pub mod StepSequences
 pub mod MachineCore
 pub mod SentPackets
 pub mod Refines
-pub mod WorldSteps
+pub mod SystemSteps
 pub mod ToldLists
 pub mod StreamRules
 pub mod ManagerSteps

@@ -22,28 +22,28 @@ use Rattle.laws_stream_machine.proofs.FactSources.{lawful}
 use Rattle.laws_stream_machine.proofs.StepSequences.{Onward, Walk, all_onward, below_all, walked}
 use Rattle.laws_stream_machine.proofs.SentPackets.{Ahead}
 use Rattle.laws_stream_machine.proofs.Refines.{Follows, start_follows, says_follows, asks_follows, observes_follows}
-use Rattle.laws_stream_machine.proofs.WorldSteps.{ahead_goes}
+use Rattle.laws_stream_machine.proofs.SystemSteps.{ahead_goes}
 use Rattle.laws_stream_machine.proofs.StreamRules.{same_index}
 use Rattle.laws_stream_machine.proofs.EventSteps.{happens_walk, all_mean}
 use Rattle.laws_stream_machine.proofs.ServerRequests.{Unused, turn_upper, upper_follows, sent_follows}
 
 module _ (generation : ℕ → ℕ) (name : StreamName) (nodes target : ℕ) where
-  -- the world after these moves
-  abbrev pub world : List Move → StreamSystem
-  world moves = run_moves moves (start nodes target)
+  -- the system after these moves
+  abbrev pub system : List Move → StreamSystem
+  system moves = run_moves moves (start nodes target)
 
-  -- After these moves the stream of the world is the machine: its core is the stream's list, what servers have asked is what
+  -- After these moves the stream of the system is the machine: its core is the stream's list, what servers have asked is what
   -- the facts say, and so is what they were answered.
   pub record Below (moves : List Move) (whole : Whole Group generation) (sent : List Sent) : Type 0 where
-    pub follows : Follows generation name (world moves) whole.state sent
-    pub asked : AllAsked generation name (world moves) whole.state sent
-    pub mean : AllMean generation name (world moves) whole.state sent
+    pub follows : Follows generation name (system moves) whole.state sent
+    pub asked : AllAsked generation name (system moves) whole.state sent
+    pub mean : AllMean generation name (system moves) whole.state sent
 
-  is_below : (moves : List Move) (whole : Whole Group generation) (sent : List Sent) → Follows generation name (world moves) whole.state sent → Below moves whole sent
+  is_below : (moves : List Move) (whole : Whole Group generation) (sent : List Sent) → Follows generation name (system moves) whole.state sent → Below moves whole sent
   is_below moves whole sent a = record { follows = a; asked = a.asked; mean = all_mean generation name sent nodes target moves whole.state a }
 
   -- one more move
-  pushed : (moves : List Move) (move : Move) (whole : Whole Group generation) (sent : List Sent) → Follows generation name (moved (world moves) move) whole.state sent → Below (moves ++ move ∷ []) whole sent
+  pushed : (moves : List Move) (move : Move) (whole : Whole Group generation) (sent : List Sent) → Follows generation name (moved (system moves) move) whole.state sent → Below (moves ++ move ∷ []) whole sent
   pushed moves move whole sent a =
       is_below (moves ++ move ∷ []) whole sent (subst (λ v. Follows generation name v whole.state sent) (sym (run_moves_push moves move (start nodes target))) a)
 
@@ -59,21 +59,21 @@ module _ (generation : ℕ → ℕ) (name : StreamName) (nodes target : ℕ) whe
     pub steps : List (MachineStep Group)
     pub are : AreMoves Group generation (below_all generation steps ++ ms)
     pub phase : (i : ℕ) → (after_all Group generation (below_all generation steps ++ ms)).phase i ≡ (after_all Group generation ms).phase i
-    pub ahead : Ahead name (world moves) (after_all Group generation ms).state (world (moves ++ Happens event ∷ [])) (after_all Group generation (below_all generation steps ++ ms)).state
+    pub ahead : Ahead name (system moves) (after_all Group generation ms).state (system (moves ++ Happens event ∷ [])) (after_all Group generation (below_all generation steps ++ ms)).state
     pub below : Below (moves ++ Happens event ∷ []) (after_all Group generation (below_all generation steps ++ ms)) sent
 
   phase_stays : (ms : List (machine.Move Group generation)) (steps : List (MachineStep Group)) (i : ℕ) → (after_all Group generation (below_all generation steps ++ ms)).phase i ≡ (after_all Group generation ms).phase i
   phase_stays ms [] i = refl
   phase_stays ms (x ∷ steps) i = phase_stays ms steps i
 
-  listed_now : (moves : List Move) (s : StreamName) (x : Stream) → stream_of (world moves).catalog.stream s ≡ Some x → Listed (world moves).catalog s x
+  listed_now : (moves : List Move) (s : StreamName) (x : Stream) → stream_of (system moves).catalog.stream s ≡ Some x → Listed (system moves).catalog s x
   listed_now moves s x there = (lists_grow nodes target moves []).listed s x there
 
   -- lists grow by new extents alone
   pub below_ahead : (moves : List Move) (whole : Whole Group generation) (sent : List Sent) → Below moves whole sent → (move : Move) (t : MachineState Group) → Onward whole.state t →
-      Ahead name (world moves) whole.state (world (moves ++ move ∷ [])) t
+      Ahead name (system moves) whole.state (system (moves ++ move ∷ [])) t
   below_ahead moves whole sent a move t on =
-      let w : StreamSystem = world moves in
+      let w : StreamSystem = system moves in
       let fresh = a.follows.holds.catalog.fresh (suc w.catalog.count) (omega arith) in
       subst (λ v. Ahead name w whole.state v t) (sym (run_moves_push moves move (start nodes target))) (ahead_goes name w whole.state (moved w move) t (moved_goes w fresh move) fresh on)
 
@@ -81,8 +81,8 @@ module _ (generation : ℕ → ℕ) (name : StreamName) (nodes target : ℕ) whe
       Below moves (after_all Group generation ms) sent → (event : Event) → Happened ms moves event sent
   below_happens own ms are moves sent a event =
       let whole : Whole Group generation = after_all Group generation ms in
-      let walk : Walk generation whole.state (λ t. Follows generation name (moved (world moves) (Happens event)) t sent) =
-      happens_walk generation name sent (world moves) whole.state a.follows own (lawful Group generation ms are) (λ x there. listed_now moves name x there) event in
+      let walk : Walk generation whole.state (λ t. Follows generation name (moved (system moves) (Happens event)) t sent) =
+      happens_walk generation name sent (system moves) whole.state a.follows own (lawful Group generation ms are) (λ x there. listed_now moves name x there) event in
       let (all, same) = walked generation ms are walk.steps walk.run walk.layer in
       let next : Whole Group generation = after_all Group generation (below_all generation walk.steps ++ ms) in
       record {
@@ -90,20 +90,20 @@ module _ (generation : ℕ → ℕ) (name : StreamName) (nodes target : ℕ) whe
         are = all;
         phase = phase_stays ms walk.steps;
         ahead = below_ahead moves whole sent a (Happens event) next.state (subst (Onward whole.state) (sym same) (all_onward generation whole.state walk.steps));
-        below = pushed moves (Happens event) next sent (subst (λ t. Follows generation name (moved (world moves) (Happens event)) t sent) (sym same) walk.there);
+        below = pushed moves (Happens event) next sent (subst (λ t. Follows generation name (moved (system moves) (Happens event)) t sent) (sym same) walk.there);
       }
 
   -- ---- what others tell, ask and show
 
   pub below_says : (moves : List Move) (whole : Whole Group generation) (sent : List Sent) → Below moves whole sent → (from to : ActorId) (body : Body) → Below (moves ++ Says from to body ∷ []) whole sent
-  below_says moves whole sent a from to body = pushed moves (Says from to body) whole sent (says_follows generation name whole.state sent (world moves) from to body a.follows)
+  below_says moves whole sent a from to body = pushed moves (Says from to body) whole sent (says_follows generation name whole.state sent (system moves) from to body a.follows)
 
   pub below_observes : (moves : List Move) (whole : Whole Group generation) (sent : List Sent) → Below moves whole sent → (note : Note) → Below (moves ++ Observes note ∷ []) whole sent
-  below_observes moves whole sent a note = pushed moves (Observes note) whole sent (observes_follows generation name whole.state sent (world moves) note a.follows)
+  below_observes moves whole sent a note = pushed moves (Observes note) whole sent (observes_follows generation name whole.state sent (system moves) note a.follows)
 
   pub below_asks : (moves : List Move) (whole : Whole Group generation) (sent : List Sent) → Below moves whole sent → (server : ℕ) (to : ActorId) (body : Body) →
-      (is_server_call body ≡ true → IsAsked generation name (world moves) whole.state sent body) → Below (moves ++ Asks server to body ∷ []) whole sent
-  below_asks moves whole sent a server to body asked = pushed moves (Asks server to body) whole sent (asks_follows generation name whole.state sent (world moves) server to body asked a.follows)
+      (is_server_call body ≡ true → IsAsked generation name (system moves) whole.state sent body) → Below (moves ++ Asks server to body ∷ []) whole sent
+  below_asks moves whole sent a server to body asked = pushed moves (Asks server to body) whole sent (asks_follows generation name whole.state sent (system moves) server to body asked a.follows)
 
   -- ---- turns of servers, and numbers for new requests
 
@@ -111,16 +111,16 @@ module _ (generation : ℕ → ℕ) (name : StreamName) (nodes target : ℕ) whe
       Below moves (machine.moved Group generation whole (Above i turn)) sent
   below_above moves whole sent a i turn =
       let next : Whole Group generation = machine.moved Group generation whole (Above i turn) in
-      is_below moves next sent (upper_follows generation name (world moves) whole.state next.state sent (turn_upper generation whole.state i (whole.phase i) turn) a.follows)
+      is_below moves next sent (upper_follows generation name (system moves) whole.state next.state sent (turn_upper generation whole.state i (whole.phase i) turn) a.follows)
 
-  pub below_sends : (moves : List Move) (whole : Whole Group generation) (sent : List Sent) → Below moves whole sent → (new : Sent) → purpose_of sent new.request ≡ None → Unused (world moves) new.request →
+  pub below_sends : (moves : List Move) (whole : Whole Group generation) (sent : List Sent) → Below moves whole sent → (new : Sent) → purpose_of sent new.request ≡ None → Unused (system moves) new.request →
       Below moves whole (new ∷ sent)
-  below_sends moves whole sent a new fresh unused = is_below moves whole (new ∷ sent) (sent_follows generation name (world moves) whole.state sent new fresh unused a.follows)
+  below_sends moves whole sent a new fresh unused = is_below moves whole (new ∷ sent) (sent_follows generation name (system moves) whole.state sent new fresh unused a.follows)
 
   -- ---- what a server says of an extent
 
   -- the extents of the list are made
-  pub below_made : (moves : List Move) (whole : Whole Group generation) (sent : List Sent) → Below moves whole sent → (index e : ℕ) → IsAt (world moves) name index e → (world moves).catalog.extent e ≡ None → ⊥
+  pub below_made : (moves : List Move) (whole : Whole Group generation) (sent : List Sent) → Below moves whole sent → (index e : ℕ) → IsAt (system moves) name index e → (system moves).catalog.extent e ≡ None → ⊥
   below_made moves whole sent a index e at none =
       let (places, is) = a.follows.shaped.settled.made index e at in
       let c : None ≡ Some places = sym (a.follows.holds.catalog.places e ∙ ap places_of none) ∙ is in cc
@@ -130,15 +130,15 @@ module _ (generation : ℕ → ℕ) (name : StreamName) (nodes target : ℕ) whe
   stream_at (Some x) index e at = (x, refl)
 
   -- an extent of the stream stands at one index
-  pub below_index : (moves : List Move) (i j e : ℕ) → IsAt (world moves) name i e → IsAt (world moves) name j e → i ≡ j
+  pub below_index : (moves : List Move) (i j e : ℕ) → IsAt (system moves) name i e → IsAt (system moves) name j e → i ≡ j
   below_index moves i j e at there =
-      let w : StreamSystem = world moves in
+      let w : StreamSystem = system moves in
       let (x, is) = stream_at (stream_of w.catalog.stream name) i e at in
       same_index w.catalog name x (listed_now moves name x is) i j e (subst (λ o. slice_get (extents_of o) i ≡ Some e) is at) (subst (λ o. slice_get (extents_of o) j ≡ Some e) is there)
 
   -- what is asked of an extent of this stream
-  pub below_of_extent : (moves : List Move) (whole : Whole Group generation) (sent : List Sent) → Below moves whole sent → (index e : ℕ) (q : ReqNo) (Q : ℕ → Type 0) → IsAt (world moves) name index e → Q index →
-      OfExtent generation name (world moves) whole.state sent e q Q
+  pub below_of_extent : (moves : List Move) (whole : Whole Group generation) (sent : List Sent) → Below moves whole sent → (index e : ℕ) (q : ReqNo) (Q : ℕ → Type 0) → IsAt (system moves) name index e → Q index →
+      OfExtent generation name (system moves) whole.state sent e q Q
   below_of_extent moves whole sent a index e q Q at asks = record {
     made = below_made moves whole sent a index e at;
     here = λ other there. subst Q (below_index moves index other e at there) asks;
@@ -147,9 +147,9 @@ module _ (generation : ℕ → ℕ) (name : StreamName) (nodes target : ℕ) whe
 
   -- what is asked of an extent of another stream
   pub below_of_other : (moves : List Move) (whole : Whole Group generation) (sent : List Sent) → Below moves whole sent → (other : StreamName) → (other ≡ name → ⊥) → (index e : ℕ) (q : ReqNo) (Q : ℕ → Type 0) →
-      IsAt (world moves) other index e → purpose_of sent q ≡ None → OfExtent generation name (world moves) whole.state sent e q Q
+      IsAt (system moves) other index e → purpose_of sent q ≡ None → OfExtent generation name (system moves) whole.state sent e q Q
   below_of_other moves whole sent a other apart index e q Q at unused =
-      let w : StreamSystem = world moves in
+      let w : StreamSystem = system moves in
       let (z, is) = stream_at (stream_of w.catalog.stream other) index e at in
       let list = listed_now moves other z is in
       let here : slice_get z.extents index ≡ Some e = subst (λ o. slice_get (extents_of o) index ≡ Some e) is at in

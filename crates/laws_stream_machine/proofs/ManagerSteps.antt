@@ -34,7 +34,7 @@ use Rattle.laws_stream_machine.proofs.StepSequences.{Onward, onward_refl, Walk, 
 use Rattle.laws_stream_machine.proofs.MachineCore.{Shaped, ground_walk}
 use Rattle.laws_stream_machine.proofs.SentPackets.{Called, manager_calls_not, decision_calls_not, Ahead, ahead_same, stream_on}
 use Rattle.laws_stream_machine.proofs.Refines.{Follows}
-use Rattle.laws_stream_machine.proofs.WorldSteps.{ahead_goes, Answered, next_follows}
+use Rattle.laws_stream_machine.proofs.SystemSteps.{ahead_goes, Answered, next_follows}
 use Rattle.laws_stream_machine.proofs.ToldLists.{decide_same}
 use Rattle.laws_stream_machine.proofs.StreamRules.{ToldOf, rule_walk}
 

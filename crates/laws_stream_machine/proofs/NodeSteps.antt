@@ -45,7 +45,7 @@ use Rattle.laws_stream_machine.proofs.StepSequences.{Onward, onward_refl, onward
 use Rattle.laws_stream_machine.proofs.MachineCore.{IsIn, Shaped, AppendFor, ground_walk, same_got}
 use Rattle.laws_stream_machine.proofs.SentPackets.{is_outside, node_calls_not, Reading, Ahead, ahead_same, append_on, check_on}
 use Rattle.laws_stream_machine.proofs.Refines.{Follows}
-use Rattle.laws_stream_machine.proofs.WorldSteps.{Answered, next_follows}
+use Rattle.laws_stream_machine.proofs.SystemSteps.{Answered, next_follows}
 use Rattle.laws_stream_machine.proofs.NodeAnswers.{AppendDue, CheckDue, answer_append, answer_check}
 
 -- ---- lists

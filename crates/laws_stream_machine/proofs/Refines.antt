@@ -1,4 +1,4 @@
--- How a world and the machine of one stream go together, and what keeps them so without a step of the machine.
+-- How a stream system and the machine of one stream go together, and what keeps them so without a step of the machine.
 use Rattle.std.proofs.Common.{◌≡◌, ℕ, Bool, true, false, ◌&&◌, nat_le, List, [], ◌∷◌, ◌++◌, Option, Some, None, Contains, refl, sym, ap, ◌∙◌, subst, inl, inr, arith, ◌==◌}
 use Rattle.wire.specs.declared.actor.ActorId.{ActorId}
 use Rattle.wire.specs.declared.actor.ActorId.TheVariants.{Server, User}
@@ -33,7 +33,7 @@ use Rattle.laws_stream_machine.proofs.StepSequences.{onward_refl}
 use Rattle.laws_stream_machine.proofs.MachineCore.{Shaped}
 use Rattle.laws_stream_machine.proofs.SentPackets.{Called, AllRead, reading_on, Ahead, ahead_same, asked_on, Meant, meant_on}
 
--- the stream of the world is the core of the machine, and what is in the post is what the facts of the machine say
+-- the stream of the stream system is the core of the machine, and what is in the post is what the facts of the machine say
 pub record Follows (generation : ℕ → ℕ) (name : StreamName) (w : StreamSystem) (s : MachineState Group) (sent : List Sent) : Type 0 where
   pub ground : Ground
   pub holds : Holds w ground
@@ -142,7 +142,7 @@ module _ (generation : ℕ → ℕ) (name : StreamName) (s : MachineState Group)
     streamed = λ b is. unnumbered v b (none.3 b is);
   }
 
-  -- one more packet, whatever else of the world does not matter to a stream
+  -- one more packet, whatever else of the stream system does not matter to a stream
   pub one_more : (w : StreamSystem) (from to : ActorId) (body : Body) → (a : Follows generation name w s sent) → FineBody a.ground from to body → NoAnswer body →
       ((server : ℕ) → from ≡ Server server → IsAsked generation name w s sent body) → Called (packet from to body) → Follows generation name (sent_more w (packet from to body ∷ [])) s sent
   one_more w from to body a fine none asked called =

@@ -115,7 +115,7 @@ reading_on old post g h more later from server q e groups r = record {
   ends = r.ends;
 }
 
--- ---- from one world and state to a later one
+-- ---- from one stream system and state to a later one
 
 module _ (name : StreamName) where
   pub record Ahead (w : StreamSystem) (s : machine.MachineState Group) (v : StreamSystem) (t : machine.MachineState Group) : Type 0 where

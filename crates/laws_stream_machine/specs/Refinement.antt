@@ -1,4 +1,4 @@
--- How a stream of the world is one stream of the machine: what each request of a server is for, and what each answer to it
+-- How a stream of the stream system is one stream of the machine: what each request of a server is for, and what each answer to it
 -- means.
 use Rattle.std.specs.Prelude.{◌≡◌, ℕ, suc, ◌==◌, ◌+◌, ◌-◌, ◌≤◌, true, List, [], ◌∷◌, length, map, Option, Some, None, slice_get, if◌then◌else◌, Contains}
 use Rattle.wire.specs.declared.actor.ActorId.{ActorId}

@@ -35,7 +35,7 @@ use Rattle.laws_streams.proofs.DecisionRules.{SealsNow, decide_keeps}
 use Rattle.laws_streams.proofs.ManagerRules.{manager_keeps}
 use Rattle.laws_streams.proofs.GroupOrigins.{Dated, Comes, unmoved_dated, grown_dated}
 
--- what holds of the world after so many events
+-- what holds of the stream system after so many events
 pub record Good (C : ℕ → Group → Origin → Type 0) (D : ℕ → ℕ → Type 0) (k : ℕ) (w : StreamSystem) : Type 0 where
   pub ground : Ground
   pub holds : Holds w ground

@@ -53,7 +53,7 @@ pub record DecisionSends (w v : StreamSystem) (p : Packet) : Type 0 where
 abbrev pub Sends : StreamSystem → Move → StreamSystem → Packet → Type 0
 Sends w move v p = IsSpoken p.body ⊎ (NodeSends w move v p ⊎ (ManagerSends w move v p ⊎ DecisionSends w v p))
 
--- the second world has the post and the notes of the first, and whatever else is in its post is sent by the move
+-- the second stream system has the post and the notes of the first, and whatever else is in its post is sent by the move
 pub record Gains (w : StreamSystem) (move : Move) (v : StreamSystem) : Type 0 where
   pub post : (p : Packet) → Contains w.post p → Contains v.post p
   pub notes : (x : Note) → Contains w.notes x → Contains v.notes x

@@ -1,4 +1,4 @@
--- How a whole world rests on what is known, what a rule of a table leaves, and what a stop leaves.
+-- How a whole stream system rests on what is known, what a rule of a table leaves, and what a stop leaves.
 use Rattle.std.proofs.Common.{◌≡◌, ◌≢◌, ◌⊎◌, ℕ, ◌<◌, true, List, [], ◌∷◌, ◌++◌, Option, Some, None, Contains, refl, ◌∙◌, inl, inr, arith, ap, subst, sym, ◌==◌}
 use Rattle.block_types.specs.declared.record.Nodes.{Nodes}
 use Rattle.wire.specs.declared.actor.ReqNo.{ReqNo}
@@ -21,7 +21,7 @@ use Rattle.laws_streams.proofs.Choices.{Each, each-append, each-weaker, contains
 use Rattle.laws_streams.proofs.Ground.{Ground, Sound, FinePacket, FineNote, FineReplica}
 use Rattle.laws_streams.proofs.MoreKnown.{Later, Still, packet_later, note_later, replica_later}
 
--- ---- the world
+-- ---- the stream system
 
 abbrev pub places_of : Option Extent → Option Nodes
 places_of None = None

@@ -1,4 +1,4 @@
--- A run of which what is known is kept of each world on the way.
+-- A run of which what is known is kept of each stream system on the way.
 use Rattle.std.proofs.Common.{◌≡◌, ℕ, zero, suc, ◌≤◌, true, false, nat_le, List, [], ◌∷◌, ◌++◌, length, take, refl, sym, ap, ◌∙◌, arith, subst, append_assoc, append-nil, length-append}
 use Rattle.std.proofs.lemmas.Bool.{leb-true, leb-false}
 use Rattle.model_streams.specs.StreamSystem.{StreamSystem, start, Move}

@@ -32,7 +32,7 @@ pub record Risen (x : Stream) (found : Option Stream) : Type 0 where
   pub is : found ≡ Some now
   pub fence : x.fence ≤ now.fence
 
--- each stream of the first world is there in the second, with a fence that is no lower
+-- each stream of the first stream system is there in the second, with a fence that is no lower
 abbrev pub FencesRise : StreamSystem → StreamSystem → Type 0
 FencesRise w v = (s : StreamName) (x : Stream) → stream_of w.catalog.stream s ≡ Some x → Risen x (stream_of v.catalog.stream s)
 
@@ -44,7 +44,7 @@ pub record MadeUnder (w v : StreamSystem) (e : ℕ) (x : Extent) : Type 0 where
   pub fence : x.fence ≡ stream.fence
   pub last : stream_of v.catalog.stream name ≡ Some (longer e stream)
 
--- so was each extent that is in the second world and not in the first
+-- so was each extent that is in the second stream system and not in the first
 abbrev pub MadeWithFences : StreamSystem → StreamSystem → Type 0
 MadeWithFences w v = (e : ℕ) (x : Extent) → w.catalog.extent e ≡ None → v.catalog.extent e ≡ Some x → MadeUnder w v e x
 

@@ -32,7 +32,7 @@ pub record Shows (o : ℕ) (bytes whole : List ℕ) : Type 0 where
   pub fits : o + length bytes ≤ length whole
   pub reads : (i : ℕ) → i < length bytes → get_or bytes i 0 ≡ get_or whole (o + i) 0
 
--- a whole run: its events by number, the world before each, and the last world
+-- a whole run: its events by number, the stream system before each, and the last stream system
 pub record Course : Type 0 where
   pub event : ℕ → Option Event
   pub before : ℕ → StreamSystem

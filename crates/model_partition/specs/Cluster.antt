@@ -15,7 +15,7 @@ use Rattle.model_partition.specs.Servers.{CacheContent, ServerCell, ServersOutco
 -- the stream layer, with all packets and observations; the servers, numbered from 1; the map, which of one that has stopped is
 -- what its records make, and whether it runs; the last moment; and how many transactions a group may hold
 pub record Cluster : Type 0 where
-  pub world : StreamSystem
+  pub stream_layer : StreamSystem
   pub servers : List ServerCell
   pub map : MapState
   pub map_cell : ActorCell
@@ -25,7 +25,7 @@ pub record Cluster : Type 0 where
 -- ---- servers
 
 abbrev pub servers_perform : Cluster → ServersOutcome → Cluster
-servers_perform c o = record c { world = with_told c.world o.packets o.notes; servers = o.servers }
+servers_perform c o = record c { stream_layer = with_told c.stream_layer o.packets o.notes; servers = o.servers }
 
 -- ---- the clock
 
@@ -43,7 +43,7 @@ abbrev pub map_performs : Cluster → Outcome MapState → Cluster
 map_performs c o =
     if stops_in c.map_cell o.written
     then (if stands_in c.map_cell then map_halted (record c { map = o.after }) else map_halted c)
-    else record c { map = o.after; map_cell = burnt c.map_cell o.written; world = sent_more c.world o.packets }
+    else record c { map = o.after; map_cell = burnt c.map_cell o.written; stream_layer = sent_more c.stream_layer o.packets }
 
 abbrev pub map_takes : Cluster → Packet → Cluster
 map_takes c p = if c.map_cell.up then map_performs c (map_rule c.map p p.body) else c
@@ -78,7 +78,7 @@ map_starts c = if c.map_cell.up then c else record c { map_cell = running }
 abbrev pub delivered_to : Cluster → Packet → CacheContent → ActorId → Cluster
 delivered_to c p held (Server s) = servers_perform c (server_takes c.servers s p held)
 delivered_to c p held Map = map_takes c p
-delivered_to c p held to = record c { world = delivered c.world p to }
+delivered_to c p held to = record c { stream_layer = delivered c.stream_layer p to }
 
 abbrev pub delivers : Cluster → CacheContent → Option Packet → Cluster
 delivers c held None = c
@@ -87,23 +87,23 @@ delivers c held (Some p) = delivered_to c p held p.to
 abbrev pub stops : Cluster → ActorId → ℕ → Bool → Cluster
 stops c (Server s) call keep = servers_perform c (server_stops c.servers s call)
 stops c Map call keep = map_stops c call keep
-stops c actor call keep = record c { world = happens c.world (Stop actor call keep) }
+stops c actor call keep = record c { stream_layer = happens c.stream_layer (Stop actor call keep) }
 
 abbrev pub restarts : Cluster → ActorId → Cluster
 restarts c (Server s) = servers_perform c (server_starts c.servers s c.now c.batch)
 restarts c Map = map_starts c
-restarts c actor = record c { world = happens c.world (Restart actor) }
+restarts c actor = record c { stream_layer = happens c.stream_layer (Restart actor) }
 
 -- What an event does. held: what the cache of the range that is concerned holds after it.
 abbrev pub cluster_after : Cluster → Event → CacheContent → Cluster
-cluster_after c (Deliver number) held = delivers c held (slice_get c.world.post number)
+cluster_after c (Deliver number) held = delivers c held (slice_get c.stream_layer.post number)
 cluster_after c (Stop actor call keep) held = stops c actor call keep
 cluster_after c (Restart actor) held = restarts c actor
 cluster_after c (GiveUp server range pick) held = servers_perform c (server_gives_up c.servers server range pick)
 cluster_after c (Assign range server until) held = assigns c range server until
 cluster_after c (Renew range server until) held = renews c range server until
 cluster_after c (Moment now) held = shows_moment c now
-cluster_after c event held = record c { world = happens c.world event }
+cluster_after c event held = record c { stream_layer = happens c.stream_layer event }
 
 -- these events lead from one to the other, whatever the caches hold
 abbrev pub LeadTo : List Event → Cluster → Cluster → Type 0
@@ -114,7 +114,7 @@ LeadTo (event ∷ events) c d = (held : CacheContent) × LeadTo events (cluster_
 abbrev pub first_cluster : ℕ → ℕ → ℕ → ℕ → Cluster
 first_cluster nodes servers target batch =
     record {
-      world = start nodes target;
+      stream_layer = start nodes target;
       servers = first_servers batch 1 servers;
       map = first_map;
       map_cell = running;

@@ -254,9 +254,7 @@ fn two_real_records(rt: &HostRuntime) -> Result<(), Fail> {
     if disk.len() > 0 {
         return Err(Fail::new("it is not empty"));
     }
-    let mut file = RecordFile::format(disk)
-        .ok()
-        .ok_or("formatted")?;
+    let mut file = RecordFile::format(disk).ok().ok_or("formatted")?;
     append_two(rt.alloc(), &mut file)
 }
 

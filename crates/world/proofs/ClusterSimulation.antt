@@ -34,17 +34,17 @@ state stream_layer servers map moment batch = record { stream_layer = stream_lay
 -- ---- events of the stream layer
 
 -- the stream layer steps, and all else stays
-pub in_layer : (x : ClusterState) (l : StreamLayerState) (c : Cluster) (w : StreamSystem) → ClusterMirrors x c → StreamLayerMirrors l w → ClusterMirrors (record x { stream_layer = l }) (record c { world = w })
+pub in_layer : (x : ClusterState) (l : StreamLayerState) (c : Cluster) (w : StreamSystem) → ClusterMirrors x c → StreamLayerMirrors l w → ClusterMirrors (record x { stream_layer = l }) (record c { stream_layer = w })
 in_layer x l c w m h = record { stream_layer = h; servers = m.servers; map = m.map; moment = m.moment; batch = m.batch }
 
 pub submit_came : (x : ClusterState) (l : StreamLayerState) (user : ℕ) (to : ActorId) (body : Body) → ((w : StreamSystem) → StreamLayerMirrors x.stream_layer w → StreamLayerMirrors l (happens w (Submit user to body))) →
     ClusterSimulates x (record x { stream_layer = l }) (Submit user to body)
-submit_came x l user to body h = record { held = []; mirrors = λ c m. in_layer x l c (happens c.world (Submit user to body)) m (h c.world m.stream_layer) }
+submit_came x l user to body h = record { held = []; mirrors = λ c m. in_layer x l c (happens c.stream_layer (Submit user to body)) m (h c.stream_layer m.stream_layer) }
 
 pub decide_came : (x : ClusterState) (l : StreamLayerState) (e : ℕ) → ((w : StreamSystem) → StreamLayerMirrors x.stream_layer w → StreamLayerMirrors l (happens w (Decide e))) → ClusterSimulates x (record x { stream_layer = l }) (Decide e)
-decide_came x l e h = record { held = []; mirrors = λ c m. in_layer x l c (happens c.world (Decide e)) m (h c.world m.stream_layer) }
+decide_came x l e h = record { held = []; mirrors = λ c m. in_layer x l c (happens c.stream_layer (Decide e)) m (h c.stream_layer m.stream_layer) }
 
-stops_below : (c : Cluster) (a : ActorId) (call : ℕ) (keep : Bool) → IsBelow a → stops c a call keep ≡ record c { world = happens c.world (Stop a call keep) }
+stops_below : (c : Cluster) (a : ActorId) (call : ℕ) (keep : Bool) → IsBelow a → stops c a call keep ≡ record c { stream_layer = happens c.stream_layer (Stop a call keep) }
 stops_below c (Node n) call keep h = refl
 stops_below c Manager call keep h = refl
 stops_below c Map call keep h = absurd h
@@ -56,10 +56,10 @@ pub stop_came : (x : ClusterState) (l : StreamLayerState) (a : ActorId) (call : 
 stop_came x l a call keep below h = record {
   held = [];
   mirrors = λ c m.
-      subst (ClusterMirrors (record x { stream_layer = l })) (sym (stops_below c a call keep below)) (in_layer x l c (happens c.world (Stop a call keep)) m (h c.world m.stream_layer));
+      subst (ClusterMirrors (record x { stream_layer = l })) (sym (stops_below c a call keep below)) (in_layer x l c (happens c.stream_layer (Stop a call keep)) m (h c.stream_layer m.stream_layer));
 }
 
-restarts_below : (c : Cluster) (a : ActorId) → IsBelow a → restarts c a ≡ record c { world = happens c.world (Restart a) }
+restarts_below : (c : Cluster) (a : ActorId) → IsBelow a → restarts c a ≡ record c { stream_layer = happens c.stream_layer (Restart a) }
 restarts_below c (Node n) h = refl
 restarts_below c Manager h = refl
 restarts_below c Map h = absurd h
@@ -70,19 +70,19 @@ pub restart_came : (x : ClusterState) (l : StreamLayerState) (a : ActorId) → I
     ClusterSimulates x (record x { stream_layer = l }) (Restart a)
 restart_came x l a below h = record {
   held = [];
-  mirrors = λ c m. subst (ClusterMirrors (record x { stream_layer = l })) (sym (restarts_below c a below)) (in_layer x l c (happens c.world (Restart a)) m (h c.world m.stream_layer));
+  mirrors = λ c m. subst (ClusterMirrors (record x { stream_layer = l })) (sym (restarts_below c a below)) (in_layer x l c (happens c.stream_layer (Restart a)) m (h c.stream_layer m.stream_layer));
 }
 
 -- ---- deliveries
 
-goes_below : (c : Cluster) (p : Packet) (held : CacheContent) (to : ActorId) → IsBelow to → delivered_to c p held to ≡ record c { world = delivered c.world p to }
+goes_below : (c : Cluster) (p : Packet) (held : CacheContent) (to : ActorId) → IsBelow to → delivered_to c p held to ≡ record c { stream_layer = delivered c.stream_layer p to }
 goes_below c p held (Node n) h = refl
 goes_below c p held Manager h = refl
 goes_below c p held Map h = absurd h
 goes_below c p held (Server s) h = absurd h
 goes_below c p held (User u) h = refl
 
-delivers_below : (c : Cluster) (held : CacheContent) (found : Option Packet) → ((p : Packet) → found ≡ Some p → IsBelow p.to) → delivers c held found ≡ record c { world = delivered_if c.world found }
+delivers_below : (c : Cluster) (held : CacheContent) (found : Option Packet) → ((p : Packet) → found ≡ Some p → IsBelow p.to) → delivers c held found ≡ record c { stream_layer = delivered_if c.stream_layer found }
 delivers_below c held None h = refl
 delivers_below c held (Some p) h = goes_below c p held p.to (h p refl)
 
@@ -92,8 +92,8 @@ deliver_came x l number below h = record {
   held = [];
   mirrors = λ c m.
       subst (ClusterMirrors (record x { stream_layer = l }))
-      (sym (delivers_below c [] (slice_get c.world.post number) (λ p is. below p (ap (λ (post : List Packet). slice_get post number) m.stream_layer.post ∙ is))))
-      (in_layer x l c (happens c.world (Deliver number)) m (h c.world m.stream_layer));
+      (sym (delivers_below c [] (slice_get c.stream_layer.post number) (λ p is. below p (ap (λ (post : List Packet). slice_get post number) m.stream_layer.post ∙ is))))
+      (in_layer x l c (happens c.stream_layer (Deliver number)) m (h c.stream_layer m.stream_layer));
 }
 
 -- the packet goes to nobody above
@@ -115,7 +115,7 @@ is_there (x ∷ xs) (suc n) to is = let l = is_there xs n to is in omega (arith,
 pub unsent_came : (x : ClusterState) (number : ℕ) → addressee_of (slice_get x.stream_layer.post number) ≡ None → ClusterSimulates x x (Deliver number)
 unsent_came x number is = record {
   held = [];
-  mirrors = λ c m. subst (λ (o : Option Packet). ClusterMirrors x (delivers c [] o)) (sym (none_there (slice_get c.world.post number) (ap (λ (post : List Packet). addressee_of (slice_get post number)) (sym m.stream_layer.post) ∙ is))) m;
+  mirrors = λ c m. subst (λ (o : Option Packet). ClusterMirrors x (delivers c [] o)) (sym (none_there (slice_get c.stream_layer.post number) (ap (λ (post : List Packet). addressee_of (slice_get post number)) (sym m.stream_layer.post) ∙ is))) m;
 }
   where
     none_there : (found : Option Packet) → addressee_of found ≡ None → found ≡ None
@@ -127,7 +127,7 @@ unsent_came x number is = record {
 does_mirrors : (x : ClusterState) (l : StreamLayerState) (servers : List ServerCell) (o : ServersOutcome) → AfterServers x.stream_layer l servers o → (c : Cluster) → ClusterMirrors x c →
     ClusterMirrors (record x { stream_layer = l; servers = servers }) (servers_perform c o)
 does_mirrors x l servers o t c m = record {
-  stream_layer = subst (λ (r : StreamLayerState). StreamLayerMirrors r (with_told c.world o.packets o.notes)) (sym t.stream_layer) (told_mirrors x.stream_layer o.packets o.notes c.world m.stream_layer);
+  stream_layer = subst (λ (r : StreamLayerState). StreamLayerMirrors r (with_told c.stream_layer o.packets o.notes)) (sym t.stream_layer) (told_mirrors x.stream_layer o.packets o.notes c.stream_layer m.stream_layer);
   servers = t.servers_are;
   map = m.map;
   moment = m.moment;
@@ -139,8 +139,8 @@ give_came : (x : ClusterState) (l : StreamLayerState) (servers : List ServerCell
 give_came x l servers number s p found to t = record {
   held = t.held;
   mirrors = λ c m.
-      let there : slice_get c.world.post number ≡ Some p = ap (λ (post : List Packet). slice_get post number) (sym m.stream_layer.post) ∙ found in
-      let is : delivers c t.held (slice_get c.world.post number) ≡ servers_perform c (server_takes x.servers s p t.held) =
+      let there : slice_get c.stream_layer.post number ≡ Some p = ap (λ (post : List Packet). slice_get post number) (sym m.stream_layer.post) ∙ found in
+      let is : delivers c t.held (slice_get c.stream_layer.post number) ≡ servers_perform c (server_takes x.servers s p t.held) =
       ap (delivers c t.held) there ∙ ap (delivered_to c p t.held) to ∙ ap (λ (l : List ServerCell). servers_perform c (server_takes l s p t.held)) (sym m.servers) in
       subst (ClusterMirrors (record x { stream_layer = l; servers = servers })) (sym is) (does_mirrors x l servers (server_takes x.servers s p t.held) t.took c m);
 }
@@ -190,7 +190,7 @@ restart_server_came x servers s is = record {
 map_went : (x : ClusterState) (l : StreamLayerState) (y : MapSeen) (c d : Cluster) (packets : List Packet) → l ≡ record x.stream_layer { post = x.stream_layer.post ++ packets } → MapSteps y c d packets →
     ClusterMirrors x c → ClusterMirrors (record x { stream_layer = l; map = y }) d
 map_went x l y c d packets is went m = record {
-  stream_layer = subst (StreamLayerMirrors l) (sym went.world) (subst (λ (r : StreamLayerState). StreamLayerMirrors r (sent_more c.world packets)) (sym is) (sent_mirrors x.stream_layer packets c.world m.stream_layer));
+  stream_layer = subst (StreamLayerMirrors l) (sym went.stream_layer) (subst (λ (r : StreamLayerState). StreamLayerMirrors r (sent_more c.stream_layer packets)) (sym is) (sent_mirrors x.stream_layer packets c.stream_layer m.stream_layer));
   servers = m.servers ∙ sym went.servers;
   map = went.map;
   moment = m.moment ∙ sym went.now;
@@ -202,8 +202,8 @@ route_came : (x : ClusterState) (l : StreamLayerState) (y : MapSeen) (number : �
 route_came x l y number p found to o = record {
   held = [];
   mirrors = λ c m.
-      let there : slice_get c.world.post number ≡ Some p = ap (λ (post : List Packet). slice_get post number) (sym m.stream_layer.post) ∙ found in
-      let is : delivers c [] (slice_get c.world.post number) ≡ map_takes c p = ap (delivers c []) there ∙ ap (delivered_to c p []) to in
+      let there : slice_get c.stream_layer.post number ≡ Some p = ap (λ (post : List Packet). slice_get post number) (sym m.stream_layer.post) ∙ found in
+      let is : delivers c [] (slice_get c.stream_layer.post number) ≡ map_takes c p = ap (delivers c []) there ∙ ap (delivered_to c p []) to in
       subst (ClusterMirrors (record x { stream_layer = l; map = y })) (sym is) (map_went x l y c (map_takes c p) o.packets o.stream_layer (o.steps_are c m.map) m);
 }
 

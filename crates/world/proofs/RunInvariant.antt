@@ -37,11 +37,11 @@ led_next x y first events i event is l h came = record {
 
 pub led_agree : (nodes servers target batch : ℕ) (events : List Event) (x : ClusterState) → ReachedBy events (first_cluster nodes servers target batch) x → Agree x.stream_layer.notes
 led_agree nodes servers target batch events x h =
-    subst Agree (sym h.mirrors.stream_layer.notes) (moves_agree nodes target h.cluster.world (led_by events (first_cluster nodes servers target batch) h.cluster h.led))
+    subst Agree (sym h.mirrors.stream_layer.notes) (moves_agree nodes target h.cluster.stream_layer (led_by events (first_cluster nodes servers target batch) h.cluster h.led))
 
 pub led_keep : (nodes servers target batch : ℕ) (events : List Event) (x : ClusterState) → ReachedBy events (first_cluster nodes servers target batch) x → Kept x.stream_layer.notes
 led_keep nodes servers target batch events x h =
-    subst Kept (sym h.mirrors.stream_layer.notes) (moves_keep nodes target h.cluster.world (led_by events (first_cluster nodes servers target batch) h.cluster h.led))
+    subst Kept (sym h.mirrors.stream_layer.notes) (moves_keep nodes target h.cluster.stream_layer (led_by events (first_cluster nodes servers target batch) h.cluster h.led))
 
 pub led_replays : (nodes servers target batch : ℕ) (events : List Event) (x : ClusterState) → ReachedBy events (first_cluster nodes servers target batch) x → Replays x.stream_layer.notes
 led_replays nodes servers target batch events x h =

@@ -23,7 +23,7 @@ pub record ClusterState : Type 0 where
 
 -- the model's cluster mirrors what is seen of the real one
 pub record ClusterMirrors (x : ClusterState) (c : Cluster) : Type 0 where
-  pub stream_layer : StreamLayerMirrors x.stream_layer c.world
+  pub stream_layer : StreamLayerMirrors x.stream_layer c.stream_layer
   pub servers : x.servers ≡ c.servers
   pub map : MapMirrors x.map c
   pub moment : x.moment ≡ c.now

@@ -40,12 +40,12 @@ nothing_sent w = ap (λ (l : List Packet). record w { post = l }) (sym (append-n
 
 -- the cluster stays as it is
 pub rests_on : (x : MapSeen) (c : Cluster) → MapMirrors x c → MapSteps x c c []
-rests_on x c m = record { world = nothing_sent c.world; servers = refl; now = refl; batch = refl; map = m }
+rests_on x c m = record { stream_layer = nothing_sent c.stream_layer; servers = refl; now = refl; batch = refl; map = m }
 
 -- it has stopped, with this map
 pub halted_on : (y : MapSeen) (c : Cluster) (m : MapState) → y.stopped ≡ true → m ≡ y.map → MapSteps y c (map_halted (record c { map = m })) []
 halted_on y c m isdown is = record {
-  world = nothing_sent c.world;
+  stream_layer = nothing_sent c.stream_layer;
   servers = refl;
   now = refl;
   batch = refl;
@@ -61,7 +61,7 @@ rule_done o x y c s up m h =
     if_elim (λ d. MapSteps (seen_of y) c d s.packets) (stops_in c.map_cell o.written) _ _
     (λ t. absurd (no_stop x.file y.file o.written s c.map_cell h.file (m.plan up) t))
     (λ f. record {
-      world = ap (λ (l : List Packet). sent_more c.world l) (sym h.packets);
+      stream_layer = ap (λ (l : List Packet). sent_more c.stream_layer l) (sym h.packets);
       servers = refl;
       now = refl;
       batch = refl;
@@ -140,7 +140,7 @@ stop_later call keep x y c up later m kept same told =
     (if_elim (λ d. MapSteps (seen_of y) c d []) (call == 0) (map_halted c) _
     (λ z. absurd (later (eqb-true call 0 z)))
     (λ z. record {
-      world = nothing_sent c.world;
+      stream_layer = nothing_sent c.stream_layer;
       servers = refl;
       now = refl;
       batch = refl;
@@ -163,7 +163,7 @@ starts_again x y c isdown m isup same untold made =
     if_elim (λ d. MapSteps (seen_of y) c d []) c.map_cell.up c (record c { map_cell = running })
     (λ t. absurd (let a = m.up ∙ ap not isdown in cc))
     (λ f. record {
-      world = nothing_sent c.world;
+      stream_layer = nothing_sent c.stream_layer;
       servers = refl;
       now = refl;
       batch = refl;

@@ -37,7 +37,7 @@ MapMirrors x c = IsMap x c.map c.map_cell
 
 -- from c to d the map alone steps: y is seen of it then, and it sends these
 pub record MapSteps (y : MapSeen) (c d : Cluster) (packets : List Packet) : Type 0 where
-  pub world : d.world ≡ sent_more c.world packets
+  pub stream_layer : d.stream_layer ≡ sent_more c.stream_layer packets
   pub servers : d.servers ≡ c.servers
   pub now : d.now ≡ c.now
   pub batch : d.batch ≡ c.batch

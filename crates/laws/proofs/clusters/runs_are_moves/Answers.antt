@@ -6,7 +6,7 @@ pub returns-clause-event : goal.returns-clause-event
 returns-clause-event c = comes_by
 
 pub returns-clause-agree : goal.returns-clause-agree
-returns-clause-agree c = λ nodes servers target batch events d led. moves_agree nodes target d.world (led_by events (first_cluster nodes servers target batch) d led)
+returns-clause-agree c = λ nodes servers target batch events d led. moves_agree nodes target d.stream_layer (led_by events (first_cluster nodes servers target batch) d led)
 
 pub returns-clause-kept : goal.returns-clause-kept
-returns-clause-kept c = λ nodes servers target batch events d led. moves_keep nodes target d.world (led_by events (first_cluster nodes servers target batch) d led)
+returns-clause-kept c = λ nodes servers target batch events d led. moves_keep nodes target d.stream_layer (led_by events (first_cluster nodes servers target batch) d led)

@@ -1,4 +1,4 @@
--- From one world to the next: what a move leaves of the lists, and what its packets add.
+-- From one stream system to the next: what a move leaves of the lists, and what its packets add.
 use Rattle.std.proofs.Common.{◌≡◌, ◌⊎◌, ℕ, suc, List, [], ◌++◌, Option, Some, None, slice_get, Contains, refl, sym, ap, ◌∙◌, subst, inl, inr}
 use Rattle.std.proofs.lemmas.List.Elements.{Contains-append_left, Contains-append_cases}
 use Rattle.wire.specs.declared.actor.ActorId.TheVariants.{Server}
