@@ -1,26 +1,14 @@
 //! One stream of many extents.
-ghost use Rattle.std.specs.Prelude.{Some};
-
 use crate::error::Failure;
 use std::alloc::Global;
+use std::collections::BTreeMap;
 use std::rt::Clock;
 use std::time::Instant;
-use streams::{Position, SealedLengths, StreamTable};
+use streams::{Position, StreamTable};
 use wire::{ExtentId, Fence, RangeId, StreamKind, StreamName};
 
 /// A stream of some thousand extents is made in less than a millisecond, so that each measurement makes so many.
 const TABLES: u64 = 100;
-
-/// Each extent is sealed.
-struct AllSealed;
-
-impl SealedLengths for AllSealed {
-    ghost lengths = { λ s e. Some 4096 };
-
-    fn length_of(&self, _extent: ExtentId) -> Option<u32> {
-        Some(4096)
-    }
-}
 
 fn log() -> StreamName {
     StreamName {
@@ -29,9 +17,10 @@ fn log() -> StreamName {
     }
 }
 
-/// A stream of so many extents, each added behind the one before.
+/// A stream of so many extents, each sealed before the next is added.
 fn extended(alloc: Global, count: u64) -> Result<StreamTable, Failure> {
     let mut table = StreamTable::new(alloc);
+    let mut sealed = BTreeMap::new(alloc);
     let name = log();
     table.create(&name, Fence(1))?;
     for number in 0..count {
@@ -41,7 +30,8 @@ fn extended(alloc: Global, count: u64) -> Result<StreamTable, Failure> {
             Some(ExtentId(number))
         };
         let extent = ExtentId(number.saturating_add(1));
-        table.extend(&name, Fence(1), last, &AllSealed, extent)?;
+        table.extend(&name, Fence(1), last, &sealed, extent)?;
+        sealed.insert(extent, 4096)?;
     }
     Ok(table)
 }

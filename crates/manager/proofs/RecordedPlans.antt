@@ -1,5 +1,5 @@
 -- What an append to the file says of a step that ends as the append does.
-use Rattle.std.proofs.Common.{rules, ◌≡◌, Option, Some, None, Result, Ok, Err, refl, ap, sym, subst, ◌∙◌}
+use Rattle.std.proofs.Common.{rules, ◌≡◌, ℕ, Option, Some, None, Result, Ok, Err, refl, ap, sym, subst, ◌∙◌}
 use Rattle.block_types.specs.declared.record.Record.{Record}
 use Rattle.block_types.specs.declared.record.Record.TheVariants.{Manage}
 use Rattle.disk.proofs.Steps.{appends_with}
@@ -10,13 +10,16 @@ use Rattle.disk.specs.Filed.{Filed}
 use Rattle.disk.specs.Appends.{Appends}
 use Rattle.disk.specs.Appends.{Records}
 use Rattle.wire.specs.declared.packet.Step.{Step}
+use Rattle.model_streams.specs.declared.extent.Extent.{Extent}
 use Rattle.model_streams.specs.declared.manager_record.ManagerRecord.{ManagerRecord}
 use Rattle.model_streams.specs.RecordBytes.{spelled}
-use Rattle.manager_state.specs.Table.{ManagerTableState, table_after}
+use Rattle.model_streams.specs.Maps.{entry_at}
+use Rattle.model_streams.specs.Manager.{forgotten, forgotten_if, sealed_in}
+use Rattle.manager_state.specs.Table.{ManagerTableState, with_entry, sealed_at, table_after}
 use Rattle.manager_rules.specs.declared.plan.Change.{Change}
-use Rattle.manager_rules.specs.declared.plan.Change.TheVariants.{Write}
+use Rattle.manager_rules.specs.declared.plan.Change.TheVariants.{Write, Replace}
 use Rattle.manager_rules.specs.declared.plan.Plan.{Plan}
-use Rattle.manager_rules.specs.Plan.{changed_by, written_by}
+use Rattle.manager_rules.specs.Plan.{changed_by, written_by, CanChange}
 use Rattle.manager.specs.PlanPerformed.{PlanPerformed}
 use Rattle.manager.specs.Performs.{listed}
 
@@ -37,6 +40,22 @@ rule_err state was is old new plan r w x change bad same h = record {
   step = tt;
   same = same;
   file = subst (λ (c : Change). Records {T = Step} state old new (listed (written_by c)) (Err x)) (sym change) (appends_with state old new (Manage (spelled r)) (Err x) (rw (← bad) h));
+}
+
+-- ---- another extent, without a record
+
+same_length : (o : Option Extent) (x : Extent) → forgotten_if o ≡ Some (forgotten x) → sealed_in o ≡ x.sealed
+same_length None x is = absurd cc
+same_length (Some y) x is = let same : forgotten y ≡ forgotten x = cc in ap (λ (z : Extent). z.sealed) same
+
+-- its length is the one that it had
+pub rule_replaced : {D : Type 0} (state : D → DiskState) (was is : ManagerTableState) (f : Filed D) (plan : Plan) (e : ℕ) (x : Extent) →
+    plan.change ≡ Replace e x → is ≡ with_entry was e (record x { sealed = sealed_at was.extents e }) → CanChange was plan.change → PlanPerformed state was is f f plan (Ok plan.step)
+rule_replaced state was is f plan e x change same can = record {
+  after = same ∙ ap (λ (w : Option ℕ). with_entry was e (record x { sealed = w })) (same_length (entry_at was.extents e) x (subst (CanChange was) change can)) ∙ ap (changed_by was) (sym change);
+  step = refl;
+  same = tt;
+  file = subst (λ (c : Change). Records state f f (listed (written_by c)) (Ok plan.step)) (sym change) (refl, (λ p. absurd cc));
 }
 
 -- ---- without memory nothing is written

@@ -20,7 +20,7 @@ use crate::performing::{decide_on, handle_on, write};
 use crate::recovery::table_of;
 use crate::sealing::{answer, refusal, sealing_of};
 use disk::{Disk, DiskFault, FileFault, MemDisk, RecordFile};
-use manager_state::{ManagerTable, reads_back};
+use manager_state::ManagerTable;
 use model_streams::ManagerRecord;
 use std::alloc::Global;
 use std::marker::Model;
@@ -84,7 +84,6 @@ fn begin<D: Disk>(
 {
     let mut file = file;
     let first = ManagerRecord::First { nodes, target };
-    reads_back(&first);
     match write(alloc, &mut file, &first) {
         Ok(()) => Ok(Manager { table, file }),
         Err(fault) => Err((fault, file.into_disk())),

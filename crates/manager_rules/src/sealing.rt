@@ -6,9 +6,7 @@ ghost use Rattle.manager_rules.specs.Plan.{Plans, seal_body, seal_extent, seal_a
 
 use crate::plan::{Change, Plan};
 use crate::sending::{deny, remind, silent, tell, tell_asker, tell_sealed, with_change};
-use manager_state::{
-    ManagerTable, first_sealed, least_told, place_of, reads_back, with_frozen, with_sealed,
-};
+use manager_state::{ManagerTable, first_sealed, least_told, place_of, with_frozen, with_sealed};
 use model_streams::{Asker, Extent, ManagerRecord};
 use std::alloc::{AllocError, Global};
 use wire::{ActorId, Body, ExtentId, Note, Packet, Refusal, ReqNo, SealBody};
@@ -182,6 +180,7 @@ pub fn decide(alloc: Global, table: &ManagerTable, extent: u64) -> Result<Plan, 
     }
 }
 
+#[tactic(auto, using(manager_state::proofs::Spelling::seal_again))]
 fn decided(
     alloc: Global,
     table: &ManagerTable,
@@ -195,7 +194,6 @@ fn decided(
         extent: ExtentId(extent),
         length,
     };
-    reads_back(&new_record);
     let mut sealed = *entry;
     sealed.sealed = Some(length);
     sealed.asker = None;

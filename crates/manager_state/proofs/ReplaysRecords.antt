@@ -132,7 +132,7 @@ set_same [] n y e = refl
 set_same (x ∷ xs) zero y e = ap (λ (z : Extent). z ∷ xs) (let same : y ≡ x = cc in same)
 set_same (x ∷ xs) (suc n) y e = ap (λ (l : List Extent). x ∷ l) (set_same xs n y e)
 
-entry_same : (t : ManagerTableState) (e : ℕ) (y : Extent) → entry_at t.extents e ≡ Some y → with_entry t e y ≡ t
+pub entry_same : (t : ManagerTableState) (e : ℕ) (y : Extent) → entry_at t.extents e ≡ Some y → with_entry t e y ≡ t
 entry_same t zero y is = refl
 entry_same t (suc n) y is = ap (λ (l : List Extent). record t { extents = l }) (set_same t.extents n y is)
 

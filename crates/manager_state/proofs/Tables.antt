@@ -28,7 +28,7 @@ entry_before [] y (suc (suc n)) a = refl
 entry_before (x ∷ xs) y (suc zero) a = refl
 entry_before (x ∷ xs) y (suc (suc n)) a = entry_before xs y (suc n) (λ e. a (ap suc e))
 
-set_here : {A : Type 0} (xs : List A) (n : ℕ) (x y : A) → slice_get xs n ≡ Some y → slice_get (slice_set xs n x) n ≡ Some x
+pub set_here : {A : Type 0} (xs : List A) (n : ℕ) (x y : A) → slice_get xs n ≡ Some y → slice_get (slice_set xs n x) n ≡ Some x
 set_here [] n x y e = absurd cc
 set_here (z ∷ xs) zero x y e = refl
 set_here (z ∷ xs) (suc n) x y e = set_here xs n x y e

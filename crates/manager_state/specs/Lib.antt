@@ -1,3 +1,4 @@
 pub mod RecordBytes
+pub mod Extents
 pub mod Table
 pub mod Replay

@@ -96,13 +96,43 @@ table_fits t (OpenStreams range generation) = not (is_there (open_fault t.stream
 table_fits t (Extend s generation pick) = is_pick t.nodes pick && lengthens t.extents generation (stream_of t.streams s)
 table_fits t (Seal e length) = seal_fits (entry_at t.extents e)
 
+-- where there is the extent, with this length or open
+abbrev pub lengthened_if : ManagerTableState → ℕ → Option Extent → Option ℕ → ManagerTableState
+lengthened_if t e None sealed = t
+lengthened_if t e (Some x) sealed = with_entry t e (record x { sealed = sealed })
+
+-- The room that a record needs: the length of an extent that is to be sealed stands from then on.
+abbrev pub with_room : ManagerTableState → ManagerRecord → ManagerTableState
+with_room t (First nodes target) = t
+with_room t (CreateStream s fence) = t
+with_room t (OpenStreams range generation) = t
+with_room t (Extend s generation pick) = t
+with_room t (Seal e length) = lengthened_if t e (entry_at t.extents e) (Some length)
+
+-- without that room: the extent is open
+abbrev pub without_room : ManagerTableState → ManagerRecord → ManagerTableState
+without_room t (First nodes target) = t
+without_room t (CreateStream s fence) = t
+without_room t (OpenStreams range generation) = t
+without_room t (Extend s generation pick) = t
+without_room t (Seal e length) = lengthened_if t e (entry_at t.extents e) None
+
+abbrev pub HasLength : Option Extent → ℕ → Type 0
+HasLength None length = Unit {0}
+HasLength (Some x) length = x.sealed ≡ Some length
+
+-- who asked for its seal is forgotten
+abbrev pub unasked_if : ManagerTableState → ℕ → Option Extent → ManagerTableState
+unasked_if t e None = t
+unasked_if t e (Some x) = with_entry t e (record x { asker = None })
+
 -- what a record adds takes no memory
 abbrev pub HasRoomFor : ManagerTableValue → ManagerRecord → Type 0
 HasRoomFor t (First nodes target) = Unit {0}
 HasRoomFor t (CreateStream s fence) = 0 < t.streams.room
 HasRoomFor t (OpenStreams range generation) = Unit {0}
 HasRoomFor t (Extend s generation pick) = (0 < t.room) × HasRoom t.streams s
-HasRoomFor t (Seal e length) = Unit {0}
+HasRoomFor t (Seal e length) = HasLength (entry_at t.extents e) length
 
 -- ---- what it tells
 

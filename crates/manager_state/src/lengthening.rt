@@ -3,11 +3,10 @@ ghost use Rattle.std.specs.Prelude.{◌≡◌, ◌<◌, OnOk, OnErr, IfOk, lengt
 ghost use Rattle.streams.specs.Streams.{stream_of, created, extended};
 ghost use Rattle.streams.specs.Table.{streams_of, HasRoom};
 ghost use Rattle.model_streams.specs.Manager.{first_streams};
-ghost use Rattle.manager_state.specs.Table.{longer_extents};
+ghost use Rattle.manager_state.specs.Extents.{longer_entries};
 
-use crate::reports::{new_entry, push_entry};
+use crate::entry::{ExtentEntry, push_new};
 use block_types::Nodes;
-use model_streams::Extent;
 use std::alloc::{AllocError, Global};
 use streams::StreamTable;
 use wire::{ExtentId, Fence, RangeId, StreamKind, StreamName};
@@ -24,35 +23,35 @@ fn fence_of(streams: &StreamTable, stream: &StreamName) -> Option<Fence>
 
 /// Room for one more extent at the end of a stream. Without memory nothing has changed but room.
 pub(crate) fn reserve_extent(
-    extents: &mut Vec<Extent>,
+    entries: &mut Vec<ExtentEntry>,
     streams: &mut StreamTable,
     stream: &StreamName,
 ) -> Result<(), AllocError>
-    ensures extents { extents.new.items ≡ extents.old.items }
+    ensures entries { entries.new.items ≡ entries.old.items }
     ensures stream { streams_of streams.new ≡ streams_of streams.old }
-    ensures room { OnOk result ((vec_len extents.new < vec_capacity extents.new) × HasRoom streams.new stream.now) }
+    ensures room { OnOk result ((vec_len entries.new < vec_capacity entries.new) × HasRoom streams.new stream.now) }
 {
-    extents.reserve(1)?;
+    entries.reserve(1)?;
     streams.reserve_extent(stream)
 }
 
 /// One more extent at the end of a stream, where there is the stream, into room that was made.
 pub(crate) fn lengthen(
-    extents: &mut Vec<Extent>,
+    entries: &mut Vec<ExtentEntry>,
     streams: &mut StreamTable,
     stream: &StreamName,
     pick: Nodes,
 )
-    requires extents { vec_len extents.old < vec_capacity extents.old }
+    requires entries { vec_len entries.old < vec_capacity entries.old }
     requires stream { HasRoom streams.old stream.now }
-    ensures extents { extents.new.items ≡ longer_extents extents.old.items (stream_of (streams_of streams.old) stream.now) pick }
-    ensures stream { streams_of streams.new ≡ extended (streams_of streams.old) stream.now (suc (length extents.old.items)) }
+    ensures entries { entries.new.items ≡ longer_entries entries.old.items (stream_of (streams_of streams.old) stream.now) pick }
+    ensures stream { streams_of streams.new ≡ extended (streams_of streams.old) stream.now (suc (length entries.old.items)) }
 {
     match fence_of(streams, stream) {
         None => {}
         Some(fence) => {
-            let number = extents.len() as u64 + 1;
-            push_entry(extents, new_entry(pick, fence));
+            let number = entries.len() as u64 + 1;
+            push_new(entries, pick, fence);
             streams.push_extent(stream, ExtentId(number));
         }
     }

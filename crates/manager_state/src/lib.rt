@@ -6,6 +6,7 @@
 //! Room for a record is made before it, so that what it makes takes no memory; a refusal leaves the table as it was.
 #![tactic(auto)]
 
+mod entry;
 mod lengthening;
 mod record_bytes;
 mod replay;
@@ -13,6 +14,6 @@ mod reports;
 mod table;
 mod telling;
 
-pub use record_bytes::{encode, reads_back};
+pub use record_bytes::encode;
 pub use reports::{first_sealed, least_told, place_of, with_frozen, with_sealed};
 pub use table::ManagerTable;

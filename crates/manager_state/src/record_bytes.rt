@@ -1,12 +1,11 @@
 //! The records of the manager, as bytes (docs/FORMATS.md).
-ghost use Rattle.std.specs.Prelude.{◌≡◌, ◌<◌, ◌^◌, ◌∷◌, ◌++◌, [], IfOk, OnOk, Some};
+ghost use Rattle.std.specs.Prelude.{◌≡◌, ◌∷◌, ◌++◌, IfOk, OnOk};
 ghost use Rattle.blocks.specs.Format.{Gives};
 ghost use Rattle.blocks.specs.Reading.{nodes_at};
 ghost use Rattle.blocks.specs.Record.{number, nodes};
 ghost use Rattle.model_streams.specs.RecordBytes.{spelled, stream_name, record_of, kind_number, kind_at, first_at, create_at, open_at, extend_at, seal_at, fields_at};
-ghost use Rattle.manager_state.specs.RecordBytes.{CanSpell};
 
-use block_types::{BlockFault, Nodes};
+use block_types::{BlockFault, MAX_NODE, MAX_TARGET, MIN_TARGET, Nodes};
 use blocks::reader::{ended, u8_at, u32_at, u64_at};
 use blocks::writer::{put_u8, put_u32, put_u64};
 use bytes::Bytes;
@@ -109,44 +108,6 @@ pub fn encode(alloc: Global, new_record: &ManagerRecord) -> Result<Bytes, AllocE
     Ok(Bytes::from_vec(out)?)
 }
 
-/// A number of 64 bits is below 2^64, which a proof of a number behind a name wants said.
-fn bounded(number: u64)
-    ensures { number < 2 ^ 64 }
-{}
-
-/// A law, which does nothing when it runs: the bytes of a record whose fields are in range are read as that record.
-pub fn reads_back(new_record: &ManagerRecord)
-    requires { CanSpell new_record.now }
-    ensures { record_of (spelled new_record.now) ≡ Some new_record.now }
-{
-    match new_record {
-        ManagerRecord::First {
-            nodes: _,
-            target: _,
-        } => {}
-        ManagerRecord::CreateStream { stream, fence } => {
-            bounded(stream.range.0);
-            bounded(fence.0);
-        }
-        ManagerRecord::OpenStreams { range, generation } => {
-            bounded(range.0);
-            bounded(generation.0);
-        }
-        ManagerRecord::Extend {
-            stream,
-            generation,
-            pick: _,
-        } => {
-            bounded(stream.range.0);
-            bounded(generation.0);
-        }
-        ManagerRecord::Seal { extent, length } => {
-            bounded(extent.0);
-            let _length = *length;
-        }
-    }
-}
-
 // ---- reading
 
 fn kind_at(bytes: &[u8]) -> Result<(StreamKind, &[u8]), BlockFault>
@@ -200,11 +161,11 @@ fn first_at(fields: &[u8]) -> Result<ManagerRecord, BlockFault>
     ensures { Gives (λ r. r) result (first_at fields.now) }
 {
     let (nodes, rest) = u8_at(fields)?;
-    if !(3..=12).contains(&nodes) {
+    if !(3..=MAX_NODE).contains(&nodes) {
         return Err(BlockFault::Damaged);
     }
     let (target, rest) = u32_at(rest)?;
-    if !(4096..=16777216).contains(&target) {
+    if !(MIN_TARGET..=MAX_TARGET).contains(&target) {
         return Err(BlockFault::Damaged);
     }
     ended(ManagerRecord::First { nodes, target }, rest)

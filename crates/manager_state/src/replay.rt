@@ -41,6 +41,7 @@ fn recover(
 }
 
 /// The table after one record more, which is read already.
+#[tactic(auto, using(crate::proofs::Rooms::after_room))]
 fn recover_record(
     alloc: Global,
     table: Option<ManagerTable>,

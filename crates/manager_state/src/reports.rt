@@ -1,11 +1,11 @@
 //! Extents, and what their places have told.
-ghost use Rattle.std.specs.Prelude.{◌≡◌, ◌<◌, ◌++◌, ◌∷◌, [], vec_len, vec_capacity};
+ghost use Rattle.std.specs.Prelude.{◌≡◌};
 ghost use Rattle.model_streams.specs.Actors.{is_node};
-ghost use Rattle.model_streams.specs.Manager.{new_extent, place_of, with_report, frozen_to, known_sealed, first_sealed, lesser_of, least_told};
+ghost use Rattle.model_streams.specs.Manager.{place_of, with_report, frozen_to, known_sealed, first_sealed, lesser_of, least_told};
 
 use block_types::Nodes;
-use model_streams::{Extent, PlaceReport};
-use wire::{ActorId, Fence};
+use model_streams::Extent;
+use wire::ActorId;
 
 fn is_node(node: u8, actor: &ActorId) -> bool
     ensures { result ≡ is_node node actor.now }
@@ -32,33 +32,6 @@ pub fn place_of(places: &Nodes, actor: &ActorId) -> Option<u8>
     } else {
         None
     }
-}
-
-/// An open extent, of which no place has told anything.
-pub(crate) fn new_entry(places: Nodes, fence: Fence) -> Extent
-    ensures { result ≡ new_extent places fence }
-{
-    let unheard = PlaceReport {
-        frozen: None,
-        sealed: false,
-    };
-    Extent {
-        places,
-        fence,
-        sealed: None,
-        primary: unheard,
-        second: unheard,
-        third: unheard,
-        asker: None,
-    }
-}
-
-/// Adds an extent into room that is there.
-pub(crate) fn push_entry(extents: &mut Vec<Extent>, entry: Extent)
-    requires { vec_len extents.old < vec_capacity extents.old }
-    ensures { extents.new.items ≡ extents.old.items ++ entry ∷ [] }
-{
-    if let Err(_full) = extents.extend_from_slice(&[entry]) {}
 }
 
 /// With the length in bytes that a place tells; none where the sender is no place.
@@ -119,8 +92,8 @@ fn lesser(one: Option<u32>, other: Option<u32>) -> Option<u32>
 {
     match (one, other) {
         (None, other) => other,
-        (Some(one), None) => Some(one),
-        (Some(one), Some(other)) => Some(if one <= other { one } else { other }),
+        (one, None) => one,
+        (Some(one), Some(other)) => Some(one.min(other)),
     }
 }
 

@@ -1,24 +1,31 @@
 //! The table of streams and extents.
-ghost use Rattle.std.specs.Prelude.{◌≡◌, suc, length, option_map, IfOk, OnOk};
+ghost use Rattle.std.specs.Prelude.{◌≡◌, ◌<◌, suc, length, Some, IfOk, OnOk, OnErr};
+ghost use Rattle.std.specs.BTreeMap.{get};
+ghost use Rattle.std.specs.Ordering.{nat_cmp};
 ghost use Rattle.streams.specs.Streams.{stream_of};
-ghost use Rattle.model_streams.specs.Manager.{is_pick, sealed_in};
+ghost use Rattle.streams.specs.Table.{HasRoom};
+ghost use Rattle.model_streams.specs.Manager.{is_pick};
 ghost use Rattle.model_streams.specs.Maps.{entry_at};
-ghost use Rattle.manager_state.specs.Table.{plain, first_table, with_entry, table_after, table_fits, closed_if, may_lengthen, lengthens, HasRoomFor};
+ghost use Rattle.manager_state.specs.Table.{plain, first_table, with_entry, table_after, table_fits, sealed_at, longer, lengthened_if, unasked_if, with_room, without_room, may_lengthen, lengthens, HasRoomFor};
 
+use crate::entry::ExtentEntry;
 use crate::lengthening::{first_streams, lengthen, reserve_extent};
 use block_types::Nodes;
 use model_streams::{Extent, ManagerRecord};
 use std::alloc::{AllocError, Global};
+use std::collections::BTreeMap;
 use std::marker::Model;
-use streams::{SealedLengths, StreamTable};
+use streams::StreamTable;
 use wire::{ExtentId, Fence, StreamName};
 
-/// The streams by name, and the extents, numbered from 1 over all streams (after Calder et al., SOSP 2011, section 4).
+/// The streams by name, and the extents, numbered from 1 over all streams (after Calder et al., SOSP 2011, section 4). The
+/// length of a sealed extent stands in one place, the map of lengths.
 pub struct ManagerTable {
     nodes: u8,
     target: u32,
     streams: StreamTable,
-    extents: Vec<Extent>,
+    entries: Vec<ExtentEntry>,
+    lengths: BTreeMap<ExtentId, u32>,
 }
 
 // Written out, so that a crate above that lets one go has no proof of what is in it.
@@ -28,13 +35,17 @@ impl Drop for ManagerTable {
             nodes: _,
             target: _,
             streams: _,
-            extents: _,
+            entries: _,
+            lengths: _,
         } = self;
     }
 }
 
 impl Model for ManagerTable {
     ghost use Rattle.std.specs.Prelude.{◌-◌, vec_capacity, vec_len};
+    ghost use Rattle.std.specs.BTreeMap.{get};
+    ghost use Rattle.std.specs.Ordering.{nat_cmp};
+    ghost use Rattle.manager_state.specs.Extents.{extents_from, HaveLengths};
     ghost use Rattle.manager_state.specs.Table.{ManagerTableValue};
 
     ghost Value = { ManagerTableValue };
@@ -43,20 +54,21 @@ impl Model for ManagerTable {
       nodes = t.nodes;
       target = t.target;
       streams = t.streams;
-      extents = t.extents.items;
-      room = vec_capacity t.extents - vec_len t.extents;
+      extents = extents_from 1 t.entries.items (get nat_cmp t.lengths);
+      room = vec_capacity t.entries - vec_len t.entries;
     } };
+
+    ghost invariant = { λ t. HaveLengths t.entries.items (get nat_cmp t.lengths) };
 }
 
-impl SealedLengths for ManagerTable {
-    ghost lengths = { λ t e. sealed_in (entry_at t.extents e) };
-
-    fn length_of(&self, extent: ExtentId) -> Option<u32> {
-        match self.entry(extent.0) {
-            None => None,
-            Some(entry) => entry.sealed,
-        }
+/// The entry of a number, if there is one.
+fn entry_at(entries: &[ExtentEntry], extent: u64) -> Option<ExtentEntry>
+    ensures { result ≡ entry_at entries.now extent }
+{
+    if extent == 0 {
+        return None;
     }
+    entries.get((extent - 1) as usize).copied()
 }
 
 impl ManagerTable {
@@ -70,7 +82,8 @@ impl ManagerTable {
             nodes,
             target,
             streams,
-            extents: Vec::new(alloc),
+            entries: Vec::new(alloc),
+            lengths: BTreeMap::new(alloc),
         })
     }
 
@@ -99,20 +112,27 @@ impl ManagerTable {
     pub fn next(&self) -> u64
         ensures { result ≡ suc (length self.now.extents) }
     {
-        self.extents.len() as u64 + 1
+        self.entries.len() as u64 + 1
     }
 
     /// The extent of a number, if there is one.
     pub fn entry(&self, extent: u64) -> Option<Extent>
         ensures { result ≡ entry_at self.now.extents extent }
     {
-        if extent == 0 {
-            return None;
-        }
-        match self.extents.get((extent - 1) as usize) {
+        match entry_at(&self.entries, extent) {
             None => None,
-            Some(entry) => Some(*entry),
+            Some(entry) => {
+                let sealed = self.lengths.get(&ExtentId(extent)).copied();
+                Some(entry.with_length(sealed))
+            }
         }
+    }
+
+    /// The lengths of the extents that are sealed, in bytes.
+    pub fn lengths(&self) -> &BTreeMap<ExtentId, u32>
+        ensures { get nat_cmp result.now ≡ sealed_at self.now.extents }
+    {
+        &self.lengths
     }
 
     /// Whether these are three different nodes that the manager knows.
@@ -143,7 +163,7 @@ impl ManagerTable {
     {
         match self.streams.stream(stream) {
             None => false,
-            Some(listed) => { generation.0 == listed.fence.0 && self.may_lengthen(listed.last()) }
+            Some(listed) => { generation == listed.fence && self.may_lengthen(listed.last()) }
         }
     }
 
@@ -174,47 +194,86 @@ impl ManagerTable {
         }
     }
 
-    /// Puts another extent in place of the one of this number, where there is one.
+    /// Puts what the places of an extent have told, and who asked, in place of what was known, where there is the extent of
+    /// this number. Its length stays.
     pub fn replace(&mut self, extent: u64, entry: Extent)
-        ensures { plain self.new ≡ with_entry (plain self.old) extent entry }
+        ensures { plain self.new ≡ with_entry (plain self.old) extent (record entry { sealed = sealed_at self.old.extents extent }) }
     {
         if extent == 0 {
             return;
         }
         let index = (extent - 1) as usize;
-        if index < self.extents.len() {
-            self.extents[index] = entry;
+        if index < self.entries.len() {
+            self.entries[index] = ExtentEntry::of(&entry);
         }
     }
 
-    /// Seals an extent, where there is one. Who asked is told in the step that seals it.
-    fn seal(&mut self, extent: u64, length: u32)
-        ensures { plain self.new ≡ closed_if (plain self.old) extent (entry_at self.old.extents extent) length }
+    /// Forgets who asked for the seal of an extent, where there is one.
+    fn forget_asker(&mut self, extent: ExtentId)
+        ensures { plain self.new ≡ unasked_if (plain self.old) extent (entry_at self.old.extents extent) }
     {
-        match self.entry(extent) {
+        match self.entry(extent.0) {
             None => {}
             Some(entry) => {
-                let mut sealed = entry;
-                sealed.sealed = Some(length);
-                sealed.asker = None;
-                self.replace(extent, sealed);
+                let mut unasked = entry;
+                unasked.asker = None;
+                self.replace(extent.0, unasked);
             }
         }
     }
 
-    /// Makes room for what a record adds. Without memory nothing has changed but room.
+    /// One more extent at the end of a stream, where there is the stream, into room that was made.
+    fn lengthen(&mut self, stream: &StreamName, pick: Nodes)
+        requires extents { 0 < self.old.room }
+        requires stream { HasRoom self.old.streams stream.now }
+        ensures { plain self.new ≡ longer (plain self.old) stream.now pick }
+    {
+        lengthen(&mut self.entries, &mut self.streams, stream, pick);
+    }
+
+    /// Gives an extent a length, where there is the extent. Without memory nothing has changed.
+    fn set_length(&mut self, extent: ExtentId, length: u32) -> Result<(), AllocError>
+        ensures ok { OnOk result (plain self.new ≡ lengthened_if (plain self.old) extent (entry_at self.old.extents extent) (Some length)) }
+        ensures err { OnErr result (plain self.new ≡ plain self.old) }
+    {
+        if self.entry(extent.0).is_none() {
+            return Ok(());
+        }
+        self.lengths.insert(extent, length)?;
+        Ok(())
+    }
+
+    /// Takes the length of an extent out.
+    fn remove_length(&mut self, extent: ExtentId)
+        ensures { plain self.new ≡ lengthened_if (plain self.old) extent (entry_at self.old.extents extent) None }
+    {
+        self.lengths.remove(&extent);
+    }
+
+    /// Makes room for what a record adds. The room for a length is the length itself: it stands from here on, and `release`
+    /// takes it out where the record was not written. Without memory nothing has changed but room.
     pub fn reserve(&mut self, new_record: &ManagerRecord) -> Result<(), AllocError>
-        ensures same { plain self.new ≡ plain self.old }
+        ensures ok { OnOk result (plain self.new ≡ with_room (plain self.old) new_record.now) }
         ensures room { OnOk result (HasRoomFor self.new new_record.now) }
+        ensures err { OnErr result (plain self.new ≡ plain self.old) }
     {
         match new_record {
             ManagerRecord::First { .. } => Ok(()),
             ManagerRecord::CreateStream { .. } => self.streams.reserve(),
             ManagerRecord::OpenStreams { .. } => Ok(()),
             ManagerRecord::Extend { stream, .. } => {
-                reserve_extent(&mut self.extents, &mut self.streams, stream)
+                reserve_extent(&mut self.entries, &mut self.streams, stream)
             }
-            ManagerRecord::Seal { .. } => Ok(()),
+            ManagerRecord::Seal { extent, length } => self.set_length(*extent, *length),
+        }
+    }
+
+    /// Gives back what was made ready for a record that was not written: an extent that was to be sealed is open.
+    pub fn release(&mut self, new_record: &ManagerRecord)
+        ensures { plain self.new ≡ without_room (plain self.old) new_record.now }
+    {
+        if let ManagerRecord::Seal { extent, .. } = new_record {
+            self.remove_length(*extent);
         }
     }
 
@@ -229,10 +288,8 @@ impl ManagerTable {
             ManagerRecord::OpenStreams { range, generation } => {
                 self.streams.raise(*range, *generation)
             }
-            ManagerRecord::Extend { stream, pick, .. } => {
-                lengthen(&mut self.extents, &mut self.streams, stream, *pick)
-            }
-            ManagerRecord::Seal { extent, length } => self.seal(extent.0, *length),
+            ManagerRecord::Extend { stream, pick, .. } => self.lengthen(stream, *pick),
+            ManagerRecord::Seal { extent, .. } => self.forget_asker(*extent),
         }
     }
 }

@@ -1,10 +1,9 @@
 -- Names and their order: what a search among names finds.
-use Rattle.std.proofs.Common.{◌≡◌, ◌≢◌, ℕ, zero, suc, ◌+◌, ◌-◌, ◌*◌, ◌<◌, ◌≤◌, Bool, true, false, ◌==◌, List, length, get_or, set, Some, None, Option, Result, Ok, Err, IfOk, IfErr, refl, sym, ap, ◌∙◌, subst, arith, eq-eqb}
+use Rattle.std.proofs.Common.{◌≡◌, ◌≢◌, ℕ, ◌+◌, ◌-◌, ◌*◌, ◌<◌, ◌≤◌, Bool, true, false, ◌==◌, List, length, set, Result, Ok, Err, IfOk, IfErr, refl, sym, ap, ◌∙◌, subst, arith, eq-eqb}
 use Rattle.std.specs.List.{insert}
 use Rattle.std.specs.List.Sorted.{IsSearchInRange, IsBinarySearchResult, IsNonDecreasingBy}
 use Rattle.std.specs.Ordering.{nat_cmp, ordering_index}
 use Rattle.std.proofs.lemmas.Cmp.{ranked}
-use Rattle.std.proofs.lemmas.List.Sorted.{IsNonDecreasingBy-from_default}
 use Rattle.std.proofs.lemmas.List.Edits.{length-insert, get_or-insert_below, get_or-insert_at, get_or-insert_above}
 use Rattle.std.proofs.lemmas.Bool.{eqb-true, and_parts}
 use Rattle.std.proofs.lemmas.Bool.Decides.{nat_tests}
@@ -14,7 +13,6 @@ use Rattle.wire.specs.declared.streams.StreamKind.TheVariants.{Metadata, Log, Ro
 use Rattle.wire.specs.declared.streams.StreamName.{StreamName}
 use Rattle.streams.specs.Streams.{kind_number}
 use Rattle.streams.specs.Table.{Entry, has_name, key_of, key_at, IsStrictlySorted, IsAt, IsGapFor}
-use Rattle.streams.proofs.Lists.{NoneBefore}
 
 pub kind_small : (k : StreamKind) → kind_number k ≤ 3
 kind_small Metadata = omega arith

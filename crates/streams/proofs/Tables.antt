@@ -10,7 +10,7 @@ use Rattle.wire.specs.declared.streams.StreamName.{StreamName}
 use Rattle.streams.specs.Streams.{Stream, Streams, kind_number, stream_of, with_stream, is_there, longer, extended, extended_if, fenced_at, opened}
 use Rattle.streams.specs.Table.{Entry, has_name, found, streams_in, room_of, HasRoomIn, fenced, fenced_if, key_of, key_at, IsStrictlySorted, IsAt, IsGapFor}
 use Rattle.streams.proofs.Lists.{first_with, first_absent, first_present, first_set, first_insert}
-use Rattle.streams.proofs.Names.{none_named, has_own, other_key, named_key, same_name, kind_small, sorted_set, sorted_insert}
+use Rattle.streams.proofs.Names.{none_named, has_own, other_key, same_name, kind_small, sorted_set, sorted_insert}
 
 found_first : (l : List Entry) (range kind : ℕ) → found l range kind ≡ first_with (has_name range kind) l
 found_first [] range kind = refl

@@ -1,6 +1,6 @@
 -- Streams: named lists of extents (Calder et al., SOSP 2011, section 4.1). Each has a fence, the least generation that it
 -- listens to, and the index of its first extent.
-use Rattle.std.specs.Prelude.{ℕ, zero, suc, ◌-◌, Bool, true, false, ◌&&◌, List, [], ◌∷◌, ◌++◌, Option, Some, None, option_map, Result, Ok, Err, ◌==◌, nat_lt, nat_le, slice_get, if◌then◌else◌}
+use Rattle.std.specs.Prelude.{ℕ, ◌-◌, Bool, true, false, ◌&&◌, List, [], ◌∷◌, ◌++◌, Option, Some, None, option_map, Result, Ok, Err, ◌==◌, nat_lt, nat_le, slice_get, if◌then◌else◌}
 use Rattle.wire.specs.declared.refusal.Refusal.{Refusal}
 use Rattle.wire.specs.declared.refusal.Refusal.TheVariants.{Stale, NoSuchStream, NameTaken, LastOpen}
 use Rattle.wire.specs.declared.streams.StreamKind.{StreamKind}

@@ -38,7 +38,10 @@ pub(crate) fn put(entries: &mut Vec<Listed>, alloc: Global, name: &StreamName, f
     let listed = Listed::new(alloc, *name, fence);
     match search(entries, name) {
         Ok(at) => entries[at] = listed,
-        Err(at) => if let Err(_full) = entries.insert(at, listed) {},
+        Err(at) => {
+            // It does not fail: there is room.
+            let _room_was_made = entries.insert(at, listed);
+        }
     }
 }
 

@@ -18,19 +18,19 @@ impl Fences {
     pub(crate) fn are_below(self, generation: Fence) -> bool
         ensures { result ≡ are_below self generation }
     {
-        self.metadata.0 < generation.0
-            && self.log.0 < generation.0
-            && self.row_data.0 < generation.0
-            && self.blob_data.0 < generation.0
+        self.metadata < generation
+            && self.log < generation
+            && self.row_data < generation
+            && self.blob_data < generation
     }
 
     /// Whether a generation is each of them.
     pub(crate) fn are(self, generation: Fence) -> bool
         ensures { result ≡ are_all self generation }
     {
-        self.metadata.0 == generation.0
-            && self.log.0 == generation.0
-            && self.row_data.0 == generation.0
-            && self.blob_data.0 == generation.0
+        self.metadata == generation
+            && self.log == generation
+            && self.row_data == generation
+            && self.blob_data == generation
     }
 }

@@ -10,10 +10,8 @@ mod entries;
 mod fault;
 mod fences;
 mod listed;
-mod sealed;
 mod table;
 
 pub use fault::StreamFault;
 pub use listed::Listed;
-pub use sealed::SealedLengths;
 pub use table::{Position, StreamTable};

@@ -116,6 +116,6 @@ impl Listed {
         ensures name { self.new.name ≡ self.old.name }
         ensures stream { self.new.stream ≡ longer extent self.old.stream }
     {
-        if let Err(_full) = self.extents.push(extent) {}
+        self.extents.push_reserved(extent);
     }
 }

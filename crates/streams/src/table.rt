@@ -1,6 +1,8 @@
 //! Streams by name.
 ghost use Rattle.std.specs.Prelude.{◌≡◌, ◌≢◌, ◌<◌, Ok, None, Some, OnOk, OnErr, IfOk, IfErr, IsErrOf, option_map};
-ghost use Rattle.streams.specs.Streams.{stream_of, kind_number, create_fault, created, open_fault, opened, confirm_fault, is_number, behind, extending, extended, located};
+ghost use Rattle.std.specs.BTreeMap.{get};
+ghost use Rattle.std.specs.Ordering.{nat_cmp};
+ghost use Rattle.streams.specs.Streams.{stream_of, kind_number, create_fault, created, open_fault, opened, confirm_fault, behind, extending, extended, located};
 ghost use Rattle.streams.specs.Table.{no_streams, streams_of, fences_of, HasRoom};
 ghost use Rattle.streams.specs.Faults.{refusal_of, refusal_in, with_refusal};
 
@@ -8,8 +10,8 @@ use crate::entries::{find, push_extent, put, raise, reserve_extent};
 use crate::fault::StreamFault;
 use crate::fences::Fences;
 use crate::listed::Listed;
-use crate::sealed::SealedLengths;
 use std::alloc::{AllocError, Global};
+use std::collections::BTreeMap;
 use std::marker::Model;
 use wire::{ExtentId, Fence, RangeId, StreamKind, StreamName};
 
@@ -51,34 +53,24 @@ impl Model for StreamTable {
 }
 
 /// What stands behind the last extent of a stream, for a caller that takes `last` for it.
-fn behind<S: SealedLengths>(
+fn behind(
     end: Option<ExtentId>,
     last: Option<ExtentId>,
-    sealed: &S,
+    sealed: &BTreeMap<ExtentId, u32>,
 ) -> Result<Option<ExtentId>, StreamFault>
-    ensures { with_refusal result ≡ behind (S.lengths sealed.now) end last }
+    ensures { with_refusal result ≡ behind (get nat_cmp sealed.now) end last }
 {
     match end {
         None => Ok(None),
         Some(end) => {
-            if !is_number(end, last) {
+            if last != Some(end) {
                 return Ok(Some(end));
             }
-            match sealed.length_of(end) {
+            match sealed.get(&end) {
                 None => Err(StreamFault::LastOpen),
                 Some(_) => Ok(None),
             }
         }
-    }
-}
-
-/// Whether the caller takes this extent for the last.
-fn is_number(extent: ExtentId, last: Option<ExtentId>) -> bool
-    ensures { result ≡ is_number extent last }
-{
-    match last {
-        None => false,
-        Some(last) => last.0 == extent.0,
     }
 }
 
@@ -217,22 +209,23 @@ impl StreamTable {
         }
     }
 
-    /// What the end of a stream answers to a generation that takes `last` for its last extent; takes no memory. None: one
-    /// more extent may stand there. An extent: it is the last one, another than `last`. 11: there is no stream of this name.
-    /// 3: the generation is not its fence. 13: the last extent is open.
-    pub fn extending<S: SealedLengths>(
+    /// What the end of a stream answers to a generation that takes `last` for its last extent; takes no memory. `sealed` has
+    /// the lengths of the extents that are sealed. None: one more extent may stand there. An extent: it is the last one,
+    /// another than `last`. 11: there is no stream of this name. 3: the generation is not its fence. 13: the last extent is
+    /// open.
+    pub fn extending(
         &self,
         name: &StreamName,
         generation: Fence,
         last: Option<ExtentId>,
-        sealed: &S,
+        sealed: &BTreeMap<ExtentId, u32>,
     ) -> Result<Option<ExtentId>, StreamFault>
-        ensures { with_refusal result ≡ extending (S.lengths sealed.now) (stream_of (streams_of self.now) name.now) generation last }
+        ensures { with_refusal result ≡ extending (get nat_cmp sealed.now) (stream_of (streams_of self.now) name.now) generation last }
     {
         match self.stream(name) {
             None => Err(StreamFault::NoSuchStream),
             Some(listed) => {
-                if generation.0 == listed.fence.0 {
+                if generation == listed.fence {
                     behind(listed.last(), last, sealed)
                 } else {
                     Err(StreamFault::Stale)
@@ -258,24 +251,25 @@ impl StreamTable {
         push_extent(&mut self.entries, name, extent);
     }
 
-    /// Adds an extent at the end of a stream, for a generation that takes `last` for its last extent. None: it stands there.
-    /// An extent: it is the last one, another than `last`, and nothing has changed. 11: there is no stream of this name.
-    /// 3: the generation is not its fence. 13: the last extent is open. 22: no memory. After all four nothing has changed.
-    pub fn extend<S: SealedLengths>(
+    /// Adds an extent at the end of a stream, for a generation that takes `last` for its last extent. `sealed` has the
+    /// lengths of the extents that are sealed. None: it stands there. An extent: it is the last one, another than `last`, and
+    /// nothing has changed. 11: there is no stream of this name. 3: the generation is not its fence. 13: the last extent is
+    /// open. 22: no memory. After all four nothing has changed.
+    pub fn extend(
         &mut self,
         name: &StreamName,
         generation: Fence,
         last: Option<ExtentId>,
-        sealed: &S,
+        sealed: &BTreeMap<ExtentId, u32>,
         extent: ExtentId,
     ) -> Result<Option<ExtentId>, StreamFault>
-        ensures answer { IfOk result (λ x. extending (S.lengths sealed.now) (stream_of (streams_of self.old) name.now) generation last ≡ Ok x) }
+        ensures answer { IfOk result (λ x. extending (get nat_cmp sealed.now) (stream_of (streams_of self.old) name.now) generation last ≡ Ok x) }
         ensures added { result ≡ Ok None → streams_of self.new ≡ extended (streams_of self.old) name.now extent }
         ensures same { result ≢ Ok None → streams_of self.new ≡ streams_of self.old }
         ensures refused { IfErr result (λ e. e ≢ StreamFault.Memory
-            → extending (S.lengths sealed.now) (stream_of (streams_of self.old) name.now) generation last ≡ Err (refusal_of e)) }
+            → extending (get nat_cmp sealed.now) (stream_of (streams_of self.old) name.now) generation last ≡ Err (refusal_of e)) }
         ensures memory { IsErrOf result StreamFault.Memory
-            → extending (S.lengths sealed.now) (stream_of (streams_of self.old) name.now) generation last ≡ Ok None }
+            → extending (get nat_cmp sealed.now) (stream_of (streams_of self.old) name.now) generation last ≡ Ok None }
     {
         match self.extending(name, generation, last, sealed) {
             Err(fault) => Err(fault),

@@ -1,26 +1,11 @@
 //! Tables of streams by name.
-ghost use Rattle.std.specs.Prelude.{nat_le, if◌then◌else◌, Some, None};
-
 use crate::cases::{Subject, holds};
 use Event::{Confirms, CreateFour, Creates, Extending, Extends, IsStream, Locates, Opening, Opens};
 use StreamKind::{BlobData, Log, Metadata, RowData};
 use std::alloc::Global;
-use streams::{Position, SealedLengths, StreamFault, StreamTable};
+use std::collections::BTreeMap;
+use streams::{Position, StreamFault, StreamTable};
 use wire::{ExtentId, Fence, RangeId, StreamKind, StreamName};
-
-/// Extents up to the one of this number are sealed, at 7 bytes each.
-#[derive(Drop)]
-struct UpTo {
-    last: u64,
-}
-
-impl SealedLengths for UpTo {
-    ghost lengths = { λ s e. if nat_le e s.last then Some 7 else None };
-
-    fn length_of(&self, extent: ExtentId) -> Option<u32> {
-        if extent.0 <= self.last { Some(7) } else { None }
-    }
-}
 
 /// What a call answers that changes a table or not.
 pub(crate) type Done = Result<(), StreamFault>;
@@ -164,30 +149,38 @@ fn number_of(extent: Option<ExtentId>) -> Option<u64> {
     }
 }
 
+/// The lengths where the extents up to the one of this number are sealed, at 7 bytes each.
+fn sealed_up_to(alloc: Global, last: u64) -> Result<BTreeMap<ExtentId, u32>, StreamFault> {
+    let mut sealed = BTreeMap::new(alloc);
+    for number in 0..last {
+        if sealed.insert(ExtentId(number + 1), 7).is_err() {
+            return Err(StreamFault::Memory);
+        }
+    }
+    Ok(sealed)
+}
+
 fn extend(
     table: &mut StreamTable,
     generation: u64,
     last: Option<u64>,
-    sealed: u64,
+    sealed: &BTreeMap<ExtentId, u32>,
     extent: u64,
 ) -> End {
-    let end = table.extend(
-        &name(5, Log),
-        Fence(generation),
-        extent_of(last),
-        &UpTo { last: sealed },
-        ExtentId(extent),
-    )?;
+    let last = extent_of(last);
+    let extent = ExtentId(extent);
+    let end = table.extend(&name(5, Log), Fence(generation), last, sealed, extent)?;
     Ok(number_of(end))
 }
 
-fn extending(table: &StreamTable, generation: u64, last: Option<u64>) -> End {
-    let end = table.extending(
-        &name(5, Log),
-        Fence(generation),
-        extent_of(last),
-        &UpTo { last: 0 },
-    )?;
+fn extending(
+    table: &StreamTable,
+    generation: u64,
+    last: Option<u64>,
+    sealed: &BTreeMap<ExtentId, u32>,
+) -> End {
+    let last = extent_of(last);
+    let end = table.extending(&name(5, Log), Fence(generation), last, sealed)?;
     Ok(number_of(end))
 }
 
@@ -214,7 +207,7 @@ fn shown(table: &StreamTable, range: u64, kind: StreamKind) -> Option<Shown> {
 impl Subject for StreamTable {
     type Event = Event;
 
-    fn takes(&mut self, _alloc: Global, event: Event) -> bool {
+    fn takes(&mut self, alloc: Global, event: Event) -> bool {
         match event {
             Creates(range, kind, fence, wanted) => create(self, range, kind, fence) == wanted,
             CreateFour(range, fence) => create_four(self, range, fence),
@@ -228,9 +221,14 @@ impl Subject for StreamTable {
                 self.confirm(RangeId(range), Fence(generation)) == wanted
             }
             Extends(generation, last, sealed, extent, wanted) => {
-                extend(self, generation, last, sealed, extent) == wanted
+                match sealed_up_to(alloc, sealed) {
+                    Ok(sealed) => extend(self, generation, last, &sealed, extent) == wanted,
+                    Err(_full) => false,
+                }
             }
-            Extending(generation, last, wanted) => extending(self, generation, last) == wanted,
+            Extending(generation, last, wanted) => {
+                extending(self, generation, last, &BTreeMap::new(alloc)) == wanted
+            }
             Locates(range, index, wanted) => locate(self, range, index) == wanted,
             IsStream(range, kind, wanted) => shown(self, range, kind) == wanted,
         }

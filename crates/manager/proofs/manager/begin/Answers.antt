@@ -6,6 +6,7 @@ use Rattle.model_streams.specs.RecordBytes.{spelled}
 use Rattle.model_streams.specs.Manager.{first_catalog}
 use Rattle.manager_state.specs.Table.{ManagerTableState, SameCatalog, first_table}
 use Rattle.manager_state.specs.Replay.{TableIsReplay}
+use Rattle.manager_state.proofs.Spelling.{first_again}
 use Rattle.manager_state.proofs.Recovering.{first_replay, first_shows}
 use Rattle.manager.proofs.manager.begin.Goals as goal
 
@@ -14,7 +15,7 @@ invariant_of-result g c = λ up.
     subst (λ (t : ManagerTableState). TableIsReplay t c.write.new.file.records) (sym c.requires.table)
     (subst (TableIsReplay (first_table c.args.nodes c.args.target))
     (sym (c.in-Ok.ensures.ok.2 ∙ ap (λ (l : List Record). l ++ Manage (spelled (First c.args.nodes c.args.target)) ∷ []) c.requires.empty))
-    (first_replay c.args.nodes c.args.target _ c.reads_back.ensures))
+    (first_replay c.args.nodes c.args.target _ (first_again c.args.nodes c.args.target (c.requires.nodes, c.requires.target))))
 
 pub returns-in-Ok-clause-shows : goal.returns-in-Ok-clause-shows
 returns-in-Ok-clause-shows g c =
@@ -25,4 +26,4 @@ returns-in-Ok-clause-replays g c =
     subst (λ (t : ManagerTableState). TableIsReplay t c.write.new.file.records) (sym c.requires.table)
     (subst (TableIsReplay (first_table c.args.nodes c.args.target))
     (sym (c.in-Ok.ensures.ok.2 ∙ ap (λ (l : List Record). l ++ Manage (spelled (First c.args.nodes c.args.target)) ∷ []) c.requires.empty))
-    (first_replay c.args.nodes c.args.target _ c.reads_back.ensures))
+    (first_replay c.args.nodes c.args.target _ (first_again c.args.nodes c.args.target (c.requires.nodes, c.requires.target))))

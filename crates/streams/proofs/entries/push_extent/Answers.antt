@@ -1,4 +1,4 @@
-use Rattle.std.proofs.Common.{sym, ◌∙◌}
+use Rattle.std.proofs.Common.{◌∙◌}
 use Rattle.streams.proofs.Tables.{name_at, room_at, sorted_at, extended_set, extended_gap}
 use Rattle.streams.proofs.entries.push_extent.Goals as goal
 

@@ -1,6 +1,5 @@
-use Rattle.std.proofs.Common.{ap, sym, ◌∙◌, ◌<◌, Result, Ok, Err, OnOk}
+use Rattle.std.proofs.Common.{◌∙◌, Result, Ok, Err, OnOk}
 use Rattle.std.specs.declared.alloc.AllocError.{AllocError}
-use Rattle.streams.specs.Table.{Entry, HasRoomIn}
 use Rattle.streams.proofs.Tables.{name_at, sorted_at, same_set, room_set, room_gap}
 use Rattle.streams.proofs.entries.reserve_extent.Goals as goal
 

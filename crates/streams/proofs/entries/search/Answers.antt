@@ -1,6 +1,6 @@
-use Rattle.std.proofs.Common.{rules, IfOk, IfErr, Result, ℕ, sym, subst}
+use Rattle.std.proofs.Common.{rules}
 use Rattle.std.proofs.lemmas.List.Sorted.{answers_always}
-use Rattle.streams.specs.Table.{Entry, IsStrictlySorted, IsAt, IsGapFor, key_of}
+use Rattle.streams.specs.Table.{key_of}
 use Rattle.streams.proofs.Names.{searched}
 use Rattle.streams.proofs.entries.search.Goals as goal
 

@@ -1,4 +1,4 @@
-use Rattle.std.proofs.Common.{ap, sym, ◌∙◌}
+use Rattle.std.proofs.Common.{ap, ◌∙◌}
 use Rattle.streams.specs.Table.{Entry}
 use Rattle.streams.proofs.Tables.{name_at, sorted_at, fenced_set, fenced_gap}
 use Rattle.streams.proofs.entries.set_fence.Goals as goal

@@ -1,4 +1,4 @@
-use Rattle.std.proofs.Common.{◌≡◌, ℕ, List, [], ◌∷◌, ◌-◌, length, slice_get, refl, ◌∙◌, ap, arith, sym}
+use Rattle.std.proofs.Common.{◌≡◌, ℕ, List, [], ◌∷◌, ◌-◌, length, slice_get, refl, ◌∙◌, ap, arith}
 use Rattle.streams.specs.Streams.{last_of}
 use Rattle.streams.proofs.listed.Listed.last.Goals as goal
 
