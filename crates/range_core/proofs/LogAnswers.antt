@@ -1,6 +1,7 @@
 -- What the log's client makes of an answer while the range is served.
 use Rattle.std.proofs.Common.{◌≡◌, ◌∙◌, ℕ, suc, ◌+◌, ◌-◌, ◌<◌, ◌^◌, Bool, true, false, List, [], ◌∷◌, ◌++◌, length, Option, Some, None, refl, sym, ap, subst, arith}
-use Rattle.std.specs.Prelude.{◌&&◌, is_some, option_to_list, if◌then◌else◌}
+use Rattle.std.specs.Prelude.{◌&&◌, is_some, nat_lt, option_to_list, if◌then◌else◌}
+use Rattle.std.proofs.lemmas.Bool.{ltb-true}
 use Rattle.block_types.specs.declared.record.Nodes.{Nodes}
 use Rattle.wire.specs.declared.actor.ReqNo.{ReqNo}
 use Rattle.wire.specs.declared.refusal.Refusal.{Refusal}
@@ -27,11 +28,12 @@ use Rattle.model_partition.specs.declared.server_context.ServerContext.{ServerCo
 use Rattle.model_partition.specs.declared.table_note.TableNote.{TableNote}
 use Rattle.model_partition.specs.Range.{OutGroup, RangeState, RangeOutcome, request, goes, dropped, picking, is_serving}
 use Rattle.model_partition.specs.Serving.{forms, log_done, applies}
-use Rattle.model_partition.specs.Answering.{answered_number, append_number, log_taken, serving_news}
+use Rattle.model_partition.specs.Loading.{are_counted}
+use Rattle.model_partition.specs.Answering.{answered_number, append_number, is_taken, log_taken, may_stand, serving_news}
 use Rattle.memtable.specs.Entries.{put_all}
 use Rattle.range_commit.specs.Queue.{changes_out, committed_out, dones_out, size_out}
 use Rattle.range_core.specs.Steps.{RangeStep, outcome}
-use Rattle.range_core.specs.Replies.{IsAppended, IsAwaited, is_old, is_stale, is_end_of, is_quiet, reaction}
+use Rattle.range_core.specs.Replies.{IsAppended, IsAwaited, is_old, is_stale, is_end_of, is_quiet, reaction, taking}
 
 -- ---- quiet answers
 
@@ -168,8 +170,8 @@ drops d r body serving waited stale = absurd cc
 
 -- ---- a group that stands
 
-stands : (d : ServerContext) (r : RangeState) (body : Body) (e offset : ℕ) → is_serving r.stage ≡ true → IsAppended r.log.job body e offset
-    → log_taken d r body ≡ log_done d (record r { log = (reaction d r body).after }) r.out e offset
+pub stands : (d : ServerContext) (r : RangeState) (body : Body) (e offset : ℕ) → is_serving r.stage ≡ true → IsAppended r.log.job body e offset
+    → log_taken d r body ≡ log_done d (taking d r body) r.out e offset
 stands d r body e offset serving appended =
     let job_is = appended.job_is in
     let body_is = appended.body_is.1 in
@@ -196,18 +198,40 @@ ended_rule d r body e offset appended =
     rw (body_is, job_is, same) refl
 
 pub acknowledged : (d : ServerContext) (r mid new : RangeState) (body : Body) (e offset count : ℕ) (packets : List Packet) (notes : List TableNote) (packet : Option Packet) (more : List TableNote)
-    → is_serving r.stage ≡ true → is_some r.out ≡ true → IsAppended r.log.job body e offset → count ≡ suc d.count
+    → is_some r.out ≡ true → IsAppended r.log.job body e offset → count ≡ suc d.count
     → mid ≡ record r { log = (reaction d r body).after; live = put_all r.live (changes_out r.out e offset); position = record { index = (r.log.base + length r.log.extents) - 1; offset = offset + size_out r.out }; out = None }
     → packets ≡ committed_out d r.out → notes ≡ dones_out r.load.range r.load.generation r.out → forms d mid ≡ goes d new (option_to_list packet) more
-    → log_taken d r body ≡ record { after = Some new; count = count; packets = packets ++ option_to_list packet; notes = notes ++ more }
-acknowledged d r mid new body e offset count packets notes packet more serving some appended counted mid_is packets_is notes_is formed =
+    → log_done d (taking d r body) r.out e offset ≡ record { after = Some new; count = count; packets = packets ++ option_to_list packet; notes = notes ++ more }
+acknowledged d r mid new body e offset count packets notes packet more some appended counted mid_is packets_is notes_is formed =
     let ended = ended_rule d r body e offset appended in
-    let now : RangeState = record r { log = (reaction d r body).after } in
+    let now : RangeState = taking d r body in
     let index : (r.log.base + length r.log.extents) - 1 ≡ (now.log.base + length now.log.extents) - 1 = ap (λ (c : ClientState). (c.base + length c.extents) - 1) (sym ended) in
-    stands d r body e offset serving appended
-    ∙ done_rule d now r.out mid new e offset count packets notes packet more some counted
+    done_rule d now r.out mid new e offset count packets notes packet more some counted
     (mid_is ∙ ap (λ (n : ℕ). record now { live = put_all r.live (changes_out r.out e offset); position = record { index = n; offset = offset + size_out r.out }; out = None }) index)
     packets_is notes_is formed
+
+-- ---- where a group may stand
+
+and_left : (a b : Bool) → (a && b) ≡ true → a ≡ true
+and_left true b both = refl
+and_left false b both = both
+
+and_right : (a b : Bool) → (a && b) ≡ true → b ≡ true
+and_right true b both = both
+and_right false b both = absurd cc
+
+-- the indexes of the log's extents fit 64 bits, where a group that is out may stand
+pub may_be_counted : (r : RangeState) (out : Option OutGroup) (offset : ℕ) → may_stand r out offset ≡ true → is_some out ≡ true → are_counted r.log ≡ true
+may_be_counted r None offset stands some = absurd cc
+may_be_counted r (Some out) offset stands some = and_right (nat_lt (offset + size_out (Some out)) (2 ^ 32)) (are_counted r.log) stands
+
+-- the group ends where an extent may reach
+pub may_fit : (r : RangeState) (out : Option OutGroup) (offset : ℕ) → may_stand r out offset ≡ true → is_some out ≡ true → offset + size_out out < 2 ^ 32
+may_fit r None offset stands some = absurd cc
+may_fit r (Some out) offset stands some = ltb-true (offset + size_out (Some out)) (2 ^ 32) (and_left (nat_lt (offset + size_out (Some out)) (2 ^ 32)) (are_counted r.log) stands)
+
+pub taken_stands : (r : RangeState) (body : Body) (e offset : ℕ) → IsAppended r.log.job body e offset → is_taken r body ≡ true → may_stand r r.out offset ≡ true
+taken_stands r body e offset appended taken = subst (λ (b : Body). is_taken r b ≡ true) appended.body_is.1 taken
 
 -- ---- what is awaited
 
@@ -223,6 +247,12 @@ append_awaited job w body is waited = tt
 pub awaited : (job : Job) (w : ReqNo) (body : Body) → answered_number body ≡ Some w → awaits job w ≡ true → IsAwaited job body
 awaited job w (bodies.Append body) is waited = append_awaited job w body is waited
 awaited job w body is waited = tt
+
+-- an answer that is awaited, and tells of no group that stands, ends no append
+pub no_end : (job : Job) (body : Body) → IsAwaited job body → ((e offset : ℕ) → IsAppended job body e offset → ⊥) → is_end_of job body ≡ false
+no_end (Sent e q) (bodies.Append (appends.Appended w told offset)) waited none = absurd (none e offset (record { request = q; told = told; job_is = refl; body_is = (w, refl, waited) }))
+no_end (Sent e q) (bodies.Append body) waited none = refl
+no_end job body waited none = refl
 
 -- ---- what a step leaves
 

@@ -59,3 +59,7 @@ is_quiet told = true
 -- what the log's client makes of an answer
 abbrev pub reaction : ServerContext → RangeState → Body → Outcome
 reaction d r body = reply_rule (picking d r.log) (request d) body
+
+-- the range, once the log's client has taken an answer
+abbrev pub taking : ServerContext → RangeState → Body → RangeState
+taking d r body = record r { log = (reaction d r body).after }

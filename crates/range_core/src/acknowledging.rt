@@ -1,19 +1,21 @@
 //! Answers to the client of the log while the range is served.
-ghost use Rattle.std.specs.Prelude.{◌≡◌, ◌<◌, ◌≤◌, ◌+◌, ◌-◌, ◌^◌, ◌++◌, ◌&&◌, [], true, false, length, vec_len, vec_capacity, None, is_some, option_to_list, IfOk, IfSome, IfNone, OnOk, OnErr};
+ghost use Rattle.std.specs.Prelude.{◌≡◌, ℕ, ◌<◌, ◌≤◌, ◌+◌, ◌-◌, ◌^◌, ◌++◌, ◌&&◌, true, false, length, vec_len, vec_capacity, None, is_some, option_to_list, IfOk, IfSome, IfNone, OnOk, OnErr};
 ghost use Rattle.memtable.specs.Entries.{put_all};
 ghost use Rattle.client.specs.Client.{needs_memory, reply_rule};
-ghost use Rattle.model_partition.specs.Range.{RangeState, is_serving, picking, request};
+ghost use Rattle.model_partition.specs.Range.{is_serving, picking, request};
 ghost use Rattle.model_partition.specs.Loading.{are_counted};
-ghost use Rattle.model_partition.specs.Answering.{is_taken, log_taken};
+ghost use Rattle.model_partition.specs.Answering.{is_taken, log_taken, may_stand};
+ghost use Rattle.model_partition.specs.Serving.{log_done};
 ghost use Rattle.range_commit.specs.Queue.{changes_out, committed_out, dones_out, size_out};
-ghost use Rattle.range_core.specs.Replies.{IsAppended, IsAwaited, is_end_of, is_stale, reaction};
+ghost use Rattle.range_core.specs.Replies.{IsAppended, IsAwaited, is_end_of, is_stale, reaction, taking};
 ghost use Rattle.range_core.specs.Steps.{outcome, IsShort};
 
 use crate::forming::{Begun, next_group, next_request};
-use crate::range_step::{RangeStep, push_some};
+use crate::range_step::{RangeStep, append_reserved, push_some};
 use crate::state::RangeState;
 use client::{Job, Reaction, StreamClient};
 use model_partition::{ServerContext, TableNote};
+use range_commit::MAX_WAITING;
 use std::alloc::{AllocError, Global};
 use streams::Position;
 use wire::{AppendBody, Body, ExtentId, Packet, Refusal};
@@ -39,10 +41,10 @@ fn joined(told: Told, begun: Begun, count: u64) -> RangeStep
     } = told;
     let Begun {
         packet,
-        notes: mut more,
+        notes: more,
     } = begun;
     push_some(&mut packets, packet);
-    if let Err(_full) = notes.append(&mut more) {}
+    append_reserved(&mut notes, more);
     RangeStep {
         dropped: false,
         count,
@@ -95,34 +97,48 @@ fn is_stale(body: &Body) -> bool
     }
 }
 
-/// The extent and the offset in it where the group stands that was sent, if this is the answer to it.
-fn group_end(job: Job, body: &Body) -> Option<(ExtentId, u32)>
-    requires { IsAwaited job body.now }
-    ensures some { IfSome result (λ x. IsAppended job body.now x.0 x.1) }
-    ensures told { IfSome result (λ x. (r : RangeState) → is_taken r body.now ≡ true → is_some r.out ≡ true → (x.1 + size_out r.out < 2 ^ 32) × (are_counted r.log ≡ true)) }
-    ensures none { IfNone result (is_end_of job body.now ≡ false) }
-{
-    match body {
-        Body::Append(AppendBody::Appended { offset, .. }) => match job {
-            Job::Sent { extent, .. } => Some((extent, *offset)),
-            _ => None,
-        },
-        _ => None,
-    }
-}
-
 impl RangeState {
+    /// The extent and the offset in it where the group stands that the log's client sent, if this is the answer that says so and
+    /// the client waits for it.
+    pub fn appended(&self, answer: &Body) -> Option<(ExtentId, u32)>
+        ensures some { IfSome result (λ x. IsAppended self.now.log.job answer.now x.0 x.1) }
+        ensures none { IfNone result ((extent offset : ℕ) → IsAppended self.now.log.job answer.now extent offset → ⊥) }
+    {
+        match answer {
+            Body::Append(
+                AppendBody::Appended {
+                    request, offset, ..
+                },
+            ) => {
+                if !self.content.log.awaits(request) {
+                    return None;
+                }
+                match self.content.log.job {
+                    Job::Sent { extent, .. } => Some((extent, *offset)),
+                    _ => None,
+                }
+            }
+            _ => None,
+        }
+    }
+
+    /// Whether the group that is out may stand at the offset: no extent reaches beyond 2^32 - 1 bytes, and the indexes of the
+    /// log's extents fit 64 bits. Where none is out it may.
+    pub fn may_stand(&self, offset: u32) -> bool
+        ensures { result ≡ may_stand self.now self.now.out offset }
+    {
+        if !self.queue.is_out() {
+            return true;
+        }
+        offset.checked_add(self.queue.out_size()).is_some() && is_counted(&self.content.log)
+    }
+
     /// Whether an answer to the log's client counts: a group that ends where no extent reaches is told by no node.
     pub(crate) fn is_taken(&self, body: &Body) -> bool
         ensures { result ≡ is_taken self.now body.now }
     {
         match body {
-            Body::Append(AppendBody::Appended { offset, .. }) => {
-                if !self.queue.is_out() {
-                    return true;
-                }
-                offset.checked_add(self.queue.out_size()).is_some() && is_counted(&self.content.log)
-            }
+            Body::Append(AppendBody::Appended { offset, .. }) => self.may_stand(*offset),
             _ => true,
         }
     }
@@ -178,10 +194,11 @@ impl RangeState {
             offset: offset + self.queue.out_size(),
         };
         self.queue.finish();
-        match take_answer(&mut self.content.log, alloc, context, body) {
-            Ok(reaction) => drop(reaction),
-            Err(_full) => {}
-        }
+        // The answer to an append takes no memory.
+        let Ok(reaction) = take_answer(&mut self.content.log, alloc, context, body) else {
+            unreachable!()
+        };
+        drop(reaction);
         Ok(())
     }
 
@@ -198,27 +215,27 @@ impl RangeState {
         let _most = self.queue.count();
         let (mut packets, mut notes) = self.queue.acknowledge(alloc, context, range, generation)?;
         packets.reserve(1)?;
-        notes.reserve(1024)?;
+        notes.reserve(MAX_WAITING)?;
         Ok(Told { packets, notes })
     }
 
-    /// The group that is out stands at the offset: its transactions are answered, and the next group is formed. For want of
-    /// memory (22) nothing has changed.
-    fn acknowledge(
+    /// The log's append is done: the answer says that the group that is out stands at the offset of the extent. Its transactions
+    /// are applied in order, each is answered (Committed) and shown as done, the log's position moves behind the group, and the
+    /// next group is formed. For want of memory (22) nothing has changed.
+    #[tactic(auto, using(crate::proofs::LogAnswers::may_be_counted, crate::proofs::LogAnswers::may_fit))]
+    pub fn log_done(
         &mut self,
         alloc: Global,
         context: &ServerContext,
-        body: &Body,
+        answer: &Body,
         extent: ExtentId,
         offset: u32,
     ) -> Result<RangeStep, AllocError>
         requires numbers { context.now.count + 1024 < 2 ^ 64 }
-        requires serving { is_serving self.old.stage ≡ true }
-        requires counted { are_counted self.old.log ≡ true }
-        requires fits { offset + size_out self.old.out < 2 ^ 32 }
         requires out { is_some self.old.out ≡ true }
-        requires appended { IsAppended self.old.log.job body.now extent offset }
-        ensures ok { IfOk result (λ t. log_taken context.now self.old body.now ≡ outcome t self.new) }
+        requires appended { IsAppended self.old.log.job answer.now extent offset }
+        requires stands { may_stand self.old self.old.out offset ≡ true }
+        ensures ok { IfOk result (λ t. log_done context.now (taking context.now self.old answer.now) self.old.out extent offset ≡ outcome t self.new) }
         ensures held { OnOk result (self.new.held ≡ self.old.held) }
         ensures err { OnErr result (self.new ≡ self.old) }
         ensures short { IfOk result IsShort }
@@ -226,14 +243,14 @@ impl RangeState {
         let told = self.told(alloc, context)?;
         let range = self.content.load.range;
         let generation = self.content.load.generation;
-        let next = next_group(&self.queue, alloc, context, range, generation)?;
-        self.apply(alloc, context, body, extent, offset)?;
+        let next = next_group(alloc, &self.queue, context, range, generation)?;
+        self.apply(alloc, context, answer, extent, offset)?;
         let begun = self.begin_next(alloc, context, next);
         Ok(joined(told, begun, context.count + 1))
     }
 
     /// An answer to the log's client while the range is served.
-    #[tactic(auto, using(crate::proofs::LogAnswers::drops))]
+    #[tactic(auto, using(crate::proofs::LogAnswers::drops, crate::proofs::LogAnswers::taken_stands, crate::proofs::LogAnswers::no_end))]
     pub(crate) fn serving_reply(
         &mut self,
         alloc: Global,
@@ -254,8 +271,8 @@ impl RangeState {
             return Ok(RangeStep::drops(alloc, context.count + 1, packets));
         }
         if self.queue.is_out() {
-            if let Some((extent, offset)) = group_end(self.content.log.job, body) {
-                return self.acknowledge(alloc, context, body, extent, offset);
+            if let Some((extent, offset)) = self.appended(body) {
+                return self.log_done(alloc, context, body, extent, offset);
             }
         }
         self.log_goes(alloc, context, body)

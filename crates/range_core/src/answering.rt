@@ -40,9 +40,12 @@ fn make_room(alloc: Global, farewell: Vec<Packet>) -> Result<Prepared, AllocErro
 
 /// Whose answer moves a load on.
 #[derive(Drop)]
-enum Waiter {
+pub enum Waiter {
+    /// The load itself: its streams are opened, or its generation is confirmed.
     Load,
+    /// The metadata's client.
     Metadata,
+    /// The log's client, which is the load's until the range is served.
     Log,
 }
 
@@ -106,7 +109,7 @@ impl RangeState {
                 queue.set_next(next);
                 self.queue = queue;
                 self.position = position;
-                drop(notes.push(note));
+                notes.push_reserved(note);
                 RangeStep {
                     dropped: false,
                     count: context.count + 1,
@@ -117,8 +120,11 @@ impl RangeState {
         }
     }
 
-    /// A step of the load, by the answer to this one.
-    fn step_of_load(
+    /// The load goes on by the answer to this one: the streams are opened, the metadata is read and then the log, the generation
+    /// is confirmed, and the range is served from then on, with the number of the next transaction and the log's position. The
+    /// range is dropped where its generation is an old one (3) or what was read is damaged (21), and those who wait are told so
+    /// (30). For want of memory (22) nothing has changed.
+    pub fn load(
         &mut self,
         alloc: Global,
         context: &ServerContext,
@@ -159,7 +165,7 @@ impl RangeState {
         if self.is_serving() {
             return self.serving_reply(alloc, context, body);
         }
-        self.step_of_load(alloc, context, Waiter::Log, body)
+        self.load(alloc, context, Waiter::Log, body)
     }
 
     /// Whether a job of the range waits for an answer of this number.
@@ -193,10 +199,10 @@ impl RangeState {
         ensures short { IfOk result IsShort }
     {
         if self.content.load.awaits(request) {
-            return self.step_of_load(alloc, context, Waiter::Load, body);
+            return self.load(alloc, context, Waiter::Load, body);
         }
         if self.content.metadata.awaits(request) {
-            return self.step_of_load(alloc, context, Waiter::Metadata, body);
+            return self.load(alloc, context, Waiter::Metadata, body);
         }
         if self.content.log.awaits(request) {
             return self.log_reply(alloc, context, body);

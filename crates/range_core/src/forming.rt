@@ -38,8 +38,8 @@ pub(crate) struct Ready {
 
 /// The group that is formed as soon as none is out, if one is then.
 pub(crate) fn next_group(
-    queue: &Queue,
     alloc: Global,
+    queue: &Queue,
     context: &ServerContext,
     range: RangeId,
     generation: Fence,
@@ -52,7 +52,7 @@ pub(crate) fn next_group(
     ensures formed { IfOk result (λ made. IfSome made (λ x. is_formed queue.now.next x.count ≡ true)) }
     ensures few { IfOk result (λ made. IfSome made (λ x. length x.notes.items ≤ 1024)) }
 {
-    // No more are noted than wait.
+    // For the proof: no more are noted than wait, at most 1,024.
     let _most = queue.count();
     match queue.plan(alloc, context, range, generation)? {
         None => Ok(None),
@@ -128,8 +128,10 @@ impl RangeState {
         }
     }
 
-    /// The next group is formed, if one is. For want of memory (22) nothing has changed.
-    pub(crate) fn form(
+    /// Where no group is out, the next one is formed: the first of the transactions that wait, as many as fit 64 blocks and as the
+    /// batch allows, get the next numbers, each is shown as begun, and they are appended to the log. Where none waits, or the
+    /// numbers do not fit 64 bits, nothing is. For want of memory (22) nothing has changed.
+    pub fn form(
         &mut self,
         alloc: Global,
         context: &ServerContext,
@@ -145,7 +147,7 @@ impl RangeState {
         }
         let range = self.content.load.range;
         let generation = self.content.load.generation;
-        let next = next_group(&self.queue, alloc, context, range, generation)?;
+        let next = next_group(alloc, &self.queue, context, range, generation)?;
         let Begun { packet, notes } = self.begin_next(alloc, context, next);
         push_some(&mut packets, packet);
         Ok(RangeStep {

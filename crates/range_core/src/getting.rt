@@ -1,8 +1,7 @@
 //! A Get comes, or the bytes of a value.
-ghost use Rattle.std.specs.Prelude.{◌≡◌, ◌<◌, ◌≤◌, ◌+◌, ◌^◌, ℕ, List, length, Contains, None, IfOk, OnOk, OnErr};
+ghost use Rattle.std.specs.Prelude.{◌≡◌, ◌<◌, ◌+◌, ◌^◌, ℕ, List, length, Contains, None, IfOk, OnOk, OnErr};
 ghost use Rattle.memtable.specs.declared.cell.Place.{Place as ValuePlace};
 ghost use Rattle.model_partition.specs.Getting.{get_fault, get_rule, held_at};
-ghost use Rattle.range_reads.specs.Lookups.{Sees};
 ghost use Rattle.model_partition.specs.Answering.{gets_reply};
 ghost use Rattle.range_core.specs.Cache.{HoldsOnly, Takes};
 ghost use Rattle.range_core.specs.Steps.{outcome, IsShort};
@@ -11,6 +10,7 @@ use crate::range_step::RangeStep;
 use crate::state::{RangeState, extents_of, known_extents};
 use crate::transacting::refused;
 use bytes::Bytes;
+use memtable::MAX_KEY;
 use model_partition::ServerContext;
 use range_reads::{Asking, MAX_GETS};
 use std::alloc::{AllocError, Global};
@@ -28,7 +28,7 @@ impl RangeState {
         if self.lease_ended(context) {
             return Some(Refusal::LeaseEnded);
         }
-        if key.is_empty() || key.len() > 256 {
+        if key.is_empty() || key.len() > MAX_KEY {
             return Some(Refusal::BadKey);
         }
         if !self.content.said.keys.contains(key) {

@@ -3,7 +3,7 @@ ghost use Rattle.std.specs.Prelude.{◌≡◌, ◌<◌, ◌≤◌, ◌+◌, ◌+
 ghost use Rattle.model_partition.specs.Answering.{give_up_all};
 ghost use Rattle.range_core.specs.Steps.{outcome, IsShort};
 
-use crate::range_step::{RangeStep, push_some};
+use crate::range_step::{RangeStep, append_reserved, push_some};
 use crate::state::{RangeState, extents_of, known_extents};
 use model_partition::ServerContext;
 use range_load::GivenUp;
@@ -23,11 +23,10 @@ fn gathered(packets: Vec<Packet>, given: GivenUp, reads: Vec<Packet>) -> Vec<Pac
         log,
     } = given;
     let mut packets = packets;
-    let mut reads = reads;
     push_some(&mut packets, load);
     push_some(&mut packets, metadata);
     push_some(&mut packets, log);
-    if let Err(_full) = packets.append(&mut reads) {}
+    append_reserved(&mut packets, reads);
     packets
 }
 

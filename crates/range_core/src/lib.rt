@@ -1,9 +1,11 @@
 //! One range at a server: the load of its streams, the transactions that it takes, the groups that they are appended in, and
 //! the Gets that it answers (after Calder et al., SOSP 2011, section 5).
 //!
-//! This crate touches memory only. Each call is a rule of the table of a server (model_partition/specs: Loading, Serving, Getting
-//! and Answering) on the range, exactly, but for what its cache holds. A step that is refused for want of memory (22) leaves
-//! the range as it was, and that is the one error that no clause limits.
+//! This crate touches memory only. Each step is a rule of the table of a server (model_partition/specs: Loading, Serving, Getting
+//! and Answering) on the range, exactly, but for what its cache holds: `assign`, `renew`, `load`, `transact`, `form`, `log_done`,
+//! `get` and `give_up`. `answer` goes to `load`, to `log_done` or to the Gets, whichever waits. A step that is refused for want
+//! of memory (22) leaves the range as it was, and that is the one error that no clause limits. The readers `phase`, `position`,
+//! `next_number`, `indexes` and `regions` take no memory.
 #![tactic(auto)]
 
 mod acknowledging;
@@ -11,9 +13,12 @@ mod answering;
 mod forming;
 mod getting;
 mod giving_up;
+mod phase;
 mod range_step;
 mod state;
 mod transacting;
 
+pub use answering::Waiter;
+pub use phase::Phase;
 pub use range_step::RangeStep;
 pub use state::RangeState;

@@ -2,7 +2,7 @@
 ghost use Rattle.std.specs.Prelude.{◌≡◌, ◌<◌, ◌≤◌, ◌+◌, ◌++◌, [], true, false, vec_len, vec_capacity, option_to_list};
 
 use model_partition::TableNote;
-use std::alloc::Global;
+use std::alloc::{AllocError, Global};
 use std::marker::Model;
 use wire::Packet;
 
@@ -32,8 +32,17 @@ pub(crate) fn push_some(packets: &mut Vec<Packet>, packet: Option<Packet>)
     ensures room { vec_capacity packets.old ≤ vec_capacity packets.new }
 {
     if let Some(packet) = packet {
-        drop(packets.push(packet));
+        packets.push_reserved(packet);
     }
+}
+
+/// Moves items to the end of others, into room that is there.
+pub(crate) fn append_reserved<T: Drop>(items: &mut Vec<T>, mut more: Vec<T>)
+    requires { vec_len items.old + vec_len more ≤ vec_capacity items.old }
+    ensures { items.new.items ≡ items.old.items ++ more.items }
+{
+    let moved: Result<(), AllocError> = items.append(&mut more);
+    moved.unwrap();
 }
 
 impl RangeStep {

@@ -4,9 +4,12 @@ ghost use Rattle.client.specs.Load.{open_packet};
 ghost use Rattle.model_partition.specs.Range.{RangeState, request, refused_users};
 ghost use Rattle.range_load.specs.Steps.{put};
 ghost use Rattle.model_partition.specs.Server.{new_range};
+ghost use Rattle.range_core.specs.Phases.{phase_of};
 
+use crate::phase::Phase;
 use client::StreamClient;
-use model_partition::ServerContext;
+use metadata::{IndexRange, Region};
+use model_partition::{ServerContext, Stage};
 use range_commit::Queue;
 use range_load::RangeContent;
 use range_reads::Lookups;
@@ -120,6 +123,44 @@ impl RangeState {
         let lookups = Lookups::new(alloc)?;
         let (content, packet) = RangeContent::new(alloc, context, range, generation)?;
         Ok((RangeState::of(alloc, until, content, lookups), packet))
+    }
+
+    /// How far it is.
+    pub fn phase(&self) -> Phase
+        ensures { result ≡ phase_of self.now.stage }
+    {
+        match self.content.stage {
+            Stage::Serving => Phase::Serving,
+            _ => Phase::Loading,
+        }
+    }
+
+    /// The end of what was appended to its log and acknowledged.
+    pub fn position(&self) -> Position
+        ensures { result ≡ self.now.position }
+    {
+        self.position
+    }
+
+    /// The number of the next transaction, from 1.
+    pub fn next_number(&self) -> u64
+        ensures { result ≡ self.now.next }
+    {
+        self.queue.next()
+    }
+
+    /// The indexes that its metadata names, the newest first.
+    pub fn indexes(&self) -> &[IndexRange]
+        ensures { result.now ≡ self.now.said.indexes }
+    {
+        &self.content.said.indexes.items
+    }
+
+    /// The regions of its log, in the log's order, each with the number that is to be applied next.
+    pub fn regions(&self) -> &[Region]
+        ensures { result.now ≡ self.now.regions }
+    {
+        &self.content.regions
     }
 
     /// A lease's end never goes back.

@@ -8,12 +8,9 @@ ghost use Rattle.range_core.specs.Steps.{outcome, IsShort};
 use crate::range_step::RangeStep;
 use crate::state::RangeState;
 use model_partition::{ServerContext, Stage, WaitingTransaction};
-use range_commit::change_fault;
+use range_commit::{MAX_WAITING, change_fault};
 use std::alloc::{AllocError, Global};
 use wire::{ActorId, AppendBody, Body, Changes, Packet, Refusal, ReqNo};
-
-/// How many transactions of a range wait at most.
-const MAX_WAITING: usize = 1024;
 
 /// From how many bytes on a memory table takes no transaction.
 const MAX_TABLE: u64 = 67_108_864;

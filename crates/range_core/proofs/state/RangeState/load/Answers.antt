@@ -3,7 +3,7 @@ use Rattle.model_partition.specs.Range.{RangeState}
 use Rattle.range_core.specs.Steps.{outcome}
 use Rattle.range_core.specs.Waiters.{waiter_rule}
 use Rattle.range_core.specs.contracts.state.RangeState.{the_view}
-use Rattle.range_core.proofs.state.RangeState.step_of_load.Goals as goal
+use Rattle.range_core.proofs.state.RangeState.load.Goals as goal
 
 pub returns-in-Ok-clause-ok : goal.returns-in-Ok-clause-ok
 returns-in-Ok-clause-ok c =
