@@ -1,5 +1,5 @@
 -- What a range leaves that is told to give up.
-use Rattle.std.proofs.Common.{◌≡◌, ◌∙◌, ℕ, suc, ◌+◌, false, List, [], ◌++◌, map, Option, Some, None, refl, sym, ap, arith, append_assoc}
+use Rattle.std.proofs.Common.{◌≡◌, ◌∙◌, suc, ◌+◌, false, List, [], ◌++◌, map, Option, Some, None, refl, sym, ap, arith, append_assoc}
 use Rattle.std.specs.Prelude.{option_to_list, flat_map}
 use Rattle.wire.specs.declared.packet.Packet.{Packet}
 use Rattle.client.specs.Client.{ClientState, give_up_rule}

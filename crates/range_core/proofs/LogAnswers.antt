@@ -1,5 +1,5 @@
 -- What the log's client makes of an answer while the range is served.
-use Rattle.std.proofs.Common.{◌≡◌, ◌∙◌, ℕ, suc, ◌+◌, ◌-◌, ◌<◌, ◌^◌, Bool, true, false, List, [], ◌∷◌, ◌++◌, length, Option, Some, None, refl, sym, ap, subst, arith}
+use Rattle.std.proofs.Common.{◌≡◌, ◌∙◌, ℕ, suc, ◌+◌, ◌-◌, ◌<◌, ◌^◌, Bool, true, false, List, [], ◌++◌, length, Option, Some, None, refl, sym, ap, subst, arith}
 use Rattle.std.specs.Prelude.{◌&&◌, is_some, nat_lt, option_to_list, if◌then◌else◌}
 use Rattle.std.proofs.lemmas.Bool.{ltb-true}
 use Rattle.block_types.specs.declared.record.Nodes.{Nodes}
@@ -27,7 +27,7 @@ use Rattle.client.specs.Client.{ClientState, Outcome, awaits, waits, fenced_if, 
 use Rattle.model_partition.specs.declared.server_context.ServerContext.{ServerContext}
 use Rattle.model_partition.specs.declared.table_note.TableNote.{TableNote}
 use Rattle.model_partition.specs.Range.{OutGroup, RangeState, RangeOutcome, request, goes, dropped, picking, is_serving}
-use Rattle.model_partition.specs.Serving.{forms, log_done, applies}
+use Rattle.model_partition.specs.Serving.{forms, log_done}
 use Rattle.model_partition.specs.Loading.{are_counted}
 use Rattle.model_partition.specs.Answering.{answered_number, append_number, is_taken, log_taken, may_stand, serving_news}
 use Rattle.memtable.specs.Entries.{put_all}

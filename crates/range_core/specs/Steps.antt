@@ -1,5 +1,5 @@
 -- What a step of a range leaves, as its code says it.
-use Rattle.std.specs.Prelude.{◌≡◌, ℕ, ◌≤◌, Bool, true, false, List, length, Option, Some, None, if◌then◌else◌}
+use Rattle.std.specs.Prelude.{ℕ, ◌≤◌, Bool, List, length, Option, Some, None, if◌then◌else◌}
 use Rattle.wire.specs.declared.packet.Packet.{Packet}
 use Rattle.model_partition.specs.declared.table_note.TableNote.{TableNote}
 use Rattle.model_partition.specs.Range.{RangeState, RangeOutcome}

@@ -107,7 +107,9 @@ impl RangeState {
         match answer {
             Body::Append(
                 AppendBody::Appended {
-                    request, offset, ..
+                    request,
+                    offset,
+                    ..
                 },
             ) => {
                 if !self.content.log.awaits(request) {
