@@ -274,8 +274,7 @@ impl RangeServer {
         let mut packets = self.farewell(alloc, range)?;
         packets.reserve(1)?;
         let (state, packet) = RangeState::assign(alloc, &self.context, range, generation, until)?;
-        // There is room for it.
-        drop(packets.push(packet));
+        packets.push_reserved(packet);
         Ok((state, packets))
     }
 
