@@ -1,23 +1,19 @@
 -- What the real map does is what the cluster's map does.
-use Rattle.std.proofs.Common.{◌≡◌, ◌≢◌, ℕ, Bool, true, false, not, ◌==◌, if◌then◌else◌, List, [], ◌++◌, Option, Some, None, Result, Ok, Err, refl, sym, ap, ◌∙◌, subst, append-nil}
+use Rattle.std.proofs.Common.{◌≡◌, ◌≢◌, ℕ, Bool, true, false, not, ◌==◌, if◌then◌else◌, List, [], ◌++◌, Option, Some, None, Ok, Err, refl, sym, ap, ◌∙◌, subst, append-nil}
 use Rattle.std.proofs.lemmas.Bool.{eqb-true}
-use Rattle.disk.specs.declared.device.DiskFault.{DiskFault}
 use Rattle.disk.specs.declared.device.DiskFault.TheVariants.{Failed, Memory}
 use Rattle.disk.specs.declared.memory.MemDisk.{MemDisk}
-use Rattle.disk.specs.Filed.{Filed}
 use Rattle.disk.specs.Appends.{listed}
 use Rattle.disk.specs.Memory.{memory_state}
-use Rattle.block_types.specs.declared.record.Record.{Record}
 use Rattle.wire.specs.declared.packet.Packet.{Packet}
 use Rattle.wire.specs.declared.packet.Step.{Step}
 use Rattle.wire.specs.declared.refusal.Refusal.{Refusal}
 use Rattle.model_streams.specs.Outcome.{Outcome}
-use Rattle.model_streams.specs.StreamSystem.{StreamSystem, armed, down, running, sent_more, stands_in, stops_in}
+use Rattle.model_streams.specs.StreamSystem.{StreamSystem, running, sent_more, stands_in, stops_in}
 use Rattle.model_streams.proofs.Tests.{if_elim}
 use Rattle.model_partition.specs.Map.{MapState}
 use Rattle.model_partition.specs.Replay.{map_replay}
 use Rattle.model_partition.specs.Cluster.{Cluster, map_performs, map_performs_if, map_halted, map_stops, map_starts}
-use Rattle.world_stops.specs.Plan.{plan_of}
 use Rattle.world_stops.proofs.StopInRecord.{broken_down, broken_records, broken_stops, burnt_up, no_stop, plan_ok, plan_armed, short_same, up_ok}
 use Rattle.pmap.specs.MapWithFile.{MapWithFile, map_of}
 use Rattle.pmap.specs.Performs.{MapPerforms}
