@@ -31,11 +31,6 @@ opening server range generation q = record { server = server; range = range; gen
 abbrev pub confirm_packet : LoadState → ReqNo → Packet
 confirm_packet l q = from_server l.server Manager (bodies.Stream (streams.Confirm l.range l.generation q))
 
--- whether the load counts: only once its generation is confirmed
-abbrev pub is_loaded : LoadPhase → Bool
-is_loaded Confirmed = true
-is_loaded phase = false
-
 abbrev pub is_open : LoadPhase → Bool
 is_open Opened = true
 is_open phase = false

@@ -1,9 +1,7 @@
 //! Appends, with what takes memory made beforehand.
-ghost use Rattle.std.specs.Prelude.{◌≡◌, ◌≢◌, Ok, Err, Some, None, IfOk, IfErr, OnErr};
+ghost use Rattle.std.specs.Prelude.{◌≡◌, Err, Some, None, IfOk, IfErr, OnErr};
 ghost use Rattle.client.specs.Client.{append_rule, append_behind};
 ghost use Rattle.client.specs.Began.{Begins};
-ghost use Rattle.client.specs.declared.fault.ClientFault.{ClientFault};
-ghost use Rattle.client.specs.declared.fault.ClientFault.TheVariants as faults;
 
 use crate::client::{StreamClient, is_idle, last};
 use crate::fault::ClientFault;
@@ -43,35 +41,10 @@ impl Appending {
 }
 
 impl StreamClient {
-    /// Begins an append of these blocks: to the last extent where it is open, else to a new one behind it. The packet bears
-    /// this number. 22: no memory. 35: another request is out. After a refusal nothing has changed.
-    pub fn append(
-        &mut self,
-        alloc: Global,
-        request: &ReqNo,
-        blocks: &Blocks,
-    ) -> Result<Packet, ClientFault>
-        ensures ok { IfOk result (λ p. Begins (append_rule self.old request.now blocks.now) self.new p) }
-        ensures err { OnErr result (self.new ≡ self.old) }
-        ensures fault { IfErr result (λ f. f ≢ faults.Memory → append_rule self.old request.now blocks.now ≡ Err f) }
-        ensures refused { (f : ClientFault) → append_rule self.old request.now blocks.now ≡ Err f → result ≡ Err f }
-    {
-        if !is_idle(self.job) {
-            return Err(ClientFault::Busy);
-        }
-        match Appending::of(alloc, blocks) {
-            Ok(appending) => self.begin_append(request, appending),
-            Err(_full) => Err(ClientFault::Memory),
-        }
-    }
-
-    /// The same append, of which all that takes memory is made: it is refused only where another request is out (35), and
-    /// nothing has changed then.
-    pub fn begin_append(
-        &mut self,
-        request: &ReqNo,
-        appending: Appending,
-    ) -> Result<Packet, ClientFault>
+    /// Begins an append of these blocks: to the last extent where it is open, else to a new one after it. The packet bears
+    /// this number. All that takes memory is made, so it is refused only where another request is out (35), and nothing has
+    /// changed then.
+    pub fn append(&mut self, request: &ReqNo, appending: Appending) -> Result<Packet, ClientFault>
         ensures ok { IfOk result (λ p. Begins (append_rule self.old request.now appending) self.new p) }
         ensures err { OnErr result (self.new ≡ self.old) }
         ensures fault { IfErr result (λ f. append_rule self.old request.now appending ≡ Err f) }

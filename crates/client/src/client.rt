@@ -13,7 +13,7 @@ use block_types::Nodes;
 use std::alloc::{AllocError, Global};
 use std::marker::Model;
 use wire::{
-    Blocks, Body, ExtentId, Fence, Packet, ReqNo, ServerNo, StreamExtent, StreamList, StreamName,
+    Blocks, ExtentId, Fence, Packet, ReqNo, ServerNo, StreamExtent, StreamList, StreamName,
 };
 
 /// What a server knows of one of its streams under a generation, and the one request that it has out on it.
@@ -76,10 +76,7 @@ pub(crate) fn last(extents: &[StreamExtent]) -> Option<StreamExtent>
 pub(crate) fn is_idle(job: Job) -> bool
     ensures { result ≡ is_idle job }
 {
-    match job {
-        Job::Idle => true,
-        _ => false,
-    }
+    matches!(job, Job::Idle)
 }
 
 impl StreamClient {
@@ -215,22 +212,7 @@ impl StreamClient {
         ensures err { OnErr result (self.new ≡ self.old) }
         ensures needed { OnErr result (needs_memory packet.now.body ≡ true) }
     {
-        self.on_answer(alloc, request, &packet.body)
-    }
-
-    /// The same with what the packet says alone.
-    pub fn on_answer(
-        &mut self,
-        alloc: Global,
-        request: &ReqNo,
-        body: &Body,
-    ) -> Result<Reaction, AllocError>
-        ensures ok { IfOk result (λ r. reply_rule self.old request.now body.now ≡ record { after = self.new; packet = r.packet; news = r.news }) }
-        ensures content { IfOk result (λ r. content_told r.news ≡ content_of self.old.job body.now) }
-        ensures err { OnErr result (self.new ≡ self.old) }
-        ensures needed { OnErr result (needs_memory body.now ≡ true) }
-    {
-        match reply(self, alloc, request, body) {
+        match reply(self, alloc, request, &packet.body) {
             Ok(reaction) => Ok(reaction),
             Err(full) => Err(full),
         }

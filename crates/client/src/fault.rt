@@ -13,9 +13,6 @@ pub enum ClientFault {
     /// 9: the extent is not known to be sealed, and none of it was checked.
     #[error("the extent is not sealed")]
     NotSealed,
-    /// 22: no memory was left.
-    #[error("no memory was left")]
-    Memory,
     /// 35: another request is out.
     #[error("another request is out")]
     Busy,

@@ -1,8 +1,9 @@
 //! The opening of a range's streams for a load, and its confirmation.
 ghost use Rattle.std.specs.Prelude.{◌≡◌, Some, None, true, false};
-ghost use Rattle.client.specs.Load.{opening, open_packet, confirm_packet, is_loaded, is_open, load_awaits, opened_phase, confirmed_phase, stale_phase, refused_phase, append_phase, stream_phase, reply_phase, again};
+ghost use Rattle.client.specs.Load.{opening, open_packet, confirm_packet, is_open, load_awaits, opened_phase, confirmed_phase, stale_phase, refused_phase, append_phase, stream_phase, reply_phase, again};
 ghost use Rattle.client.specs.declared.load.LoadPhase.TheVariants as phases;
 
+use crate::client::StreamClient;
 use crate::requests::is_same;
 use crate::sending::sent;
 use std::marker::Model;
@@ -25,12 +26,13 @@ pub enum LoadPhase {
     Fenced,
 }
 
-/// The load of a range under a generation (after Calder et al., SOSP 2011, section 5.3).
+/// The load of a range under a generation (after Calder et al., SOSP 2011, section 5.3). How far it is changes by its own
+/// calls alone: a load counts only by an answer to what `confirm` sent.
 pub struct RangeLoad {
     server: ServerNo,
     pub range: RangeId,
     pub generation: Fence,
-    pub phase: LoadPhase,
+    phase: LoadPhase,
 }
 
 // Written out, so that a crate above that lets one go has no proof of what is in it.
@@ -60,9 +62,7 @@ pub(crate) fn load_awaits(phase: &LoadPhase, answered: &ReqNo) -> bool
     match phase {
         LoadPhase::Opening { request } => is_same(request, answered),
         LoadPhase::Confirming { request } => is_same(request, answered),
-        LoadPhase::Opened => false,
-        LoadPhase::Confirmed => false,
-        LoadPhase::Fenced => false,
+        _ => false,
     }
 }
 
@@ -88,10 +88,7 @@ fn opened(answered: &ReqNo, phase: &LoadPhase) -> LoadPhase
                 *phase
             }
         }
-        LoadPhase::Opened => *phase,
-        LoadPhase::Confirming { .. } => *phase,
-        LoadPhase::Confirmed => *phase,
-        LoadPhase::Fenced => *phase,
+        _ => *phase,
     }
 }
 
@@ -106,10 +103,7 @@ fn confirmed(answered: &ReqNo, phase: &LoadPhase) -> LoadPhase
                 *phase
             }
         }
-        LoadPhase::Opening { .. } => *phase,
-        LoadPhase::Opened => *phase,
-        LoadPhase::Confirmed => *phase,
-        LoadPhase::Fenced => *phase,
+        _ => *phase,
     }
 }
 
@@ -131,9 +125,7 @@ fn stale(answered: &ReqNo, phase: &LoadPhase) -> LoadPhase
                 *phase
             }
         }
-        LoadPhase::Opened => *phase,
-        LoadPhase::Confirmed => *phase,
-        LoadPhase::Fenced => *phase,
+        _ => *phase,
     }
 }
 
@@ -171,17 +163,13 @@ fn reply(body: &Body, phase: &LoadPhase) -> LoadPhase
     match body {
         Body::Append(body) => append_reply(body, phase),
         Body::Stream(body) => stream_reply(body, phase),
-        Body::Check(_body) => *phase,
-        Body::Seal(_body) => *phase,
-        Body::Read(_body) => *phase,
-        Body::Map(_body) => *phase,
-        Body::Table(_body) => *phase,
+        _ => *phase,
     }
 }
 
-impl RangeLoad {
+impl StreamClient {
     /// Begins a load of a range under a generation: its four streams are opened. The packet, to the manager, bears this
-    /// number.
+    /// number. No client of a stream is there before, since the answer tells the streams.
     pub fn open_for_load(
         server: ServerNo,
         range: RangeId,
@@ -199,6 +187,15 @@ impl RangeLoad {
         };
         (load, opening_packet(server, range, generation, request))
     }
+}
+
+impl RangeLoad {
+    /// How far it is.
+    pub fn phase(&self) -> LoadPhase
+        ensures { result ≡ self.now.phase }
+    {
+        self.phase
+    }
 
     /// Asks the manager whether the generation is still the fence of the four streams, once all that the load needs was
     /// read. The packet bears this number. None where the streams are not opened, or the load is over; nothing has changed
@@ -213,10 +210,7 @@ impl RangeLoad {
                 self.phase = LoadPhase::Confirming { request: *request };
                 Some(self.confirming(request))
             }
-            LoadPhase::Opening { .. } => None,
-            LoadPhase::Confirming { .. } => None,
-            LoadPhase::Confirmed => None,
-            LoadPhase::Fenced => None,
+            _ => None,
         }
     }
 
@@ -242,13 +236,6 @@ impl RangeLoad {
         self.phase
     }
 
-    /// It is as far as its owner found an answer to bring it.
-    pub fn set_phase(&mut self, phase: LoadPhase)
-        ensures { self.new ≡ record self.old { phase = phase } }
-    {
-        self.phase = phase;
-    }
-
     /// What is sent again where no answer comes, with the number that it had; none where nothing is out.
     pub fn give_up(&self) -> Option<Packet>
         ensures { result ≡ again self.now self.now.phase }
@@ -261,9 +248,7 @@ impl RangeLoad {
                 request,
             )),
             LoadPhase::Confirming { request } => Some(self.confirming(request)),
-            LoadPhase::Opened => None,
-            LoadPhase::Confirmed => None,
-            LoadPhase::Fenced => None,
+            _ => None,
         }
     }
 
@@ -272,18 +257,5 @@ impl RangeLoad {
         ensures { result ≡ load_awaits self.now.phase request.now }
     {
         load_awaits(&self.phase, request)
-    }
-
-    /// Whether it counts: only once the manager has confirmed its generation.
-    pub fn is_loaded(&self) -> bool
-        ensures { result ≡ is_loaded self.now.phase }
-    {
-        match self.phase {
-            LoadPhase::Confirmed => true,
-            LoadPhase::Opening { .. } => false,
-            LoadPhase::Opened => false,
-            LoadPhase::Confirming { .. } => false,
-            LoadPhase::Fenced => false,
-        }
     }
 }

@@ -179,7 +179,7 @@ impl RangeServer {
         };
         match self.ranges.get_mut(&range) {
             None => Ok(Sent::nothing(alloc)),
-            Some(state) => match state.answer(alloc, &self.context, request, &packet.body) {
+            Some(state) => match state.answer(alloc, &self.context, request, packet) {
                 Ok(taken) => Ok(settle(&mut self.ranges, &mut self.context, range, taken)),
                 Err(full) => Err(full),
             },

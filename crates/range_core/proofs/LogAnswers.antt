@@ -24,6 +24,8 @@ use Rattle.client.specs.declared.job.Job.TheVariants.{Idle, Sent, Closing, Growi
 use Rattle.client.specs.declared.job.News.{News}
 use Rattle.client.specs.declared.job.News.TheVariants as news
 use Rattle.client.specs.Client.{ClientState, Outcome, awaits, waits, fenced_if, refused_job, appended_job, checked_job, sealed_job, groups_job, extended_job, if_awaited, append_reply, check_reply, seal_reply, read_reply, stream_reply, reply_rule}
+use Rattle.client.specs.declared.load.LoadPhase.{LoadPhase}
+use Rattle.client.specs.Load.{load_awaits}
 use Rattle.model_partition.specs.declared.server_context.ServerContext.{ServerContext}
 use Rattle.model_partition.specs.declared.table_note.TableNote.{TableNote}
 use Rattle.model_partition.specs.Range.{OutGroup, RangeState, RangeOutcome, request, goes, dropped, picking, is_serving}
@@ -32,6 +34,7 @@ use Rattle.model_partition.specs.Loading.{are_counted}
 use Rattle.model_partition.specs.Answering.{answered_number, append_number, is_taken, log_taken, may_stand, serving_news}
 use Rattle.memtable.specs.Entries.{put_all}
 use Rattle.range_commit.specs.Queue.{changes_out, committed_out, dones_out, size_out}
+use Rattle.range_load.specs.Awaited.{awaits_number, is_awaited}
 use Rattle.range_core.specs.Steps.{RangeStep, outcome}
 use Rattle.range_core.specs.Replies.{IsAppended, IsAwaited, is_old, is_stale, is_end_of, is_quiet, reaction, taking}
 
@@ -243,6 +246,9 @@ append_awaited : (job : Job) (w : ReqNo) (body : AppendBody) → append_number b
 append_awaited job w (appends.Appended v e offset) is waited = subst (λ (x : Option ReqNo). IfSomeAwaits job x) (sym is) waited
 append_awaited job w (appends.Refused v refusal) is waited = subst (λ (x : Option ReqNo). IfSomeAwaits job x) (sym is) waited
 append_awaited job w body is waited = tt
+
+pub load_awaited : (phase : LoadPhase) (w : ReqNo) (body : Body) → answered_number body ≡ Some w → load_awaits phase w ≡ true → is_awaited phase body ≡ true
+load_awaited phase w body is waited = ap (λ (x : Option ReqNo). awaits_number phase x) is ∙ waited
 
 pub awaited : (job : Job) (w : ReqNo) (body : Body) → answered_number body ≡ Some w → awaits job w ≡ true → IsAwaited job body
 awaited job w (bodies.Append body) is waited = append_awaited job w body is waited

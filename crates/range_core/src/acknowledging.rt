@@ -59,15 +59,15 @@ fn take_answer(
     log: &mut StreamClient,
     alloc: Global,
     context: &ServerContext,
-    body: &Body,
+    packet: &Packet,
 ) -> Result<Reaction, AllocError>
-    ensures ok { IfOk result (λ x. reply_rule (picking context.now log.old) (request context.now) body.now ≡ record { after = log.new; packet = x.packet; news = x.news }) }
+    ensures ok { IfOk result (λ x. reply_rule (picking context.now log.old) (request context.now) packet.now.body ≡ record { after = log.new; packet = x.packet; news = x.news }) }
     ensures err { OnErr result (log.new ≡ log.old) }
-    ensures needed { OnErr result (needs_memory body.now ≡ true) }
+    ensures needed { OnErr result (needs_memory packet.now.body ≡ true) }
 {
     let pick = log.pick;
     log.pick = context.pick;
-    match log.on_answer(alloc, &next_request(context), body) {
+    match log.on_reply(alloc, &next_request(context), packet) {
         Ok(reaction) => Ok(reaction),
         Err(full) => {
             log.pick = pick;
@@ -150,19 +150,19 @@ impl RangeState {
         &mut self,
         alloc: Global,
         context: &ServerContext,
-        body: &Body,
+        packet: &Packet,
     ) -> Result<RangeStep, AllocError>
         requires numbers { context.now.count + 1024 < 2 ^ 64 }
         requires serving { is_serving self.old.stage ≡ true }
-        requires current { is_stale body.now ≡ false }
-        requires quiet { (is_some self.old.out && is_end_of self.old.log.job body.now) ≡ false }
-        ensures ok { IfOk result (λ t. log_taken context.now self.old body.now ≡ outcome t self.new) }
+        requires current { is_stale packet.now.body ≡ false }
+        requires quiet { (is_some self.old.out && is_end_of self.old.log.job packet.now.body) ≡ false }
+        ensures ok { IfOk result (λ t. log_taken context.now self.old packet.now.body ≡ outcome t self.new) }
         ensures held { OnOk result (self.new.held ≡ self.old.held) }
         ensures err { OnErr result (self.new ≡ self.old) }
         ensures short { IfOk result IsShort }
     {
         let mut packets = Vec::with_capacity(alloc, 1)?;
-        let reaction = take_answer(&mut self.content.log, alloc, context, body)?;
+        let reaction = take_answer(&mut self.content.log, alloc, context, packet)?;
         push_some(&mut packets, reaction.packet);
         Ok(RangeStep::sends(alloc, context.count + 1, packets))
     }
@@ -173,15 +173,15 @@ impl RangeState {
         &mut self,
         alloc: Global,
         context: &ServerContext,
-        body: &Body,
+        packet: &Packet,
         extent: ExtentId,
         offset: u32,
     ) -> Result<(), AllocError>
         requires counted { are_counted self.old.log ≡ true }
         requires fits { offset + size_out self.old.out < 2 ^ 32 }
-        requires appended { IsAppended self.old.log.job body.now extent offset }
+        requires appended { IsAppended self.old.log.job packet.now.body extent offset }
         ensures ok { OnOk result (self.new ≡ record self.old {
-          log = (reaction context.now self.old body.now).after;
+          log = (reaction context.now self.old packet.now.body).after;
           live = put_all self.old.live (changes_out self.old.out extent offset);
           position = record { index = (self.old.log.base + length self.old.log.extents) - 1; offset = offset + size_out self.old.out };
           out = None;
@@ -197,7 +197,7 @@ impl RangeState {
         };
         self.queue.finish();
         // The answer to an append takes no memory.
-        let Ok(reaction) = take_answer(&mut self.content.log, alloc, context, body) else {
+        let Ok(reaction) = take_answer(&mut self.content.log, alloc, context, packet) else {
             unreachable!()
         };
         drop(reaction);
@@ -229,15 +229,15 @@ impl RangeState {
         &mut self,
         alloc: Global,
         context: &ServerContext,
-        answer: &Body,
+        packet: &Packet,
         extent: ExtentId,
         offset: u32,
     ) -> Result<RangeStep, AllocError>
         requires numbers { context.now.count + 1024 < 2 ^ 64 }
         requires out { is_some self.old.out ≡ true }
-        requires appended { IsAppended self.old.log.job answer.now extent offset }
+        requires appended { IsAppended self.old.log.job packet.now.body extent offset }
         requires stands { may_stand self.old self.old.out offset ≡ true }
-        ensures ok { IfOk result (λ t. log_done context.now (taking context.now self.old answer.now) self.old.out extent offset ≡ outcome t self.new) }
+        ensures ok { IfOk result (λ t. log_done context.now (taking context.now self.old packet.now.body) self.old.out extent offset ≡ outcome t self.new) }
         ensures held { OnOk result (self.new.held ≡ self.old.held) }
         ensures err { OnErr result (self.new ≡ self.old) }
         ensures short { IfOk result IsShort }
@@ -246,7 +246,7 @@ impl RangeState {
         let range = self.content.load.range;
         let generation = self.content.load.generation;
         let next = next_group(alloc, &self.queue, context, range, generation)?;
-        self.apply(alloc, context, answer, extent, offset)?;
+        self.apply(alloc, context, packet, extent, offset)?;
         let begun = self.begin_next(alloc, context, next);
         Ok(joined(told, begun, context.count + 1))
     }
@@ -257,26 +257,26 @@ impl RangeState {
         &mut self,
         alloc: Global,
         context: &ServerContext,
-        body: &Body,
+        packet: &Packet,
     ) -> Result<RangeStep, AllocError>
         requires numbers { context.now.count + 1024 < 2 ^ 64 }
         requires serving { is_serving self.old.stage ≡ true }
-        requires taken { is_taken self.old body.now ≡ true }
-        requires awaited { IsAwaited self.old.log.job body.now }
-        ensures ok { IfOk result (λ t. log_taken context.now self.old body.now ≡ outcome t self.new) }
+        requires taken { is_taken self.old packet.now.body ≡ true }
+        requires awaited { IsAwaited self.old.log.job packet.now.body }
+        ensures ok { IfOk result (λ t. log_taken context.now self.old packet.now.body ≡ outcome t self.new) }
         ensures held { OnOk result (self.new.held ≡ self.old.held) }
         ensures err { OnErr result (self.new ≡ self.old) }
         ensures short { IfOk result IsShort }
     {
-        if is_stale(body) {
+        if is_stale(&packet.body) {
             let packets = self.refusals(alloc, context)?;
             return Ok(RangeStep::drops(alloc, context.count + 1, packets));
         }
         if self.queue.is_out() {
-            if let Some((extent, offset)) = self.appended(body) {
-                return self.log_done(alloc, context, body, extent, offset);
+            if let Some((extent, offset)) = self.appended(&packet.body) {
+                return self.log_done(alloc, context, packet, extent, offset);
             }
         }
-        self.log_goes(alloc, context, body)
+        self.log_goes(alloc, context, packet)
     }
 }

@@ -2,6 +2,7 @@
 ghost use Rattle.std.specs.Prelude.{◌≡◌, ◌<◌, ◌≤◌, ◌+◌, ◌^◌, [], Some, true, false, length, vec_len, vec_capacity, IfOk, OnOk, OnErr};
 ghost use Rattle.model_partition.specs.Range.{is_serving, refused_users};
 ghost use Rattle.model_partition.specs.Answering.{answer_rule, answered_number, log_reply, range_awaits};
+ghost use Rattle.range_load.specs.Awaited.{is_awaited};
 ghost use Rattle.range_load.specs.Steps as steps;
 ghost use Rattle.range_core.specs.Cache.{HoldsOnly, Takes, is_for_gets};
 ghost use Rattle.range_core.specs.Replies.{IsAwaited};
@@ -15,7 +16,7 @@ use model_partition::{ServerContext, TableNote};
 use range_commit::Queue;
 use range_load::{Progress, RangeContent, Service};
 use std::alloc::{AllocError, Global};
-use wire::{Body, Packet, ReqNo};
+use wire::{Packet, ReqNo};
 
 /// What a step of a load may need of memory: the farewell to those who wait, and room for a packet and an observation.
 #[derive(Drop)]
@@ -55,16 +56,17 @@ fn progress_of(
     alloc: Global,
     context: &ServerContext,
     waiter: Waiter,
-    body: &Body,
+    packet: &Packet,
 ) -> Result<Progress, AllocError>
-    requires { waiter ≡ waiters.Log → is_serving content.old.stage ≡ false }
-    ensures ok { IfOk result (λ p. steps.RangePerforms context.now (λ r. waiter_rule waiter context.now r body.now) content.old content.new p) }
+    requires load { waiter ≡ waiters.Load → is_awaited content.old.load.phase packet.now.body ≡ true }
+    requires log { waiter ≡ waiters.Log → is_serving content.old.stage ≡ false }
+    ensures ok { IfOk result (λ p. steps.RangePerforms context.now (λ r. waiter_rule waiter context.now r packet.now.body) content.old content.new p) }
     ensures err { OnErr result (content.new ≡ content.old) }
 {
     match waiter {
-        Waiter::Load => content.load_reply(alloc, context, body),
-        Waiter::Metadata => content.metadata_reply(alloc, context, body),
-        Waiter::Log => content.log_load_reply(alloc, context, body),
+        Waiter::Load => content.load_reply(alloc, context, packet),
+        Waiter::Metadata => content.metadata_reply(alloc, context, packet),
+        Waiter::Log => content.log_load_reply(alloc, context, packet),
     }
 }
 
@@ -129,18 +131,19 @@ impl RangeState {
         alloc: Global,
         context: &ServerContext,
         waiter: Waiter,
-        body: &Body,
+        packet: &Packet,
     ) -> Result<RangeStep, AllocError>
         requires numbers { context.now.count + 1024 < 2 ^ 64 }
+        requires load { waiter ≡ waiters.Load → is_awaited self.old.load.phase packet.now.body ≡ true }
         requires loading { waiter ≡ waiters.Log → is_serving self.old.stage ≡ false }
-        ensures ok { IfOk result (λ t. waiter_rule waiter context.now self.old body.now ≡ outcome t self.new) }
+        ensures ok { IfOk result (λ t. waiter_rule waiter context.now self.old packet.now.body ≡ outcome t self.new) }
         ensures held { OnOk result (self.new.held ≡ self.old.held) }
         ensures err { OnErr result (self.new ≡ self.old) }
         ensures short { IfOk result IsShort }
     {
         let farewell = self.refusals(alloc, context)?;
         let prepared = make_room(alloc, farewell)?;
-        match progress_of(&mut self.content, alloc, context, waiter, body) {
+        match progress_of(&mut self.content, alloc, context, waiter, packet) {
             Ok(progress) => Ok(self.settle(alloc, context, progress, prepared)),
             Err(full) => Err(full),
         }
@@ -150,22 +153,22 @@ impl RangeState {
         &mut self,
         alloc: Global,
         context: &ServerContext,
-        body: &Body,
+        packet: &Packet,
     ) -> Result<RangeStep, AllocError>
         requires numbers { context.now.count + 1024 < 2 ^ 64 }
-        requires awaited { IsAwaited self.old.log.job body.now }
-        ensures ok { IfOk result (λ t. log_reply context.now self.old body.now ≡ outcome t self.new) }
+        requires awaited { IsAwaited self.old.log.job packet.now.body }
+        ensures ok { IfOk result (λ t. log_reply context.now self.old packet.now.body ≡ outcome t self.new) }
         ensures held { OnOk result (self.new.held ≡ self.old.held) }
         ensures err { OnErr result (self.new ≡ self.old) }
         ensures short { IfOk result IsShort }
     {
-        if !self.is_taken(body) {
+        if !self.is_taken(&packet.body) {
             return Ok(RangeStep::sends(alloc, context.count, Vec::new(alloc)));
         }
         if self.is_serving() {
-            return self.serving_reply(alloc, context, body);
+            return self.serving_reply(alloc, context, packet);
         }
-        self.load(alloc, context, Waiter::Log, body)
+        self.load(alloc, context, Waiter::Log, packet)
     }
 
     /// Whether a job of the range waits for an answer of this number.
@@ -178,35 +181,35 @@ impl RangeState {
             || self.lookups.awaits(request)
     }
 
-    /// The answer of this number: what the load, the metadata's client, the log's client or the Gets do with it, whichever waits
-    /// for it first. That the body bears the number is the caller's condition. The cache of the Gets then holds nothing but what
+    /// The answer of this number, a packet: what the load, the metadata's client, the log's client or the Gets do with it, whichever waits
+    /// for it first. That it bears the number is the caller's condition. The cache of the Gets then holds nothing but what
     /// it held and the bytes that the answer brings, and these where a read of the number asked for their very place. For want of
     /// memory (22) nothing has changed.
-    #[tactic(auto, using(crate::proofs::LogAnswers::awaited))]
+    #[tactic(auto, using(crate::proofs::LogAnswers::awaited, crate::proofs::LogAnswers::load_awaited))]
     pub fn answer(
         &mut self,
         alloc: Global,
         context: &ServerContext,
         request: &ReqNo,
-        body: &Body,
+        packet: &Packet,
     ) -> Result<RangeStep, AllocError>
         requires numbers { context.now.count + 1024 < 2 ^ 64 }
-        requires answer { answered_number body.now ≡ Some request.now }
-        ensures ok { IfOk result (λ t. answer_rule context.now self.old request.now body.now self.new.held ≡ outcome t self.new) }
-        ensures held { OnOk result (HoldsOnly self.new.held self.old.held body.now) }
-        ensures taken { OnOk result (is_for_gets self.old request.now ≡ true → Takes self.old self.new.held request.now body.now) }
+        requires answer { answered_number packet.now.body ≡ Some request.now }
+        ensures ok { IfOk result (λ t. answer_rule context.now self.old request.now packet.now.body self.new.held ≡ outcome t self.new) }
+        ensures held { OnOk result (HoldsOnly self.new.held self.old.held packet.now.body) }
+        ensures taken { OnOk result (is_for_gets self.old request.now ≡ true → Takes self.old self.new.held request.now packet.now.body) }
         ensures err { OnErr result (self.new ≡ self.old) }
         ensures short { IfOk result IsShort }
     {
         if self.content.load.awaits(request) {
-            return self.load(alloc, context, Waiter::Load, body);
+            return self.load(alloc, context, Waiter::Load, packet);
         }
         if self.content.metadata.awaits(request) {
-            return self.load(alloc, context, Waiter::Metadata, body);
+            return self.load(alloc, context, Waiter::Metadata, packet);
         }
         if self.content.log.awaits(request) {
-            return self.log_reply(alloc, context, body);
+            return self.log_reply(alloc, context, packet);
         }
-        self.gets_reply(alloc, context, request, body)
+        self.gets_reply(alloc, context, request, &packet.body)
     }
 }

@@ -86,7 +86,7 @@ fn send_group(log: &mut StreamClient, context: &ServerContext, blocks: Appending
     ensures { given (picking context.now log.old) (append_rule (picking context.now log.old) (request context.now) blocks) ≡ record { after = log.new; packet = result; news = None } }
 {
     log.pick = context.pick;
-    log.begin_append(&next_request(context), blocks).ok()
+    log.append(&next_request(context), blocks).ok()
 }
 
 impl RangeState {

@@ -63,13 +63,14 @@ impl RangeState {
             return refused(alloc, context, from, request, refusal);
         }
         let key = key.clone()?;
+        let content = &self.content;
         let asking = Asking {
             context,
             until: self.until,
-            table: &self.content.table,
-            log: known_extents(&self.content.log),
-            blob: extents_of(&self.content.blob_data),
-            rows: extents_of(&self.content.row_data),
+            table: &content.table,
+            log: known_extents(&content.log),
+            blob: extents_of(&content.blob_data),
+            rows: extents_of(&content.row_data),
         };
         match self.lookups.get(alloc, &asking, from, *request, key) {
             Ok(tried) => Ok(RangeStep::sends(alloc, tried.count, tried.packets)),
@@ -102,13 +103,14 @@ impl RangeState {
                     ..
                 },
             ) => {
+                let content = &self.content;
                 let asking = Asking {
                     context,
                     until: self.until,
-                    table: &self.content.table,
-                    log: known_extents(&self.content.log),
-                    blob: extents_of(&self.content.blob_data),
-                    rows: extents_of(&self.content.row_data),
+                    table: &content.table,
+                    log: known_extents(&content.log),
+                    blob: extents_of(&content.blob_data),
+                    rows: extents_of(&content.row_data),
                 };
                 match self
                     .lookups

@@ -44,13 +44,14 @@ impl RangeState {
         ensures short { IfOk result IsShort }
     {
         let packets = Vec::with_capacity(alloc, 3 + MAX_GETS)?;
+        let content = &self.content;
         let asking = Asking {
             context,
             until: self.until,
-            table: &self.content.table,
-            log: known_extents(&self.content.log),
-            blob: extents_of(&self.content.blob_data),
-            rows: extents_of(&self.content.row_data),
+            table: &content.table,
+            log: known_extents(&content.log),
+            blob: extents_of(&content.blob_data),
+            rows: extents_of(&content.row_data),
         };
         let reads = self.lookups.give_up(alloc, &asking)?;
         let given = self.content.give_up(context);

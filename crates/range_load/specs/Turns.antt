@@ -1,5 +1,5 @@
 -- What news other than of groups lets a load read next.
-use Rattle.std.specs.Prelude.{List, [], Option, Some}
+use Rattle.std.specs.Prelude.{Bool, true, false, List, [], Option, Some}
 use Rattle.wire.specs.declared.packet.Packet.{Packet}
 use Rattle.client.specs.declared.job.News.{News}
 use Rattle.client.specs.declared.job.News.TheVariants as news
@@ -23,3 +23,8 @@ abbrev pub log_turn : ServerContext → RangeState → Option News → List Pack
 log_turn d r told packets Stays = stays d r told packets
 log_turn d r told packets Starts = rows.reads_log_from d r (rows.first_position r r.regions)
 log_turn d r told packets (Reads position) = rows.reads_log d r position
+
+-- whether something is read next
+abbrev pub reads_next : Turn → Bool
+reads_next Stays = false
+reads_next turn = true

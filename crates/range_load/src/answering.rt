@@ -1,24 +1,17 @@
 //! The answers that a load waits for.
-ghost use Rattle.std.specs.Prelude.{◌≡◌, [], ℕ, List, Some, None, false, IfOk, OnErr, option_to_list};
-ghost use Rattle.client.specs.declared.job.Job.TheVariants as jobs;
-ghost use Rattle.client.specs.declared.job.News.TheVariants as news;
-ghost use Rattle.client.specs.Client.{content_told};
-ghost use Rattle.model_partition.specs.declared.server_context.ServerContext.{ServerContext};
-ghost use Rattle.model_partition.specs.Range.{RangeState, RangeOutcome, picking, is_serving};
-ghost use Rattle.model_partition.specs.Loading as rows;
+ghost use Rattle.std.specs.Prelude.{◌≡◌, Ok, true, false, IfOk, OnErr};
 ghost use Rattle.model_partition.specs.Answering as answers;
-ghost use Rattle.range_load.specs.Steps.{put, outcome, RangePerforms};
+ghost use Rattle.range_load.specs.declared.progress.Progress.TheVariants as progress;
+ghost use Rattle.range_load.specs.Awaited.{is_awaited};
+ghost use Rattle.range_load.specs.Steps.{RangePerforms};
 
-use crate::asking::next_request;
 use crate::content::RangeContent;
 use crate::progress::Progress;
-use block_types::{BlockFault, Group};
-use client::{LoadPhase, News};
-use metadata::{Region, copied_regions};
-use model_partition::{ServerContext, Stage};
-use range_replay::{folded, replayed};
+use block_types::Group;
+use client::LoadPhase;
+use model_partition::ServerContext;
 use std::alloc::{AllocError, Global};
-use wire::{AppendBody, Body, ExtentId, Packet, ReadBody, Refusal, StreamBody};
+use wire::{AppendBody, Body, Packet, ReadBody, Refusal, StreamBody};
 
 /// The groups of an answer.
 pub(crate) fn groups_of(body: &Body) -> &[Group]
@@ -30,57 +23,51 @@ pub(crate) fn groups_of(body: &Body) -> &[Group]
     }
 }
 
-/// The opening or the confirmation is refused.
-fn load_refused(body: &AppendBody) -> Progress
-    ensures { (d : ServerContext) (r : RangeState) → answers.load_refused d r body.now ≡ outcome d r result }
-{
-    match body {
-        AppendBody::Refused {
-            refusal: Refusal::Stale,
-            ..
-        } => Progress::Dropped,
-        _ => Progress::Rests,
-    }
-}
-
 impl RangeContent {
-    /// The streams are opened, or the generation is confirmed.
-    fn load_told(
-        &mut self,
-        alloc: Global,
-        context: &ServerContext,
-        body: &StreamBody,
-    ) -> Result<Progress, AllocError>
-        ensures ok { IfOk result (λ p. RangePerforms context.now (λ r. answers.load_told context.now r r.load.phase body.now) self.old self.new p) }
-        ensures err { OnErr result (self.new ≡ self.old) }
-    {
-        match body {
-            StreamBody::Opened { streams, .. } => match self.load.phase {
-                LoadPhase::Opening { .. } => self.opens(alloc, context, streams),
-                _ => Ok(Progress::Rests),
-            },
-            StreamBody::Confirmed { .. } => match self.load.phase {
-                LoadPhase::Confirming { .. } => self.serves(alloc),
-                _ => Ok(Progress::Rests),
-            },
-            _ => Ok(Progress::Rests),
-        }
-    }
-
-    /// The answer to the opening or the confirmation: the metadata begins to be read, or the range is served. For want of
-    /// memory (22) nothing has changed.
+    /// The answer to the opening or the confirmation: the metadata begins to be read, or the range is served. An answer of
+    /// another number than that of the load's own request changes nothing. For want of memory (22) nothing has changed.
     pub fn load_reply(
         &mut self,
         alloc: Global,
         context: &ServerContext,
-        body: &Body,
+        packet: &Packet,
     ) -> Result<Progress, AllocError>
-        ensures ok { IfOk result (λ p. RangePerforms context.now (λ r. answers.load_reply context.now r body.now) self.old self.new p) }
+        ensures ok { is_awaited self.old.load.phase packet.now.body ≡ true
+            → IfOk result (λ p. RangePerforms context.now (λ r. answers.load_reply context.now r packet.now.body) self.old self.new p) }
+        ensures other { is_awaited self.old.load.phase packet.now.body ≡ false → (result ≡ Ok progress.Rests) × (self.new ≡ self.old) }
         ensures err { OnErr result (self.new ≡ self.old) }
     {
-        match body {
-            Body::Append(body) => Ok(load_refused(body)),
-            Body::Stream(body) => self.load_told(alloc, context, body),
+        match &packet.body {
+            Body::Append(
+                AppendBody::Refused {
+                    request,
+                    refusal: Refusal::Stale,
+                },
+            ) => {
+                if !self.load.awaits(request) {
+                    return Ok(Progress::Rests);
+                }
+                self.load.on_reply(packet);
+                Ok(Progress::Dropped)
+            }
+            Body::Stream(StreamBody::Opened { request, streams }) => {
+                if !self.load.awaits(request) {
+                    return Ok(Progress::Rests);
+                }
+                match self.load.phase() {
+                    LoadPhase::Opening { .. } => self.opens(alloc, context, packet, streams),
+                    _ => Ok(Progress::Rests),
+                }
+            }
+            Body::Stream(StreamBody::Confirmed { request }) => {
+                if !self.load.awaits(request) {
+                    return Ok(Progress::Rests);
+                }
+                match self.load.phase() {
+                    LoadPhase::Confirming { .. } => self.serves(alloc, packet),
+                    _ => Ok(Progress::Rests),
+                }
+            }
             _ => Ok(Progress::Rests),
         }
     }

@@ -1,6 +1,8 @@
 //! All is read: the generation is confirmed, and the range is served.
 ghost use Rattle.std.specs.Prelude.{◌≡◌, ◌+◌, ◌<◌, ◌^◌, length, true, IfOk, OnErr};
+ghost use Rattle.client.specs.declared.load.LoadPhase.TheVariants as phases;
 ghost use Rattle.client.specs.Client.{last_extent};
+ghost use Rattle.client.specs.Load.{is_open, reply_phase};
 ghost use Rattle.model_partition.specs.declared.table_note.TableNote.TheVariants as notes;
 ghost use Rattle.model_partition.specs.declared.server_context.ServerContext.{ServerContext};
 ghost use Rattle.model_partition.specs.Range.{position_le};
@@ -11,12 +13,13 @@ use crate::asking::next_request;
 use crate::content::RangeContent;
 use crate::copying::live_entries;
 use crate::progress::{Progress, Service};
-use client::{LoadPhase, StreamClient};
+use client::StreamClient;
 use metadata::{IndexRanges, copied_indexes};
 use model_partition::{ServerContext, Stage, TableNote};
 use range_replay::open_region;
 use std::alloc::{AllocError, Global};
 use streams::Position;
+use wire::Packet;
 
 fn is_not_behind(one: &Position, other: &Position) -> bool
     ensures { result ≡ position_le one.now other.now }
@@ -57,12 +60,12 @@ fn are_counted(log: &StreamClient) -> bool
 impl RangeContent {
     /// The manager is asked whether the generation is still the fence.
     pub(crate) fn confirms(&mut self, context: &ServerContext) -> Progress
+        requires { is_open self.old.load.phase ≡ true }
         ensures { RangePerforms context.now (λ r. rows.confirms context.now r) self.old self.new result }
     {
-        let request = next_request(context);
-        self.load.set_phase(LoadPhase::Confirming { request });
+        let packet = self.load.confirm(&next_request(context));
         self.stage = Stage::Confirming;
-        Progress::Goes(self.load.give_up())
+        Progress::Goes(packet)
     }
 
     /// What is shown of the range once it is served.
@@ -80,8 +83,9 @@ impl RangeContent {
         })
     }
 
-    /// The generation is confirmed: the range is served.
-    pub(crate) fn serves(&mut self, alloc: Global) -> Result<Progress, AllocError>
+    /// The generation is confirmed by this packet: the range is served.
+    pub(crate) fn serves(&mut self, alloc: Global, packet: &Packet) -> Result<Progress, AllocError>
+        requires { reply_phase packet.now.body self.old.load.phase ≡ phases.Confirmed }
         ensures ok { IfOk result (λ p. (d : ServerContext) → RangePerforms d (λ r. rows.serves d r) self.old self.new p) }
         ensures err { OnErr result (self.new ≡ self.old) }
     {
@@ -97,7 +101,7 @@ impl RangeContent {
         }
         let note = self.loaded(alloc, next)?;
         let position = log_end(&self.log, &start);
-        self.load.set_phase(LoadPhase::Confirmed);
+        self.load.on_reply(packet);
         self.stage = Stage::Serving;
         Ok(Progress::Serves(Service {
             next,

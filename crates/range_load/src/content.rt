@@ -1,4 +1,8 @@
 //! What a load makes of a range.
+ghost use Rattle.std.specs.Prelude.{◌≡◌, true};
+ghost use Rattle.client.specs.Load.{is_open};
+ghost use Rattle.range_load.specs.Stages.{is_reading};
+
 use client::{RangeLoad, StreamClient};
 use memtable::MemTable;
 use metadata::{Metadata, Region};
@@ -17,6 +21,8 @@ pub struct RangeContent {
     pub said: Metadata,
     pub regions: Vec<Region>,
     pub table: MemTable,
+    // Streams are read only once they are opened, and no more once the generation is to be confirmed.
+    pub ghost opened: { is_reading stage ≡ true → is_open load.phase ≡ true },
 }
 
 // Written out, so that a crate above that lets one go has no proof of what is in it.

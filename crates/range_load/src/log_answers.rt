@@ -1,8 +1,9 @@
 //! The answers to the log's client while the range is loaded.
-ghost use Rattle.std.specs.Prelude.{◌≡◌, [], ℕ, List, Some, None, false, IfOk, OnErr, option_to_list};
+ghost use Rattle.std.specs.Prelude.{◌≡◌, ◌+◌, ◌^◌, ◌<◌, ◌↔◌, [], ℕ, List, Some, None, true, false, IfOk, IfSome, IsSome, OnErr, option_to_list};
 ghost use Rattle.client.specs.declared.job.Job.TheVariants as jobs;
 ghost use Rattle.client.specs.declared.job.News.TheVariants as news;
 ghost use Rattle.client.specs.Client.{content_of, content_told};
+ghost use Rattle.client.specs.Load.{is_open};
 ghost use Rattle.model_partition.specs.Range.{picking, is_serving};
 ghost use Rattle.model_partition.specs.Loading as rows;
 ghost use Rattle.model_partition.specs.Answering as answers;
@@ -10,16 +11,34 @@ ghost use Rattle.range_load.specs.declared.progress.Progress.TheVariants as prog
 ghost use Rattle.range_load.specs.Steps.{put, outcome, RangePerforms};
 
 use crate::answering::groups_of;
-use crate::asking::next_request;
+use crate::asking::take_answer;
 use crate::content::RangeContent;
 use crate::progress::Progress;
 use crate::turning::{Turn, sent, turn_of};
 use block_types::{BlockFault, Group};
-use client::News;
+use client::{News, StreamClient};
+use metadata::{KeyRange, Metadata};
 use model_partition::{ServerContext, Stage};
 use range_replay::replayed;
 use std::alloc::{AllocError, Global};
-use wire::{Body, ExtentId, Packet};
+use wire::{ExtentId, Packet};
+
+// These two are calls, since the check does not follow what reads parts of a range's parts and then changes it.
+
+/// The index of the extent at a position, if it fits 64 bits.
+fn index_at(log: &StreamClient, position: u64) -> Option<u64>
+    ensures fits { IsSome result ↔ (log.now.base + position < 2 ^ 64) }
+    ensures value { IfSome result (λ index. index ≡ log.now.base + position) }
+{
+    log.base.checked_add(position)
+}
+
+/// The keys of the range.
+fn keys_of(said: &Metadata) -> &KeyRange
+    ensures { result.now ≡ said.now.keys }
+{
+    &said.keys
+}
 
 impl RangeContent {
     /// News of the log's client, other than of groups.
@@ -50,24 +69,19 @@ impl RangeContent {
         &mut self,
         alloc: Global,
         context: &ServerContext,
-        body: &Body,
+        packet: &Packet,
     ) -> Result<Progress, AllocError>
         requires loading { is_serving self.old.stage ≡ false }
-        requires other { content_of self.old.log.job body.now ≡ None }
-        ensures ok { IfOk result (λ p. RangePerforms context.now (λ r. answers.log_taken context.now r body.now) self.old self.new p) }
+        requires other { content_of self.old.log.job packet.now.body ≡ None }
+        ensures ok { IfOk result (λ p. RangePerforms context.now (λ r. answers.log_taken context.now r packet.now.body) self.old self.new p) }
         ensures err { OnErr result (self.new ≡ self.old) }
     {
-        let pick = self.log.pick;
-        self.log.pick = context.pick;
-        match self.log.on_answer(alloc, &next_request(context), body) {
+        match take_answer(&mut self.log, alloc, context, packet) {
             Ok(reaction) => {
                 let told = reaction.news;
                 Ok(self.log_news(context, &told, reaction.packet))
             }
-            Err(full) => {
-                self.log.pick = pick;
-                Err(full)
-            }
+            Err(full) => Err(full),
         }
     }
 
@@ -88,15 +102,23 @@ impl RangeContent {
         extent: ExtentId,
         groups: &[Group],
     ) -> Result<Progress, AllocError>
+        requires { is_open self.old.load.phase ≡ true }
         ensures ok { IfOk result (λ p. RangePerforms context.now
             (λ r. rows.log_read context.now (record r { log = record (picking context.now r.log) { job = jobs.Idle; group = [] } }) position extent groups.now)
             self.old self.new p) }
         ensures err { OnErr result (self.new ≡ self.old) }
     {
-        let Some(index) = self.log.base.checked_add(position) else {
+        let Some(index) = index_at(&self.log, position) else {
             return Ok(Progress::Dropped);
         };
-        match replayed(alloc, &self.regions, &self.said.keys, extent, index, groups) {
+        match replayed(
+            alloc,
+            &self.regions,
+            keys_of(&self.said),
+            extent,
+            index,
+            groups,
+        ) {
             Ok((regions, changes)) => {
                 self.table.apply(alloc, changes)?;
                 self.regions = regions;
@@ -135,10 +157,7 @@ impl RangeContent {
             Stage::Reading { position, .. } => self.log_read(
                 alloc, context, position, extent, groups,
             ),
-            Stage::Opening => Ok(self.log_passed(alloc, context)),
-            Stage::Checking { .. } => Ok(self.log_passed(alloc, context)),
-            Stage::Confirming => Ok(self.log_passed(alloc, context)),
-            Stage::Serving => Ok(self.log_passed(alloc, context)),
+            _ => Ok(self.log_passed(alloc, context)),
         }
     }
 
@@ -149,15 +168,18 @@ impl RangeContent {
         &mut self,
         alloc: Global,
         context: &ServerContext,
-        body: &Body,
+        packet: &Packet,
     ) -> Result<Progress, AllocError>
         requires { is_serving self.old.stage ≡ false }
-        ensures ok { IfOk result (λ p. RangePerforms context.now (λ r. answers.log_taken context.now r body.now) self.old self.new p) }
+        ensures ok { IfOk result (λ p. RangePerforms context.now (λ r. answers.log_taken context.now r packet.now.body) self.old self.new p) }
         ensures err { OnErr result (self.new ≡ self.old) }
     {
-        match self.log.content(body) {
-            None => self.log_told(alloc, context, body),
-            Some((extent, _upto)) => self.log_content(alloc, context, extent, groups_of(body)),
+        match self.log.content(&packet.body) {
+            None => self.log_told(alloc, context, packet),
+            Some((extent, _upto)) => {
+                let groups = groups_of(&packet.body);
+                self.log_content(alloc, context, extent, groups)
+            }
         }
     }
 }

@@ -1,6 +1,7 @@
 //! The log is read.
-ghost use Rattle.std.specs.Prelude.{◌≡◌, suc};
+ghost use Rattle.std.specs.Prelude.{◌≡◌, suc, true};
 ghost use Rattle.client.specs.Client.{last_extent};
+ghost use Rattle.client.specs.Load.{is_open};
 ghost use Rattle.model_partition.specs.Range.{RangeState};
 ghost use Rattle.model_partition.specs.Loading as rows;
 ghost use Rattle.range_load.specs.Steps.{put, RangePerforms};
@@ -16,6 +17,7 @@ use wire::StreamKind;
 impl RangeContent {
     /// The extent at the position is read, or all is.
     pub(crate) fn reads_log(&mut self, context: &ServerContext, position: u64) -> Progress
+        requires { is_open self.old.load.phase ≡ true }
         ensures { RangePerforms context.now (λ r. rows.reads_log context.now r position) self.old self.new result }
     {
         if position < self.log.extents.len() as u64 {
@@ -33,6 +35,7 @@ impl RangeContent {
 
     /// The same behind the position.
     pub(crate) fn reads_log_behind(&mut self, context: &ServerContext, position: u64) -> Progress
+        requires { is_open self.old.load.phase ≡ true }
         ensures { RangePerforms context.now (λ r. rows.reads_log context.now r (suc position)) self.old self.new result }
     {
         if position < self.log.extents.len() as u64 {
@@ -61,6 +64,7 @@ impl RangeContent {
 
     /// The log is read from the first region on.
     pub(crate) fn reads_log_from_start(&mut self, context: &ServerContext) -> Progress
+        requires { is_open self.old.load.phase ≡ true }
         ensures { RangePerforms context.now (λ r. rows.reads_log_from context.now r (rows.first_position r r.regions)) self.old self.new result }
     {
         match self.first_position(&self.regions) {
@@ -71,6 +75,7 @@ impl RangeContent {
 
     /// The length of the last extent is checked first, where it is open.
     fn checks_log(&mut self, context: &ServerContext) -> Progress
+        requires { is_open self.old.load.phase ≡ true }
         ensures { RangePerforms context.now (λ r. rows.checks_log context.now r (last_extent r.log.extents)) self.old self.new result }
     {
         match self.log.last_extent() {
@@ -91,7 +96,8 @@ impl RangeContent {
 
     /// The metadata is read. The regions are a copy of those that it says.
     pub(crate) fn begins_log(&mut self, context: &ServerContext, regions: Vec<Region>) -> Progress
-        requires { regions.items ≡ self.old.said.regions }
+        requires opened { is_open self.old.load.phase ≡ true }
+        requires copied { regions.items ≡ self.old.said.regions }
         ensures { RangePerforms context.now (λ r. rows.begins_log context.now r) self.old self.new result }
     {
         if open_region(&regions).is_none() {

@@ -1,8 +1,9 @@
 //! The answers to the metadata's client.
-ghost use Rattle.std.specs.Prelude.{◌≡◌, [], ℕ, List, Some, None, IfOk, OnErr, option_to_list};
+ghost use Rattle.std.specs.Prelude.{◌≡◌, [], ℕ, List, Some, None, true, IfOk, OnErr, option_to_list};
 ghost use Rattle.client.specs.declared.job.Job.TheVariants as jobs;
 ghost use Rattle.client.specs.declared.job.News.TheVariants as news;
 ghost use Rattle.client.specs.Client.{content_of, content_told};
+ghost use Rattle.client.specs.Load.{is_open};
 ghost use Rattle.model_partition.specs.Range.{picking};
 ghost use Rattle.model_partition.specs.Loading as rows;
 ghost use Rattle.model_partition.specs.Answering as answers;
@@ -10,7 +11,7 @@ ghost use Rattle.range_load.specs.declared.progress.Progress.TheVariants as prog
 ghost use Rattle.range_load.specs.Steps.{put, outcome, RangePerforms};
 
 use crate::answering::groups_of;
-use crate::asking::next_request;
+use crate::asking::take_answer;
 use crate::content::RangeContent;
 use crate::progress::Progress;
 use crate::turning::{Turn, sent, turn_of};
@@ -20,7 +21,7 @@ use metadata::{Region, copied_regions};
 use model_partition::{ServerContext, Stage};
 use range_replay::folded;
 use std::alloc::{AllocError, Global};
-use wire::{Body, Packet};
+use wire::Packet;
 
 impl RangeContent {
     /// News of the metadata's client, other than of groups. The regions are a copy of those that the metadata says.
@@ -53,24 +54,19 @@ impl RangeContent {
         &mut self,
         alloc: Global,
         context: &ServerContext,
-        body: &Body,
+        packet: &Packet,
     ) -> Result<Progress, AllocError>
-        requires { content_of self.old.metadata.job body.now ≡ None }
-        ensures ok { IfOk result (λ p. RangePerforms context.now (λ r. answers.metadata_reply context.now r body.now) self.old self.new p) }
+        requires { content_of self.old.metadata.job packet.now.body ≡ None }
+        ensures ok { IfOk result (λ p. RangePerforms context.now (λ r. answers.metadata_reply context.now r packet.now.body) self.old self.new p) }
         ensures err { OnErr result (self.new ≡ self.old) }
     {
         let regions = copied_regions(alloc, &self.said.regions.items)?;
-        let pick = self.metadata.pick;
-        self.metadata.pick = context.pick;
-        match self.metadata.on_answer(alloc, &next_request(context), body) {
+        match take_answer(&mut self.metadata, alloc, context, packet) {
             Ok(reaction) => {
                 let told = reaction.news;
                 Ok(self.metadata_news(context, &told, reaction.packet, regions))
             }
-            Err(full) => {
-                self.metadata.pick = pick;
-                Err(full)
-            }
+            Err(full) => Err(full),
         }
     }
 
@@ -90,6 +86,7 @@ impl RangeContent {
         position: u64,
         groups: &[Group],
     ) -> Result<Progress, AllocError>
+        requires { is_open self.old.load.phase ≡ true }
         ensures ok { IfOk result (λ p. RangePerforms context.now
             (λ r. rows.says context.now (record r { metadata = record (picking context.now r.metadata) { job = jobs.Idle; group = [] } }) position (rows.said_after r.said groups.now))
             self.old self.new p) }
@@ -122,10 +119,7 @@ impl RangeContent {
         let stage = self.stage;
         match stage {
             Stage::Reading { position, .. } => self.metadata_read(alloc, context, position, groups),
-            Stage::Opening => Ok(self.metadata_passed(alloc, context)),
-            Stage::Checking { .. } => Ok(self.metadata_passed(alloc, context)),
-            Stage::Confirming => Ok(self.metadata_passed(alloc, context)),
-            Stage::Serving => Ok(self.metadata_passed(alloc, context)),
+            _ => Ok(self.metadata_passed(alloc, context)),
         }
     }
 
@@ -145,14 +139,14 @@ impl RangeContent {
         &mut self,
         alloc: Global,
         context: &ServerContext,
-        body: &Body,
+        packet: &Packet,
     ) -> Result<Progress, AllocError>
-        ensures ok { IfOk result (λ p. RangePerforms context.now (λ r. answers.metadata_reply context.now r body.now) self.old self.new p) }
+        ensures ok { IfOk result (λ p. RangePerforms context.now (λ r. answers.metadata_reply context.now r packet.now.body) self.old self.new p) }
         ensures err { OnErr result (self.new ≡ self.old) }
     {
-        match self.metadata.content(body) {
-            None => self.metadata_told(alloc, context, body),
-            Some(_read) => self.metadata_content(alloc, context, groups_of(body)),
+        match self.metadata.content(&packet.body) {
+            None => self.metadata_told(alloc, context, packet),
+            Some(_read) => self.metadata_content(alloc, context, groups_of(&packet.body)),
         }
     }
 }

@@ -1,6 +1,7 @@
 //! The metadata is read.
-ghost use Rattle.std.specs.Prelude.{◌≡◌, ℕ, suc};
+ghost use Rattle.std.specs.Prelude.{◌≡◌, ℕ, suc, true};
 ghost use Rattle.client.specs.Client.{last_extent};
+ghost use Rattle.client.specs.Load.{is_open};
 ghost use Rattle.model_partition.specs.Loading as rows;
 ghost use Rattle.range_load.specs.Steps.{put, outcome, RangePerforms};
 
@@ -20,7 +21,8 @@ impl RangeContent {
         position: u64,
         regions: Vec<Region>,
     ) -> Progress
-        requires { regions.items ≡ self.old.said.regions }
+        requires opened { is_open self.old.load.phase ≡ true }
+        requires copied { regions.items ≡ self.old.said.regions }
         ensures { RangePerforms context.now (λ r. rows.reads_metadata context.now r position) self.old self.new result }
     {
         if position < self.metadata.extents.len() as u64 {
@@ -43,7 +45,8 @@ impl RangeContent {
         position: u64,
         regions: Vec<Region>,
     ) -> Progress
-        requires { regions.items ≡ self.old.said.regions }
+        requires opened { is_open self.old.load.phase ≡ true }
+        requires copied { regions.items ≡ self.old.said.regions }
         ensures { RangePerforms context.now (λ r. rows.reads_metadata context.now r (suc position)) self.old self.new result }
     {
         if position < self.metadata.extents.len() as u64 {
@@ -59,7 +62,8 @@ impl RangeContent {
         context: &ServerContext,
         regions: Vec<Region>,
     ) -> Progress
-        requires { regions.items ≡ self.old.said.regions }
+        requires opened { is_open self.old.load.phase ≡ true }
+        requires copied { regions.items ≡ self.old.said.regions }
         ensures { RangePerforms context.now (λ r. rows.begins_metadata context.now r (last_extent r.metadata.extents)) self.old self.new result }
     {
         match self.metadata.last_extent() {

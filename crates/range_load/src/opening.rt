@@ -3,7 +3,7 @@ ghost use Rattle.std.specs.Prelude.{◌≡◌, [], ℕ, IfOk, OnErr};
 ghost use Rattle.wire.specs.declared.streams.StreamKind.TheVariants as kinds;
 ghost use Rattle.client.specs.declared.load.LoadPhase.TheVariants as phases;
 ghost use Rattle.client.specs.Client.{new_client, last_extent};
-ghost use Rattle.client.specs.Load.{open_packet, opening};
+ghost use Rattle.client.specs.Load.{open_packet, opening, reply_phase};
 ghost use Rattle.metadata.specs.Fold.{first_metadata};
 ghost use Rattle.model_partition.specs.Range.{request};
 ghost use Rattle.model_partition.specs.Loading as rows;
@@ -14,7 +14,7 @@ use crate::asking::next_request;
 use crate::content::RangeContent;
 use crate::copying::{copied_list, no_list};
 use crate::progress::Progress;
-use client::{LoadPhase, RangeLoad, StreamClient};
+use client::{RangeLoad, StreamClient};
 use memtable::MemTable;
 use metadata::{Metadata, Region, copied_regions};
 use model_partition::{ServerContext, Stage};
@@ -151,7 +151,7 @@ impl RangeContent {
         ensures content { IfOk result (λ x. (until : ℕ) → put x.0 (new_range context.now range generation until) ≡ new_range context.now range generation until) }
         ensures packet { IfOk result (λ x. x.1 ≡ open_packet context.now.server range generation (request context.now)) }
     {
-        let (load, packet) = RangeLoad::open_for_load(
+        let (load, packet) = StreamClient::open_for_load(
             context.server,
             range,
             generation,
@@ -166,19 +166,21 @@ impl RangeContent {
         }
     }
 
-    /// The streams are opened, and nothing is read yet.
+    /// The streams are opened by this packet, which tells them, and nothing is read yet.
     pub(crate) fn opens(
         &mut self,
         alloc: Global,
         context: &ServerContext,
+        packet: &Packet,
         lists: &StreamLists,
     ) -> Result<Progress, AllocError>
+        requires { reply_phase packet.now.body self.old.load.phase ≡ phases.Opened }
         ensures ok { IfOk result (λ p. RangePerforms context.now (λ r. rows.opens context.now r lists.now) self.old self.new p) }
         ensures err { OnErr result (self.new ≡ self.old) }
     {
         let clients = clients_of(alloc, context, &self.load, &lists.metadata, &lists.log)?;
         match data_of(alloc, lists) {
-            Ok(streams) => self.opens_with(alloc, context, clients, streams),
+            Ok(streams) => self.opens_with(alloc, context, packet, clients, streams),
             Err(full) => {
                 drop(clients);
                 Err(full)
@@ -191,9 +193,11 @@ impl RangeContent {
         &mut self,
         alloc: Global,
         context: &ServerContext,
+        packet: &Packet,
         clients: (StreamClient, StreamClient),
         streams: (StreamList, StreamList),
     ) -> Result<Progress, AllocError>
+        requires { reply_phase packet.now.body self.old.load.phase ≡ phases.Opened }
         ensures ok { IfOk result (λ p. RangePerforms context.now (λ r. rows.begins_metadata context.now (record r {
           load = record r.load { phase = phases.Opened };
           metadata = clients.0;
@@ -206,7 +210,7 @@ impl RangeContent {
     {
         match first_said(alloc) {
             Ok((said, regions)) => {
-                self.load.set_phase(LoadPhase::Opened);
+                self.load.on_reply(packet);
                 (self.metadata, self.log) = clients;
                 (self.row_data, self.blob_data) = streams;
                 self.said = said;

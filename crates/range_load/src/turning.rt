@@ -1,12 +1,13 @@
 //! Where news lets the reading of a stream go on.
-ghost use Rattle.std.specs.Prelude.{◌≡◌, List, None, option_to_list};
+ghost use Rattle.std.specs.Prelude.{◌≡◌, true, List, None, option_to_list};
 ghost use Rattle.client.specs.Client.{content_told};
 ghost use Rattle.wire.specs.declared.packet.Packet.{Packet as Sent};
 ghost use Rattle.model_partition.specs.declared.server_context.ServerContext.{ServerContext};
 ghost use Rattle.model_partition.specs.Range.{RangeState};
 ghost use Rattle.model_partition.specs.Loading as rows;
 ghost use Rattle.range_load.specs.Steps.{outcome};
-ghost use Rattle.range_load.specs.Turns.{stays, metadata_turn, log_turn};
+ghost use Rattle.range_load.specs.Stages.{is_reading};
+ghost use Rattle.range_load.specs.Turns.{stays, metadata_turn, log_turn, reads_next};
 
 use crate::progress::Progress;
 use client::News;
@@ -30,6 +31,7 @@ pub(crate) fn turn_of(told: &Option<News>, stage: &Stage) -> Turn
         → rows.metadata_news d r groups stage.now told.now packets ≡ metadata_turn d r told.now packets result }
     ensures log { (d : ServerContext) (r : RangeState) (groups : List rows.Group) (packets : List Sent)
         → rows.log_news d r groups stage.now told.now packets ≡ log_turn d r told.now packets result }
+    ensures reading { reads_next result ≡ true → is_reading stage.now ≡ true }
 {
     match told {
         Some(News::Checked { .. }) => match stage {

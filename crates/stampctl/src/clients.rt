@@ -3,7 +3,7 @@ use crate::requests::{PLACES, abc};
 use crate::runs::{Run, decides, settles, started};
 use Step::{Appends, Checks, Confirms, GivesUp, HasExtents, HearsOfSeal, Opens};
 use Told::{Appended, Checked, Fenced, Nothing};
-use client::{ClientFault, LoadPhase, News, RangeLoad, Reaction, StreamClient};
+use client::{Appending, ClientFault, LoadPhase, News, RangeLoad, Reaction, StreamClient};
 use std::alloc::{AllocError, Global};
 use wire::{
     ActorId, Body, ExtentId, Fence, Packet, RangeId, ReqNo, ServerNo, StreamBody, StreamKind,
@@ -155,7 +155,7 @@ fn opened(
 }
 
 fn opens(alloc: Global, run: &mut Run, server: u8) -> Option<Server> {
-    let (load, packet) = RangeLoad::open_for_load(
+    let (load, packet) = StreamClient::open_for_load(
         ServerNo(server),
         RangeId(1),
         Fence(server as u64),
@@ -288,15 +288,17 @@ fn begun(sent: Result<Packet, ClientFault>) -> Option<Reaction> {
     sends(sent.ok())
 }
 
+/// An append of "abc".
+fn appending(alloc: Global) -> Result<Appending, AllocError> {
+    let blocks = abc(alloc)?;
+    let made = Appending::of(alloc, &blocks);
+    drop(blocks);
+    made
+}
+
 fn appends(alloc: Global, server: &mut Server) -> Option<Reaction> {
-    match abc(alloc) {
-        Ok(blocks) => {
-            let sent = server
-                .log
-                .append(alloc, &number(server.number, 10), &blocks);
-            drop(blocks);
-            begun(sent)
-        }
+    match appending(alloc) {
+        Ok(appending) => begun(server.log.append(&number(server.number, 10), appending)),
         Err(_full) => None,
     }
 }

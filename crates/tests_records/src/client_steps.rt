@@ -7,8 +7,8 @@ use wire::Refusal;
 pub(crate) enum Call {
     /// An append of two blocks.
     Append,
-    /// An append of one block, made beforehand.
-    AppendMade,
+    /// An append of one block.
+    AppendOne,
     CheckLength,
     /// A read of the extent at this position of the list.
     ReadSealed(usize),
@@ -125,10 +125,10 @@ pub(crate) const CASES: &[Case] = &[
         has_extent: true,
         length: None,
         steps: &[
-            Step::Does(1, Call::AppendMade, Outcome::Sends(1, Sent::Any)),
+            Step::Does(1, Call::AppendOne, Outcome::Sends(1, Sent::Any)),
             Step::Knows(Known::Awaits(1, true)),
             Step::Knows(Known::Awaits(2, false)),
-            Step::Does(2, Call::AppendMade, Outcome::Refused(ClientFault::Busy)),
+            Step::Does(2, Call::AppendOne, Outcome::Refused(ClientFault::Busy)),
         ],
     },
     Case {

@@ -11,6 +11,9 @@ use wire::{
     StreamList, StreamName,
 };
 
+/// What a client makes of a call or an answer; none where there was no memory for it.
+type Told = Option<Result<Reaction, ClientFault>>;
+
 /// The nodes of the first extent.
 const PLACES: Nodes = Nodes {
     primary: 1,
@@ -74,44 +77,28 @@ fn client(
     StreamClient::new(alloc, ServerNo(1), log(), Fence(2), &list, PLACES)
 }
 
-fn two_blocks(alloc: Global) -> Result<Blocks, AllocError> {
+fn two_blocks(alloc: Global) -> Result<Appending, AllocError> {
     let mut items = Vec::new(alloc);
     items.push(Bytes::copy_from_slice(alloc, b"abc")?)?;
     items.push(Bytes::copy_from_slice(alloc, b"de")?)?;
-    Ok(Blocks { items })
+    Appending::of(alloc, &Blocks { items })
 }
 
-/// Begins an append of two blocks.
-fn append(
-    client: &mut StreamClient,
-    alloc: Global,
-    request: &ReqNo,
-) -> Result<Packet, ClientFault> {
-    match two_blocks(alloc) {
-        Ok(group) => {
-            let sent = client.append(alloc, request, &group);
-            drop(group);
-            sent
-        }
-        Err(_full) => Err(ClientFault::Memory),
-    }
-}
-
-fn appending(alloc: Global) -> Result<Appending, AllocError> {
+fn one_block(alloc: Global) -> Result<Appending, AllocError> {
     let mut items = Vec::new(alloc);
     items.push(Bytes::copy_from_slice(alloc, b"abc")?)?;
     Appending::of(alloc, &Blocks { items })
 }
 
-/// Begins an append of one block, made beforehand.
-fn append_made(
+/// Begins an append, if there was memory for it.
+fn append(
     client: &mut StreamClient,
-    alloc: Global,
     request: &ReqNo,
-) -> Result<Packet, ClientFault> {
-    match appending(alloc) {
-        Ok(made) => client.begin_append(request, made),
-        Err(_full) => Err(ClientFault::Memory),
+    made: Result<Appending, AllocError>,
+) -> Told {
+    match made {
+        Ok(appending) => begun(client.append(request, appending)),
+        Err(_full) => None,
     }
 }
 
@@ -158,7 +145,7 @@ fn reply(
     alloc: Global,
     request: &ReqNo,
     answer: &Answer,
-) -> Result<Reaction, ClientFault> {
+) -> Told {
     let packet = Packet {
         from: ActorId::Manager,
         to: ActorId::Server(ServerNo(1)),
@@ -169,17 +156,17 @@ fn reply(
     reacted(told)
 }
 
-fn reacted(told: Result<Reaction, AllocError>) -> Result<Reaction, ClientFault> {
+fn reacted(told: Result<Reaction, AllocError>) -> Told {
     match told {
-        Ok(reaction) => Ok(reaction),
-        Err(_full) => Err(ClientFault::Memory),
+        Ok(reaction) => Some(Ok(reaction)),
+        Err(_full) => None,
     }
 }
 
-fn begun(sent: Result<Packet, ClientFault>) -> Result<Reaction, ClientFault> {
+fn begun(sent: Result<Packet, ClientFault>) -> Told {
     match sent {
-        Ok(packet) => Ok(sent_again(Some(packet))),
-        Err(fault) => Err(fault),
+        Ok(packet) => Some(Ok(sent_again(Some(packet)))),
+        Err(fault) => Some(Err(fault)),
     }
 }
 
@@ -192,14 +179,14 @@ fn called(
     alloc: Global,
     request: &ReqNo,
     call: &Call,
-) -> Result<Reaction, ClientFault> {
+) -> Told {
     match call {
-        Call::Append => begun(append(client, alloc, request)),
-        Call::AppendMade => begun(append_made(client, alloc, request)),
+        Call::Append => append(client, request, two_blocks(alloc)),
+        Call::AppendOne => append(client, request, one_block(alloc)),
         Call::CheckLength => begun(client.check_length(request)),
         Call::ReadSealed(position) => begun(client.read_sealed(request, *position)),
         Call::ReadChecked => begun(client.read_checked(request)),
-        Call::GiveUp => Ok(sent_again(client.give_up(request, &PLACES))),
+        Call::GiveUp => Some(Ok(sent_again(client.give_up(request, &PLACES)))),
     }
 }
 
@@ -307,18 +294,19 @@ fn news_of(outcome: &Outcome) -> Option<News> {
     }
 }
 
-fn is_outcome(told: &Result<Reaction, ClientFault>, outcome: &Outcome) -> bool {
+fn is_outcome(told: &Told, outcome: &Outcome) -> bool {
     match (told, outcome) {
-        (Err(fault), Outcome::Refused(expected)) => *fault == *expected,
-        (Err(_fault), _) => false,
-        (Ok(_reaction), Outcome::Refused(_expected)) => false,
-        (Ok(reaction), _) => {
+        (None, _) => false,
+        (Some(Err(fault)), Outcome::Refused(expected)) => *fault == *expected,
+        (Some(Err(_fault)), _) => false,
+        (Some(Ok(_reaction)), Outcome::Refused(_expected)) => false,
+        (Some(Ok(reaction)), _) => {
             reaction.news == news_of(outcome) && sends(&reaction.packet, outcome)
         }
     }
 }
 
-fn comes_to(told: Result<Reaction, ClientFault>, outcome: &Outcome) -> bool {
+fn comes_to(told: Told, outcome: &Outcome) -> bool {
     let holds = is_outcome(&told, outcome);
     drop(told);
     holds

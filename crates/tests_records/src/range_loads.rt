@@ -1,6 +1,6 @@
 //! The opening of a range by its server.
 use crate::clients::{number, number_in, refused};
-use client::{LoadPhase, RangeLoad};
+use client::{LoadPhase, RangeLoad, StreamClient};
 use std::alloc::Global;
 use wire::{
     ActorId, Body, Fence, Packet, RangeId, Refusal, ServerNo, StreamBody, StreamExtents,
@@ -97,7 +97,8 @@ fn asks(sent: Option<Packet>, asked: &Asked) -> bool {
 
 /// A load that has just begun, and whether it asks for its streams.
 fn begun() -> (RangeLoad, bool) {
-    let (load, packet) = RangeLoad::open_for_load(ServerNo(1), RangeId(1), Fence(2), &number(1));
+    let (load, packet) =
+        StreamClient::open_for_load(ServerNo(1), RangeId(1), Fence(2), &number(1));
     (load, asks(Some(packet), &Asked::Open))
 }
 
@@ -111,16 +112,15 @@ fn opens_other(load: &mut RangeLoad, alloc: Global) -> bool {
 
 fn opens_own(load: &mut RangeLoad, alloc: Global) -> bool {
     told(load, opened(alloc, 1)) == LoadPhase::Opened
-        && !load.is_loaded()
         && asks(load.give_up(), &Asked::Nothing)
 }
 
 fn is_confirmed(load: &mut RangeLoad) -> bool {
     asks(load.confirm(&number(2)), &Asked::Confirm)
         && asks(load.give_up(), &Asked::Confirm)
-        && !load.is_loaded()
+        && load.phase() == LoadPhase::Confirming { request: number(2) }
         && told(load, confirmed()) == LoadPhase::Confirmed
-        && load.is_loaded()
+        && load.phase() == LoadPhase::Confirmed
 }
 
 fn counts(load: &mut RangeLoad, alloc: Global) -> bool {
@@ -138,17 +138,11 @@ fn is_fenced(load: &mut RangeLoad, alloc: Global) -> bool {
         && asks(load.confirm(&number(2)), &Asked::Confirm)
         && told(load, refused(2, Refusal::Stale)) == LoadPhase::Fenced
         && told(load, confirmed()) == LoadPhase::Fenced
-        && load.phase == LoadPhase::Fenced
-        && !load.is_loaded()
-}
-
-fn has_phase_set(load: &mut RangeLoad) -> bool {
-    load.set_phase(LoadPhase::Opened);
-    load.phase == LoadPhase::Opened
+        && load.phase() == LoadPhase::Fenced
 }
 
 #[test]
 fn never_counts_once_fenced(rt: HostRuntime) {
     let (mut load, begins) = begun();
-    assert!(rt; begins && is_fenced(&mut load, rt.alloc()) && has_phase_set(&mut load));
+    assert!(rt; begins && is_fenced(&mut load, rt.alloc()));
 }

@@ -6,7 +6,7 @@ use bytes::Bytes;
 use model_partition::ServerContext;
 use std::alloc::Global;
 use std::test::Fail;
-use wire::{Change, Changes, ExtentId, ReqNo, ServerNo, StreamExtent};
+use wire::{ActorId, Body, Change, Changes, ExtentId, Packet, ReqNo, ServerNo, StreamExtent};
 
 pub(crate) const PLACES: Nodes = Nodes {
     primary: 1,
@@ -34,6 +34,17 @@ pub(crate) fn number(count: u64) -> ReqNo {
         server: ServerNo(1),
         session: 1,
         count,
+    }
+}
+
+/// What the server is answered.
+pub(crate) fn answer_of(body: Body) -> Packet
+    ensures { result.body ≡ body }
+{
+    Packet {
+        from: ActorId::Manager,
+        to: ActorId::Server(ServerNo(1)),
+        body,
     }
 }
 

@@ -1,7 +1,7 @@
 //! What no clause says: that calls succeed where there is memory, and loads followed by hand.
 mod answers;
 
-use crate::asking::{context, number};
+use crate::asking::{answer_of, context, number};
 use crate::cases::{Case, Tested, holds};
 use crate::records::{FIRST, GAP, KEYS};
 use answers::{Answer, body_of};
@@ -124,16 +124,16 @@ fn reply(
     alloc: Global,
     context: &ServerContext,
     part: &Part,
-    body: &Body,
+    packet: &Packet,
 ) -> Result<Option<Progress>, AllocError> {
     let progress = match part {
-        Part::Load => content.load_reply(alloc, context, body)?,
-        Part::Metadata => content.metadata_reply(alloc, context, body)?,
+        Part::Load => content.load_reply(alloc, context, packet)?,
+        Part::Metadata => content.metadata_reply(alloc, context, packet)?,
         Part::Log => {
             if content.stage == Stage::Serving {
                 return Ok(None);
             }
-            content.log_load_reply(alloc, context, body)?
+            content.log_load_reply(alloc, context, packet)?
         }
     };
     Ok(Some(progress))
@@ -182,9 +182,9 @@ fn answered(
     answer: &Answer,
     outcome: &Outcome,
 ) -> Result<bool, Fail> {
-    let body = body_of(alloc, asked, answer)?;
-    let told = reply(content, alloc, &context(count, 5), part, &body);
-    drop(body);
+    let packet = answer_of(body_of(alloc, asked, answer)?);
+    let told = reply(content, alloc, &context(count, 5), part, &packet);
+    drop(packet);
     Ok(comes_to(told?, count, outcome))
 }
 

@@ -1,7 +1,7 @@
 //! What no clause says: that calls succeed where there is memory, and each refusal once.
 mod answers;
 
-use crate::asking::{context, number, puts};
+use crate::asking::{answer_of, context, number, puts};
 use crate::cases::{Case, Tested, holds};
 use answers::{Answer, body_of};
 use bytes::Bytes;
@@ -154,9 +154,9 @@ fn drops(
     answer: &Answer,
 ) -> Result<bool, Fail> {
     let request = number(asked);
-    let body = body_of(alloc, request, answer)?;
-    let taken = state.answer(alloc, &context(count, 1), &request, &body);
-    drop(body);
+    let packet = answer_of(body_of(alloc, request, answer)?);
+    let taken = state.answer(alloc, &context(count, 1), &request, &packet);
+    drop(packet);
     Ok(taken?.dropped)
 }
 

@@ -20,7 +20,7 @@ pub returns : goal.returns
 returns c =
     let old : ClientState = the_view c.log.inside in
     let before : ClientState = picking c.args.context.now old in
-    subst (λ (x : ClientState). given (picking c.args.context.now x) (append_rule (picking c.args.context.now x) (request c.args.context.now) c.args.blocks) ≡ record { after = c.begin_append.new.self; packet = c.ok.result; news = None }) c.log.view_is
+    subst (λ (x : ClientState). given (picking c.args.context.now x) (append_rule (picking c.args.context.now x) (request c.args.context.now) c.args.blocks) ≡ record { after = c.append.new.self; packet = c.ok.result; news = None }) c.log.view_is
     (ap (λ (q : ReqNo). given before (append_rule before q c.args.blocks)) (sym c.next_request.ensures)
-    ∙ gives before (append_rule before c.next_request.result c.args.blocks) c.begin_append.new.self c.begin_append.result c.begin_append.ensures.ok c.begin_append.ensures.err c.begin_append.ensures.fault
-    ∙ ap (λ (p : Option Packet). record { after = c.begin_append.new.self; packet = p; news = None }) (sym c.ok.ensures.value))
+    ∙ gives before (append_rule before c.next_request.result c.args.blocks) c.append.new.self c.append.result c.append.ensures.ok c.append.ensures.err c.append.ensures.fault
+    ∙ ap (λ (p : Option Packet). record { after = c.append.new.self; packet = p; news = None }) (sym c.ok.ensures.value))

@@ -16,8 +16,8 @@ returns-clause-ok c =
     let after : RangeState = record before { log = c.take_answer.new.log } in
     let o : Outcome = record { after = c.take_answer.new.log; packet = c.in_ok-reaction.reaction.packet; news = c.in_ok-reaction.reaction.news } in
     let serving = subst (λ (r : RangeState). is_serving r.stage ≡ true) (sym c.self.view_is) c.requires.serving in
-    let quiet = subst (λ (r : RangeState). (is_some r.out && is_end_of r.log.job c.args.body.now) ≡ false) (sym c.self.view_is) c.requires.quiet in
+    let quiet = subst (λ (r : RangeState). (is_some r.out && is_end_of r.log.job c.args.packet.now.body) ≡ false) (sym c.self.view_is) c.requires.quiet in
     let packets = c.push_some.ensures.items ∙ ap (λ (l : List Packet). l ++ option_to_list c.in_ok-reaction.reaction.packet) c.in_ok-packets.ensures.items in
-    subst (λ (r : RangeState). log_taken c.args.context.now r c.args.body.now ≡ outcome c.sends.result after) c.self.view_is
-    (goes_on c.args.context.now before c.args.body.now o serving c.requires.current quiet c.in_ok-reaction.ensures.ok
+    subst (λ (r : RangeState). log_taken c.args.context.now r c.args.packet.now.body ≡ outcome c.sends.result after) c.self.view_is
+    (goes_on c.args.context.now before c.args.packet.now.body o serving c.requires.current quiet c.in_ok-reaction.ensures.ok
     ∙ left c.args.context.now after c.sends.result c.in_ok-reaction.reaction.packet c.push_some.new.packets.items c.sends.ensures packets)

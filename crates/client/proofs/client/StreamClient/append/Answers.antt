@@ -1,5 +1,5 @@
 use Rattle.std.proofs.Common.{rules}
-use Rattle.client.proofs.client.StreamClient.begin_append.Goals as goal
+use Rattle.client.proofs.client.StreamClient.append.Goals as goal
 
 pub returns-in-Some-clause-ok : goal.returns-in-Some-clause-ok
 returns-in-Some-clause-ok c = search rules

@@ -1,0 +1,10 @@
+-- When a load reads its streams.
+use Rattle.std.specs.Prelude.{Bool, true, false}
+use Rattle.model_partition.specs.declared.stage.Stage.{Stage}
+use Rattle.model_partition.specs.declared.stage.Stage.TheVariants.{Checking, Reading}
+
+-- whether an extent of a stream is being checked or read
+abbrev pub is_reading : Stage → Bool
+is_reading (Checking kind) = true
+is_reading (Reading kind position) = true
+is_reading stage = false
