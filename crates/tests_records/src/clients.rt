@@ -91,11 +91,7 @@ fn one_block(alloc: Global) -> Result<Appending, AllocError> {
 }
 
 /// Begins an append, if there was memory for it.
-fn append(
-    client: &mut StreamClient,
-    request: &ReqNo,
-    made: Result<Appending, AllocError>,
-) -> Told {
+fn append(client: &mut StreamClient, request: &ReqNo, made: Result<Appending, AllocError>) -> Told {
     match made {
         Ok(appending) => begun(client.append(request, appending)),
         Err(_full) => None,
@@ -140,12 +136,7 @@ fn body_of(alloc: Global, answer: &Answer) -> Body {
     }
 }
 
-fn reply(
-    client: &mut StreamClient,
-    alloc: Global,
-    request: &ReqNo,
-    answer: &Answer,
-) -> Told {
+fn reply(client: &mut StreamClient, alloc: Global, request: &ReqNo, answer: &Answer) -> Told {
     let packet = Packet {
         from: ActorId::Manager,
         to: ActorId::Server(ServerNo(1)),
@@ -174,12 +165,7 @@ fn sent_again(packet: Option<Packet>) -> Reaction {
     Reaction { packet, news: None }
 }
 
-fn called(
-    client: &mut StreamClient,
-    alloc: Global,
-    request: &ReqNo,
-    call: &Call,
-) -> Told {
+fn called(client: &mut StreamClient, alloc: Global, request: &ReqNo, call: &Call) -> Told {
     match call {
         Call::Append => append(client, request, two_blocks(alloc)),
         Call::AppendOne => append(client, request, one_block(alloc)),

@@ -97,8 +97,7 @@ fn asks(sent: Option<Packet>, asked: &Asked) -> bool {
 
 /// A load that has just begun, and whether it asks for its streams.
 fn begun() -> (RangeLoad, bool) {
-    let (load, packet) =
-        StreamClient::open_for_load(ServerNo(1), RangeId(1), Fence(2), &number(1));
+    let (load, packet) = StreamClient::open_for_load(ServerNo(1), RangeId(1), Fence(2), &number(1));
     (load, asks(Some(packet), &Asked::Open))
 }
 
@@ -111,8 +110,7 @@ fn opens_other(load: &mut RangeLoad, alloc: Global) -> bool {
 }
 
 fn opens_own(load: &mut RangeLoad, alloc: Global) -> bool {
-    told(load, opened(alloc, 1)) == LoadPhase::Opened
-        && asks(load.give_up(), &Asked::Nothing)
+    told(load, opened(alloc, 1)) == LoadPhase::Opened && asks(load.give_up(), &Asked::Nothing)
 }
 
 fn is_confirmed(load: &mut RangeLoad) -> bool {
