@@ -30,8 +30,8 @@ pub(crate) fn check_last(client: &mut StreamClient, context: &ServerContext) -> 
     }
 }
 
-/// What a stream's client makes of an answer; a new extent is asked for at the context's nodes from now on. Out of memory
-/// (22) nothing has changed.
+/// What a stream's client makes of an answer; a new extent is asked for at the context's nodes from now on. Where memory
+/// runs out (22) nothing has changed.
 pub(crate) fn take_answer(
     client: &mut StreamClient,
     alloc: Global,

@@ -4,7 +4,10 @@
 //! This crate touches memory alone. `RangeContent` is what a load makes of a range, and each call takes one answer, as the table
 //! of model_partition (Loading and Answering) says. What the layers above may build on, each a clause here:
 //! - `load_reply`, `metadata_reply` and `log_load_reply` are the rules of those names, whatever else is known of the range: what
-//!   is sent, what is known then, whether the range is dropped, and what is shown once it is served.
+//!   is sent, what is known then, whether the range is dropped, and what is shown once it is served. An answer to another request
+//!   than the load's own changes nothing by `load_reply`.
+//! - A range is served by the answer to what `RangeLoad::confirm` sent. Its streams are read only while the load has them opened,
+//!   which the type keeps.
 //! - `give_up` sends again what is not answered, or has an extent sealed that does not answer.
 //! - For want of memory (22) nothing has changed.
 //!
