@@ -1,5 +1,5 @@
 -- The table stays what the manager's records make of it.
-use Rattle.std.proofs.Common.{◌≡◌, false, List, ◌++◌, Option, Some, None, Result, Ok, Err, IfOk, OnOk, refl, sym, ap, ◌∙◌, subst, append-nil}
+use Rattle.std.proofs.Common.{◌≡◌, false, List, ◌++◌, Option, Result, Ok, Err, IfOk, OnOk, sym, ap, ◌∙◌, subst, append-nil}
 use Rattle.block_types.specs.declared.record.Record.{Record}
 use Rattle.block_types.specs.declared.record.Record.TheVariants.{Manage}
 use Rattle.disk.proofs.Steps.{records_ok, records_short, records_broken}

@@ -218,10 +218,8 @@ fn extend_in(
     ensures { Plans (extend_answered (plain table.now) packet.now stream.now generation pick request
         (extending (sealed_at table.now.extents) (stream_of (plain table.now).streams stream.now) generation last)) result }
 {
-    match table
-        .streams()
-        .extending(stream, generation, last, table.lengths())
-    {
+    let lengths = table.lengths();
+    match table.streams().extending(stream, generation, last, lengths) {
         Err(fault) => deny(alloc, packet, request, Refusal::from(fault)),
         Ok(None) => picked(alloc, table, packet, stream, generation, pick, request),
         Ok(Some(extent)) => last_told(alloc, table, packet, extent, request),

@@ -1,4 +1,4 @@
-use Rattle.std.proofs.Common.{arith, ap, suc, sym, ◌∙◌, length}
+use Rattle.std.proofs.Common.{arith}
 use Rattle.std.specs.BTreeMap.{get}
 use Rattle.std.specs.Ordering.{nat_cmp}
 use Rattle.manager_state.proofs.Entries.{length-from}

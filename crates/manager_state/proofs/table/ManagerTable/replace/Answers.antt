@@ -1,9 +1,8 @@
-use Rattle.std.proofs.Common.{ℕ, suc, ◌-◌, ◌≡◌, List, slice_set, sym, ◌∙◌, ap, subst, arith}
+use Rattle.std.proofs.Common.{suc, ◌-◌, ◌≡◌, arith}
 use Rattle.std.specs.BTreeMap.{get}
 use Rattle.std.specs.Ordering.{nat_cmp}
 use Rattle.streams.specs.Table.{streams_of}
-use Rattle.model_streams.specs.declared.extent.Extent.{Extent}
-use Rattle.manager_state.proofs.Entries.{table_with, replaced_at, replaced_past, have_replaced}
+use Rattle.manager_state.proofs.Entries.{replaced_at, replaced_past, have_replaced}
 use Rattle.manager_state.proofs.table.ManagerTable.replace.Goals as goal
 
 pub invariant_of-self : goal.invariant_of-self
