@@ -32,14 +32,12 @@ pub(crate) fn assign_entry(entry: &mut RangeEntry, server: ServerNo, until: u64)
 {
     entry.generation = Fence(entry.generation.0 + 1);
     entry.holder = Some(server);
-    entry.until = entry.until.max(until);
+    renew_entry(entry, until);
 }
 
 /// Moves the end of its lease to this moment, where that is later.
 pub(crate) fn renew_entry(entry: &mut RangeEntry, until: u64)
     ensures { entry.new ≡ renewed until entry.old }
 {
-    if until > entry.until {
-        entry.until = until;
-    }
+    entry.until = entry.until.max(until);
 }

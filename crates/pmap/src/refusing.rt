@@ -21,7 +21,7 @@ pub(crate) fn assign_fault(
         return Some(MapFault::NotOwner);
     };
     match entry.holder {
-        Some(holder) if holder.0 != server.0 && now < entry.until => { Some(MapFault::LeaseHeld) }
+        Some(holder) if holder != server && now < entry.until => { Some(MapFault::LeaseHeld) }
         _ => None,
     }
 }
@@ -34,7 +34,7 @@ pub(crate) fn renew_fault(table: &RangeTable, range: RangeId, server: ServerNo) 
         return Some(MapFault::NotOwner);
     };
     match entry.holder {
-        Some(holder) if holder.0 == server.0 => None,
+        Some(holder) if holder == server => None,
         _ => Some(MapFault::NotOwner),
     }
 }

@@ -36,7 +36,7 @@ fn place_of(entries: &[RangeEntry], range: RangeId) -> Option<usize>
     ensures place { option_and_then (slice_get entries.now) result ≡ range_at entries.now range }
     ensures within { IfSome result (λ place. place < length entries.now) }
 {
-    entries.iter().position(|entry| entry.range.0 == range.0)
+    entries.iter().position(|entry| entry.range == range)
 }
 
 impl RangeTable {
