@@ -5,7 +5,7 @@ use bytes::Bytes;
 use memtable::Cell;
 use metadata::KeyRange;
 use model_partition::{TableNote, WaitingTransaction};
-use range_commit::{Queue, change_fault};
+use range_commit::{MAX_WAITING, Queue, change_fault};
 use std::alloc::Global;
 use std::test::Fail;
 use wire::{ActorId, Body, ExtentId, Fence, Packet, RangeId, Refusal, ReqNo, TableBody};
@@ -106,9 +106,9 @@ fn sets_next(queue: &mut Queue, next: u64) -> bool {
 }
 
 /// Whether there was room for a transaction of user 7.
-fn pushes(alloc: Global, queue: &mut Queue, ticket: u64) -> Result<bool, Fail> {
+pub(crate) fn pushes(alloc: Global, queue: &mut Queue, ticket: u64) -> Result<bool, Fail> {
     let changes = puts(alloc, b"a", 5_000, 1)?;
-    if queue.count() >= 1_024 || change_fault(&changes.items, &keys()).is_some() {
+    if queue.count() >= MAX_WAITING || change_fault(&changes.items, &keys()).is_some() {
         return Ok(false);
     }
     queue.push(WaitingTransaction {

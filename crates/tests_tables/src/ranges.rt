@@ -3,12 +3,13 @@ mod answers;
 
 use crate::asking::{answer_of, context, number, puts};
 use crate::cases::{Case, Tested, holds};
-use answers::{Answer, body_of};
+use crate::groups::pushes;
+use answers::{Answer, appended, body_of};
 use bytes::Bytes;
-use model_partition::Stage;
-use range_core::{RangeState, RangeStep};
+use range_core::{Phase, RangeState, RangeStep, Waiter};
 use std::alloc::Global;
 use std::test::Fail;
+use streams::Position;
 use wire::{ActorId, AppendBody, Body, Fence, RangeId, Refusal, ReqNo};
 
 /// What is done with a range, or what is known of it.
@@ -25,12 +26,24 @@ pub(crate) enum Step {
     Renews(u64),
     /// No answer comes, and so many packets are sent.
     GivesUp(usize),
+    /// The load itself goes on by an answer.
+    Loads(Answer),
+    /// A transaction of this ticket is queued, and no group is formed yet.
+    Queues(u64),
+    /// The next group is formed, if one is, and so many transactions are shown as begun.
+    Forms(usize),
+    /// The append of this number is answered: the group that is out stands at this offset, and so many packets are sent, to users and
+    /// for the next group.
+    LogDone(u64, u32, usize),
     /// The number of the next transaction.
     Next(u64),
+    /// The index and the offset of the end of what was appended and acknowledged.
+    EndsAt(u64, u32),
     /// The request of this number is awaited.
     Awaits(u64),
     /// So many are refused.
     Refuses(usize),
+    IsLoading,
     /// It is served, has nothing in it, and tells what it was assigned as.
     IsEmpty,
 }
@@ -119,7 +132,45 @@ const CASES: &[Case<Step>] = &[
     ),
     (
         "a range is known by its readers",
-        &[SERVED, &[Step::IsEmpty]],
+        &[&[Step::IsLoading], SERVED, &[Step::IsEmpty]],
+    ),
+    (
+        "a load goes on by its own answers",
+        &[&[
+            Step::Loads(Answer::Empty),
+            Step::IsLoading,
+            Step::Loads(Answer::Confirmed),
+            Step::IsEmpty,
+        ]],
+    ),
+    (
+        "a group is formed of those that wait",
+        &[
+            SERVED,
+            &[
+                Step::Forms(0),
+                Step::Queues(1),
+                Step::Queues(2),
+                Step::Queues(3),
+                Step::Forms(2),
+                Step::Next(3),
+                Step::Forms(0),
+            ],
+        ],
+    ),
+    (
+        "a group that stands is answered, and the next one is formed",
+        &[
+            SERVED,
+            &[
+                Step::Transacts(1, b"a", 1, 1, None),
+                Step::Transacts(1, b"a", 1, 1, None),
+                Step::Answered(9, 10, Answer::Extended, false),
+                Step::LogDone(10, 100, 2),
+                Step::EndsAt(0, 124),
+                Step::Next(3),
+            ],
+        ],
     ),
     (
         "a group that is not answered is asked for again",
@@ -214,13 +265,48 @@ fn refusal_count(state: &RangeState, alloc: Global) -> Result<usize, Fail> {
     Ok(state.refusals(alloc, &context(9, 1))?.len())
 }
 
+/// Whether the load goes on by an answer to itself, and the range is not dropped.
+fn loads(state: &mut RangeState, alloc: Global, answer: &Answer) -> Result<bool, Fail> {
+    let body = body_of(alloc, number(1), answer)?;
+    let taken = state.load(alloc, &context(2, 1), Waiter::Load, &body);
+    drop(body);
+    Ok(!taken?.dropped)
+}
+
+fn begun_count(state: &mut RangeState, alloc: Global) -> Result<usize, Fail> {
+    Ok(state.form(alloc, &context(9, 1))?.notes.len())
+}
+
+/// How many packets are sent once the append of this number is answered; none where the answer does not count.
+fn done_count(
+    state: &mut RangeState,
+    alloc: Global,
+    asked: u64,
+    offset: u32,
+) -> Result<usize, Fail> {
+    let answer = appended(number(asked), offset);
+    let told = match state.appended(&answer) {
+        Some((extent, at)) if state.queue.is_out() && state.may_stand(at) => {
+            let taken = state.log_done(alloc, &context(11, 1), &answer, extent, at);
+            taken?.packets.len()
+        }
+        _ => 0,
+    };
+    drop(answer);
+    Ok(told)
+}
+
+fn ends_at(state: &RangeState, index: u64, offset: u32) -> bool {
+    state.position() == Position { index, offset }
+}
+
 fn is_empty(state: &RangeState) -> bool {
-    state.content.stage == Stage::Serving
+    state.phase() == Phase::Serving
         && state.content.load.generation == Fence(2)
         && state.content.load.range == RangeId(1)
-        && state.content.said.indexes.items.is_empty()
-        && state.content.regions.len() == 1
-        && state.position.index == 0
+        && state.indexes().is_empty()
+        && state.regions().len() == 1
+        && ends_at(state, 0, 0)
         && state.content.table.live().is_empty()
 }
 
@@ -242,9 +328,17 @@ impl Tested for RangeState {
                 Ok(true)
             }
             Step::GivesUp(packets) => Ok(given_up(self, alloc)? == *packets),
-            Step::Next(number) => Ok(self.queue.next() == *number),
+            Step::Loads(answer) => loads(self, alloc, answer),
+            Step::Queues(ticket) => pushes(alloc, &mut self.queue, *ticket),
+            Step::Forms(count) => Ok(begun_count(self, alloc)? == *count),
+            Step::LogDone(asked, offset, count) => {
+                Ok(done_count(self, alloc, *asked, *offset)? == *count)
+            }
+            Step::Next(number) => Ok(self.next_number() == *number),
+            Step::EndsAt(index, offset) => Ok(ends_at(self, *index, *offset)),
             Step::Awaits(count) => Ok(self.awaits(&number(*count))),
             Step::Refuses(count) => Ok(refusal_count(self, alloc)? == *count),
+            Step::IsLoading => Ok(self.phase() == Phase::Loading),
             Step::IsEmpty => Ok(is_empty(self)),
         }
     }

@@ -7,8 +7,8 @@ use block_types::{Group, Groups};
 use std::alloc::Global;
 use std::test::Fail;
 use wire::{
-    Body, ExtentId, ReadBody, ReqNo, StreamBody, StreamExtent, StreamExtents, StreamList,
-    StreamLists,
+    AppendBody, Body, ExtentId, ReadBody, ReqNo, StreamBody, StreamExtent, StreamExtents,
+    StreamList, StreamLists,
 };
 
 /// An answer, but for the number that it bears.
@@ -22,6 +22,8 @@ pub(crate) enum Answer {
     /// One group, of one block with this text.
     Group(&'static [u8]),
     Confirmed,
+    /// The extent 7 is the log's last.
+    Extended,
 }
 
 fn no_extent(alloc: Global) -> StreamList {
@@ -84,6 +86,25 @@ fn confirmed(request: ReqNo) -> Body
     Body::Stream(StreamBody::Confirmed { request })
 }
 
+fn extended(request: ReqNo) -> Body
+    ensures { answered_number result ≡ Some request }
+{
+    Body::Stream(StreamBody::Extended {
+        request,
+        extent: ExtentId(7),
+        places: PLACES,
+    })
+}
+
+/// The answer that a group stands at the offset of the extent 7.
+pub(crate) fn appended(request: ReqNo, offset: u32) -> Body {
+    Body::Append(AppendBody::Appended {
+        request,
+        extent: ExtentId(7),
+        offset,
+    })
+}
+
 /// The body of an answer to the request of this number.
 pub(crate) fn body_of(alloc: Global, request: ReqNo, answer: &Answer) -> Result<Body, Fail>
     ensures { IfOk result (λ body. answered_number body ≡ Some request) }
@@ -100,5 +121,6 @@ pub(crate) fn body_of(alloc: Global, request: ReqNo, answer: &Answer) -> Result<
         }
         Answer::Group(text) => Ok(group(request, groups(alloc, text)?)),
         Answer::Confirmed => Ok(confirmed(request)),
+        Answer::Extended => Ok(extended(request)),
     }
 }
