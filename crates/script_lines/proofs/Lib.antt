@@ -1,3 +1,4 @@
 pub mod Beginnings
 pub mod Lists
 pub mod Names
+pub mod TextLines
