@@ -1,21 +1,7 @@
--- What the lines of a script spell, line by line.
-use Rattle.std.proofs.Common.{◌≡◌, ◌∙◌, ◌∷◌, ℕ, Bor, List, ap, sym, subst}
+-- No words spell two setups.
+use Rattle.std.proofs.Common.{◌≡◌, ◌∙◌, ℕ, List, ap, sym}
 use Rattle.std.specs.Str.Parse.{digits_value}
-use Rattle.script_lines.specs.declared.line.Line.{Line}
-use Rattle.script_run.specs.Script.{Size, SpellsAll, SpellsPlan, SpellsSetup, words_of}
-use Rattle.script_lines.proofs.Lists.{texts}
-
--- the first line, and those below it
-pub parts : (lines : List (Bor (List ℕ))) (first : Bor (List ℕ)) (below : List (Bor (List ℕ))) (text : List (List ℕ)) (size : Size) (plan : List Line)
-    → texts lines ≡ text → lines ≡ first ∷ below → SpellsPlan text size plan → SpellsSetup (words_of first.now) size × SpellsAll size (texts below) plan
-parts lines first below text size plan is cut spelled =
-    subst (λ (t : List (List ℕ)). SpellsPlan t size plan) (sym is ∙ ap texts cut) spelled
-
--- and the first line and those below it are a plan
-pub whole : (lines : List (Bor (List ℕ))) (first : Bor (List ℕ)) (below : List (Bor (List ℕ))) (text : List (List ℕ)) (size : Size) (plan : List Line)
-    → texts lines ≡ text → lines ≡ first ∷ below → SpellsSetup (words_of first.now) size → SpellsAll size (texts below) plan → SpellsPlan text size plan
-whole lines first below text size plan is cut one all =
-    subst (λ (t : List (List ℕ)). SpellsPlan t size plan) (sym (ap texts cut) ∙ is) (one, all)
+use Rattle.script_run.specs.Script.{Size, SpellsSetup}
 
 word_same : (a b : List ℕ) (m n : ℕ) → a ≡ b → m ≡ digits_value 10 a → n ≡ digits_value 10 b → m ≡ n
 word_same a b m n same one other = one ∙ ap (digits_value 10) same ∙ sym other

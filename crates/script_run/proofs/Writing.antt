@@ -33,9 +33,3 @@ writes None text a b size plan first last same is fresh mirrors printed = tt
 writes (Some bytes) text a b size plan first last same is fresh mirrors printed =
     let script : IsScript bytes size plan = subst (λ (t : List ℕ). IsScript t size plan) same is in
     (printed.0, record { size = size; plan = plan; is = script; first = first; fresh = fresh; mirrors = mirrors; last = last; plays = printed.1 }, printed.2)
-
--- a text that is none spells no script
-pub not_script : (known : Option (List ℕ)) (text : List ℕ) → IfSome known (λ bytes. text ≡ bytes) → ((size : Size) (plan : List Line) → IsScript text size plan → ⊥)
-    → IfSome known (λ bytes. (size : Size) (plan : List Line) → IsScript bytes size plan → ⊥)
-not_script None text same none = tt
-not_script (Some bytes) text same none = λ size plan is. none size plan (subst (λ (t : List ℕ). IsScript t size plan) (sym same) is)

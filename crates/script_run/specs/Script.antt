@@ -1,6 +1,6 @@
 -- A whole script, and what it prints.
-use Rattle.std.specs.Prelude.{◌≡◌, ◌≤◌, ℕ, Bool, not, ◌==◌, List, [], ◌∷◌, codes, filter, length}
-use Rattle.std.specs.List.{slice_split}
+use Rattle.std.specs.Prelude.{◌≡◌, ◌<◌, ◌≤◌, ℕ, suc, Bool, not, ◌==◌, List, [], ◌∷◌, Option, Some, None, codes, filter, length, take}
+use Rattle.std.specs.List.{AllByRecursion, slice_split}
 use Rattle.std.specs.Str.{IsUtf8}
 use Rattle.std.specs.Str.Lines.{lines}
 use Rattle.std.specs.Str.Parse.{digits_value}
@@ -79,3 +79,30 @@ pub record Writes (text written : List ℕ) : Type 0 where
   pub mirrors : ClusterMirrors first.run (first_cluster size.nodes size.servers size.target size.batch)
   pub last : SessionState
   pub plays : PlaysAll first plan written last
+
+-- ---- where a text that is no script goes wrong
+
+-- the size of a setup, if there is one yet
+abbrev pub size_if : Option Setup → Option Size
+size_if None = None
+size_if (Some setup) = Some (size_of setup)
+
+-- lines with no setup yet, or a setup and these lines below it
+abbrev pub SpellsDraft : List (List ℕ) → Option Size → List Line → Type 0
+SpellsDraft texts None plan = (texts ≡ []) × (plan ≡ [])
+SpellsDraft texts (Some size) plan = SpellsPlan texts size plan
+
+-- the same of lines of which some may be empty; each is a text of characters
+abbrev pub IsDraft : List (List ℕ) → Option Size → List Line → Type 0
+IsDraft texts setup plan = AllByRecursion IsUtf8 texts × SpellsDraft (filter is_some texts) setup plan
+
+-- a script may begin with these lines
+abbrev pub BeginsScript : List (List ℕ) → Type 0
+BeginsScript texts = (setup : Option Size) × (plan : List Line) × IsDraft texts setup plan
+
+-- line n, counted from 1, is the first that no script has there
+pub data IsFirstBad (texts : List (List ℕ)) (n : ℕ) : Type 0 where
+  -- a script may begin with the lines before it, and not with it too
+  spoils : (k : ℕ) → n ≡ suc k → k < length texts → BeginsScript (take k texts) → (BeginsScript (take (suc k) texts) → ⊥) → IsFirstBad texts n
+  -- all lines are empty, and it is the one after them that lacks
+  lacks : n ≡ suc (length texts) → BeginsScript texts → filter is_some texts ≡ [] → IsFirstBad texts n

@@ -19,7 +19,7 @@ use replica::{Phase, Replica};
 use script_reports::{Report, Standing, refusal_by_number};
 use std::alloc::Global;
 use std::io::Write;
-use wire::{ExtentId, Refusal};
+use wire::ExtentId;
 use world::{Event, Run, WorldFault};
 
 /// What is printed of an event that was refused with this number.
@@ -41,7 +41,7 @@ fn step(run: &mut Run, alloc: Global, event: Event) -> Result<Option<Report>, Fa
 {
     match run.step(alloc, &event) {
         Ok(number) => Ok(refusal_report(number)),
-        Err(WorldFault::Memory) => Err(Failure::Refused(Refusal::Memory)),
+        Err(WorldFault::Memory) => Err(Failure::Memory),
     }
 }
 

@@ -1,15 +1,14 @@
 //! A whole script, read before its first event runs.
-ghost use Rattle.std.specs.Prelude.{◌≡◌, ◌++◌, ◌∷◌, [], IfErr, IfNone, IfOk, IfSome, List, OnOk, false, filter, map, true};
+ghost use Rattle.std.specs.Prelude.{◌≡◌, ◌++◌, ◌∷◌, [], IfErr, IfNone, IfOk, IfSome, List, false, map, true, ℕ};
 ghost use Rattle.std.specs.Str.Lines.{lines};
 ghost use Rattle.script_run.specs.Failures.{IsTextFailure};
 ghost use Rattle.script_lines.specs.Grammar.{Spells};
-ghost use Rattle.script_run.specs.Script.{IsScript, IsWithin, Size, SpellsAll, SpellsLine, SpellsSetup, is_some, size_of, words_of};
-ghost use Rattle.wire.specs.declared.refusal.Refusal.TheVariants.{BadScript, Memory};
+ghost use Rattle.script_run.specs.Script.{BeginsScript, IsDraft, IsFirstBad, IsScript, IsWithin, Size, SpellsLine, SpellsSetup, size_if, size_of, words_of};
 
 use crate::error::Failure;
-use script_lines::Line;
+use script_lines::{Line, lines_of};
 use std::alloc::{AllocError, Global};
-use wire::Refusal;
+use std::str;
 use world::Setup;
 
 /// A setup, and the lines below it in order.
@@ -17,13 +16,6 @@ use world::Setup;
 pub struct Plan {
     pub setup: Setup,
     pub lines: Vec<Line>,
-}
-
-/// The lines of a text that are not empty.
-fn lines_of(alloc: Global, text: &str) -> Result<Vec<&str>, AllocError>
-    ensures { IfOk result (λ found. map (λ line. line.now) found.items ≡ filter is_some (lines text.now)) }
-{
-    text.lines().filter(|line| !line.is_empty()).collect(alloc)
 }
 
 /// The setup that these words spell.
@@ -42,17 +34,13 @@ fn setup_of(words: &[&str]) -> Option<Setup>
     )
 }
 
-/// Reads the first line. An error is want of memory (22), or that it is no setup (60).
-fn read_setup(alloc: Global, line: &str) -> Result<Setup, Failure>
-    ensures found { IfOk result (λ setup. SpellsSetup (words_of line.now) (size_of setup)) }
-    ensures failed { IfErr result IsTextFailure }
-    ensures refused { IfErr result (λ e. e ≡ Failure.Refused BadScript → (size : Size) → SpellsSetup (words_of line.now) size → ⊥) }
+/// The setup that this line spells, if it is one. An error is want of memory (22).
+fn read_setup(alloc: Global, line: &str) -> Result<Option<Setup>, AllocError>
+    ensures found { IfOk result (λ read. IfSome read (λ setup. SpellsSetup (words_of line.now) (size_of setup))) }
+    ensures none { IfOk result (λ read. IfNone read ((size : Size) → SpellsSetup (words_of line.now) size → ⊥)) }
 {
     let words = script_lines::words(alloc, line)?;
-    match setup_of(words.as_slice()) {
-        Some(setup) => Ok(setup),
-        None => Err(Failure::Refused(Refusal::BadScript)),
-    }
+    Ok(setup_of(words.as_slice()))
 }
 
 /// Whether the line shows no node outside the setup.
@@ -77,55 +65,72 @@ fn parsed(alloc: Global, line: &str) -> Result<Option<Line>, AllocError>
     }
 }
 
-/// Puts a line behind those before it. An error is want of memory (22).
-fn put(plan: &mut Vec<Line>, line: Line) -> Result<(), Failure>
-    ensures put { OnOk result (plan.new.items ≡ plan.old.items ++ line ∷ []) }
-    ensures failed { IfErr result (λ e. e ≡ Failure.Refused Memory) }
-{
-    plan.push(line)?;
-    Ok(())
-}
-
-/// Reads a line below the setup, and puts it behind those before it. An error is want of memory (22), or that it is no line (60).
-fn read_line(alloc: Global, text: &str, setup: &Setup, plan: &mut Vec<Line>) -> Result<(), Failure>
-    ensures found { OnOk result ((line : Line) × SpellsLine (size_of setup.now) text.now line × (plan.new.items ≡ plan.old.items ++ line ∷ [])) }
-    ensures failed { IfErr result IsTextFailure }
-    ensures refused { IfErr result (λ e. e ≡ Failure.Refused BadScript
-        → (found : Line) → SpellsLine (size_of setup.now) text.now found → ⊥) }
+/// The line below a setup that this text spells, if it is one. An error is want of memory (22).
+fn read_line(alloc: Global, text: &str, setup: &Setup) -> Result<Option<Line>, AllocError>
+    ensures found { IfOk result (λ read. IfSome read (λ line. SpellsLine (size_of setup.now) text.now line)) }
+    ensures none { IfOk result (λ read. IfNone read ((line : Line) → SpellsLine (size_of setup.now) text.now line → ⊥)) }
 {
     match parsed(alloc, text) {
-        Ok(Some(line)) if is_within(&line, setup) => put(plan, line),
-        Ok(_) => Err(Failure::Refused(Refusal::BadScript)),
-        Err(AllocError) => Err(Failure::Refused(Refusal::Memory)),
+        Ok(Some(line)) if is_within(&line, setup) => Ok(Some(line)),
+        Ok(_) => Ok(None),
+        Err(refused) => Err(refused),
     }
 }
 
-/// Reads the lines below the setup.
-fn read_lines(alloc: Global, texts: &[&str], setup: &Setup) -> Result<Vec<Line>, Failure>
-    ensures found { IfOk result (λ plan. SpellsAll (size_of setup.now) (map (λ text. text.now) texts.now) plan.items) }
-    ensures failed { IfErr result IsTextFailure }
-    ensures refused { IfErr result (λ e. e ≡ Failure.Refused BadScript
-        → (plan : List Line) → SpellsAll (size_of setup.now) (map (λ text. text.now) texts.now) plan → ⊥) }
+/// Reads the next line, the setup or one below it, and answers whether a script may go on so. Empty lines are passed over.
+/// An error is want of memory (22).
+fn read_next(
+    alloc: Global,
+    line: &[u8],
+    setup: &mut Option<Setup>,
+    plan: &mut Vec<Line>,
+) -> Result<bool, AllocError>
+    ensures read { IfOk result (λ read. read ≡ true → (before : List (List ℕ))
+        → IsDraft before (size_if setup.old) plan.old.items → IsDraft (before ++ line.now ∷ []) (size_if setup.new) plan.new.items) }
+    ensures none { IfOk result (λ read. read ≡ false → (before : List (List ℕ))
+        → IsDraft before (size_if setup.old) plan.old.items → BeginsScript (before ++ line.now ∷ []) → ⊥) }
 {
-    let mut plan = Vec::new(alloc);
-    for text in texts {
-        read_line(alloc, text, setup, &mut plan)?;
+    let Ok(text) = str::from_utf8(line) else {
+        return Ok(false);
+    };
+    if text.is_empty() {
+        return Ok(true);
     }
-    Ok(plan)
+    match *setup {
+        None => match read_setup(alloc, text)? {
+            Some(first) => {
+                *setup = Some(first);
+                Ok(true)
+            }
+            None => Ok(false),
+        },
+        Some(size) => match read_line(alloc, text, &size)? {
+            Some(line) => {
+                plan.push(line)?;
+                Ok(true)
+            }
+            None => Ok(false),
+        },
+    }
 }
 
-/// Reads the text of a script. Empty lines are passed over. An error is want of memory (22), or that the text is no script (60).
-pub fn read_plan(alloc: Global, text: &str) -> Result<Plan, Failure>
+/// Reads the text of a script. An error is want of memory (22), or that the text is no script (60), with the first line that
+/// no script has there.
+pub fn read_plan(alloc: Global, text: &[u8]) -> Result<Plan, Failure>
     ensures found { IfOk result (λ plan. IsScript text.now (size_of plan.setup) plan.lines.items) }
     ensures failed { IfErr result IsTextFailure }
-    ensures refused { IfErr result (λ e. e ≡ Failure.Refused BadScript
-        → (size : Size) (plan : List Line) → IsScript text.now size plan → ⊥) }
+    ensures told { IfErr result (λ e. (n : ℕ) → e ≡ Failure.BadScript n → IsFirstBad (lines text.now) n) }
 {
     let texts = lines_of(alloc, text)?;
-    let Some((first, below)) = texts.as_slice().split_first() else {
-        return Err(Failure::Refused(Refusal::BadScript));
-    };
-    let setup = read_setup(alloc, first)?;
-    let lines = read_lines(alloc, below, &setup)?;
-    Ok(Plan { setup, lines })
+    let mut setup = None;
+    let mut plan = Vec::new(alloc);
+    for (index, line) in texts.iter().enumerate() {
+        if !read_next(alloc, line, &mut setup, &mut plan)? {
+            return Err(Failure::BadScript(index + 1));
+        }
+    }
+    match setup {
+        Some(setup) => Ok(Plan { setup, lines: plan }),
+        None => Err(Failure::BadScript(texts.len() + 1)),
+    }
 }

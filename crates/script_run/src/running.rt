@@ -1,12 +1,11 @@
 //! The task that runs a script.
-ghost use Rattle.std.specs.Prelude.{◌≡◌, IfErr, IfOk, IfSome, List, OnOk, string_bytes};
-ghost use Rattle.std.specs.Str.{IsUtf8};
+ghost use Rattle.std.specs.Prelude.{◌≡◌, ℕ, IfErr, IfOk, IfSome, List, OnOk};
+ghost use Rattle.std.specs.Str.Lines.{lines};
 ghost use Rattle.std.specs.Io.KnownBytes.{Keeps};
-ghost use Rattle.wire.specs.declared.refusal.Refusal.TheVariants.{BadScript};
-ghost use Rattle.script_run.specs.Failures.{IsRunFailure};
+ghost use Rattle.script_run.specs.Failures.{IsInputFailure, IsRunFailure};
 ghost use Rattle.script_run.specs.Output.{Prints};
 ghost use Rattle.script_run.specs.Playing.{PlaysAll};
-ghost use Rattle.script_run.specs.Script.{IsScript, Size, Writes};
+ghost use Rattle.script_run.specs.Script.{IsFirstBad, IsScript, Size, Writes};
 
 use crate::error::Failure;
 use crate::plan::read_plan;
@@ -14,20 +13,16 @@ use crate::session::Session;
 use script_lines::Line;
 use std::alloc::Global;
 use std::io::{Read, Write};
-use wire::Refusal;
 
-fn read_text<R: Read + Drop>(alloc: Global, mut reader: R) -> Result<String, Failure>
-    ensures text { IfOk result (λ text. IfSome (R.remaining reader) (λ bytes. string_bytes text ≡ bytes)) }
-    ensures utf8 { IfErr result (λ e. e ≡ Failure.Refused BadScript
-        → IfSome (R.remaining reader) (λ bytes. IsUtf8 bytes → ⊥)) }
+/// The whole text of a reader. An error is want of memory (22), or that the reader failed (62).
+fn read_text<R: Read + Drop>(alloc: Global, mut reader: R) -> Result<Vec<u8>, Failure>
+    ensures text { IfOk result (λ text. IfSome (R.remaining reader) (λ bytes. text.items ≡ bytes)) }
+    ensures failed { IfErr result IsInputFailure }
 {
-    let mut bytes = Vec::new(alloc);
-    if let Err(error) = reader.read_to_end(&mut bytes) {
-        return Err(Failure::of_input(&error));
-    }
-    match String::from_utf8(bytes) {
-        Ok(text) => Ok(text),
-        Err(_) => Err(Failure::Refused(Refusal::BadScript)),
+    let mut text = Vec::new(alloc);
+    match reader.read_to_end(&mut text) {
+        Ok(_count) => Ok(text),
+        Err(error) => Err(Failure::of_input(error)),
     }
 }
 
@@ -48,7 +43,8 @@ fn play_all<W: Write>(
 }
 
 /// Runs the script that the reader holds, and prints what is observed and answered. The whole text is read first. An error is
-/// a text that is no script (60), want of memory (22), a reader that fails (62), or a writer that fails.
+/// a text that is no script (60), with the number of the first line at which it is none, want of memory (22), a reader that
+/// fails (62), or a writer that fails.
 pub fn script<R: Read + Drop, W: Write>(
     alloc: Global,
     reader: R,
@@ -61,11 +57,14 @@ pub fn script<R: Read + Drop, W: Write>(
     ensures checked_first { IfErr result (λ e. (IsRunFailure e → ⊥)
         → Keeps (W.contents writer.old) (W.contents writer.new)) }
     // A text that is a script is not refused as one that is none.
-    ensures refused { IfErr result (λ e. e ≡ Failure.Refused BadScript → IfSome (R.remaining reader) (λ text.
+    ensures refused { IfErr result (λ e. (n : ℕ) → e ≡ Failure.BadScript n → IfSome (R.remaining reader) (λ text.
         (size : Size) (plan : List Line) → IsScript text size plan → ⊥)) }
+    // And the line told is the first that no script has there: one may begin with the lines before it, and not with it too.
+    ensures first { IfErr result (λ e. (n : ℕ) → e ≡ Failure.BadScript n → IfSome (R.remaining reader) (λ text.
+        IsFirstBad (lines text) n)) }
 {
     let text = read_text(alloc, reader)?;
-    let plan = read_plan(alloc, text.as_str())?;
+    let plan = read_plan(alloc, text.as_slice())?;
     let mut session = Session::start(alloc, &plan.setup)?;
     play_all(&mut session, plan.lines, writer)
 }

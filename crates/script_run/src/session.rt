@@ -17,7 +17,7 @@ use script_reports::{Report, report_answer};
 use std::alloc::{AllocError, Global};
 use std::io::Write;
 use std::marker::Model;
-use wire::{ActorId, Refusal, ReqNo};
+use wire::{ActorId, ReqNo};
 use world::{Event, Run, Setup, WorldFault};
 
 /// The most packets that one settle delivers.
@@ -64,7 +64,7 @@ impl Session {
                 tickets: Tickets::new(alloc),
                 cut: Vec::new(alloc),
             }),
-            Err(WorldFault::Memory) => Err(Failure::Refused(Refusal::Memory)),
+            Err(WorldFault::Memory) => Err(Failure::Memory),
         }
     }
 

@@ -12,7 +12,7 @@
 //! # What it touches
 //!
 //! The program reads its words, one file or the standard input, and writes lines to the standard output and texts about
-//! wrong words to the standard error; it touches nothing else. The disks of nodes, of the manager and of the map are in
+//! wrong words, about a line that cannot be read and about a file that cannot to the standard error; it touches nothing else. The disks of nodes, of the manager and of the map are in
 //! memory, and so is the network, so that a script always prints the same. The whole script is read and tested before its
 //! first event runs, and nothing is printed before it has ended: the output is kept in memory until then. Where it does not
 //! fit, the lines so far are printed, and 22 is told.
@@ -21,8 +21,8 @@
 //!
 //! - 0: the script ran to its end, or help was asked for.
 //! - 1: a refusal, told by the line `refused N Name` at the end of the output, or the output could not be written. N is
-//!   - 60: the text is no script;
-//!   - 62: the file cannot be read;
+//!   - 60: the text is no script. The standard error names the first line at which it is none, as `line 2 cannot be read: foo`;
+//!   - 62: the file cannot be read. The standard error gives the system's reason;
 //!   - 22: memory ran out.
 //! - 2: wrong words. The standard error says how, and nothing runs.
 //!
@@ -35,13 +35,14 @@
 //!
 //! `main` is the system's entry, and can have no contract of its own. What it calls has: `command` names the task that the
 //! words spell, exactly; `perform` answers the status; and what is printed is what `script_run::script` wrote into memory, which
-//! promises that it is what the lines of the text print, run in order over one run of `world`. Of that run `world` promises
+//! promises that it is what the lines of the text print, run in order over one run of `world`, and that the line which it names
+//! of a text that is no script is the first at which it is none. Of that run `world` promises
 //! that what is observed of extents agrees and keeps each acknowledged append, and that what is observed of tables replays.
 //! docs/PROOFS.md leads from here to each part.
 //!
 //! # Tests
 //!
-//! What no clause says of scripts, of runs and of the program's words is tested here, above all that it takes: whole scripts with all
+//! No test reads the standard error; it is looked at by hand. What no clause says of scripts, of runs and of the program's words is tested here, above all that it takes: whole scripts with all
 //! that they print, failing readers and writers, each stop of a run with transactions, words that are read or wrong, and what no
 //! clause of `world_streams` says: that its calls succeed where there is memory, runs of it followed by hand, with clients of streams over
 //! them, and the rows that a loaded table shows. Of these a test goes through cases, each a list of steps in their order: what is

@@ -284,22 +284,40 @@ fn refuses_streams(rt: HostRuntime) -> Result<(), Fail> {
     Ok(())
 }
 
-/// Setups that are none.
-const SETUPS: &[&str] = &[
-    "",
-    "\n\r\n",
-    "settle\n",
-    "setup 2 1 4096 1\n",
-    "setup 13 1 4096 1\n",
-    "setup 3 0 4096 1\n",
-    "setup 3 5 4096 1\n",
-    "setup 3 1 4095 1\n",
-    "setup 3 1 16777217 1\n",
-    "setup 3 1 4096 0\n",
-    "setup 3 1 4096 1025\n",
-    "setup 3 1 4096\n",
-    "setup 3 1 4096 1 1\n",
-    " setup 3 1 4096 1\n",
+/// Texts that are no scripts, each with the line that is told.
+const REFUSED: &[(&[u8], usize)] = &[
+    // Lines that are none: the first of them is told.
+    (b"setup 3 1 4096 1\nfoo\n", 2),
+    (b"setup 3 1 4096 1\nfoo", 2),
+    (b"setup 3 1 4096 1\nsettle\nfoo\nsettle\nbar\n", 3),
+    (b"setup 3 1 4096 1\nshow 3 1\nshow 4 1\nfoo\n", 3),
+    // Empty lines count.
+    (b"\n\r\nsetup 3 1 4096 1\r\n\r\n\nsettle\r\nfoo\r\n", 7),
+    // A carriage return is part of the last line.
+    (b"setup 3 1 4096 1\nsettle\r", 2),
+    // What is no text.
+    (b"setup 3 1 4096 1\nuser 1 create 0\nsettle\xff\n", 3),
+    (b"setup 3 1 4096 1\nuser 1 create 0\n\xff\nfoo\n", 3),
+    (b"setup 3 1 4096 1\nuser 1 create 0\nfoo\n\xff\n", 3),
+    (b"setup 3 1 4096 1\nuser 1 create 0\nsettle\n\xff", 4),
+    (b"\xff", 1),
+    // No setup, or none below the empty lines.
+    (b"", 1),
+    (b"\n\r\n", 3),
+    (b"\n\n\n", 4),
+    (b"\nsettle\nsetup 3 1 4096 1\n", 2),
+    (b"settle\n", 1),
+    (b"setup 2 1 4096 1\n", 1),
+    (b"setup 13 1 4096 1\n", 1),
+    (b"setup 3 0 4096 1\n", 1),
+    (b"setup 3 5 4096 1\n", 1),
+    (b"setup 3 1 4095 1\n", 1),
+    (b"setup 3 1 16777217 1\n", 1),
+    (b"setup 3 1 4096 0\n", 1),
+    (b"setup 3 1 4096 1025\n", 1),
+    (b"setup 3 1 4096\n", 1),
+    (b"setup 3 1 4096 1 1\n", 1),
+    (b" setup 3 1 4096 1\n", 1),
 ];
 
 /// Lines that are none below `BEGUN`.
@@ -350,28 +368,28 @@ const LINES: &[&str] = &[
     "heal n1 n2",
 ];
 
-fn is_refused(rt: &HostRuntime, text: &[u8]) -> bool {
+/// Whether a text is refused at this line, before anything is printed.
+fn is_refused(rt: &HostRuntime, text: &[u8], line: usize) -> bool {
     let mut out = Vec::new(rt.alloc());
     let ended = script(rt.alloc(), text, &mut out);
-    out.is_empty() && matches!(ended, Err(Failure::Refused(Refusal::BadScript)))
+    out.is_empty() && matches!(ended, Err(Failure::BadScript(told)) if told == line)
 }
 
-/// Whether a script with this line is refused.
+/// Whether a script with this line below the five of `BEGUN` is refused there.
 fn is_refused_in(rt: &HostRuntime, line: &str) -> Result<bool, Fail> {
     let begun = joined(rt.alloc(), BEGUN, line)?;
     let text = joined(rt.alloc(), begun.as_str(), "\nsettle\n")?;
-    Ok(is_refused(rt, text.as_bytes()))
+    Ok(is_refused(rt, text.as_bytes(), 6))
 }
 
 #[test]
 fn refuses_what_is_no_script(rt: HostRuntime) -> Result<(), Fail> {
-    for &text in SETUPS {
-        assert!(rt; is_refused(&rt, text.as_bytes()), "at {text:?}");
+    for &(text, line) in REFUSED {
+        assert!(rt; is_refused(&rt, text, line), "at {text:?}");
     }
     for &line in LINES {
         assert!(rt; is_refused_in(&rt, line)?, "at {line:?}");
     }
-    assert!(rt; is_refused(&rt, b"setup 3 1 4096 1\nuser 1 create 0\nsettle\n\xff"));
     Ok(())
 }
 
@@ -383,7 +401,7 @@ fn names_a_failed_reader(rt: HostRuntime) {
     ] {
         let mut out = Vec::new(rt.alloc());
         let ended = script(rt.alloc(), Broken { reads: 3, kind }, &mut out);
-        assert!(rt; matches!(ended, Err(Failure::Refused(refusal)) if refusal == want));
+        assert!(rt; matches!(ended, Err(failure) if failure.refusal() == Some(want)));
         assert!(rt; out.is_empty());
     }
 }

@@ -6,11 +6,13 @@ ghost use Rattle.clap.specs.declared.error.kind.ErrorKind.TheVariants.{DisplayHe
 ghost use Rattle.clap.specs.declared.error.Error.{Error};
 ghost use Rattle.stampctl_words.specs.declared.named.CommandError.TheVariants.{Memory, WrongWords};
 
+use crate::escaped::Escaped;
+use script_lines::lines_of;
 use script_run::{Failure, script};
 use stampctl_words::{CommandError, Task};
 use std::alloc::Global;
 use std::fs;
-use std::io::{self, Print, Read, Write};
+use std::io::{self, Eprint, Print, Read, Write};
 use std::process::ExitCode;
 use std::rt::Files;
 use wire::Refusal;
@@ -50,9 +52,41 @@ fn text_of<R: Files + Input>(
     Ok(text)
 }
 
+/// Tells why no text was had: the name of what was to be read, and the system's reason.
+fn unread<R: Eprint + Print>(rt: &R, path: Option<&str>, error: io::Error) -> ExitCode
+    ensures { exit_status result ≡ 1 }
+{
+    match Failure::of_input(error) {
+        Failure::NoFile(error) => {
+            let status = refused(rt, Refusal::NoFile);
+            let name = path.unwrap_or("standard input");
+            let _ = rt.eprintln(format_args!("{name}: {error}"));
+            status
+        }
+        _ => refused(rt, Refusal::Memory),
+    }
+}
+
+/// Tells where a text is no script: the number of the line, and its text, unless memory runs out for that. A line after the
+/// last is the setup of a text of empty lines alone.
+fn tell_line<R: Eprint>(rt: &R, alloc: Global, text: &[u8], number: usize) {
+    let _ = match lines_of(alloc, text) {
+        Ok(lines) => match lines.get(number.saturating_sub(1)) {
+            Some(line) => rt.eprintln(format_args!(
+                "line {number} cannot be read: {}",
+                Escaped(line)
+            )),
+            None => rt.eprintln(format_args!(
+                "line {number} is missing: a script begins with its setup"
+            )),
+        },
+        Err(_) => rt.eprintln(format_args!("line {number} cannot be read")),
+    };
+}
+
 /// Prints what a script wrote, and how it ended. A script that could write no more ended for want of memory.
-fn finish<R: Print>(rt: &R, ended: Result<(), Failure>, written: &[u8]) -> ExitCode
-    ensures refused { IfErr ended (λ _. exit_status result ≡ 1) }
+fn finish<R: Print>(rt: &R, ended: &Result<(), Failure>, written: &[u8]) -> ExitCode
+    ensures refused { IfErr ended.now (λ _. exit_status result ≡ 1) }
     ensures told { exit_status result < 2 }
 {
     let mut writer = io::writer(rt);
@@ -65,27 +99,31 @@ fn finish<R: Print>(rt: &R, ended: Result<(), Failure>, written: &[u8]) -> ExitC
     }
     match ended {
         Ok(()) => ExitCode::SUCCESS,
-        Err(Failure::Refused(refusal)) => refused(rt, refusal),
-        Err(Failure::Output(_)) => refused(rt, Refusal::Memory),
+        Err(failure) => refused(rt, failure.refusal().unwrap_or(Refusal::Memory)),
     }
 }
 
 /// Runs the script over bytes in memory, so that what `script` promises is said of this very call.
-fn run<R: Files + Input + Print>(rt: &R, alloc: Global, path: Option<&str>) -> ExitCode
+fn run<R: Eprint + Files + Input + Print>(rt: &R, alloc: Global, path: Option<&str>) -> ExitCode
     ensures { exit_status result < 2 }
 {
-    let mut written = Vec::new(alloc);
-    let ended = match text_of(rt, alloc, path) {
-        Ok(text) => script(alloc, text.as_slice(), &mut written),
-        Err(error) => Err(Failure::of_input(&error)),
+    let text = match text_of(rt, alloc, path) {
+        Ok(text) => text,
+        Err(error) => return unread(rt, path, error),
     };
-    finish(rt, ended, &written)
+    let mut written = Vec::new(alloc);
+    let ended = script(alloc, text.as_slice(), &mut written);
+    let status = finish(rt, &ended, &written);
+    if let Err(Failure::BadScript(number)) = ended {
+        tell_line(rt, alloc, &text, number);
+    }
+    status
 }
 
 /// Performs a task, or tells why the words name none, and answers the status to end with. A script ends in 0 where it ran to
-/// its end, and in 1 where it was refused or what it wrote could not be printed. Where memory for the words ran out it is 1;
-/// wrong words are told on the standard error and end in 2, and help that was asked for in 0, or in 1 where it could not be
-/// printed.
+/// its end, and in 1 where it was refused or what it wrote could not be printed; where a text is no script the standard error
+/// names the line, and where a file could not be read the reason. Where memory for the words ran out it is 1; wrong words are
+/// told on the standard error and end in 2, and help that was asked for in 0, or in 1 where it could not be printed.
 pub fn perform<R: Eprint + Files + Input + Print>(
     rt: &R,
     alloc: Global,

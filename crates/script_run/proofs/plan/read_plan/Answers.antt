@@ -1,28 +1,25 @@
-use Rattle.std.proofs.Common.{◌∙◌, map, rules, sym, subst}
-use Rattle.std.specs.Str.{IsUtf8}
-use Rattle.script_run.specs.Script.{Size, SpellsAll, size_of}
-use Rattle.script_run.proofs.Refusing.{passed_on}
-use Rattle.script_run.proofs.Setups.{one_setup, parts, whole}
+use Rattle.std.proofs.Common.{◌≡◌, ◌∙◌, ◌+◌, ℕ, ap, false, rules, subst, true}
+use Rattle.std.specs.Str.Lines.{lines}
+use Rattle.script_lines.proofs.Lists.{texts}
+use Rattle.script_run.specs.Script.{IsFirstBad, size_if, size_of}
+use Rattle.script_run.proofs.Drafts.{draft_next, script_whole, spoilt}
 use Rattle.script_run.proofs.plan.read_plan.Goals as goal
 
-pub returns-in_err-setup-clause-refused : goal.returns-in_err-setup-clause-refused
-returns-in_err-setup-clause-refused c =
-    passed_on c.from_residual-in_err-setup.result c.in_err-setup.field-0.0 _ _ c.from_residual-in_err-setup.ensures.1
-    (λ e size plan h.
-    let both = parts c.in_ok-texts.texts.items c.in-Some.first.now c.in-Some.below.now _ size plan c.in_ok-texts.ensures (sym c.as_slice.ensures.value ∙ c.in-Some.ensures.cases.0) h.1 in
-    c.in_err-setup.ensures.refused e size both.0)
+pub returns-then-not-branch-clause-told : goal.returns-then-not-branch-clause-told
+returns-then-not-branch-clause-told c = λ n e.
+    let same : c.loop-index.index + 1 ≡ n = cc in
+    let stopped : c.in_ok-read_next.field-0 ≡ false = search rules in
+    subst (λ (k : ℕ). IsFirstBad (lines c.args.text.now) k) same
+    (spoilt c.deref-line-items.result.now c.loop-index.index _ c.args.text.now (size_if c.loop-index.setup) c.loop-index.plan.items
+    (ap texts c.deref-line-items.ensures.value ∙ c.in_ok-texts.ensures) c.loop-index-test.true (c.in_ok-read_next.ensures.none stopped) c.loop-index.invariant)
 
-pub returns-in_err-lines-clause-refused : goal.returns-in_err-lines-clause-refused
-returns-in_err-lines-clause-refused c =
-    passed_on c.from_residual-in_err-lines.result c.in_err-lines.field-0.0 _ _ c.from_residual-in_err-lines.ensures.1
-    (λ e size plan h.
-    let both = parts c.in_ok-texts.texts.items c.in-Some.first.now c.in-Some.below.now _ size plan c.in_ok-texts.ensures (sym c.as_slice.ensures.value ∙ c.in-Some.ensures.cases.0) h.1 in
-    c.in_err-lines.ensures.refused e plan
-    (subst (λ (s : Size). SpellsAll s (map (λ text. text.now) c.in-Some.below.now) plan) (one_setup _ size (size_of c.in_ok-setup.setup) both.0 c.in_ok-setup.ensures.found) both.1))
+pub loop-index-preserved : goal.loop-index-preserved
+loop-index-preserved c =
+    let went_on : c.in_ok-read_next.field-0 ≡ true = search rules in
+    draft_next c.deref-line-items.result.now c.loop-index.index _ (size_if c.loop-index.setup) (size_if c.read_next.new.setup) c.loop-index.plan.items c.read_next.new.plan.items
+    c.loop-index-test.true (c.in_ok-read_next.ensures.read went_on) c.loop-index.invariant
 
-pub returns-clause-found : goal.returns-clause-found
-returns-clause-found c =
-    let utf8 : IsUtf8 c.args.text.now = search rules in (
-      utf8,
-      whole c.in_ok-texts.texts.items c.in-Some.first.now c.in-Some.below.now _ _ _ c.in_ok-texts.ensures (sym c.as_slice.ensures.value ∙ c.in-Some.ensures.cases.0) c.in_ok-setup.ensures.found c.in_ok-lines.ensures.found,
-    )
+pub returns-in-Some-clause-found : goal.returns-in-Some-clause-found
+returns-in-Some-clause-found c =
+    script_whole c.deref-line-items.result.now c.loop-index.index c.args.text.now (size_if c.loop-index.setup) (size_of c.in-Some.setup) c.loop-index.plan.items
+    (ap texts c.deref-line-items.ensures.value ∙ c.in_ok-texts.ensures) c.loop-index-test.false (ap size_if c.in-Some.is) c.loop-index.invariant

@@ -1,13 +1,8 @@
-use Rattle.std.proofs.Common.{◌∙◌, ap, map, sym, subst, ℕ, List, Bor}
-use Rattle.script_run.specs.Script.{SpellsSetup, size_of}
+use Rattle.std.proofs.Common.{◌∙◌, ap, map, subst, ℕ, List, Bor, IfNone}
+use Rattle.script_run.specs.Script.{Size, SpellsSetup}
 use Rattle.script_run.proofs.plan.read_setup.Goals as goal
 
-pub returns-clause-refused : goal.returns-clause-refused
-returns-clause-refused c = λ e size h.
-    c.in-None.ensures.none size
-    (subst (λ (words : List (List ℕ)). SpellsSetup words size) (sym (ap (λ (ws : List (Bor (List ℕ))). map (λ w. w.now) ws) c.as_slice.ensures.value ∙ c.in_ok-words.ensures)) h)
-
-pub returns-in-Some-clause-found : goal.returns-in-Some-clause-found
-returns-in-Some-clause-found c =
-    subst (λ (words : List (List ℕ)). SpellsSetup words (size_of c.in-Some.setup)) (ap (λ (ws : List (Bor (List ℕ))). map (λ w. w.now) ws) c.as_slice.ensures.value ∙ c.in_ok-words.ensures)
-    c.in-Some.ensures.found
+pub returns-clause-none : goal.returns-clause-none
+returns-clause-none c =
+    subst (λ (words : List (List ℕ)). IfNone c.setup_of.result ((size : Size) → SpellsSetup words size → ⊥))
+    (ap (λ (ws : List (Bor (List ℕ))). map (λ w. w.now) ws) c.as_slice.ensures.value ∙ c.in_ok-words.ensures) c.setup_of.ensures.none

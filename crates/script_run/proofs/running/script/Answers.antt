@@ -1,18 +1,19 @@
-use Rattle.std.proofs.Common.{ℕ, List, string_bytes, subst}
+use Rattle.std.proofs.Common.{ℕ, List, subst}
 use Rattle.std.proofs.lemmas.Result.{IfErr-weaker, on_ok_weaker}
+use Rattle.std.specs.Str.Lines.{lines}
 use Rattle.script_run.specs.Failures.{IsRunFailure}
-use Rattle.script_run.specs.Script.{IsScript, size_of}
-use Rattle.script_run.proofs.Refusing.{not_for_text}
+use Rattle.script_run.specs.Script.{IsFirstBad, IsScript, size_of}
+use Rattle.script_run.proofs.Refusing.{first_of_known, no_script_known, not_for_text, told_on}
 use Rattle.script_run.proofs.Writing.{writes}
 use Rattle.script_run.proofs.running.script.Goals as goal
 
 pub returns-clause-written : goal.returns-clause-written
 returns-clause-written g c =
     let size = size_of c.in_ok-plan.plan.setup in
-    let lines = c.in_ok-plan.plan.lines.items in
+    let plan = c.in_ok-plan.plan.lines.items in
     on_ok_weaker c.play_all.result
-    (writes (g.R.Read.remaining c.args.reader) (string_bytes c.in_ok-text.text) _ _ size lines c.in_ok-session.session _ c.in_ok-text.ensures.text
-    (subst (λ (t : List ℕ). IsScript t size lines) c.as_str.ensures.value c.in_ok-plan.ensures.found) c.in_ok-session.ensures.fresh c.in_ok-session.ensures.mirrors)
+    (writes (g.R.Read.remaining c.args.reader) c.in_ok-text.text.items _ _ size plan c.in_ok-session.session _ c.in_ok-text.ensures.text
+    (subst (λ (t : List ℕ). IsScript t size plan) c.as_slice.ensures.value c.in_ok-plan.ensures.found) c.in_ok-session.ensures.fresh c.in_ok-session.ensures.mirrors)
     c.play_all.ensures.played
 
 pub returns-clause-checked_first : goal.returns-clause-checked_first
@@ -20,3 +21,18 @@ returns-clause-checked_first g c = IfErr-weaker c.play_all.result IsRunFailure _
 
 pub returns-clause-refused : goal.returns-clause-refused
 returns-clause-refused g c = not_for_text c.play_all.result _ c.play_all.ensures.failed
+
+pub returns-clause-first : goal.returns-clause-first
+returns-clause-first g c = not_for_text c.play_all.result _ c.play_all.ensures.failed
+
+pub returns-in_err-plan-clause-refused : goal.returns-in_err-plan-clause-refused
+returns-in_err-plan-clause-refused g c =
+    told_on c.from_residual-in_err-plan.result c.in_err-plan.field-0.0 _ c.from_residual-in_err-plan.ensures.1
+    (λ n is. no_script_known (g.R.Read.remaining c.args.reader) c.in_ok-text.text.items n c.in_ok-text.ensures.text
+    (subst (λ (t : List ℕ). IsFirstBad (lines t) n) c.as_slice.ensures.value (c.in_err-plan.ensures.told n is)))
+
+pub returns-in_err-plan-clause-first : goal.returns-in_err-plan-clause-first
+returns-in_err-plan-clause-first g c =
+    told_on c.from_residual-in_err-plan.result c.in_err-plan.field-0.0 _ c.from_residual-in_err-plan.ensures.1
+    (λ n is. first_of_known (g.R.Read.remaining c.args.reader) c.in_ok-text.text.items n c.in_ok-text.ensures.text
+    (subst (λ (t : List ℕ). IsFirstBad (lines t) n) c.as_slice.ensures.value (c.in_err-plan.ensures.told n is)))
