@@ -67,7 +67,7 @@ fn text_of(alloc: Global, group: &Group) -> Result<Vec<u8>, Failure> {
     Ok(text)
 }
 
-/// Writes as many times the same bytes behind one another, from the `from`-th on, with two syncs after each.
+/// Writes as many times the same bytes one after another, from the `from`-th on, with two syncs after each.
 fn write_plainly(file: &fs::File, text: &[u8], from: u64, count: u64) -> io::Result<()> {
     let size = text.len() as u64;
     for at in 0..count {

@@ -43,7 +43,7 @@ impl Block {
         Block { bytes }
     }
 
-    /// The block of a copy of these bytes. An error is want of memory (22).
+    /// The block of a copy of these bytes. An error is out of memory (22).
     pub fn copied(alloc: Global, text: &[u8]) -> Result<Block, AllocError>
         requires { IsBlock text.now }
         ensures { IfOk result (λ b. b ≡ text.now) }
@@ -61,7 +61,7 @@ impl Block {
         self.bytes.as_slice()
     }
 
-    /// The bytes as a buffer, which shares them. An error is want of memory (22).
+    /// The bytes as a buffer, which shares them. An error is out of memory (22).
     pub fn share(&self) -> Result<Bytes, AllocError>
         ensures value { IfOk result (λ bytes. bytes ≡ self.now) }
         ensures fits { IsBlock self.now }
@@ -131,7 +131,7 @@ impl Group {
         total(blocks)
     }
 
-    /// The group of these buffers, a block each, whose bytes it shares. An error is want of memory (22).
+    /// The group of these buffers, a block each, whose bytes it shares. An error is out of memory (22).
     pub fn shared(alloc: Global, buffers: &[Bytes]) -> Result<Group, AllocError>
         requires { IsGroup buffers.now }
         ensures { IfOk result (λ g. g ≡ buffers.now) }
@@ -139,7 +139,7 @@ impl Group {
         Ok(Group::of(shares(alloc, buffers)?))
     }
 
-    /// The same group again, which shares the bytes. An error is want of memory (22).
+    /// The same group again, which shares the bytes. An error is out of memory (22).
     pub fn copy(&self, alloc: Global) -> Result<Group, AllocError>
         ensures { IfOk result (λ g. g ≡ self.now) }
     {
@@ -233,7 +233,7 @@ impl Model for Groups {
 }
 
 impl Groups {
-    /// The same groups again, which share their bytes. An error is want of memory (22).
+    /// The same groups again, which share their bytes. An error is out of memory (22).
     pub fn copied(alloc: Global, groups: &[Group]) -> Result<Groups, AllocError>
         ensures { IfOk result (λ copied. copied ≡ groups.now) }
     {

@@ -9,7 +9,7 @@
 //! - A block has 1 to 65,536 bytes and a group 1 to 64 blocks, always: no other value of these types can be made.
 //! - A copy of a block, a group or groups is the same again, and shares the bytes.
 //!
-//! Want of memory is the one error that no clause limits.
+//! Running out of memory is the one error that no clause limits.
 #![tactic(auto)]
 
 mod fault;

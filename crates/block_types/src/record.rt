@@ -39,7 +39,7 @@ impl Nodes {
 pub enum Version {
     /// A block is its size and its bytes.
     V1,
-    /// As version 1, with the SHA-256 digest of its bytes behind each block.
+    /// As version 1, with the SHA-256 digest of its bytes after each block.
     V2,
 }
 

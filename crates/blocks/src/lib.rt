@@ -11,7 +11,7 @@
 //! - `reader` and `writer` read and write the numbers and byte strings of every other format. Their laws stand in
 //!   proofs/Formats.antt, for the formats of the crates above.
 //!
-//! Want of memory is the one error that no clause limits.
+//! Running out of memory is the one error that no clause limits.
 #![tactic(auto)]
 
 pub mod reader;

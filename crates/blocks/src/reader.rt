@@ -1,6 +1,6 @@
 //! Reading big-endian numbers and byte strings from the front of some bytes (docs/FORMATS.md).
 //!
-//! A reader answers what it read and the bytes behind it, or `Damaged` (21) where there are too few bytes. It takes no
+//! A reader answers what it read and the bytes after it, or `Damaged` (21) where there are too few bytes. It takes no
 //! memory. specs/Format.antt has the functions on lists that the clauses cite.
 ghost use Rattle.std.specs.Prelude.{◌≡◌, IfErr, Some};
 ghost use Rattle.blocks.specs.Format.{Gives, number_at, bytes_at, whole};

@@ -16,7 +16,7 @@ use bytes::Bytes;
 use sha2::{Digest, Sha256};
 use std::alloc::Global;
 
-/// The bytes behind what stands after a block.
+/// The bytes after what stands after a block.
 fn after_check<'a>(version: Version, block: &[u8], bytes: &'a [u8]) -> Result<&'a [u8], BlockFault>
     ensures { Gives (λ x. x.now) result (after (check version block.now) bytes.now) }
 {
@@ -263,7 +263,7 @@ fn record_of(alloc: Global, version: Version, bytes: &[u8]) -> Result<(Record, u
     Ok((record, 4 + len as usize))
 }
 
-/// The record whose spelling in the version begins the bytes, and the size of that spelling; bytes behind it do not
+/// The record whose spelling in the version begins the bytes, and the size of that spelling; bytes after it do not
 /// matter. It copies the payloads.
 ///
 /// It is refused `Damaged` (21) only where no front of the bytes is a spelling: cut short, a field out of range, a body

@@ -1,6 +1,6 @@
-//! Writing big-endian numbers and byte strings behind what a buffer holds (docs/FORMATS.md).
+//! Writing big-endian numbers and byte strings after what a buffer holds (docs/FORMATS.md).
 //!
-//! A writer appends all of its bytes, or for want of memory none of them. `number` of specs/Record.antt is a number's
+//! A writer appends all of its bytes, or where memory runs out none of them. `number` of specs/Record.antt is a number's
 //! bytes, the highest first.
 ghost use Rattle.std.specs.Prelude.{◌≡◌, ◌∷◌, [], ◌++◌, OnOk, OnErr};
 ghost use Rattle.blocks.specs.Record.{number};

@@ -1,4 +1,4 @@
-//! Writing a record as bytes. Each writer appends what its clause says; where one fails for want of memory, a part of it
+//! Writing a record as bytes. Each writer appends what its clause says; where one runs out of memory, a part of it
 //! may stand in the buffer, so `encode_as` writes into a buffer of its own.
 ghost use Rattle.std.specs.Prelude.{◌≡◌, ◌∷◌, ◌++◌, ◌<◌, ◌^◌, length, OnOk, OnErr};
 ghost use Rattle.block_types.specs.Limits.{IsBlock, IsGroup};
@@ -165,7 +165,7 @@ fn put_body(out: &mut Vec<u8>, version: Version, written: &Record) -> Result<(),
     }
 }
 
-/// Appends the one spelling of a record in the version. For want of memory (22) it changes nothing.
+/// Appends the one spelling of a record in the version. Where memory runs out (22) it changes nothing.
 ///
 /// That the record fits the version is the caller's condition: its fields are in range, and its body's size fits 32 bits.
 #[tactic(auto, unfolding(crate::specs::Record::number))]

@@ -153,7 +153,7 @@ abbrev pub append_behind : ClientState → ReqNo → StreamExtent → Option ℕ
 append_behind c q x None = sends_append c x.extent x.places q
 append_behind c q x (Some sealed) = grows c (Some x.extent) q
 
--- to the last extent where it is open, else to one behind it
+-- to the last extent where it is open, else to one after it
 abbrev pub append_at : ClientState → ReqNo → Option StreamExtent → Outcome
 append_at c q None = grows c None q
 append_at c q (Some x) = append_behind c q x x.length

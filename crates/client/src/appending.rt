@@ -29,7 +29,7 @@ impl Model for Appending {
 }
 
 impl Appending {
-    /// An append of these blocks, whose bytes it shares. An error is want of memory (22).
+    /// An append of these blocks, whose bytes it shares. An error is out of memory (22).
     pub fn of(alloc: Global, blocks: &Blocks) -> Result<Appending, AllocError>
         ensures { IfOk result (λ a. a ≡ blocks.now) }
     {
@@ -60,7 +60,7 @@ impl StreamClient {
         }
     }
 
-    /// To this extent, which is the last, where it is open, else to one behind it. The blocks are those of the group.
+    /// To this extent, which is the last, where it is open, else to one after it. The blocks are those of the group.
     fn append_behind(&mut self, request: &ReqNo, blocks: Blocks, extent: &StreamExtent) -> Packet
         requires { blocks ≡ self.old.group }
         ensures { append_behind self.old request.now extent.now extent.now.length

@@ -81,7 +81,7 @@ pub(crate) fn is_idle(job: Job) -> bool
 
 impl StreamClient {
     /// The client of a stream as the manager told it, under a generation. A new extent of the stream is asked for at these
-    /// nodes, the primary first. Nothing is out. An error is want of memory (22).
+    /// nodes, the primary first. Nothing is out. An error is out of memory (22).
     pub fn new(
         alloc: Global,
         server: ServerNo,
@@ -140,7 +140,7 @@ impl StreamClient {
         }
     }
 
-    /// Begins to read a sealed extent whole, the one that stands behind so many others in the list, at its first place. The
+    /// Begins to read a sealed extent whole, the one that stands after so many others in the list, at its first place. The
     /// packet bears this number. 1: the list is no longer than that. 9: the extent is not known to be sealed. 35: another
     /// request is out. After a refusal nothing has changed.
     pub fn read_sealed(&mut self, request: &ReqNo, position: usize) -> Result<Packet, ClientFault>
@@ -199,7 +199,7 @@ impl StreamClient {
     }
 
     /// What is done with a packet that has come: nothing where it repeats another number than that of the request that is
-    /// out. What is sent next bears this number. An error is want of memory (22), which comes only where a new extent is
+    /// out. What is sent next bears this number. An error is out of memory (22), which comes only where a new extent is
     /// told, and nothing has changed.
     pub fn on_reply(
         &mut self,

@@ -25,7 +25,7 @@ pub enum Job {
         extent: ExtentId,
         request: ReqNo,
     },
-    /// Another extent is asked for behind this one, for the append.
+    /// Another extent is asked for after this one, for the append.
     Growing {
         last: Option<ExtentId>,
         request: ReqNo,

@@ -191,7 +191,7 @@ fn check_reply(
     }
 }
 
-/// The last extent is sealed: an append goes on behind it, and a check is over.
+/// The last extent is sealed: an append goes on after it, and a check is over.
 fn sealed(client: &mut StreamClient, alloc: Global, request: &ReqNo, length: u32) -> Reaction
     ensures { sealed_job client.old request.now length client.old.job ≡ record { after = client.new; packet = result.packet; news = result.news } }
 {

@@ -77,7 +77,7 @@ pub(crate) fn seal_packet(server: ServerNo, extent: ExtentId, request: &ReqNo) -
     sent(server, ActorId::Manager, body)
 }
 
-/// To the manager: another extent behind this one.
+/// To the manager: another extent after this one.
 pub(crate) fn extend_packet(
     server: ServerNo,
     stream: StreamName,

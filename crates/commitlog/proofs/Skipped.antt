@@ -1,4 +1,4 @@
--- What is left of a record behind its first transactions.
+-- What is left of a record after its first transactions.
 use Rattle.std.proofs.Common.{◌≡◌, ℕ, zero, suc, ◌+◌, List, [], ◌∷◌, ◌++◌, length, take, drop, refl, sym, ap, ◌∙◌, arith}
 use Rattle.std.specs.List.{flat_map, AllByRecursion}
 use Rattle.std.proofs.lemmas.List.{take-append-drop}
@@ -11,7 +11,7 @@ use Rattle.commitlog.specs.Record.{transaction_values, text}
 use Rattle.commitlog.specs.Places.{kept_transactions, kept}
 use Rattle.commitlog.proofs.Measures.{group_size-append, values_from}
 
--- each large value stands behind those of the transactions before it
+-- each large value stands after those of the transactions before it
 pub drop_kept : (extent offset n : ℕ) (ts : List (List Change)) → drop n (kept_transactions extent offset ts) ≡ kept_transactions extent (offset + group_size (flat_map transaction_values (take n ts))) (drop n ts)
 drop_kept extent offset zero ts =
     let same : offset ≡ offset + 0 = omega arith in
@@ -33,7 +33,7 @@ All-drop P zero xs all = all
 All-drop P (suc n) [] all = tt
 All-drop P (suc n) (x ∷ xs) all = All-drop P n xs all.1
 
--- the cells of the transactions behind the first, put behind no cell
+-- the cells of the transactions after the first, put after no cell
 pub kept_from : (r : LogRecord) (extent offset old size first : ℕ) (all before rest : List (List Change)) (none out : List (List ℕ × Cell))
     → all ≡ r.transactions → size ≡ length (text r) → before ≡ take old all → rest ≡ drop old all
     → first ≡ offset + size + group_size (flat_map transaction_values before) → none ≡ []

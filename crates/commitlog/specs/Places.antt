@@ -17,7 +17,7 @@ kept_cell extent offset (Some value) = if is_large value then Placed (record { e
 abbrev pub kept_change : ℕ → ℕ → Change → List ℕ × Cell
 kept_change extent offset c = (c.key, kept_cell extent offset c.value)
 
--- blocks stand one behind another
+-- blocks stand one after another
 abbrev pub kept_changes : ℕ → ℕ → List Change → List (List ℕ × Cell)
 kept_changes extent offset t = running (kept_change extent) (λ c. group_size (change_values c)) offset t
 

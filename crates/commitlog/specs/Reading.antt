@@ -66,7 +66,7 @@ abbrev pub piece_at : ℕ → ℕ → List (List ℕ) → Option (List ℕ × Li
 piece_at full size [] = None
 piece_at full size (b ∷ blocks) = if length b == min full size then Some (b, blocks) else None
 
--- so many bytes in n pieces, and the blocks behind them
+-- so many bytes in n pieces, and the blocks after them
 abbrev pub joined : ℕ → ℕ → ℕ → List (List ℕ) → Option (List ℕ × List (List ℕ))
 joined full zero size blocks = Some ([], blocks)
 joined full (suc n) size blocks = piece_at full size blocks >>= λ p. joined full n (size - full) p.1 >>= λ x. Some (p.0 ++ x.0, x.1)

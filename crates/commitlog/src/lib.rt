@@ -10,11 +10,11 @@
 //!   spelling.
 //! - No two records that fit have one spelling (`one_spelling`).
 //! - `cells` gives each change as a row keeps it, a large value by the place where its block stands in the extent, and
-//!   `cells_from` those of the transactions behind the first.
+//!   `cells_from` those of the transactions after the first.
 //! - `Filling` takes the next transaction exactly as long as the group has at most 64 blocks.
 //! - `Replay` takes each number once, in order.
 //!
-//! Want of memory is the one error that no clause limits.
+//! Running out of memory is the one error that no clause limits.
 #![tactic(auto)]
 
 mod log_record;

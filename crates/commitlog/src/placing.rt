@@ -97,7 +97,7 @@ fn put_all_cells(
     Ok(())
 }
 
-/// The offset behind the large values of a transaction, which must fit 32 bits.
+/// The offset after the large values of a transaction, which must fit 32 bits.
 fn offset_after(offset: u32, changes: &[Change]) -> u32
     requires { offset + group_size (transaction_values changes.now) < 2 ^ 32 }
     ensures { result ≡ offset + group_size (transaction_values changes.now) }
@@ -113,7 +113,7 @@ fn offset_after(offset: u32, changes: &[Change]) -> u32
     next
 }
 
-/// The offset behind the large values of some transactions.
+/// The offset after the large values of some transactions.
 fn offset_after_all(offset: u32, all: &[Changes]) -> u32
     requires { offset + group_size (flat_map transaction_values all.now) < 2 ^ 32 }
     ensures { result ≡ offset + group_size (flat_map transaction_values all.now) }
@@ -126,7 +126,7 @@ fn offset_after_all(offset: u32, all: &[Changes]) -> u32
 }
 
 /// What rows keep of the changes of a record whose group stands in the extent from the offset on, transaction by
-/// transaction, without the first `old` transactions. Small values share their buffers; an error is want of memory (22).
+/// transaction, without the first `old` transactions. Small values share their buffers; an error is out of memory (22).
 ///
 /// That the record fits is the caller's condition, as is that it has so many transactions, and that the group ends below
 /// 2^32 in the extent.

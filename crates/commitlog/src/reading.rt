@@ -15,7 +15,7 @@ use bytes::Bytes;
 use memtable::{MAX_BATCH, MAX_CHANGES, MAX_INLINE, MAX_KEY, MAX_VALUE};
 use std::alloc::Global;
 
-/// A copy of so many bytes, and the bytes behind them.
+/// A copy of so many bytes, and the bytes after them.
 fn copied_of(alloc: Global, len: usize, bytes: &[u8]) -> Result<(Bytes, &[u8]), BlockFault>
     ensures { Gives (λ x. (x.0, x.1.now)) result (bytes_at len bytes.now) }
 {
@@ -231,7 +231,7 @@ fn pieces_of(alloc: Global, size: u32, blocks: &[Block]) -> Result<(Vec<u8>, &[B
     Ok((text, rest))
 }
 
-/// The text, whose first four bytes say how long it is, and the blocks behind it.
+/// The text, whose first four bytes say how long it is, and the blocks after it.
 #[tactic(auto, unfolding(crate::specs::Reading::joined_at))]
 fn joined_of(alloc: Global, blocks: &[Block]) -> Result<(Vec<u8>, &[Block]), BlockFault>
     ensures { Gives (λ x. (x.0.items, x.1.now)) result (joined_at blocks.now) }

@@ -1,4 +1,4 @@
-//! The values of a record that is read: small ones from its text, large ones from the blocks behind it, which they share.
+//! The values of a record that is read: small ones from its text, large ones from the blocks after it, which they share.
 ghost use Rattle.std.specs.Prelude.{length};
 ghost use Rattle.blocks.specs.Format.{Gives};
 ghost use Rattle.commitlog.specs.Reading.{value_at, change_of as change_from, changes_of as changes_from, each_of, transactions_of as transactions_from};

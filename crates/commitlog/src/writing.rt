@@ -1,4 +1,4 @@
-//! Writing a record as a group. The writers of text append what their clauses say, or for want of memory a part of it.
+//! Writing a record as a group. The writers of text append what their clauses say, or where memory runs out a part of it.
 ghost use Rattle.std.specs.Prelude.{◌≡◌, ◌+◌, ◌≤◌, ◌++◌, length, IfOk, OnOk};
 ghost use Rattle.std.specs.List.{AllByRecursion, flat_map};
 ghost use Rattle.commitlog.specs.Record.{large, change_values, transaction_values, text_cell, text_change, text_changes, text_transactions, cell_bytes, change_bytes, transaction_bytes, transactions_bytes, text as text_from, pieces, spelling, HasValue, IsChange, IsTransaction, Fits};
@@ -166,7 +166,7 @@ fn put_all_values(out: &mut Vec<Block>, all: &[Changes]) -> Result<(), AllocErro
 
 /// The group that a record is spelled as: the pieces of its text, and then its large values, which share their buffers.
 ///
-/// That the record fits is the caller's condition. An error is want of memory (22).
+/// That the record fits is the caller's condition. An error is out of memory (22).
 pub fn encode(alloc: Global, written: &LogRecord) -> Result<Group, AllocError>
     requires { Fits written.now }
     ensures { IfOk result (λ group. group ≡ spelling written.now) }

@@ -13,12 +13,12 @@ abbrev pub header : Version → List ℕ
 header V1 = 88 ∷ 82 ∷ 70 ∷ 49 ∷ []
 header V2 = 88 ∷ 82 ∷ 70 ∷ 50 ∷ []
 
--- records behind open gates
+-- records after open gates
 abbrev pub opened : Version → List Record → List ℕ
 opened v [] = []
 opened v (r ∷ rs) = 1 ∷ (spelling v r ++ opened v rs)
 
--- the file is these records behind open gates, and then a closed one, whatever follows
+-- the file is these records after open gates, and then a closed one, whatever follows
 pub record IsFileOf (v : Version) (rs : List Record) (file : List ℕ) : Type 0 where
   pub fit : AllByRecursion (Fits v) rs
   pub gate : ℕ

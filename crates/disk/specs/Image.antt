@@ -25,7 +25,7 @@ pub record KeepsRoom (old new : ImageBytes) : Type 0 where
 abbrev pub IsThere : ImageBytes → List ℕ → Type 0
 IsThere held c = (c ≡ held.seen) ⊎ (c ≡ held.synced)
 
--- the disk with these bytes, these calls behind it, and this plan
+-- the disk with these bytes, these calls after it, and this plan
 abbrev pub image_state : ImageBytes → List Event → Option (ℕ × Bool) → Bool → DiskState
 image_state held events stop sure = record {
   seen = held.seen;

@@ -18,7 +18,7 @@ pub record IsNew {F : Type 0} (disk : FileDisk F) : Type 0 where
   pub moment : (file_state disk).moment ≡ 0
   pub synced : (file_state disk).synced ≡ []
 
--- unless it has failed, the file reaches to the end of the image, so that it grows behind all of the image's bytes
+-- unless it has failed, the file reaches to the end of the image, so that it grows after all of the image's bytes
 abbrev pub IsWhole : {F : Type 0} → FileDisk F → Type 0
 IsWhole disk = disk.broken ≡ false → length (file_state disk).seen ≤ disk.size
 

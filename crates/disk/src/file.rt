@@ -1,4 +1,4 @@
-//! A file of records: four letters, and then each record behind a gate. A gate of 1 is open. Any other byte is
+//! A file of records: four letters, and then each record after a gate. A gate of 1 is open. Any other byte is
 //! closed, and there the file ends for its reader (docs/FORMATS.md).
 ghost use Rattle.std.specs.Prelude.{◌≡◌, ◌≢◌, ◌<◌, ◌≤◌, [], List, IsErrOf, IfOk, IfErr, MatchResult, None, Some, false, true, option_map};
 ghost use Rattle.blocks.specs.Record.{Fits};
@@ -22,12 +22,12 @@ const NEW_VERSION: Version = Version::V1;
 
 /// A list of records on a disk, to which records are added one by one. In a clause its value shows the disk, the
 /// version, the records and whether it is stopped; in memory it holds none of the records. An append makes four device
-/// calls: it writes the record behind the last gate, which is still closed, and a closed gate behind that; syncs; opens
+/// calls: it writes the record after the last gate, which is still closed, and a closed gate after that; syncs; opens
 /// the gate; and syncs. After Calder et al., SOSP 2011, section 4.
 pub struct RecordFile<D: Disk> {
     disk: D,
     version: Version,
-    // the place of the gate behind the last record
+    // the place of the gate after the last record
     end: usize,
     // a device call of an append has failed, so that the gate may be open or closed
     stopped: bool,
@@ -118,7 +118,7 @@ impl<D: Disk> RecordFile<D> {
     /// Opens the file on a disk, as a crash may have left it. It syncs first, so that what it finds is all on the disk.
     /// A refusal hands the disk back. `Failed` (20) comes only where the disk's count of failures rose; `Damaged` (21)
     /// only where the bytes are no file of records: fewer than five of them, other letters, or an open gate with no
-    /// whole record and gate behind it; `Memory` (22) after the sync.
+    /// whole record and gate after it; `Memory` (22) after the sync.
     pub fn open(alloc: Global, disk: D) -> Result<RecordFile<D>, (FileFault, D)>
         ensures ok { IfOk result (λ file. (file.stopped ≡ false) × ((D.state file.disk).seen ≡ (D.state disk).seen)
             × IsFileOf file.version file.records (D.state disk).seen) }
@@ -214,7 +214,7 @@ impl RecordFile<MemDisk> {
     }
 
     /// Another disk with the bytes of this one, as a restart finds it: all made sure of, and not told to stop. An error
-    /// is want of memory (22).
+    /// is out of memory (22).
     pub fn copy_disk(&self, alloc: Global) -> Result<MemDisk, AllocError>
         ensures stands { IfOk result (λ disk. IsFileOf self.now.version self.now.records (memory_state disk).seen) }
         ensures durable { IfOk result (λ disk. Only (memory_state disk).seen (memory_state disk).may_leave) }

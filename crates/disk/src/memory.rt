@@ -89,7 +89,7 @@ impl MemDisk {
         self.stop.as_ref().copied()
     }
 
-    /// Another disk with the same bytes, all of them made sure of, that is not told to stop. An error is want of memory
+    /// Another disk with the same bytes, all of them made sure of, that is not told to stop. An error is out of memory
     /// (22).
     pub fn copy(&self, alloc: Global) -> Result<MemDisk, AllocError>
         ensures seen { IfOk result (λ disk. (memory_state disk).seen ≡ (memory_state self.now).seen) }

@@ -26,7 +26,7 @@ static ZEROS: [u8; STEP] = [0; STEP];
 /// failed, what the file holds is unknown, so that each later one fails too; make a new disk of the file to go on.
 ///
 /// A file that grows makes a sync write its new size too. So the file grows ahead: a write that ends past the file's end
-/// first puts zeros there, up to the next multiple of 65,536 bytes. Behind the image's bytes the file has only such
+/// first puts zeros there, up to the next multiple of 65,536 bytes. After the image's bytes the file has only such
 /// zeros, and a disk that is made of the file again has them in its image. A zero is a closed gate, so that a record file
 /// ends before them.
 #[derive(Drop)]

@@ -2,7 +2,7 @@
 //!
 //! This crate touches memory and, through the steps of [`enode_replica::NodeReplica`], the node's file of records, and nothing else. It offers
 //! the layer above [`handle`]: after a packet the replica, the record, the packets and the observations are the rule's,
-//! and the record stands before a packet is handed out. A refusal for want of memory changes nothing.
+//! and the record stands before a packet is handed out. Running out of memory changes nothing.
 #![tactic(auto)]
 
 mod actors;

@@ -103,7 +103,7 @@ pub(crate) fn tell_manager(alloc: Global, node: u8, body: SealBody) -> Result<St
     one(alloc, node, ActorId::Manager, Body::Seal(body))
 }
 
-/// The refusal of a request, from this node to who asked. An error is want of memory (22).
+/// The refusal of a request, from this node to who asked. An error is out of memory (22).
 pub fn refuse(
     alloc: Global,
     from: u8,

@@ -54,7 +54,7 @@ begun (suc r) =
       is = step_is (b.i + r) ∙ ap on (along b.i r b.is r (omega arith)) ∙ on_end r;
     }
 
--- an incarnation of any generation, behind any number
+-- an incarnation of any generation, after any number
 pub plenty : (g n : ℕ) → (i : ℕ) × (n ≤ i) × (generation_at i ≡ g)
 unfolding generation_at
 plenty g n =

@@ -43,7 +43,7 @@ taken_there text offset bytes s =
     ∙ ap (take (length bytes)) (drop_front s.before (bytes ++ s.behind) offset s.at)
     ∙ take_front bytes s.behind
 
--- the first part, and what is behind it
+-- the first part, and what is after it
 pub stands_first : (text : Bytes) (offset : ℕ) (xs ys : Bytes) → StandsAt text offset (xs ++ ys) → StandsAt text offset xs
 stands_first text offset xs ys s = record {
   before = s.before;
@@ -176,7 +176,7 @@ module _ (texts : ℕ → Bytes) where
       (put_both es (kept_changes extent offset t) (flat_map (λ changes. changes) (kept_transactions extent (offset + group_size (transaction_values t)) ts)))
       ∙ rest q
 
--- behind the first n transactions the others stand
+-- after the first n transactions the others stand
 pub record Behind (text : Bytes) (extent offset n : ℕ) (ts : List (List Change)) : Type 0 where
   pub place : ℕ
   pub kept : drop n (kept_transactions extent offset ts) ≡ kept_transactions extent place (drop n ts)

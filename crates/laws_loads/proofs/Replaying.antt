@@ -131,7 +131,7 @@ module _ (texts : ℕ → Bytes) where
           ))
       takes_is extent at layer r region h = rw h refl
 
-  -- what a load has of one extent behind these groups
+  -- what a load has of one extent after these groups
   pub record After (line : List Transaction) (found : List Region × Entries) : Type 0 where
     pub region : Region
     pub only : found.0 ≡ region ∷ []

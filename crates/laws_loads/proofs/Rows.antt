@@ -27,7 +27,7 @@ abbrev pub Later : Bytes → Entries → Type 0
 Later key [] = Unit {0}
 Later key (e ∷ es) = (key_cmp key e.0 ≡ Less) × Later key es
 
--- each key is below those behind it
+-- each key is below those after it
 abbrev pub Ordered : Entries → Type 0
 Ordered [] = Unit {0}
 Ordered (e ∷ es) = Later e.0 es × Ordered es

@@ -24,7 +24,7 @@ use Rattle.laws_ranges.proofs.SealedCopies.{first_none, first_more}
 groups_both : (xs ys : List (Copy Group)) → groups_in (xs ++ ys) ≡ groups_in xs ++ groups_in ys
 groups_both xs ys = mapped_both (λ (c : Copy Group). c.group) xs ys
 
--- the line behind these copies is that of their groups
+-- the line after these copies is that of their groups
 pub line_is : (read : List (Copy Group)) → line_shown (map placed (map (renamed_copy decoded) read)) ≡ replay [] (map decoded (groups_in read))
 line_is read = ap (λ l. replay [] l) (groups_are read)
   where
@@ -81,7 +81,7 @@ module _ (range : ℕ) (w : StreamSystem) (i : ℕ) (s : machine.MachineState Gr
     -- some texts have all that was read
     pub texts : ℕ → Bytes
     pub standing : AreStanding texts reads
-    -- the next number is the one behind the line
+    -- the next number is the one after the line
     pub number : (region : Region) → open_region r.regions ≡ Some region → region.next ≡ next_behind read
     -- the layer is the table of the line, whatever texts have all that was read
     pub table : (whole : ℕ → Bytes) → AreStanding whole reads → (key : Bytes) →

@@ -22,7 +22,7 @@ use Rattle.laws_ranges.proofs.Gets.{gets_reply_tells}
 
 module _ (generation : ℕ → ℕ) (range : ℕ) (w : StreamSystem) (i : ℕ) (both : BothListed w range) (m l : Side) (d : ServerContext) (by : IsSentBy d d.count m.sent l.sent)
     (r : RangeState) (f : Follows generation range w i m l r) where
-  -- the number behind what was read is that of the region without end
+  -- the number after what was read is that of the region without end
   abbrev pub IsBehind : Type 0
   IsBehind = (b : IsConfirming generation range w i m l r) (region : Region) → open_region r.regions ≡ Some region → region.next ≡ next_behind b.log.read
 

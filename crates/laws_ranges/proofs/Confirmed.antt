@@ -65,7 +65,7 @@ module _ (generation : ℕ → ℕ) (range : ℕ) (w : StreamSystem) (i : ℕ) (
       )
 
   module _ (r : RangeState) (range_is : r.load.range ≡ range) (under : r.load.generation ≡ generation i) (b : IsConfirming generation range w i m l r)
-      -- the region without end has the number behind all that was read
+      -- the region without end has the number after all that was read
       (behind : (region : Region) → open_region r.regions ≡ Some region → region.next ≡ next_behind b.log.read)
       (one_fact : machine.In (machine.Confirmed i b.metadata.read b.metadata.end) m.stand.state.facts) (two_fact : machine.In (machine.Confirmed i b.log.read b.log.end) l.stand.state.facts) where
     -- all that was read of the log is shown, and nothing else happens; or nothing is shown

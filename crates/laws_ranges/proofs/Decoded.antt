@@ -38,7 +38,7 @@ dones_are range g s (t ∷ ts) = ap (λ z. notes.Done range g s ∷ z) (dones_ar
 pub same_number : (g : ℕ) → (g == g) ≡ true
 same_number g = grind (arith, nat_tests)
 
--- behind a group that is formed
+-- after a group that is formed
 pub next_made : (g : ℕ) (group : Group) (story : Story Group) → next_number (renamed decoded (Made g group ∷ story)) g ≡ next_after (decoded group)
 next_made g group story = go (g == g) (same_number g)
   where
@@ -63,7 +63,7 @@ placed_as : (copies : List (Copy Group)) → map (renamed_placed decoded) (map p
 placed_as [] = refl
 placed_as (c ∷ copies) = ap (λ z. renamed_placed decoded (placed c) ∷ z) (placed_as copies)
 
--- behind a load that shows all
+-- after a load that shows all
 next_loaded : (g end : ℕ) (read : List (Copy Group)) (story : Story Group) → next_number (renamed decoded (Showed g 0 end (map placed (from_place 0 read)) ∷ story)) g ≡ next_behind read
 next_loaded g end read story = go (g == g) (same_number g)
   where
@@ -103,7 +103,7 @@ module _ (generation : ℕ → ℕ) (i : ℕ) where
   answered_story x n append from to group e =
       subst (λ z. (after_turns generation i (record { state = x.state; phase = z }) (turns.AppendedAt from to ∷ [])).state.story ≡ Answered append from to ∷ x.state.story) (sym e) refl
 
-  -- the group that is formed has the next number, and those behind it follow
+  -- the group that is formed has the next number, and those after it follow
   pub next_formed : (x : Stand) (n : ℕ) (live : Bool) (group : Group) → x.phase ≡ turns.Serving n live →
       next_number (renamed decoded (after_turns generation i x (turns.Forms group ∷ [])).state.story) (generation i) ≡ next_after (decoded group)
   next_formed x n live group e =

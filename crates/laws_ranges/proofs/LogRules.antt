@@ -197,7 +197,7 @@ module _ (generation : ℕ → ℕ) (range : ℕ) (w : StreamSystem) (i : ℕ) w
 
   -- ---- turns after turns
 
-  -- a rule behind turns that have shown these observations
+  -- a rule after turns that have shown these observations
   join : (x : Stand) (sent : List Sent) (d : ServerContext) (o : RangeOutcome) (before : List (turns.Turn Group)) (packets : List Packet) (shown : List TableNote) → (o.after ≡ None → ⊥) → AreTurns generation i x before →
       AreFit generation i x before → AreShown generation i range x before shown →
       ((y : Stand) (more : List Sent) → AreAsked generation range w i (log_of range) y more packets) →
@@ -219,7 +219,7 @@ module _ (generation : ℕ → ℕ) (range : ℕ) (w : StreamSystem) (i : ℕ) w
       }
 
   module _ (listed : Listed w (log_of range)) (d : ServerContext) (sent : List Sent) (fresh : purpose_of sent (request d) ≡ None) where
-    -- the range behind an acknowledgement
+    -- the range after an acknowledgement
     abbrev applied : RangeState → OutGroup → ℕ → ℕ → RangeState
     applied r out e offset =
         record r {

@@ -107,7 +107,7 @@ module _ (generation : ℕ → ℕ) (range : ℕ) (w : StreamSystem) (i : ℕ) (
           no_metadata : awaits r.metadata.job v ≡ true → ⊥
           no_metadata t = let z : awaits r.metadata.job v ≡ false = ap (λ j. awaits j v) b.metadata_idle in cc
 
-      -- the number behind what was read is that of the region without end
+      -- the number after what was read is that of the region without end
       abbrev pub IsBehind : Type 0
       IsBehind = (b : IsConfirming generation range w i m l r) (region : Region) → open_region r.regions ≡ Some region → region.next ≡ next_behind b.log.read
 

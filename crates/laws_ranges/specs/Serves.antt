@@ -89,7 +89,7 @@ pub record IsLoaded (range g next : ℕ) (shown : List TableNote) : Type 0 where
   pub indexes : List IndexRange
   pub is : shown ≡ notes.Loaded range g entries indexes next ∷ []
 
--- the number behind the line that a load makes of these copies
+-- the number after the line that a load makes of these copies
 abbrev pub next_behind : List (Copy Group) → ℕ
 next_behind read = suc (length (line_shown (map placed (map (renamed_copy decoded) read))))
 

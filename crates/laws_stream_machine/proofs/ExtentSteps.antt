@@ -236,7 +236,7 @@ module _ (generation : ℕ → ℕ) where
   after_chain a [] b c = c
   after_chain a (x ∷ xs) b c = after_chain x.to xs b c.2
 
-  -- where a beginning of the script ends, behind what is kept
+  -- where a beginning of the script ends, after what is kept
   pub record FoundFront (g : Ground) (e index : ℕ) (v : OpenExtent Group) (front : List Group) (length_at : ℕ) : Type 0 where
     pub more : List (Copy Group)
     pub rest : List (Copy Group)

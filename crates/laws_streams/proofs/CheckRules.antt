@@ -232,7 +232,7 @@ module _ (now : Moment) (g : Ground) (n e : ℕ) (r : Replica) (sound : Sound g)
       );
     }
 
-    -- all three have the primary's length: what stands behind it from now on is no older
+    -- all three have the primary's length: what stands after it from now on is no older
     found_equal : (a b : ℕ) → a ≤ g.last r.content.places.second e → b ≤ g.last r.content.places.third e →
         (is_open r.content.phase && ((a == text_length r.content.groups) && (b == text_length r.content.groups))) ≡ true →
         FineCover (fencing g e c.generation) e c.generation (text_length r.content.groups)

@@ -75,7 +75,7 @@ pub record FineTail (g : Ground) (e from l : ℕ) (groups : List Group) : Type 0
   pub start : text_length before ≡ from
   pub end : text_length (before ++ groups) ≡ l
 
--- a check under generation k found all three places at length l: what stands behind is no older than k
+-- a check under generation k found all three places at length l: what stands after is no older than k
 pub record FineCover (g : Ground) (e k l : ℕ) : Type 0 where
   pub front : List Group
   pub back : List Group

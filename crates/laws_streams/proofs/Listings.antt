@@ -209,7 +209,7 @@ module _ (b c : Catalog) (goes : Goes b c) (fit : Fit b) where
   all_there s i e (inl a) = still_there e ((fit.listed s a.was a.there).there i e a.at)
   all_there s i e (inr a) = (a.grown.new, ap c.extent a.new ∙ a.grown.made)
 
-  -- the next one is added only behind a sealed one
+  -- the next one is added only after a sealed one
   last_sealed : (s : StreamName) (i e : ℕ) → Stood s i e → (g : (z : Stream) × Grown b c.extent s z) → suc i ≡ length g.1.was.extents → (l : ℕ) × SealedIn c e l
   last_sealed s i e a (z, g) end =
       let same = same_was s a.was g.was a.there g.there in

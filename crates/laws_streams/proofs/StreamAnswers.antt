@@ -68,7 +68,7 @@ opening_written b p range generation q is none = rw (is, none) refl
 
 -- ---- extensions
 
--- what the end of a stream is where an extent may be added behind it
+-- what the end of a stream is where an extent may be added after it
 pub may_grow : (b : Catalog) (x : Stream) (last : Option ℕ) (o : Option ℕ) → last_of x.extents ≡ o → behind (sealed_lengths b) o last ≡ Ok None → MayGrow b x last
 may_grow b x last None end is = inl end
 may_grow b x last (Some e) end is =

@@ -1,5 +1,5 @@
 -- What fences are for: once a generation has opened a range and has checked an extent, nothing that a lower one ever has
--- acknowledged stands behind the checked length, and no lower one adds to it.
+-- acknowledged stands after the checked length, and no lower one adds to it.
 use Rattle.std.specs.Prelude.{◌≡◌, ℕ, suc, ◌+◌, ◌<◌, ◌≤◌, Bool, true, not, ◌||◌, List, [], ◌∷◌, ◌++◌, length, take, Option, Some, None, slice_get, Contains}
 use Rattle.block_types.specs.declared.record.Record.{Record}
 use Rattle.wire.specs.declared.actor.ActorId.TheVariants.{Node, Manager}

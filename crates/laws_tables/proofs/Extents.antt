@@ -14,7 +14,7 @@ use Rattle.model_partition.specs.StreamMachine.{In, SealedExtent, OpenExtent, St
 module _ (A : Type 0) (gen : ℕ → ℕ) where
   -- ---------------------------------------------------------------- the invariant
 
-  -- what was read is all that stands, and nothing of a lower generation comes behind it
+  -- what was read is all that stands, and nothing of a lower generation comes after it
   abbrev pub Whole : StreamCore A → ℕ → List (Copy A) → ℕ → Type 0
   Whole c g read end =
       ((c.live ≡ None) × (read ≡ all_shut c.shut) × (end ≡ last_end c.shut))

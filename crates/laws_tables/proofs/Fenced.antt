@@ -230,7 +230,7 @@ module _ (A : Type 0) where
   lands : (run : LogRun A) → IsLogRun run → (after before : LogRun A) → run ≡ after ++ before → Later run before
   lands run ok after before e = subst (λ z. Later z before) (sym e) (later after before (subst IsLogRun e ok))
 
-  -- an answered copy stands in the log, and what is made after the answer lands behind it
+  -- an answered copy stands in the log, and what is made after the answer lands after it
   answer_in : (run : LogRun A) → IsLogRun run → (k a from to : ℕ) → event_at (visible run) k ≡ Some (Answered a from to) →
       (before : LogRun A) × (after : LogRun A) × (run ≡ after ++ before) × (length (visible before) ≡ k) × IsLogRun before × ((group : A) × In (record { from = from; to = to; append = a; group = group }) (landed before))
   answer_in run ok k a from to h =

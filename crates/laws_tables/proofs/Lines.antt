@@ -114,7 +114,7 @@ pub record Rules (A : Type 0) (group : ℕ → Group A) (gen : ℕ → ℕ) (IsM
   pub consecutive : (b : ℕ) → IsMade b → ((group b).first ≡ suc (length (along A group gen [] (shows (home b)))))
       ⊎ ((a : ℕ) × IsMade a × (a < b) × (gen a ≡ gen b) × (next_after (group a) ≡ (group b).first))
 
--- the item that stands behind these items is one of these appends', at its number
+-- the item that stands after these items is one of these appends', at its number
 pub record ComesFrom (A : Type 0) (group : ℕ → Group A) (xs : List ℕ) (us : List A) (t : A) : Type 0 where
   pub append : ℕ
   pub is_one : In append xs
@@ -388,7 +388,7 @@ module _ (A : Type 0) (group : ℕ → Group A) (gen : ℕ → ℕ) (IsMade : �
   front_passed l xs ys is_load e =
       (front_walk xs l [] ys is_load e (record { each = λ a no. absurd no; top = inl refl; comes_from = λ us vs t q. absurd (nothing_there us vs t q) }, tt)).0
 
-  -- A position behind a copy of an append, before which no later group of its generation stands: what stands before the position leaves the line up to that group's end.
+  -- A position after a copy of an append, before which no later group of its generation stands: what stands before the position leaves the line up to that group's end.
   pub line_at_position : (l a : ℕ) (xs ys : List ℕ) → IsLoad l → shows l ≡ xs ++ a ∷ ys →
       ((f : ℕ) → In f xs → gen f ≡ gen a → a < f → ⊥) → suc (length (along A group gen [] (xs ++ a ∷ []))) ≡ next_after (group a)
   line_at_position l a xs ys is_load e none_later =

@@ -3,7 +3,7 @@
 //!
 //! This crate touches memory only, and leaves the table as it is. It offers plans that are exactly the rules of the manager's
 //! table of rules: what a plan sends and shows, the record that is written first, and what it makes of the table. A record
-//! of a plan fits the table, and its bytes are read as they were written. A refusal is want of memory.
+//! of a plan fits the table, and its bytes are read as they were written. A refusal is out of memory.
 #![tactic(auto)]
 
 mod actors;

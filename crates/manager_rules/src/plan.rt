@@ -28,7 +28,7 @@ pub struct Plan {
     pub change: Change,
 }
 
-/// What the manager does with a packet: the rule of its table. An error is want of memory.
+/// What the manager does with a packet: the rule of its table. An error is out of memory.
 pub fn plan_for(alloc: Global, table: &ManagerTable, packet: &Packet) -> Result<Plan, AllocError>
     ensures { Plans (planned (plain table.now) packet.now packet.now.body) result }
 {

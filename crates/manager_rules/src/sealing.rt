@@ -161,7 +161,7 @@ fn short(
 }
 
 /// What the manager does to have an extent sealed: a sealed one stays so, and its places are told again; another is sealed at
-/// the least length that was told. An error is want of memory.
+/// the least length that was told. An error is out of memory.
 pub fn decide(alloc: Global, table: &ManagerTable, extent: u64) -> Result<Plan, AllocError>
     ensures { Plans (decide table.now.target extent (entry_at table.now.extents extent)) result }
 {

@@ -87,7 +87,7 @@ fn put_seal(out: &mut Vec<u8>, extent: u64, length: u32) -> Result<(), AllocErro
     put_u32(out, length)
 }
 
-/// The bytes of a record, at most 32 of them (docs/FORMATS.md). An error is want of memory.
+/// The bytes of a record, at most 32 of them (docs/FORMATS.md). An error is out of memory.
 pub fn encode(alloc: Global, new_record: &ManagerRecord) -> Result<Bytes, AllocError>
     ensures { IfOk result (λ bytes. bytes ≡ spelled new_record.now) }
 {

@@ -73,7 +73,7 @@ fn entry_at(entries: &[ExtentEntry], extent: u64) -> Option<ExtentEntry>
 
 impl ManagerTable {
     /// The first table: it knows the nodes from 1 to this one, extents are made with this target in bytes, and range 1 has
-    /// four streams without an extent. An error is want of memory.
+    /// four streams without an extent. An error is out of memory.
     pub fn new(alloc: Global, nodes: u8, target: u32) -> Result<ManagerTable, AllocError>
         ensures { IfOk result (λ table. plain table ≡ first_table nodes target) }
     {

@@ -67,7 +67,7 @@ impl ManagerTable {
         }
     }
 
-    /// The four streams of a range with their extents; a stream that there is not has none. An error is want of memory.
+    /// The four streams of a range with their extents; a stream that there is not has none. An error is out of memory.
     pub fn tell_streams(&self, alloc: Global, range: RangeId) -> Result<StreamLists, AllocError>
         ensures { IfOk result (λ told. told ≡ told_lists (plain self.now) range) }
     {

@@ -49,7 +49,7 @@ impl Cell {
         }
     }
 
-    /// The same cell again, which shares its bytes. An error is want of memory (22).
+    /// The same cell again, which shares its bytes. An error is out of memory (22).
     pub fn copy(&self) -> Result<Cell, AllocError>
         ensures { IfOk result (λ copy. copy ≡ self.now) }
     {

@@ -83,7 +83,7 @@ fn take_all_back(layer: &mut BTreeMap<Bytes, Cell>, mut undos: Vec<Undo>)
     }
 }
 
-/// Puts all changes, from left to right; for want of memory none. It answers the size with them, of a size with the layer.
+/// Puts all changes, from left to right; where memory runs out none. It answers the size with them, of a size with the layer.
 pub(crate) fn put_all(
     alloc: Global,
     layer: &mut BTreeMap<Bytes, Cell>,

@@ -6,12 +6,12 @@
 //! and transactions stand here for all crates of the table layer, and specs/Limits.antt has them for clauses.
 //!
 //! What the layers above may build on, each a clause here:
-//! - `apply` takes all of its changes, a later one of a key over an earlier, or for want of memory none.
+//! - `apply` takes all of its changes, a later one of a key over an earlier, or where memory runs out none.
 //! - `get` looks at the live layer first, and then at the fixed one.
 //! - `freeze_layer` and `drop_layer` lose no entry but those of the layer that is dropped.
 //! - `size` is the size of all entries in a page.
 //!
-//! Want of memory is the one error that no clause limits.
+//! Running out of memory is the one error that no clause limits.
 #![tactic(auto)]
 
 mod cell;

@@ -61,8 +61,8 @@ impl MemTable {
         }
     }
 
-    /// Takes all changes into the live layer, from left to right, so that a later one of a key replaces an earlier. For
-    /// want of memory (22) nothing has changed.
+    /// Takes all changes into the live layer, from left to right, so that a later one of a key replaces an earlier.
+    /// Where memory runs out (22) nothing has changed.
     pub fn apply(&mut self, alloc: Global, changes: Vec<(Bytes, Cell)>) -> Result<(), AllocError>
         requires { AllByRecursion (λ c. IsEntry c.0 c.1) changes.items }
         ensures entries { OnOk result (self.new.live ≡ put_all self.old.live changes.items) }

@@ -51,7 +51,7 @@ text_format low =
           ap (text_at low) (append_assoc (number 2 (length x)) x rest) ∙ rw (N.again (length x) (x ++ rest) (lt, fits)) (bytes_again x rest);
     }
 
--- a flag, and what stands behind it
+-- a flag, and what stands after it
 module _ {A : Type 0} (behind : ℕ → List ℕ → Option (Option A × List ℕ)) (nothing : List ℕ) (f : A → List ℕ) (P : A → Type 0) where
   optional_format : ((bytes : List ℕ) (x : Option A) (rest : List ℕ) → IsBytes bytes → behind 0 bytes ≡ Some (x, rest) → (x ≡ None) × (bytes ≡ nothing ++ rest))
       → ((bytes : List ℕ) (x : Option A) (rest : List ℕ) → IsBytes bytes → behind 1 bytes ≡ Some (x, rest) → (a : A) × (x ≡ Some a) × (bytes ≡ f a ++ rest) × P a)

@@ -4,7 +4,7 @@ use Rattle.std.specs.List.{flat_map, AllByRecursion}
 use Rattle.std.proofs.lemmas.List.{take_more, flat_map_more}
 use Rattle.std.proofs.lemmas.List.Elements.{All-get_or, All-from_recursion}
 
--- one element more is written behind the count
+-- one element more is written after the count
 pub one_more : {A : Type 0} (f : A → List ℕ) (old count out new : List ℕ) (xs : List A) (i : ℕ) (x : A) → i < length xs → x ≡ get_or xs i x → new ≡ out ++ f x
     → out ≡ old ++ (count ++ flat_map f (take i xs)) → new ≡ old ++ (count ++ flat_map f (take (i + 1) xs))
 one_more {A = A} f old count out new xs i x lt is step so_far =

@@ -44,7 +44,7 @@ abbrev pub taken : MetadataState → MetaItem → MetadataState
 taken m item = record (with_item m item) { next = suc m.next }
 
 -- A record of the next number is taken, and one of a number below is passed over; one above comes never, and counts as
--- damage, as does one behind which no number of 64 bits is left.
+-- damage, as does one after which no number of 64 bits is left.
 abbrev pub folded : MetadataState → MetaRecord → Option (Bool × MetadataState)
 folded m r =
     if nat_lt r.number m.next then Some (false, m)

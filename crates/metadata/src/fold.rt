@@ -68,7 +68,7 @@ fn copied(keys: &KeyRange) -> Result<KeyRange, AllocError>
     }
 }
 
-/// The same indexes again, which share their keys. An error is want of memory (22).
+/// The same indexes again, which share their keys. An error is out of memory (22).
 pub fn copied_indexes(alloc: Global, all: &[IndexRange]) -> Result<Vec<IndexRange>, AllocError>
     ensures { IfOk result (λ copies. copies.items ≡ all.now) }
 {
@@ -82,7 +82,7 @@ pub fn copied_indexes(alloc: Global, all: &[IndexRange]) -> Result<Vec<IndexRang
     Ok(copies)
 }
 
-/// The same regions again, which share their keys. An error is want of memory (22).
+/// The same regions again, which share their keys. An error is out of memory (22).
 pub fn copied_regions(alloc: Global, all: &[Region]) -> Result<Vec<Region>, AllocError>
     ensures { IfOk result (λ copies. copies.items ≡ all.now) }
 {
@@ -99,7 +99,7 @@ pub fn copied_regions(alloc: Global, all: &[Region]) -> Result<Vec<Region>, Allo
 }
 
 impl Metadata {
-    /// Before the first record: all keys, no index, and all of the log from the number 1 on. An error is want of memory (22).
+    /// Before the first record: all keys, no index, and all of the log from the number 1 on. An error is out of memory (22).
     pub fn first(alloc: Global) -> Result<Metadata, AllocError>
         ensures { IfOk result (λ m. m ≡ specs.first_metadata) }
     {
@@ -123,7 +123,7 @@ impl Metadata {
         })
     }
 
-    /// The same again, which shares the keys. An error is want of memory (22).
+    /// The same again, which shares the keys. An error is out of memory (22).
     pub fn copy(&self, alloc: Global) -> Result<Metadata, AllocError>
         ensures { IfOk result (λ copy. copy ≡ self.now) }
     {
@@ -212,7 +212,7 @@ impl Metadata {
     }
 
     /// Takes the record of the next number, and passes over one of a number below; whether it was taken. A record of a number
-    /// above is refused `Damaged` (21), as is one behind which no number is left; nothing has changed then, nor after
+    /// above is refused `Damaged` (21), as is one after which no number is left; nothing has changed then, nor after
     /// `Memory` (22).
     pub fn fold(&mut self, alloc: Global, added: MetaRecord) -> Result<bool, BlockFault>
         ensures ok { IfOk result (λ took. specs.folded self.old added ≡ Some (took, self.new)) }

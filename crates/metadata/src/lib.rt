@@ -7,7 +7,7 @@
 //! - `Metadata::fold` takes each number once, in order, and does with it what its kind says: the keys, the indexes and the
 //!   regions of the log that are still to be applied.
 //!
-//! Want of memory is the one error that no clause limits.
+//! Running out of memory is the one error that no clause limits.
 #![tactic(auto)]
 
 mod fold;

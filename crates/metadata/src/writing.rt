@@ -1,4 +1,4 @@
-//! Writing a record as bytes. Each writer appends what its clause says; where one fails for want of memory, a part of it
+//! Writing a record as bytes. Each writer appends what its clause says; where one runs out of memory, a part of it
 //! may stand in the buffer, so `encode` writes into a buffer of its own.
 ghost use Rattle.std.specs.Prelude.{◌≡◌, ◌∷◌, [], ◌++◌, ◌<◌, ◌^◌, ◌≤◌, length, IfOk, OnOk};
 ghost use Rattle.blocks.specs.Record.{number};
@@ -158,7 +158,7 @@ fn put_item(out: &mut Vec<u8>, written: &MetaItem) -> Result<(), AllocError>
     }
 }
 
-/// The one spelling of a record, as a group of one block. An error is want of memory (22).
+/// The one spelling of a record, as a group of one block. An error is out of memory (22).
 ///
 /// That the record fits is the caller's condition: its fields are in range, and its spelling is no longer than a block.
 pub fn encode(alloc: Global, written: &MetaRecord) -> Result<Group, Memory>

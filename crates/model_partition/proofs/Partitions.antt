@@ -133,7 +133,7 @@ change_numbered (r ∷ rs) range change keeps numbered = (
 
 -- ---- splits and merges
 
--- what stands behind may become other ranges from the same key on
+-- what stands after may become other ranges from the same key on
 behind_lies : (low : List ℕ) (before : List RangeEntry) (r : RangeEntry) (rs : List RangeEntry) (s : RangeEntry) (ss : List RangeEntry) → s.keys.low ≡ r.keys.low →
     ((from : List ℕ) → LiesFrom from (r ∷ rs) → LiesFrom from (s ∷ ss)) → LiesFrom low (before ++ (r ∷ rs)) → LiesFrom low (before ++ (s ∷ ss))
 behind_lies low [] r rs s ss same turn lies = turn low lies

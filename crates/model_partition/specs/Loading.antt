@@ -204,7 +204,7 @@ abbrev pub log_end : ClientState → Option StreamExtent → Position → Positi
 log_end c None start = start
 log_end c (Some x) start = later (record { index = (c.base + length c.extents) - 1; offset = length_or x.length c.checked }) start
 
--- The table is that of the log behind the last checkpoint, and its next number that of the region without end. No transaction
+-- The table is that of the log after the last checkpoint, and its next number that of the region without end. No transaction
 -- waits yet.
 abbrev pub serves_region : ServerContext → RangeState → Region → RangeOutcome
 serves_region d r region =

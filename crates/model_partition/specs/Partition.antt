@@ -43,7 +43,7 @@ abbrev pub NoneHas : List RangeEntry → List ℕ → Type 0
 NoneHas [] key = Unit {0}
 NoneHas (r ∷ rs) key = (within r.keys key ≡ false) × NoneHas rs key
 
--- one of the ranges has the key, and what stands before it and behind it does not
+-- one of the ranges has the key, and what stands before it and after it does not
 pub record HasKey (rs : List RangeEntry) (key : List ℕ) : Type 0 where
   pub before : List RangeEntry
   pub range : RangeEntry

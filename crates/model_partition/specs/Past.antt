@@ -156,7 +156,7 @@ Begins a (From_pair c p d q line) =
 
 -- ---- what is owed to those who see the observations
 
--- A loaded table is that of a complete past of its range and generation, and its next number the one behind that past's line.
+-- A loaded table is that of a complete past of its range and generation, and its next number the one after that past's line.
 -- The pasts of a family begin one another in order of their generations, and nothing is loaded twice under one.
 pub record Replays (h : List Note) : Type 0 where
   -- the past of each range and generation that was loaded

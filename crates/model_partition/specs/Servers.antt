@@ -70,7 +70,7 @@ row_of notes key (Placed place) = row_if key (first_shown notes place)
 abbrev pub rows_of : List Note → Entries → List Row
 rows_of notes entries = flat_map (λ entry. row_of notes entry.0 entry.1) entries
 
--- an observation of a server, behind these
+-- an observation of a server, after these
 abbrev pub told : List Note → TableNote → Note
 told notes (tables.Began range generation number changes) = Began range generation number changes
 told notes (tables.Done range generation number) = Done range generation number

@@ -19,7 +19,7 @@ pub record OpenExtent (A : Type 0) : Type 0 where
   pub kept : List (Copy A)
   -- where that ends
   pub sure : ℕ
-  -- what the primary has behind it
+  -- what the primary has after it
   pub loose : List (Copy A)
   -- where that ends
   pub end : ℕ

@@ -1,7 +1,7 @@
 //! The records of the partition map.
 use wire::{RangeId, ServerNo};
 
-/// What the map writes down. Its bytes stand behind the kind byte of a manage record.
+/// What the map writes down. Its bytes stand after the kind byte of a manage record.
 #[derive(Clone, Copy)]
 pub enum MapRecord {
     /// 16: a range is assigned to a server, under a generation one higher, with a lease up to this moment or to its old end,

@@ -2,7 +2,7 @@
 use block_types::Nodes;
 use wire::{ExtentId, Fence, RangeId, StreamName};
 
-/// What the manager writes down. Its bytes stand behind the kind byte of a manage record.
+/// What the manager writes down. Its bytes stand after the kind byte of a manage record.
 #[derive(Clone, Copy)]
 pub enum ManagerRecord {
     /// 1, the first record: how many nodes there are, and the target of each extent in bytes.

@@ -30,7 +30,7 @@ fit_there : (m : MapState) (rs others : List Record) (r : Record) → fit_from m
 fit_there m [] others r fits = (and_parts _ _ fits).0
 fit_there m (x ∷ rs) others r fits = fit_there (map_after m (map_record_of x)) rs others r (and_parts _ _ fits).1
 
--- the record behind those that have made a map fits it, where all of them fit
+-- the record after those that have made a map fits it, where all of them fit
 fits_next : (rs others : List Record) (r : Record) (m : MapState) → MakesMap rs m → map_fits (rs ++ r ∷ others) ≡ true → map_record_fits m (map_record_of r) ≡ true
 fits_next rs others r m made fits = ap (λ (x : MapState). map_record_fits x (map_record_of r)) (sym made.replays) ∙ fit_there first_map rs others r fits
 

@@ -3,7 +3,7 @@
 //! This crate touches memory and the disk that a map is given, through its file of records, and nothing else. It offers the
 //! rules of the map exactly: after an assignment, a renewal or a packet the ranges, the record and the packets are the rule's,
 //! the record is on the disk before a packet leaves, and while a map runs its ranges are what its records make. The ranges
-//! have each key once, at any time. A refusal for want of memory changes nothing.
+//! have each key once, at any time. Running out of memory changes nothing.
 #![tactic(auto)]
 
 mod entry;

@@ -30,7 +30,7 @@ fn tell(alloc: Global, to: ActorId, told: MapBody) -> Result<Step, AllocError>
     })
 }
 
-/// What the map does to assign a range. An error is want of memory.
+/// What the map does to assign a range. An error is out of memory.
 pub(crate) fn plan_assign(
     alloc: Global,
     table: &RangeTable,
@@ -63,7 +63,7 @@ pub(crate) fn plan_assign(
     })
 }
 
-/// What the map does to renew the lease of a range that the server holds. An error is want of memory.
+/// What the map does to renew the lease of a range that the server holds. An error is out of memory.
 pub(crate) fn plan_renew(
     alloc: Global,
     table: &RangeTable,
@@ -90,7 +90,7 @@ pub(crate) fn plan_renew(
     })
 }
 
-/// What the map answers to a packet. An error is want of memory.
+/// What the map answers to a packet. An error is out of memory.
 pub(crate) fn answer_to(
     alloc: Global,
     table: &RangeTable,

@@ -31,7 +31,7 @@ fn put_renew(out: &mut Vec<u8>, range: u64, until: u64) -> Result<(), AllocError
     put_u64(out, until)
 }
 
-/// The bytes of a record, at most 32 of them (docs/FORMATS.md). An error is want of memory.
+/// The bytes of a record, at most 32 of them (docs/FORMATS.md). An error is out of memory.
 pub(crate) fn encode(alloc: Global, new_record: &MapRecord) -> Result<Bytes, AllocError>
     ensures { IfOk result (λ bytes. bytes ≡ spelled new_record.now) }
 {

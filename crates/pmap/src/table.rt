@@ -40,7 +40,7 @@ fn place_of(entries: &[RangeEntry], range: RangeId) -> Option<usize>
 }
 
 impl RangeTable {
-    /// Range 1 with all keys, which nobody holds. An error is want of memory.
+    /// Range 1 with all keys, which nobody holds. An error is out of memory.
     pub(crate) fn first(alloc: Global) -> Result<RangeTable, AllocError>
         ensures { IfOk result (λ table. table ≡ first_map) }
     {

@@ -9,7 +9,7 @@
 //! - `loading` is the table that a confirmation is about to show.
 //! - A step sends and shows at most 2,048 each.
 //!
-//! For want of memory (22) nothing has changed. It comes only of an assignment, of what a user asks, of an answer and of giving up
+//! Where memory runs out (22) nothing has changed. It comes only of an assignment, of what a user asks, of an answer and of giving up
 //! on a range that is held; no clause says more of when it comes.
 #![tactic(auto)]
 

@@ -346,8 +346,8 @@ impl RangeServer {
         }
     }
 
-    /// What is done with a packet: the rule of its body. An error is want of memory (22), which comes only of an assignment, of
-    /// what a user asks and of an answer, and nothing has changed.
+    /// What is done with a packet: the rule of its body. An error is out of memory (22), which comes only of an assignment, of
+    /// what a user asks and of an answer, and nothing has changed. A server with no numbers left for its requests does nothing.
     pub fn handle(&mut self, alloc: Global, packet: &Packet) -> Result<Sent, AllocError>
         ensures ok { IfOk result (λ t. HandlesPacket self.old self.new packet.now t) }
         ensures needed { OnErr result (needs_memory packet.now.body ≡ true) }
@@ -369,7 +369,8 @@ impl RangeServer {
     }
 
     /// The jobs of a range give up on the answers that they wait for, and new extents are made on these nodes from now on.
-    /// 22: no memory. 30: the server does not hold the range. After a refusal nothing has changed.
+    /// 22: no memory. 30: the server does not hold the range. After a refusal nothing has changed. A server with no numbers left
+    /// for its requests does nothing.
     #[tactic(auto, using(crate::proofs::Entries::removed_after, crate::proofs::Entries::set_same))]
     pub fn give_up(
         &mut self,

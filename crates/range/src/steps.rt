@@ -44,7 +44,7 @@ pub(crate) fn refusal(
     }
 }
 
-/// Holds the range from now on, in place of what was known of it. For want of memory (22) nothing has changed.
+/// Holds the range from now on, in place of what was known of it. Where memory runs out (22) nothing has changed.
 pub(crate) fn put(
     ranges: &mut BTreeMap<u64, RangeState>,
     range: u64,

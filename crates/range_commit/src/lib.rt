@@ -8,7 +8,7 @@
 //! - `acknowledge` and `changes` answer what the group that is out commits and leaves, in order, and `finish` drops it.
 //! - `change_fault` answers the first reason why changes are refused, and what it lets pass a record may hold.
 //!
-//! Want of memory is the one error that no clause limits.
+//! Running out of memory is the one error that no clause limits.
 #![tactic(auto)]
 
 mod answering;

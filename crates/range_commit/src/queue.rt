@@ -115,8 +115,8 @@ impl Queue {
         &self.all
     }
 
-    /// Adds one behind all that wait. That there is room for it and that a record may hold its changes is the caller's
-    /// condition. For want of memory (22) nothing has changed.
+    /// Adds one after all that wait. That there is room for it and that a record may hold its changes is the caller's
+    /// condition. Where memory runs out (22) nothing has changed.
     pub fn push(&mut self, transaction: WaitingTransaction) -> Result<(), AllocError>
         requires room { length (waiting_out self.old.out) + length self.old.queue < 1024 }
         requires fits { IsTransaction transaction.changes }
@@ -137,7 +137,7 @@ impl Queue {
     }
 
     /// The group that is formed as soon as none is out, if one is then: a transaction waits, and the numbers fit 64 bits. An
-    /// error is want of memory (22).
+    /// error is out of memory (22).
     pub fn plan(
         &self,
         alloc: Global,
@@ -180,7 +180,7 @@ impl Queue {
     }
 
     /// What is answered and shown once the group that is out is acknowledged; nothing where none is. At most 1,024 packets. An
-    /// error is want of memory (22).
+    /// error is out of memory (22).
     pub fn acknowledge(
         &self,
         alloc: Global,
@@ -200,7 +200,7 @@ impl Queue {
     }
 
     /// What rows keep of the changes of the group that is out, if it stands in the extent from the offset on, in order; nothing
-    /// where none is out. That it ends below 2^32 is the caller's condition. An error is want of memory (22).
+    /// where none is out. That it ends below 2^32 is the caller's condition. An error is out of memory (22).
     pub fn changes(
         &self,
         alloc: Global,
@@ -233,7 +233,7 @@ impl Queue {
         self.size = 0;
     }
 
-    /// Each that waits is told that this server does not hold the range, those that are out first. An error is want of memory
+    /// Each that waits is told that this server does not hold the range, those that are out first. An error is out of memory
     /// (22).
     pub fn refusals(
         &self,

@@ -53,7 +53,7 @@ fn joined(told: Told, begun: Begun, count: u64) -> RangeStep
     }
 }
 
-/// What the log's client makes of an answer; a new extent is asked for at the context's nodes from now on. For want of memory (22)
+/// What the log's client makes of an answer; a new extent is asked for at the context's nodes from now on. Where memory runs out (22)
 /// nothing has changed.
 fn take_answer(
     log: &mut StreamClient,
@@ -222,8 +222,8 @@ impl RangeState {
     }
 
     /// The log's append is done: the answer says that the group that is out stands at the offset of the extent. Its transactions
-    /// are applied in order, each is answered (Committed) and shown as done, the log's position moves behind the group, and the
-    /// next group is formed. For want of memory (22) nothing has changed.
+    /// are applied in order, each is answered (Committed) and shown as done, the log's position moves after the group, and the
+    /// next group is formed. Where memory runs out (22) nothing has changed.
     #[tactic(auto, using(crate::proofs::LogAnswers::may_be_counted, crate::proofs::LogAnswers::may_fit))]
     pub fn log_done(
         &mut self,

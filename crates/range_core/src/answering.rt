@@ -125,7 +125,7 @@ impl RangeState {
     /// The load goes on by the answer to this one: the streams are opened, the metadata is read and then the log, the generation
     /// is confirmed, and the range is served from then on, with the number of the next transaction and the log's position. The
     /// range is dropped where its generation is an old one (3) or what was read is damaged (21), and those who wait are told so
-    /// (30). For want of memory (22) nothing has changed.
+    /// (30). Where memory runs out (22) nothing has changed.
     pub fn load(
         &mut self,
         alloc: Global,

@@ -130,7 +130,7 @@ impl RangeState {
 
     /// Where no group is out, the next one is formed: the first of the transactions that wait, as many as fit 64 blocks and as the
     /// batch allows, get the next numbers, each is shown as begun, and they are appended to the log. Where none waits, or the
-    /// numbers do not fit 64 bits, nothing is. For want of memory (22) nothing has changed.
+    /// numbers do not fit 64 bits, nothing is. Where memory runs out (22) nothing has changed.
     pub fn form(&mut self, alloc: Global, context: &ServerContext) -> Result<RangeStep, AllocError>
         requires numbers { context.now.count + 1024 < 2 ^ 64 }
         ensures ok { IfOk result (λ t. forms context.now self.old ≡ outcome t self.new) }

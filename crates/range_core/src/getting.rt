@@ -43,7 +43,7 @@ impl RangeState {
     /// A Get of a user is answered from the memory table, or waits for the bytes of a value that stands elsewhere. It is refused
     /// 38 while the range is loaded, 32 once its lease has ended, 36 where the key has no byte or more than 256, 33 where it is
     /// not of the range, and 35 where 256 wait, the first of these that is met; nothing changes then. Its cache holds what it held.
-    /// For want of memory (22) nothing has changed.
+    /// Where memory runs out (22) nothing has changed.
     pub fn get(
         &mut self,
         alloc: Global,

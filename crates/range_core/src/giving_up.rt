@@ -32,7 +32,7 @@ fn gathered(packets: Vec<Packet>, given: GivenUp, reads: Vec<Packet>) -> Vec<Pac
 
 impl RangeState {
     /// What is not answered is sent again, or an extent that does not answer is sealed: the load, the log's job and the Gets, in
-    /// this order. For want of memory (22) nothing has changed.
+    /// this order. Where memory runs out (22) nothing has changed.
     pub fn give_up(
         &mut self,
         alloc: Global,

@@ -109,7 +109,7 @@ impl RangeState {
     }
 
     /// A range that is loaded under a generation, with the end of its lease, and the packet that opens its streams, which
-    /// bears the next number of the server. An error is want of memory (22).
+    /// bears the next number of the server. An error is out of memory (22).
     pub fn assign(
         alloc: Global,
         context: &ServerContext,
@@ -171,7 +171,7 @@ impl RangeState {
     }
 
     /// What those who wait are told where the range goes: that this server does not hold it (30). First the transactions,
-    /// those that are being appended before the others, then the Gets, at most 1,280 packets. An error is want of memory (22).
+    /// those that are being appended before the others, then the Gets, at most 1,280 packets. An error is out of memory (22).
     pub fn refusals(
         &self,
         alloc: Global,

@@ -81,7 +81,7 @@ impl RangeState {
     /// A transaction of a user waits to be appended, and the next group is formed if none is out. It is refused 38 while the
     /// range is loaded, 32 once its lease has ended, 37 with no change or more than 32, 36 where a key has no byte or more than
     /// 256, 37 where a value has more than 65,536 bytes, 33 where a key is not of the range, and 35 where 1,024 wait or the
-    /// memory table is full, the first of these that is met; nothing changes then. For want of memory (22) nothing has changed.
+    /// memory table is full, the first of these that is met; nothing changes then. Where memory runs out (22) nothing has changed.
     pub fn transact(
         &mut self,
         alloc: Global,

@@ -25,7 +25,7 @@ pub(crate) fn groups_of(body: &Body) -> &[Group]
 
 impl RangeContent {
     /// The answer to the opening or the confirmation: the metadata begins to be read, or the range is served. An answer of
-    /// another number than that of the load's own request changes nothing. For want of memory (22) nothing has changed.
+    /// another number than that of the load's own request changes nothing. Where memory runs out (22) nothing has changed.
     pub fn load_reply(
         &mut self,
         alloc: Global,

@@ -19,7 +19,7 @@ pub struct GivenUp {
 
 impl RangeContent {
     /// What is not answered is sent again, and an extent that does not answer is sealed: the opening or the confirmation, then
-    /// the metadata's job under the next number, and the log's under the one behind it.
+    /// the metadata's job under the next number, and the log's under the one after it.
     pub fn give_up(&mut self, context: &ServerContext) -> GivenUp
         requires { context.now.count + 1 < 2 ^ 64 }
         ensures load { result.load ≡ again self.old.load self.old.load.phase }

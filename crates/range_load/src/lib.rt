@@ -9,9 +9,9 @@
 //! - A range is served by the answer to what `RangeLoad::confirm` sent. Its streams are read only while the load has them opened,
 //!   which the type keeps.
 //! - `give_up` sends again what is not answered, or has an extent sealed that does not answer.
-//! - For want of memory (22) nothing has changed.
+//! - Where memory runs out (22) nothing has changed.
 //!
-//! Want of memory is the one error that no clause limits.
+//! Running out of memory is the one error that no clause limits.
 #![tactic(auto)]
 
 mod answering;

@@ -162,8 +162,8 @@ impl RangeContent {
     }
 
     /// The answer to the job of the log's client while the range is loaded: its last extent is checked, and then the extents from
-    /// the first region on are read in order. The range is dropped where its generation is old, or what is read is damaged. For
-    /// want of memory (22) nothing has changed.
+    /// the first region on are read in order. The range is dropped where its generation is old, or what is read is damaged.
+    /// Where memory runs out (22) nothing has changed.
     pub fn log_load_reply(
         &mut self,
         alloc: Global,

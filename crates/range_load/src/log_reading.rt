@@ -33,7 +33,7 @@ impl RangeContent {
         }
     }
 
-    /// The same behind the position.
+    /// The same after the position.
     pub(crate) fn reads_log_behind(&mut self, context: &ServerContext, position: u64) -> Progress
         requires { is_open self.old.load.phase ≡ true }
         ensures { RangePerforms context.now (λ r. rows.reads_log context.now r (suc position)) self.old self.new result }

@@ -133,7 +133,7 @@ impl RangeContent {
     }
 
     /// The answer to the job of the metadata's client: its last extent is checked, then all extents are read in order, and then
-    /// the log. The range is dropped where its generation is old, or what is read is damaged. For want of memory (22) nothing
+    /// the log. The range is dropped where its generation is old, or what is read is damaged. Where memory runs out (22) nothing
     /// has changed.
     pub fn metadata_reply(
         &mut self,

@@ -38,7 +38,7 @@ impl RangeContent {
         }
     }
 
-    /// The same behind the position.
+    /// The same after the position.
     pub(crate) fn reads_metadata_behind(
         &mut self,
         context: &ServerContext,

@@ -141,7 +141,7 @@ fn begun(
 
 impl RangeContent {
     /// A load of a range under a generation, of which nothing is known, and the packet, to the manager, that opens its streams
-    /// under the next number. An error is want of memory (22).
+    /// under the next number. An error is out of memory (22).
     pub fn new(
         alloc: Global,
         context: &ServerContext,

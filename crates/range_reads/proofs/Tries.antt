@@ -28,7 +28,7 @@ goes_on d r count g gs one waiting waiting_after packets packets_after count_aft
     ∙ ap (λ (l : List Packet). record { waiting = waiting ++ (option_to_list one.waiting ++ others.waiting); count = others.count; packets = l }) (append_assoc packets (option_to_list one.packet) others.packets)
     ∙ ap (λ (t : Tried). let rest : Tried = try_all (record d { count = t.count }) r gs in with_done waiting packets (record { waiting = t.waiting ++ rest.waiting; count = rest.count; packets = t.packets ++ rest.packets })) tried
 
--- the Get at hand, and those behind it
+-- the Get at hand, and those after it
 pub next_try : (w : ReqNo) (gets : List WaitingGet) (i : ℕ) (get left : WaitingGet) → i < length gets → get ≡ get_or gets i get → left ≡ without w get
     → left ∷ map (without w) (drop (i + 1) gets) ≡ map (without w) (drop i gets)
 next_try w gets i get left lt is left_is =

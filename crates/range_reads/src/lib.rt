@@ -8,7 +8,7 @@
 //! - `give_up` sends the last read of each Get to the next place.
 //! - No value is held but what stood in such an answer (`held` of `get` and `bytes`).
 //!
-//! Want of memory is the one error that no clause limits.
+//! Running out of memory is the one error that no clause limits.
 #![tactic(auto)]
 
 mod adding;

@@ -92,7 +92,7 @@ fn hold_some(held: &mut ValueCache, fresh: Option<Fresh>) -> Result<(), AllocErr
 }
 
 impl Lookups {
-    /// No Get waits and no value is held. An error is want of memory (22).
+    /// No Get waits and no value is held. An error is out of memory (22).
     pub fn new(alloc: Global) -> Result<Lookups, AllocError>
         ensures { IfOk result (λ made. made ≡ record { gets = []; held = [] }) }
     {
@@ -120,7 +120,7 @@ impl Lookups {
 
     /// A Get of a key that is not refused otherwise: it is refused once the lease has ended, else answered, or kept, with a read
     /// of what it needs. That there is room for it and a number for the read is the caller's condition. A value that serves it
-    /// becomes the most recently used. For want of memory (22) nothing has changed.
+    /// becomes the most recently used. Where memory runs out (22) nothing has changed.
     pub fn get(
         &mut self,
         alloc: Global,
@@ -161,7 +161,7 @@ impl Lookups {
     }
 
     /// The bytes of a read of this number have come: each Get is tried again, without that read. They are held only where a read
-    /// of this number asked for just these. For want of memory (22) nothing has changed.
+    /// of this number asked for just these. Where memory runs out (22) nothing has changed.
     pub fn bytes(
         &mut self,
         alloc: Global,
@@ -195,7 +195,7 @@ impl Lookups {
         Ok(Tried { count, packets })
     }
 
-    /// The last read of each Get goes to the next place of its extent, with its number. For want of memory (22) nothing has
+    /// The last read of each Get goes to the next place of its extent, with its number. Where memory runs out (22) nothing has
     /// changed.
     pub fn give_up(&mut self, alloc: Global, asking: &Asking<'_>) -> Result<Vec<Packet>, AllocError>
         ensures gets { OnOk result ((r : RangeState) → Sees r asking.now
@@ -211,7 +211,7 @@ impl Lookups {
         Ok(packets)
     }
 
-    /// Each Get is told that this server does not hold the range. An error is want of memory (22).
+    /// Each Get is told that this server does not hold the range. An error is out of memory (22).
     pub fn refusals(
         &self,
         alloc: Global,

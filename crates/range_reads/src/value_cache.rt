@@ -76,7 +76,7 @@ impl Model for ValueCache {
 }
 
 impl ValueCache {
-    /// None is held. An error is want of memory.
+    /// None is held. An error is out of memory.
     pub(crate) fn new(alloc: Global) -> Result<ValueCache, AllocError>
         ensures { IfOk result (λ held. held ≡ []) }
     {
@@ -106,7 +106,7 @@ impl ValueCache {
         }
     }
 
-    /// The value at a place again, if it is held. It shares its bytes; an error is want of memory.
+    /// The value at a place again, if it is held. It shares its bytes; an error is out of memory.
     fn copied(&self, place: &Place) -> Result<Option<Bytes>, AllocError>
         ensures { IfOk result (λ value. value ≡ held_at self.now place.now) }
     {
@@ -132,7 +132,7 @@ impl ValueCache {
         }
     }
 
-    /// The value at a place, if it is held once one that has come is. It shares its bytes; an error is want of memory.
+    /// The value at a place, if it is held once one that has come is. It shares its bytes; an error is out of memory.
     pub(crate) fn value_with(
         &self,
         fresh: &Option<Fresh>,

@@ -44,7 +44,7 @@ fn take_group(
     }
 }
 
-/// The same, and the position behind the group.
+/// The same, and the position after the group.
 fn take_next(
     alloc: Global,
     regions: Vec<Region>,
@@ -77,7 +77,7 @@ fn take_next(
     }
 }
 
-/// What the regions take of the groups of an extent, from a position on: their changes go behind the others. What an error
+/// What the regions take of the groups of an extent, from a position on: their changes go after the others. What an error
 /// leaves of the changes is of no use.
 fn take_groups(
     alloc: Global,

@@ -5,9 +5,9 @@
 //! - `folded` folds the records of an extent's groups, each number once, in order.
 //! - `replayed` replays the groups of an extent: each region takes, from its own next number on, what stands from its start to
 //!   its end, within its keys and the range's.
-//! - Both take all of an extent, or for damage (21) or want of memory (22) none.
+//! - Both take all of an extent, or for damage (21) or running out of memory (22) none.
 //!
-//! Want of memory is the one error that no clause limits.
+//! Running out of memory is the one error that no clause limits.
 #![tactic(auto)]
 
 mod groups;

@@ -81,7 +81,7 @@ fn take_numbers(replay: &mut Replay, written: &LogRecord) -> Result<usize, Block
     Ok(old)
 }
 
-/// What a region takes of a record whose group stands at the position: its changes go behind the others, and the region comes
+/// What a region takes of a record whose group stands at the position: its changes go after the others, and the region comes
 /// back with its new next number. What an error leaves of the changes is of no use.
 fn take_region(
     alloc: Global,

@@ -22,7 +22,7 @@ pub record IsPlaced (groups : List Group) (stops : List ℕ) (len : ℕ) : Type 
   pub length : len ≡ text_length groups
   pub full : NoneEmpty groups
 
--- the first groups, so many, end at or before an offset, and the one behind them ends behind it
+-- the first groups, so many, end at or before an offset, and the one after them ends after it
 pub record IsBefore (groups : List Group) (offset index : ℕ) : Type 0 where
   pub within : index ≤ length groups
   pub start : text_length (take index groups) ≤ offset

@@ -21,6 +21,6 @@ abbrev pub behind : List Group → Option (List Group) → Option (List Group)
 behind groups None = None
 behind groups (Some front) = Some (drop (length front) groups)
 
--- the groups behind that boundary; none where a group goes over it
+-- the groups after that boundary; none where a group goes over it
 abbrev pub groups_from : ℕ → List Group → Option (List Group)
 groups_from from groups = behind groups (groups_to from groups)

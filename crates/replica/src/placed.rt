@@ -85,7 +85,7 @@ fn copy_groups(
     Ok(())
 }
 
-/// A copy of a group's bytes from an offset on, at most so many. An error is want of memory.
+/// A copy of a group's bytes from an offset on, at most so many. An error is out of memory.
 pub fn part_of_group(
     alloc: Global,
     group: &Group,
@@ -99,7 +99,7 @@ pub fn part_of_group(
     Ok(Bytes::from_vec(out)?)
 }
 
-/// A copy of the bytes of groups from an offset on, at most so many. An error is want of memory.
+/// A copy of the bytes of groups from an offset on, at most so many. An error is out of memory.
 pub fn part_of_text(
     alloc: Global,
     groups: &[Group],
@@ -237,7 +237,7 @@ impl PlacedGroups {
         }
     }
 
-    /// A copy of so many bytes from an offset on, as far as there are any. An error is want of memory.
+    /// A copy of so many bytes from an offset on, as far as there are any. An error is out of memory.
     pub(crate) fn bytes(&self, alloc: Global, offset: u32, length: u32) -> Result<Bytes, AllocError>
         ensures { IfOk result (λ bytes. bytes ≡ bytes_at offset length self.now.groups) }
     {
@@ -294,7 +294,7 @@ impl PlacedGroups {
     }
 
     /// The first groups, of this many bytes together, which share their bytes; none where a group goes over that
-    /// boundary. An error is want of memory.
+    /// boundary. An error is out of memory.
     pub(crate) fn groups_to(&self, alloc: Global, upto: u32) -> Result<Option<Groups>, AllocError>
         ensures { IfOk result (λ groups. groups ≡ groups_to upto self.now.groups) }
     {
@@ -305,7 +305,7 @@ impl PlacedGroups {
         Ok(Some(found))
     }
 
-    /// The groups behind that boundary, which share their bytes; none where a group goes over it. An error is want of
+    /// The groups after that boundary, which share their bytes; none where a group goes over it. An error is want of
     /// memory.
     pub(crate) fn groups_from(&self, alloc: Global, from: u32) -> Result<Option<Groups>, AllocError>
         ensures { IfOk result (λ groups. groups ≡ groups_from from self.now.groups) }

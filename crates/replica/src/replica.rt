@@ -108,7 +108,7 @@ impl Replica {
         self.kept().places
     }
 
-    /// A copy of so many bytes from an offset on, as far as there are any. An error is want of memory (22).
+    /// A copy of so many bytes from an offset on, as far as there are any. An error is out of memory (22).
     pub fn bytes(&self, alloc: Global, offset: u32, length: u32) -> Result<Bytes, AllocError>
         ensures { IfOk result (λ bytes. bytes ≡ bytes_at offset length (content_of self.now).groups) }
     {
@@ -143,7 +143,7 @@ impl Replica {
     }
 
     /// The first groups, of `upto` bytes together, which share their bytes; none where a group goes over that boundary,
-    /// or where there are not so many bytes. An error is want of memory (22).
+    /// or where there are not so many bytes. An error is out of memory (22).
     pub fn groups_to(&self, alloc: Global, upto: u32) -> Result<Option<Groups>, AllocError>
         ensures { IfOk result (λ groups. groups ≡ groups_to upto (content_of self.now).groups) }
     {
@@ -151,14 +151,14 @@ impl Replica {
     }
 
     /// The groups from `from` on, which share their bytes; none where a group goes over that boundary, or where there
-    /// are not so many bytes. An error is want of memory (22).
+    /// are not so many bytes. An error is out of memory (22).
     pub fn groups_from(&self, alloc: Global, from: u32) -> Result<Option<Groups>, AllocError>
         ensures { IfOk result (λ groups. groups ≡ groups_from from (content_of self.now).groups) }
     {
         self.kept().held.groups_from(alloc, from)
     }
 
-    /// Makes room for so many more groups. Without memory nothing has changed.
+    /// Makes room for so many more groups. Without memory nothing has changed but room.
     pub fn reserve(&mut self, count: usize) -> Result<(), AllocError>
         ensures same { content_of self.new ≡ content_of self.old }
         ensures room { OnOk result (count ≤ room_of self.new) }

@@ -70,7 +70,7 @@ changes_behind changes [] P Q h = absurd h
 changes_behind changes (a ∷ []) P Q h = absurd h.1
 changes_behind changes (a ∷ b ∷ words) P Q h = h.1.1
 
--- a transaction has changes behind its server and range
+-- a transaction has changes after its server and range
 pub no_transact : (words : List (List ℕ)) → ((list : Vec Change Global) → each IsChange list.items (drop 2 words) → ⊥)
     → (r : Request) → Asks r (codes "tx" ∷ words) → ⊥
 no_transact words none (requests.Transact server range changes) h = none changes (changes_behind changes words _ _ h.1)

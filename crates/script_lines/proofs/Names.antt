@@ -34,7 +34,7 @@ s_no_m e = omega arith
 s_no_p : ◌≡◌ {A = ℕ} 115 112 → ⊥
 s_no_p e = omega arith
 
--- an s, and behind it no number from 1 on
+-- an s, and after it no number from 1 on
 pub no_server : (word digits : List ℕ) → word ≡ 115 ∷ digits → ((n : ℕ) → DenotesUpTo 255 n digits × (0 < n) → ⊥)
     → (a : ActorId) → IsActor a word → ⊥
 no_server word digits e none (actors.Node n) h = apart 115 110 digits h.0 word s_no_n e h.1
@@ -68,13 +68,13 @@ no_put_of word put key None e none h = apart 43 45 put key word plus_no_minus e 
 no_put_of word put key (Some value) e none h =
     none key h.0 value (rest_same 43 43 put (key ++ (61 ∷ h.0)) word e h.1) h.2 h.3
 
--- a `+`, and behind it no key, `=` and value
+-- a `+`, and after it no key, `=` and value
 pub no_put : (word put : List ℕ) → word ≡ 43 ∷ put
     → ((k text bytes : List ℕ) → put ≡ k ++ (61 ∷ text) → NoEquals k → IsValue text bytes → ⊥)
     → (x : Change) → IsChange x word → ⊥
 no_put word put e none x h = no_put_of word put x.key x.value e none h
 
--- an `=` behind a key is somewhere
+-- an `=` after a key is somewhere
 pub equals_within : (put k text : List ℕ) → ((i : ℕ) → i < length put → get_or put i 0 ≢ 61) → put ≡ k ++ (61 ∷ text) → ⊥
 equals_within put k text none e =
     let within : length k < length put = rw e (rw length-append (omega arith)) in

@@ -11,7 +11,7 @@ pub enum Request {
     Create {
         kind: StreamKind,
     },
-    /// One more extent of a stream, behind its last one if it has any, on these three nodes.
+    /// One more extent of a stream, after its last one if it has any, on these three nodes.
     Extend {
         kind: StreamKind,
         last: Option<u64>,

@@ -42,7 +42,7 @@ fn all_filled(words: &[&str]) -> bool
     words.iter().all(|word| !word.is_empty())
 }
 
-/// Reads the words behind this verb.
+/// Reads the words after this verb.
 fn line_behind(alloc: Global, verb: Verb, words: &[&str]) -> Result<Option<Line>, AllocError>
     ensures { IfOk result (λ line. Reads HasForm line (verb_word verb ∷ map (λ w. w.now) words.now)) }
 {

@@ -24,7 +24,7 @@ pub fn request(alloc: Global, words: &[&str]) -> Result<Option<Request>, AllocEr
     }
 }
 
-/// What a user asks by the words behind this wish.
+/// What a user asks by the words after this wish.
 fn request_behind(alloc: Global, wish: Wish, words: &[&str]) -> Result<Option<Request>, AllocError>
     ensures { IfOk result (λ request. Reads Asks request (wish_word wish ∷ map (λ w. w.now) words.now)) }
 {

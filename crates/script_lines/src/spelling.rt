@@ -101,7 +101,7 @@ pub fn words(alloc: Global, line: &str) -> Result<Vec<&str>, AllocError>
     line.split(' ').collect(alloc)
 }
 
-/// The bytes of a key, which are the word's own. An error is want of memory (22).
+/// The bytes of a key, which are the word's own. An error is out of memory (22).
 pub fn key(alloc: Global, word: &str) -> Result<Bytes, AllocError>
     ensures { IfOk result (λ key. key ≡ word.now) }
 {

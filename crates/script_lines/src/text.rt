@@ -35,7 +35,7 @@ fn ended<'a>(alloc: Global, parts: &[&'a [u8]]) -> Result<Vec<&'a [u8]>, AllocEr
 }
 
 /// The lines of a text, which may be no characters. As of a `str`, a newline ends each but the last, and a carriage return
-/// before it is no part of the line. An error is want of memory (22).
+/// before it is no part of the line. An error is out of memory (22).
 pub fn lines_of(alloc: Global, text: &[u8]) -> Result<Vec<&[u8]>, AllocError>
     ensures { IfOk result (λ found. map (λ line. line.now) found.items ≡ lines text.now) }
 {

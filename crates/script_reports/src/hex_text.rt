@@ -21,7 +21,7 @@ impl Model for HexText {
 }
 
 impl HexText {
-    /// The text of these bytes. An error is want of memory (22).
+    /// The text of these bytes. An error is out of memory (22).
     pub fn of(alloc: Global, bytes: &[u8]) -> Result<HexText, AllocError>
         ensures { IfOk result (λ hex. hex ≡ shown_bytes bytes.now) }
     {

@@ -162,7 +162,7 @@ fn told(user: u64, number: ReqNo, answer: Answer) -> Option<Report>
     }
 }
 
-/// The line of a delivery, where it brings an answer to a user. An error is want of memory (22).
+/// The line of a delivery, where it brings an answer to a user. An error is out of memory (22).
 pub fn report_answer(alloc: Global, packet: &Packet) -> Result<Option<Report>, AllocError>
     ensures { IfOk result (λ report. report ≡ told_to packet.now.to packet.now.body) }
 {

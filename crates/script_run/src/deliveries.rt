@@ -78,7 +78,7 @@ impl Deliveries {
         }
     }
 
-    /// Notes that a packet was delivered. An error is want of memory (22), and nothing has changed then.
+    /// Notes that a packet was delivered. An error is out of memory (22), and nothing has changed then.
     pub fn note(&mut self, number: usize) -> Result<(), AllocError>
         ensures ok { OnOk result (Delivered self.old number self.new) }
         ensures err { OnErr result (self.new ≡ self.old) }
@@ -89,7 +89,7 @@ impl Deliveries {
     }
 
     /// The lowest packet that a settle takes, of those that were sent and are not to an actor that is cut off. Those below it
-    /// are passed over for good; where there is none, all are. An error is want of memory (22).
+    /// are passed over for good; where there is none, all are. An error is out of memory (22).
     pub fn next(&mut self, cut: &[ActorId], sent: &[Packet]) -> Result<Option<usize>, AllocError>
         ensures found { IfOk result (λ found. IfSome found (λ n. IsLowest cut.now sent.now self.old n × Passed self.old n self.new)) }
         ensures none { IfOk result (λ found. IfNone found (NoneLeft cut.now sent.now self.old

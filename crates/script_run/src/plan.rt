@@ -34,7 +34,7 @@ fn setup_of(words: &[&str]) -> Option<Setup>
     )
 }
 
-/// The setup that this line spells, if it is one. An error is want of memory (22).
+/// The setup that this line spells, if it is one. An error is out of memory (22).
 fn read_setup(alloc: Global, line: &str) -> Result<Option<Setup>, AllocError>
     ensures found { IfOk result (λ read. IfSome read (λ setup. SpellsSetup (words_of line.now) (size_of setup))) }
     ensures none { IfOk result (λ read. IfNone read ((size : Size) → SpellsSetup (words_of line.now) size → ⊥)) }
@@ -54,7 +54,7 @@ fn is_within(line: &Line, setup: &Setup) -> bool
     }
 }
 
-/// The line that this text spells, if it is one. An error is want of memory (22).
+/// The line that this text spells, if it is one. An error is out of memory (22).
 fn parsed(alloc: Global, line: &str) -> Result<Option<Line>, AllocError>
     ensures found { IfOk result (λ read. IfSome read (λ found. Spells found (words_of line.now))) }
     ensures none { IfOk result (λ read. IfNone read ((found : Line) → Spells found (words_of line.now) → ⊥)) }
@@ -65,7 +65,7 @@ fn parsed(alloc: Global, line: &str) -> Result<Option<Line>, AllocError>
     }
 }
 
-/// The line below a setup that this text spells, if it is one. An error is want of memory (22).
+/// The line below a setup that this text spells, if it is one. An error is out of memory (22).
 fn read_line(alloc: Global, text: &str, setup: &Setup) -> Result<Option<Line>, AllocError>
     ensures found { IfOk result (λ read. IfSome read (λ line. SpellsLine (size_of setup.now) text.now line)) }
     ensures none { IfOk result (λ read. IfNone read ((line : Line) → SpellsLine (size_of setup.now) text.now line → ⊥)) }
@@ -78,7 +78,7 @@ fn read_line(alloc: Global, text: &str, setup: &Setup) -> Result<Option<Line>, A
 }
 
 /// Reads the next line, the setup or one below it, and answers whether a script may go on so. Empty lines are passed over.
-/// An error is want of memory (22).
+/// An error is out of memory (22).
 fn read_next(
     alloc: Global,
     line: &[u8],
@@ -114,7 +114,7 @@ fn read_next(
     }
 }
 
-/// Reads the text of a script. An error is want of memory (22), or that the text is no script (60), with the first line that
+/// Reads the text of a script. An error is out of memory (22), or that the text is no script (60), with the first line that
 /// no script has there.
 pub fn read_plan(alloc: Global, text: &[u8]) -> Result<Plan, Failure>
     ensures found { IfOk result (λ plan. IsScript text.now (size_of plan.setup) plan.lines.items) }

@@ -14,7 +14,7 @@ use script_lines::Line;
 use std::alloc::Global;
 use std::io::{Read, Write};
 
-/// The whole text of a reader. An error is want of memory (22), or that the reader failed (62).
+/// The whole text of a reader. An error is out of memory (22), or that the reader failed (62).
 fn read_text<R: Read + Drop>(alloc: Global, mut reader: R) -> Result<Vec<u8>, Failure>
     ensures text { IfOk result (λ text. IfSome (R.remaining reader) (λ bytes. text.items ≡ bytes)) }
     ensures failed { IfErr result IsInputFailure }
@@ -43,7 +43,7 @@ fn play_all<W: Write>(
 }
 
 /// Runs the script that the reader holds, and prints what is observed and answered. The whole text is read first. An error is
-/// a text that is no script (60), with the number of the first line at which it is none, want of memory (22), a reader that
+/// a text that is no script (60), with the number of the first line at which it is none, running out of memory (22), a reader that
 /// fails (62), or a writer that fails.
 pub fn script<R: Read + Drop, W: Write>(
     alloc: Global,

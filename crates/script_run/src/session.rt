@@ -49,7 +49,7 @@ fn take_out(cut: &mut Vec<ActorId>, actor: ActorId)
 }
 
 impl Session {
-    /// A stamp of this setup, in which nothing has happened. An error is want of memory (22).
+    /// A stamp of this setup, in which nothing has happened. An error is out of memory (22).
     pub fn start(alloc: Global, setup: &Setup) -> Result<Session, Failure>
         ensures fresh { IfOk result IsFresh }
         ensures mirrors { IfOk result (λ s. ClusterMirrors s.run
@@ -68,7 +68,7 @@ impl Session {
         }
     }
 
-    /// Runs a line, and prints what is observed and answered. An error is want of memory (22), or that the writer failed.
+    /// Runs a line, and prints what is observed and answered. An error is out of memory (22), or that the writer failed.
     pub fn play<W: Write>(&mut self, line: Line, writer: &mut W) -> Result<(), Failure>
         ensures played { OnOk result (Prints (W.contents writer.old) (W.contents writer.new) (λ text. Plays self.old line text self.new)) }
         ensures failed { IfErr result IsRunFailure }

@@ -30,7 +30,7 @@ impl Tickets {
         }
     }
 
-    /// The next ticket of the user, from 0. An error is want of memory (22).
+    /// The next ticket of the user, from 0. An error is out of memory (22).
     pub fn take(&mut self, user: u64) -> Result<u64, AllocError>
         ensures { IfOk result (λ ticket. Takes self.old user ticket self.new) }
     {

@@ -29,7 +29,7 @@ pub(crate) enum Step {
     AsksEach(Ask),
     /// The packet of this number comes.
     Delivers(usize),
-    /// Each packet behind the last one that came or was lost comes, but for what is sent to these nodes, which is lost.
+    /// Each packet after the last one that came or was lost comes, but for what is sent to these nodes, which is lost.
     Settles(&'static [u8]),
     /// The manager is to seal this extent, and refuses it for this reason, if it does.
     Decides(u64, Option<Refusal>),
@@ -43,7 +43,7 @@ pub(crate) enum Step {
     HasSent(usize),
     /// So many observations were made.
     HasObserved(usize),
-    /// No packet was sent behind the last one that came or was lost.
+    /// No packet was sent after the last one that came or was lost.
     IsSettled,
     /// The packet of this number puts a group at offset 0 of a replica of this node.
     Puts(usize, Actor),
@@ -153,7 +153,7 @@ const CASES: &[Case] = &[
 #[derive(Drop)]
 pub(crate) struct Run {
     pub(crate) stream_layer: StreamLayer,
-    /// The number behind that of the last packet that came or was lost.
+    /// The number after that of the last packet that came or was lost.
     pub(crate) next: usize,
 }
 
@@ -250,7 +250,7 @@ fn addressee(run: &Run, number: usize) -> Option<ActorId> {
     }
 }
 
-/// Has each packet behind the last one come, but for what is sent to these nodes: whether that comes to an end.
+/// Has each packet after the last one come, but for what is sent to these nodes: whether that comes to an end.
 pub(crate) fn settles(alloc: Global, run: &mut Run, cut: &[u8]) -> bool {
     for number in run.next..1000 {
         match addressee(run, number) {

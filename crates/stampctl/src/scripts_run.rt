@@ -124,7 +124,7 @@ const RUNS: &[(&str, &str)] = &[
         "user 1 append 1 1 abc\nsettle\nuser 1 append 1 1 def\nsettle\ncut n3\nuser 1 append 1 1 ghi\nsettle\nshow 1 1\nshow 2 1\nshow 3 1\nheal n3\ncut n1\ncut n2\nuser 1 seal 1\nsettle\ndecide 1\nheal n1\nheal n2\ndecide 1\nsettle\nshow 1 1\nshow 2 1\nshow 3 1\nuser 1 content 1 1 6\nsettle\nuser 1 content 2 1 6\nsettle\nuser 1 content 3 1 6\nsettle\n",
         "acked 1 0 3\nuser 1 2 appended 0\nacked 1 3 3\nuser 1 3 appended 3\nreplica 1 1 open 9 0\nreplica 2 1 open 9 0\nreplica 3 1 open 6 0\nsealed 1 6\nuser 1 5 sealedis 1 6\nreplica 1 1 sealed 6 0\nreplica 2 1 sealed 6 0\nreplica 3 1 sealed 6 0\ncontent 1 1 6 2\nuser 1 6 content 6\ncontent 1 2 6 2\nuser 1 7 content 6\ncontent 1 3 6 2\nuser 1 8 content 6\n",
     ),
-    // A stream goes on behind a sealed extent, and another last one is named; behind an open one nothing is made.
+    // A stream goes on after a sealed extent, and another last one is named; after an open one nothing is made.
     (
         "user 1 append 1 1 abc\nsettle\ncut n3\nuser 1 append 1 1 def\nsettle\nheal n3\nuser 1 seal 1\nsettle\ndecide 1\nsettle\nuser 1 extend 0 1 1 2 3\nsettle\nuser 1 append 1 2 def\nsettle\nuser 1 extend 0 1 1 2 3\nsettle\nuser 1 extend 0 2 1 2 3\nsettle\n",
         "acked 1 0 3\nuser 1 2 appended 0\nsealed 1 3\nuser 1 4 sealedis 1 3\nuser 1 5 extended 2\nacked 2 0 3\nuser 1 6 appended 0\nuser 1 7 extended 2\nuser 1 8 refused 13 LastOpen\n",

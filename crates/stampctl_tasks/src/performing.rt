@@ -84,7 +84,7 @@ fn tell_line<R: Eprint>(rt: &R, alloc: Global, text: &[u8], number: usize) {
     };
 }
 
-/// Prints what a script wrote, and how it ended. A script that could write no more ended for want of memory.
+/// Prints what a script wrote, and how it ended. A script that could write no more ended out of memory.
 fn finish<R: Print>(rt: &R, ended: &Result<(), Failure>, written: &[u8]) -> ExitCode
     ensures refused { IfErr ended.now (λ _. exit_status result ≡ 1) }
     ensures told { exit_status result < 2 }

@@ -93,7 +93,7 @@ abbrev pub is_number : ℕ → Option ℕ → Bool
 is_number e None = false
 is_number e (Some f) = f == e
 
--- Behind its last extent: another than the caller takes for the last is named to it, and nothing is added behind an open
+-- After its last extent: another than the caller takes for the last is named to it, and nothing is added after an open
 -- one. None: the extent may be added.
 abbrev pub behind : (ℕ → Option ℕ) → Option ℕ → Option ℕ → Result (Option ℕ) Refusal
 behind sealed None last = Ok None

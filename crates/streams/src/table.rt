@@ -52,7 +52,7 @@ impl Model for StreamTable {
     ghost invariant = { λ t. IsStrictlySorted t.entries.items };
 }
 
-/// What stands behind the last extent of a stream, for a caller that takes `last` for it.
+/// What stands after the last extent of a stream, for a caller that takes `last` for it.
 fn behind(
     end: Option<ExtentId>,
     last: Option<ExtentId>,

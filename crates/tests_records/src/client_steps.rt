@@ -39,7 +39,7 @@ pub(crate) enum Sent {
     Seal,
     /// The first extent of the stream is asked for.
     FirstExtend,
-    /// An extent behind the extent 1 is asked for.
+    /// An extent after the extent 1 is asked for.
     Extend,
     /// A read of a sealed extent up to the length 6, at this node.
     ReadSealed(u8),

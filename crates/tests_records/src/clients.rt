@@ -206,7 +206,7 @@ fn is_seal(packet: &Packet, count: u64) -> bool {
     }
 }
 
-/// Whether another extent is asked for, behind the extent 1 or as the first.
+/// Whether another extent is asked for, after the extent 1 or as the first.
 fn is_extend(packet: &Packet, behind: bool, count: u64) -> bool {
     match &packet.body {
         Body::Stream(StreamBody::Extend { last, request, .. }) => {

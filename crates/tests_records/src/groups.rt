@@ -2,7 +2,7 @@
 use block_types::{BlockFault, Group};
 use std::alloc::Global;
 
-/// A group of these texts, which is good: an error is taken for want of memory.
+/// A group of these texts, which is good: an error is taken where memory runs out.
 pub(crate) fn group_of(alloc: Global, texts: &[&[u8]]) -> Result<Group, BlockFault> {
     let mut owned = Vec::new(alloc);
     for text in texts {

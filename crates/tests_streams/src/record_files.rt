@@ -218,7 +218,7 @@ fn fails_in_a_stop(
     Ok(append(alloc, file, make()) == Err(DiskFault::Failed))
 }
 
-/// Whether an append failed just where its disk was told to stop in one of the four calls. A stop behind them is put off.
+/// Whether an append failed just where its disk was told to stop in one of the four calls. A stop after them is put off.
 fn stopped_there(file: &mut RecordFile<MemDisk>, calls: u64, failed: bool) -> bool {
     if !failed {
         file.stop_at(9, false);
@@ -273,7 +273,7 @@ fn one_more_real_record(rt: &HostRuntime) -> Result<usize, Fail> {
     one_more_record(rt.alloc(), &mut file)
 }
 
-/// Whether these parts are the bytes, with zeros behind them.
+/// Whether these parts are the bytes, with zeros after them.
 fn are_parts(bytes: &[u8], parts: &[&[u8]]) -> bool {
     let mut rest = bytes;
     for part in parts {

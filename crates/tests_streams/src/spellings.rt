@@ -222,7 +222,7 @@ fn only(alloc: Global, block: Block) -> Result<Group, AllocError> {
     Ok(Group::of(blocks))
 }
 
-/// Whether a group that shares a block has so many bytes, copied, and stands in groups behind one of the block.
+/// Whether a group that shares a block has so many bytes, copied, and stands in groups after one of the block.
 fn are_shared(alloc: Global, groups: &mut Groups) -> Result<bool, AllocError> {
     let block = Block::copied(alloc, b"abc")?;
     let is_same = other(&block)?.as_slice() == b"abc".as_slice();
@@ -265,7 +265,7 @@ fn read_numbers(bytes: &[u8]) -> Result<(u8, u16, u32, u64), BlockFault> {
     Ok((first, second, third, u64_at(bytes)?.0))
 }
 
-/// Whether a text of 15 bytes has `ab` behind it, which is the end of the bytes and not of the text.
+/// Whether a text of 15 bytes has `ab` after it, which is the end of the bytes and not of the text.
 fn are_read(bytes: &[u8]) -> Result<bool, BlockFault> {
     let (text, rest) = bytes_of(15, bytes)?;
     Ok(

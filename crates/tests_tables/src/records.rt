@@ -16,7 +16,7 @@ pub(crate) const GAP: &[u8] = &[
     0, 0, 0, 24, 0, 0, 0, 0, 0, 0, 0, 4, 0, 1, 1, 0, 1, b'a', 1, 0, 0, 0, 1, b'y',
 ];
 
-/// One group: a block of this text, and behind it a block of each of these sizes.
+/// One group: a block of this text, and after it a block of each of these sizes.
 pub(crate) fn groups(alloc: Global, text: &[u8], sizes: &[usize]) -> Result<Vec<Group>, Fail> {
     let mut texts = Vec::new(alloc);
     texts.push(text.to_vec(alloc)?)?;

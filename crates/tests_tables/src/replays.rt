@@ -15,12 +15,12 @@ const LOG: &[u8] = &[
     0, 0, 0, 0, 0, 0, 0, 1, // the first number
     0, 2, // two transactions
     1, 0, 1, b'a', 1, 0, 0, 0, 1, b'x', // a value beside its key
-    1, 0, 1, b'b', 2, 0, 0, 0, 19, 136, // a value of 5,000 bytes in the first block behind
+    1, 0, 1, b'b', 2, 0, 0, 0, 19, 136, // a value of 5,000 bytes in the first block after
 ];
 
 /// What is done with a log, or what is known of what was read of it.
 pub(crate) enum Step {
-    /// A group with this record, and with a block of each of these sizes behind it, is read as the first of the extent 7.
+    /// A group with this record, and with a block of each of these sizes after it, is read as the first of the extent 7.
     Reads(&'static [u8], &'static [usize]),
     /// A group with this record alone is damage.
     Refuses(&'static [u8]),

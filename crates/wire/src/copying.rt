@@ -44,7 +44,7 @@ fn changes_of(alloc: Global, changes: &[Change]) -> Result<Vec<Change>, AllocErr
 }
 
 impl Blocks {
-    /// The same blocks again, which share the bytes. An error is want of memory (22).
+    /// The same blocks again, which share the bytes. An error is out of memory (22).
     pub fn copy(&self, alloc: Global) -> Result<Blocks, AllocError>
         ensures { IfOk result (λ copy. copy ≡ self.now) }
     {
@@ -55,7 +55,7 @@ impl Blocks {
 }
 
 impl Changes {
-    /// The same changes again, which share the bytes. An error is want of memory (22).
+    /// The same changes again, which share the bytes. An error is out of memory (22).
     pub fn copy(&self, alloc: Global) -> Result<Changes, AllocError>
         ensures { IfOk result (λ copy. copy ≡ self.now) }
     {

@@ -23,8 +23,8 @@ fn add(notes: &mut Notes, number: u64, group: Group) -> Result<(), AllocError>
     })
 }
 
-/// The observations of so many acknowledged appends of a group of 1 KiB, 64 to an extent, which all share its bytes. An error is
-/// out of memory (22).
+/// The observations of so many acknowledged appends of a group, 64 to an extent and 1 KiB apart, which all share its bytes. An
+/// error is out of memory (22).
 pub fn acknowledged(alloc: Global, group: &Group, count: u64) -> Result<Notes, AllocError>
     ensures { IfOk result (λ notes. notes ≡ acknowledged group.now count) }
 {

@@ -87,7 +87,7 @@ fn start_at(cells: &mut Vec<ServerCell>, at: usize, alloc: Global, number: u8, n
 }
 
 impl Servers {
-    /// So many servers, which run.
+    /// So many servers, which run. An error is out of memory (22).
     #[tactic(auto, using(crate::proofs::ServerList::one_started, crate::proofs::ServerList::all_started))]
     pub fn start(alloc: Global, count: u8, batch: u16) -> Result<Servers, AllocError>
         ensures { IfOk result (λ servers. servers ≡ first_servers batch 1 count) }
@@ -124,7 +124,8 @@ impl Servers {
         }
     }
 
-    /// Gives a packet to the server of a number. Nothing comes of one to an absent server, or to one that has stopped.
+    /// Gives a packet to the server of a number. Nothing comes of one to an absent server, or to one that has stopped. An error
+    /// is out of memory (22), and nothing has changed.
     pub fn give(
         &mut self,
         alloc: Global,
@@ -141,7 +142,8 @@ impl Servers {
         }
     }
 
-    /// Has the server of a number give up on what a range waits for. It answers why it does not (30).
+    /// Has the server of a number give up on what a range waits for. It answers why it does not (30). An error is out of memory
+    /// (22), and nothing has changed.
     pub fn give_up(
         &mut self,
         alloc: Global,
@@ -163,7 +165,7 @@ impl Servers {
         }
     }
 
-    /// Stops the server of a number at once.
+    /// Stops the server of a number, where the call is 0. A server has no device, so that at any other call nothing happens.
     pub fn stop(&mut self, server: ServerNo, call: u64)
         ensures { server_stops self.old server call ≡ record { servers = self.new; packets = []; notes = [] } }
     {
