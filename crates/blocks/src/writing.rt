@@ -1,7 +1,7 @@
 //! Writing a record as bytes. Each writer appends what its clause says; where one runs out of memory, a part of it
 //! may stand in the buffer, so `encode_as` writes into a buffer of its own.
 ghost use Rattle.std.specs.Prelude.{◌≡◌, ◌∷◌, ◌++◌, ◌<◌, ◌^◌, length, OnOk, OnErr};
-ghost use Rattle.block_types.specs.Limits.{IsBlock, IsGroup};
+ghost use Rattle.block_types.specs.Limits.{IsGroup};
 ghost use Rattle.block_types.specs.declared.record.Version.TheVariants.{V1};
 ghost use Rattle.blocks.specs.Record.{number, block, group, groups, nodes, body, spelling, Fits, IsInRange};
 

@@ -1,5 +1,5 @@
 -- What a call that begins something leaves.
-use Rattle.std.specs.Prelude.{◌≡◌, Option, Some, None, Result, Ok}
+use Rattle.std.specs.Prelude.{◌≡◌, Some, None, Result, Ok}
 use Rattle.wire.specs.declared.packet.Packet.{Packet}
 use Rattle.client.specs.Client.{ClientState, Outcome}
 use Rattle.client.specs.declared.fault.ClientFault.{ClientFault}

@@ -1,6 +1,6 @@
 //! A server's work on one stream.
-ghost use Rattle.std.specs.Prelude.{◌≡◌, Err, Some, None, [], true, IfOk, IfErr, IfSome, OnErr};
-ghost use Rattle.client.specs.Client.{last_extent, is_idle, new_client, check_rule, read_sealed_rule, read_checked_rule, reply_rule, give_up_rule, content_of, content_told, needs_memory, ends, closes, shuts, grows, reads_groups};
+ghost use Rattle.std.specs.Prelude.{◌≡◌, Err, Some, None, true, IfOk, IfErr, OnErr};
+ghost use Rattle.client.specs.Client.{last_extent, is_idle, new_client, check_rule, read_sealed_rule, read_checked_rule, reply_rule, give_up_rule, content_of, content_told, needs_memory, closes, shuts, grows, reads_groups};
 ghost use Rattle.client.specs.Began.{Begins};
 ghost use Rattle.client.specs.declared.fault.ClientFault.{ClientFault};
 ghost use Rattle.client.specs.declared.job.News.TheVariants as news;

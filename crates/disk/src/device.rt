@@ -1,5 +1,5 @@
 //! A disk: what a read gives, and what a crash may leave.
-ghost use Rattle.std.specs.Prelude.{◌≡◌, ◌≤◌, ◌<◌, ◌+◌, ◌^◌, List, ℕ, length, IfOk, OnOk};
+ghost use Rattle.std.specs.Prelude.{◌≡◌, ◌≤◌, ◌<◌, ◌^◌, length, IfOk};
 ghost use Rattle.disk.specs.declared.device.DiskFault.TheVariants as faults;
 ghost use Rattle.disk.specs.Disk.{DiskState, Reads, Reserves, Writes, Syncs, CountsNow, OnlyNow, SeenIsThere, SyncedIsThere};
 

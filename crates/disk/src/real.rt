@@ -1,5 +1,5 @@
 //! A disk over a file of the operating system.
-ghost use Rattle.std.specs.Prelude.{◌≡◌, ◌≤◌, ◌<◌, ◌+◌, ◌^◌, [], IsTrue, IfOk, true, false, not, length};
+ghost use Rattle.std.specs.Prelude.{◌≡◌, ◌≤◌, ◌<◌, ◌+◌, ◌^◌, IsTrue, IfOk, true, false, not, length};
 ghost use Rattle.disk.specs.RealFile.{file_state, IsNew};
 
 use crate::device::{Disk, DiskFault};

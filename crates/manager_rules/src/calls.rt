@@ -1,11 +1,11 @@
 //! What the manager does with calls for streams and extents.
 ghost use Rattle.std.specs.Prelude.{◌≡◌, true};
-ghost use Rattle.streams.specs.Streams.{stream_of, create_fault, open_fault, confirm_fault, extending};
+ghost use Rattle.streams.specs.Streams.{stream_of, create_fault, open_fault, extending};
 ghost use Rattle.model_streams.specs.Actors.{generation_of};
 ghost use Rattle.model_streams.specs.Maps.{entry_at};
 ghost use Rattle.model_streams.specs.Manager.{is_pick};
 ghost use Rattle.manager_state.specs.Table.{plain, sealed_at};
-ghost use Rattle.manager_rules.specs.Plan.{Plans, create, create_in, open_streams, open_in, confirm, confirm_in, extend, extend_answered, last_told, picked, made, no_users, stream_body};
+ghost use Rattle.manager_rules.specs.Plan.{Plans, create, create_in, open_streams, open_in, confirm, extend, extend_answered, last_told, picked, made, no_users, stream_body};
 
 use crate::actors::{generation_of, is_foreign, is_user};
 use crate::plan::{Change, Plan};

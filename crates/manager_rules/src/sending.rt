@@ -4,7 +4,7 @@ ghost use Rattle.wire.specs.declared.actor.ActorId.TheVariants.{Manager};
 ghost use Rattle.wire.specs.declared.body.Body.TheVariants as bodies;
 ghost use Rattle.model_streams.specs.Manager.{each_place, closes, told_sealed, tells_asker};
 ghost use Rattle.model_streams.specs.Outcome.{packet};
-ghost use Rattle.manager_rules.specs.Plan.{Plans, still, told, denied, refusal_of, make_of, reminding, plan_of, created_of, opened_of, confirmed_of, extended_of};
+ghost use Rattle.manager_rules.specs.Plan.{Plans, still, told, denied, make_of, reminding, plan_of, created_of, opened_of, confirmed_of, extended_of};
 ghost use Rattle.manager_rules.specs.declared.plan.Change.TheVariants as changes;
 
 use crate::plan::{Change, Plan};

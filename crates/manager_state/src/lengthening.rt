@@ -1,5 +1,5 @@
 //! The changes of streams: a new stream, one more extent at an end, and room for them.
-ghost use Rattle.std.specs.Prelude.{◌≡◌, ◌<◌, OnOk, OnErr, IfOk, length, suc, option_map, vec_len, vec_capacity};
+ghost use Rattle.std.specs.Prelude.{◌≡◌, ◌<◌, OnOk, IfOk, length, suc, option_map, vec_len, vec_capacity};
 ghost use Rattle.streams.specs.Streams.{stream_of, created, extended};
 ghost use Rattle.streams.specs.Table.{streams_of, HasRoom};
 ghost use Rattle.model_streams.specs.Manager.{first_streams};

@@ -1,6 +1,5 @@
 -- What an append to the file says of a step that ends as the append does.
 use Rattle.std.proofs.Common.{◌≡◌, Option, Some, Result, Ok, Err, refl, ap, sym, subst, ◌∙◌}
-use Rattle.block_types.specs.declared.record.Record.{Record}
 use Rattle.block_types.specs.declared.record.Record.TheVariants.{Manage}
 use Rattle.disk.proofs.Steps.{appends_with}
 use Rattle.disk.specs.declared.device.DiskFault.{DiskFault}

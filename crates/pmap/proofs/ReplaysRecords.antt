@@ -1,12 +1,12 @@
 -- The table stays what the map's records make of it.
-use Rattle.std.proofs.Common.{◌≡◌, false, List, ◌++◌, Option, Some, None, Result, Ok, Err, refl, sym, ap, ◌∙◌, subst, append-nil}
+use Rattle.std.proofs.Common.{◌≡◌, false, List, ◌++◌, Result, Ok, Err, sym, subst}
 use Rattle.block_types.specs.declared.record.Record.{Record}
 use Rattle.disk.proofs.Steps.{records_ok, records_short, records_broken}
 use Rattle.disk.specs.declared.device.DiskFault.{DiskFault}
 use Rattle.disk.specs.declared.device.DiskFault.TheVariants.{Failed, Memory}
 use Rattle.disk.specs.Disk.{DiskState}
 use Rattle.disk.specs.Filed.{Filed}
-use Rattle.disk.specs.Appends.{Records, listed}
+use Rattle.disk.specs.Appends.{listed}
 use Rattle.wire.specs.declared.packet.Step.{Step}
 use Rattle.model_streams.specs.Outcome.{Outcome}
 use Rattle.model_partition.specs.Map.{MapState}

@@ -1,6 +1,5 @@
 -- Entries of a map, of which one is set or taken away.
-use Rattle.std.proofs.Common.{◌≡◌, Bool, true, false, List, [], ◌∷◌, Option, Some, None, refl, ap}
-use Rattle.std.specs.Prelude.{cond, if◌then◌else◌}
+use Rattle.std.proofs.Common.{◌≡◌, Bool, true, false, List, [], ◌∷◌, Some, refl, ap}
 use Rattle.std.specs.Map.{lookup, remove_entry, set_value}
 
 module _ {K X : Type 0} (test : K → Bool) where

@@ -1,5 +1,5 @@
 -- The steps of a load, as those of the range that it is a part of.
-use Rattle.std.specs.Prelude.{◌≡◌, List, [], ◌∷◌, None, option_to_list}
+use Rattle.std.specs.Prelude.{◌≡◌, [], ◌∷◌, None, option_to_list}
 use Rattle.model_partition.specs.declared.server_context.ServerContext.{ServerContext}
 use Rattle.model_partition.specs.Range.{RangeState, RangeOutcome, answers, goes, dropped}
 use Rattle.range_load.specs.declared.content.RangeContent.{RangeContent}

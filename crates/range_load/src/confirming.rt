@@ -1,5 +1,5 @@
 //! All is read: the generation is confirmed, and the range is served.
-ghost use Rattle.std.specs.Prelude.{◌≡◌, ◌+◌, ◌<◌, ◌^◌, length, true, IfOk, OnErr};
+ghost use Rattle.std.specs.Prelude.{◌≡◌, ◌+◌, ◌<◌, length, true, IfOk, OnErr};
 ghost use Rattle.client.specs.declared.load.LoadPhase.TheVariants as phases;
 ghost use Rattle.client.specs.Client.{last_extent};
 ghost use Rattle.client.specs.Load.{is_open, reply_phase};
@@ -7,7 +7,7 @@ ghost use Rattle.model_partition.specs.declared.table_note.TableNote.TheVariants
 ghost use Rattle.model_partition.specs.declared.server_context.ServerContext.{ServerContext};
 ghost use Rattle.model_partition.specs.Range.{position_le};
 ghost use Rattle.model_partition.specs.Loading as rows;
-ghost use Rattle.range_load.specs.Steps.{put, outcome, RangePerforms};
+ghost use Rattle.range_load.specs.Steps.{RangePerforms};
 
 use crate::asking::next_request;
 use crate::content::RangeContent;

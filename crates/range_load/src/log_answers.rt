@@ -8,7 +8,7 @@ ghost use Rattle.model_partition.specs.Range.{picking, is_serving};
 ghost use Rattle.model_partition.specs.Loading as rows;
 ghost use Rattle.model_partition.specs.Answering as answers;
 ghost use Rattle.range_load.specs.declared.progress.Progress.TheVariants as progress;
-ghost use Rattle.range_load.specs.Steps.{put, outcome, RangePerforms};
+ghost use Rattle.range_load.specs.Steps.{RangePerforms};
 
 use crate::answering::groups_of;
 use crate::asking::take_answer;

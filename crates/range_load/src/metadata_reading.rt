@@ -1,9 +1,9 @@
 //! The metadata is read.
-ghost use Rattle.std.specs.Prelude.{◌≡◌, ℕ, suc, true};
+ghost use Rattle.std.specs.Prelude.{◌≡◌, suc, true};
 ghost use Rattle.client.specs.Client.{last_extent};
 ghost use Rattle.client.specs.Load.{is_open};
 ghost use Rattle.model_partition.specs.Loading as rows;
-ghost use Rattle.range_load.specs.Steps.{put, outcome, RangePerforms};
+ghost use Rattle.range_load.specs.Steps.{RangePerforms};
 
 use crate::asking::{check_last, read_at};
 use crate::content::RangeContent;

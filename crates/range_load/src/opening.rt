@@ -8,7 +8,7 @@ ghost use Rattle.metadata.specs.Fold.{first_metadata};
 ghost use Rattle.model_partition.specs.Range.{request};
 ghost use Rattle.model_partition.specs.Loading as rows;
 ghost use Rattle.model_partition.specs.Server.{new_range};
-ghost use Rattle.range_load.specs.Steps.{put, outcome, RangePerforms};
+ghost use Rattle.range_load.specs.Steps.{put, RangePerforms};
 
 use crate::asking::next_request;
 use crate::content::RangeContent;

@@ -1,5 +1,5 @@
 -- What a whole script writes, and what an event prints.
-use Rattle.std.proofs.Common.{◌≡◌, ◌++◌, ℕ, List, Option, Some, None, IfSome, drop, length, option_map, refl, ap, sym, subst, ◌∙◌}
+use Rattle.std.proofs.Common.{◌≡◌, ◌++◌, ℕ, List, Option, Some, None, IfSome, drop, length, option_map, refl, ap, subst, ◌∙◌}
 use Rattle.std.specs.Io.KnownBytes.{Appends}
 use Rattle.model_streams.specs.declared.event.Event.{Event}
 use Rattle.model_partition.specs.Cluster.{first_cluster}

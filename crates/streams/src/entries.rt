@@ -1,7 +1,7 @@
 //! Streams in the order of their names.
 ghost use Rattle.std.specs.Prelude.{◌≡◌, ◌<◌, ◌-◌, OnOk, IfOk, IfErr, option_map, vec_len, vec_capacity};
 ghost use Rattle.streams.specs.Streams.{kind_number, extended, created, opened};
-ghost use Rattle.streams.specs.Table.{Entry, IsStrictlySorted, IsAt, IsGapFor, key_of, found, streams_in, fenced, HasRoomIn};
+ghost use Rattle.streams.specs.Table.{IsStrictlySorted, IsAt, IsGapFor, key_of, found, streams_in, fenced, HasRoomIn};
 
 use crate::listed::{Listed, key_of};
 use std::alloc::{AllocError, Global};

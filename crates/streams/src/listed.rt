@@ -1,5 +1,5 @@
 //! One stream.
-ghost use Rattle.std.specs.Prelude.{◌≡◌, ◌<◌, ◌++◌, ◌∷◌, [], OnOk, OnErr, option_map};
+ghost use Rattle.std.specs.Prelude.{◌≡◌, ◌<◌, OnOk};
 ghost use Rattle.streams.specs.Streams.{empty_stream, last_of, longer, at_index};
 ghost use Rattle.streams.specs.Table.{key_of};
 

@@ -1,5 +1,5 @@
 //! The blocks of an append that nobody has looked at yet.
-ghost use Rattle.std.specs.Prelude.{◌≡◌, length, false, IfOk};
+ghost use Rattle.std.specs.Prelude.{◌≡◌, false, IfOk};
 ghost use Rattle.std.specs.List.{AllByRecursion};
 ghost use Rattle.block_types.specs.Limits.{IsBlock, IsGroup};
 ghost use Rattle.wire.specs.Blocks.{has_bad_block};

@@ -1,5 +1,5 @@
 //! The search for the first observation that breaks what the earlier ones say.
-ghost use Rattle.std.specs.Prelude.{◌≡◌, ◌<◌, ◌≤◌, ℕ, ◌↔◌, suc, take, length, slice_index, Some, None, IfNone, IfSome};
+ghost use Rattle.std.specs.Prelude.{◌≡◌, ◌<◌, ◌≤◌, ◌↔◌, suc, take, length, slice_index, Some, None, IfNone, IfSome};
 ghost use Rattle.std.specs.Bool.{Decides};
 ghost use Rattle.world_checker.specs.Checking.{extent_of, IsHonest, AreLinks, AllMeet, MeetsFrom};
 

@@ -9,16 +9,16 @@ use Rattle.wire.specs.declared.note.Note.{Note}
 use Rattle.wire.specs.declared.packet.Packet.{Packet}
 use Rattle.wire.specs.declared.packet.Step.{Step}
 use Rattle.model_streams.specs.declared.event.Event.{Event}
-use Rattle.model_streams.specs.declared.event.Event.TheVariants.{Submit, Deliver, Stop, Restart, Decide}
+use Rattle.model_streams.specs.declared.event.Event.TheVariants.{Submit, Deliver, Decide}
 use Rattle.model_streams.specs.Node.{Replica}
 use Rattle.model_streams.specs.Outcome.{packet}
 use Rattle.model_streams.specs.StreamSystem.Move.{Asks}
-use Rattle.model_streams.specs.StreamSystem.{StreamSystem, ActorCell, happens, moved, is_request, is_server_call, sent_more, delivered, delivered_if, node_takes, manager_takes, manager_decides, stop, restart, run, start}
+use Rattle.model_streams.specs.StreamSystem.{StreamSystem, ActorCell, happens, moved, is_request, is_server_call, sent_more, delivered, delivered_if, node_takes, manager_takes, manager_decides, restart, run, start}
 use Rattle.model_streams.proofs.Tests.{if_elim}
 use Rattle.world_streams.specs.declared.fault.WorldFault.{WorldFault}
 use Rattle.world_streams.specs.ManagerSeen.{ManagerSeen, ManagerMirrors, IsNewManager, RecordsMakeCatalog, ManagerSteps, CatalogMirrors}
 use Rattle.world_streams.specs.Nodes.{NodeSeen, NodesMirror, NodesStep, AreNew, nothing, plan_of}
-use Rattle.world_streams.specs.StreamLayer.{StreamLayerState, IsFew, StreamLayerMirrors, ActorsStep}
+use Rattle.world_streams.specs.StreamLayer.{StreamLayerState, StreamLayerMirrors, ActorsStep}
 use Rattle.world_streams.proofs.Seen.{entry_beyond}
 use Rattle.world_streams.proofs.NodeSimulation.{nil}
 use Rattle.world_streams.proofs.NodeList.{begun}

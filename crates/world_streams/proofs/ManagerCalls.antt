@@ -1,5 +1,5 @@
 -- The calls of the real manager, in the words of their answers.
-use Rattle.std.proofs.Common.{◌≡◌, ◌≢◌, ◌⊎◌, ℕ, zero, suc, Bool, true, false, not, ◌&&◌, if◌then◌else◌, List, [], ◌∷◌, ◌++◌, length, Option, Some, None, option_map, Result, Ok, Err, IfErr, refl, sym, ap, ◌∙◌, inl, inr, ⊎_elim, subst, append-nil}
+use Rattle.std.proofs.Common.{◌≡◌, ◌≢◌, ◌⊎◌, ℕ, Bool, true, false, not, ◌&&◌, if◌then◌else◌, List, [], ◌++◌, length, Option, Some, None, option_map, Result, Ok, Err, IfErr, refl, sym, ap, ◌∙◌, inl, inr, ⊎_elim, subst}
 use Rattle.disk.specs.declared.device.DiskFault.{DiskFault}
 use Rattle.disk.specs.declared.device.DiskFault.TheVariants.{Failed, Memory}
 use Rattle.disk.specs.declared.memory.MemDisk.{MemDisk}
@@ -12,17 +12,17 @@ use Rattle.wire.specs.declared.refusal.Refusal.{Refusal}
 use Rattle.wire.specs.declared.refusal.Refusal.TheVariants as refusals
 use Rattle.model_streams.specs.declared.extent.Extent.{Extent}
 use Rattle.model_streams.specs.Maps.{entry_at}
-use Rattle.model_streams.specs.Outcome.{Outcome, silent}
+use Rattle.model_streams.specs.Outcome.{silent}
 use Rattle.model_streams.specs.Manager.{Catalog, decide_refusal, decide_rule, decided_if, is_there, least_told, manager_rule, reminders}
-use Rattle.model_streams.specs.StreamSystem.{StreamSystem, manager_decides, manager_performs, manager_takes, stands_in, stops_in}
+use Rattle.model_streams.specs.StreamSystem.{StreamSystem, manager_decides, manager_performs, manager_takes, stands_in}
 use Rattle.manager.specs.declared.fault.ManagerFault.{ManagerFault}
 use Rattle.manager.specs.declared.fault.ManagerFault.TheVariants as faults
 use Rattle.manager_state.specs.Table.{ManagerTableState, SameCatalog}
 use Rattle.manager.specs.Manager.{ManagerState, ManagerIsReplay, ShowsCatalog, table_of}
 use Rattle.manager.proofs.Decisions.{decided_notes}
 use Rattle.manager.specs.Performs.{ManagerPerforms, as_rule, fault_of, sealing_at, sealing_notes}
-use Rattle.world_streams.specs.ManagerSeen.{ManagerSeen, ManagerMirrors, ManagerSteps, manager_seen_of, decision_refusal}
-use Rattle.world_streams.specs.Nodes.{nothing, plan_of}
+use Rattle.world_streams.specs.ManagerSeen.{ManagerMirrors, ManagerSteps, manager_seen_of, decision_refusal}
+use Rattle.world_streams.specs.Nodes.{nothing}
 use Rattle.world_streams.specs.Stopping.{shown_if, stands_told}
 use Rattle.world_streams.proofs.ManagerSimulation.{told_lists, manager_same, served_broken, served_ok, served_up, told_stands}
 use Rattle.world_streams.proofs.ManagerNotes.{rule_quiet}

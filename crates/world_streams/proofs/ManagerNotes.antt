@@ -1,5 +1,5 @@
 -- The manager's rules for packets show nothing.
-use Rattle.std.proofs.Common.{◌≡◌, ℕ, Bool, true, false, not, ◌&&◌, ◌==◌, if◌then◌else◌, List, [], Option, Some, None, Result, Ok, Err, refl}
+use Rattle.std.proofs.Common.{◌≡◌, ℕ, [], Option, Some, None, Result, Ok, Err, refl}
 use Rattle.block_types.specs.declared.record.Nodes.{Nodes}
 use Rattle.wire.specs.declared.actor.ActorId.TheVariants.{Manager}
 use Rattle.wire.specs.declared.actor.ReqNo.{ReqNo}

@@ -1,9 +1,8 @@
 -- What the real manager does is what the model's manager does.
-use Rattle.std.proofs.Common.{◌≡◌, ◌≢◌, ◌⊎◌, ℕ, zero, suc, ◌<◌, Bool, true, false, not, ◌==◌, ◌&&◌, ◌||◌, nat_lt, nat_le, if◌then◌else◌, List, [], ◌∷◌, ◌++◌, length, map, Option, Some, None, option_map, Result, Ok, Err, refl, sym, ap, ◌∙◌, inl, inr, ⊎_elim, arith, subst, append-nil}
+use Rattle.std.proofs.Common.{◌≡◌, ◌≢◌, ℕ, zero, suc, Bool, true, false, not, ◌==◌, ◌&&◌, nat_lt, nat_le, if◌then◌else◌, List, [], ◌∷◌, ◌++◌, length, map, Option, Some, None, option_map, Ok, Err, refl, sym, ap, ◌∙◌, subst, append-nil}
 use Rattle.std.proofs.lemmas.List.{length-map}
 use Rattle.std.proofs.lemmas.Option.{same_Some}
 use Rattle.std.proofs.lemmas.Bool.{ltb-true, eqb-true, and_parts}
-use Rattle.disk.specs.declared.device.DiskFault.{DiskFault}
 use Rattle.disk.specs.declared.device.DiskFault.TheVariants.{Failed, Memory}
 use Rattle.disk.specs.declared.memory.MemDisk.{MemDisk}
 use Rattle.disk.specs.declared.memory.Stop.{Stop}
@@ -12,15 +11,13 @@ use Rattle.disk.specs.Filed.{Filed}
 use Rattle.disk.specs.Memory.{memory_state}
 use Rattle.block_types.specs.declared.record.Record.{Record}
 use Rattle.wire.specs.declared.actor.ActorId.TheVariants.{Manager}
-use Rattle.wire.specs.declared.note.Note.{Note}
-use Rattle.wire.specs.declared.packet.Packet.{Packet}
 use Rattle.wire.specs.declared.packet.Step.{Step}
 use Rattle.model_streams.specs.declared.extent.Extent.{Extent}
 use Rattle.model_streams.specs.Maps.{entry_at}
 use Rattle.model_streams.specs.Outcome.{Outcome}
-use Rattle.model_streams.specs.Manager.{Catalog, catalog_stopped, forgotten, forgotten_if, manager_rule}
+use Rattle.model_streams.specs.Manager.{Catalog, catalog_stopped, forgotten, forgotten_if}
 use Rattle.model_streams.specs.Replay.{catalog_replay}
-use Rattle.model_streams.specs.StreamSystem.{StreamSystem, ActorCell, after_manager_rule, armed, burnt, manager_halted, down, manager_performs, manager_stops, manager_takes, restart, running, stands_in, stop, stops_in, unsent}
+use Rattle.model_streams.specs.StreamSystem.{StreamSystem, ActorCell, after_manager_rule, manager_halted, manager_performs, manager_stops, restart, running, stands_in, stop, stops_in, unsent}
 use Rattle.model_streams.proofs.Tests.{if_elim}
 use Rattle.manager_state.specs.Table.{ManagerTableState, SameCatalog, forgotten_table}
 use Rattle.manager_state.specs.Replay.{TableIsReplay}

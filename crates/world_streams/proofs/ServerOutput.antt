@@ -1,7 +1,6 @@
 -- What servers add to a layer, one after the other.
 use Rattle.std.proofs.Common.{◌≡◌, ◌<◌, ℕ, List, [], ◌∷◌, ◌++◌, length, Option, Some, refl, sym, ap, ◌∙◌, subst, inl, inr, slice_get, slice_index_or}
 use Rattle.std.proofs.lemmas.Option.{same_Some}
-use Rattle.block_types.specs.declared.record.Nodes.{Nodes}
 use Rattle.wire.specs.declared.note.Note.{Note}
 use Rattle.wire.specs.declared.packet.Packet.{Packet}
 use Rattle.wire.specs.declared.rows.Row.{Row}
@@ -9,11 +8,11 @@ use Rattle.memtable.specs.Entries.{Entries}
 use Rattle.model_streams.specs.StreamSystem.{StreamSystem, sent_more}
 use Rattle.model_partition.specs.declared.table_note.TableNote.{TableNote}
 use Rattle.model_partition.specs.declared.table_note.TableNote.TheVariants as tables
-use Rattle.model_partition.specs.Servers.{ArePlain, IsLoad, ShowsLoad, ServerCell, ServersOutcome, noted, rows_of, server_takes, told, with_told}
+use Rattle.model_partition.specs.Servers.{ArePlain, ShowsLoad, ServerCell, ServersOutcome, noted, rows_of, server_takes, told, with_told}
 use Rattle.world_streams.specs.StreamLayer.{StreamLayerState, StreamLayerMirrors}
 use Rattle.range.specs.ServerStep.{Sent}
 use Rattle.world_servers.specs.Servers.{ServersTakePacket, outcome}
-use Rattle.world_streams.specs.ServersStep.{IsLoadOf, AfterMap, ShowsRows, AfterServers, AfterServerTakes, told_with, with_sent}
+use Rattle.world_streams.specs.ServersStep.{AfterMap, ShowsRows, AfterServers, AfterServerTakes, told_with, with_sent}
 use Rattle.world_streams.proofs.EventSimulation.{get_at, nodes_as, manager_as}
 
 -- ---- one observation more

@@ -1,12 +1,11 @@
 -- A node that stops or comes back is the model's node that does.
-use Rattle.std.proofs.Common.{◌≡◌, ◌≢◌, ◌⊎◌, ℕ, zero, suc, ◌<◌, ◌≤◌, Bool, true, false, not, ◌==◌, ◌&&◌, ◌||◌, nat_lt, nat_le, if◌then◌else◌, List, [], ◌∷◌, ◌++◌, Option, Some, None, refl, sym, ap, ◌∙◌, inl, inr, ⊎_elim, arith, subst, slice_index_or, slice_set, length, append-nil}
+use Rattle.std.proofs.Common.{◌≡◌, ◌≢◌, ◌⊎◌, ℕ, suc, ◌<◌, ◌≤◌, Bool, true, false, not, ◌==◌, ◌||◌, nat_lt, nat_le, List, Some, None, refl, sym, ap, ◌∙◌, ⊎_elim, arith, subst, slice_index_or, slice_set, length, append-nil}
 use Rattle.std.proofs.lemmas.Bool.Decides.{nat_tests}
 use Rattle.std.proofs.lemmas.Bool.{or_cases, or_parts, ltb-true, leb-true, not-false, eqb-true, and_from, and_parts}
 use Rattle.disk.specs.declared.memory.MemDisk.{MemDisk}
 use Rattle.disk.specs.Memory.{memory_state}
 use Rattle.block_types.specs.declared.record.Record.{Record}
 use Rattle.wire.specs.declared.actor.ActorId.TheVariants.{Node}
-use Rattle.wire.specs.declared.packet.Step.{Step}
 use Rattle.replica.specs.Replay.{replay}
 use Rattle.model_streams.specs.Maps.{changed, entry_at}
 use Rattle.model_streams.specs.Node.{Replica, stopped}

@@ -1,5 +1,5 @@
 -- The real manager beside the model's.
-use Rattle.std.specs.Prelude.{◌≡◌, ℕ, length, Bool, true, false, not, ◌++◌, List, [], ◌∷◌, Option, Some, None, if◌then◌else◌}
+use Rattle.std.specs.Prelude.{◌≡◌, ℕ, length, Bool, true, false, not, ◌++◌, List, Option, Some, None, if◌then◌else◌}
 use Rattle.block_types.specs.declared.record.Record.{Record}
 use Rattle.disk.specs.declared.memory.MemDisk.{MemDisk}
 use Rattle.disk.specs.Memory.{memory_state}

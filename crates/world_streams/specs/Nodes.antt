@@ -1,5 +1,5 @@
 -- Real nodes beside the model's.
-use Rattle.std.specs.Prelude.{◌≡◌, ◌≢◌, ℕ, Bool, false, not, ◌==◌, List, [], ◌++◌, length, map, Option, Some, None, if◌then◌else◌}
+use Rattle.std.specs.Prelude.{◌≡◌, ◌≢◌, ℕ, Bool, false, not, List, [], ◌++◌, length, map, Option, Some, None, if◌then◌else◌}
 use Rattle.std.specs.FinMap.{entries, from_entries}
 use Rattle.std.specs.Ordering.{nat_cmp}
 use Rattle.block_types.specs.declared.record.Record.{Record}
@@ -8,7 +8,7 @@ use Rattle.disk.specs.Memory.{memory_state}
 use Rattle.wire.specs.declared.packet.Step.{Step}
 use Rattle.replica.specs.Replay.{replay}
 use Rattle.model_streams.specs.Node.{Replica}
-use Rattle.model_streams.specs.StreamSystem.{StreamSystem, ActorCell}
+use Rattle.model_streams.specs.StreamSystem.{StreamSystem}
 use Rattle.enode.specs.Node.{NodeState, find, fresh_of}
 use Rattle.model_streams.specs.Maps.{entry_at}
 pub use Rattle.world_stops.specs.Plan.{plan_of}

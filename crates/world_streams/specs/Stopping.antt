@@ -1,5 +1,5 @@
 -- What a record leaves that an actor stops in.
-use Rattle.std.specs.Prelude.{ℕ, Bool, true, false, ◌&&◌, List, [], Option, Some, None, nat_le, if◌then◌else◌}
+use Rattle.std.specs.Prelude.{Bool, false, ◌&&◌, List, [], Option, Some, None, nat_le, if◌then◌else◌}
 use Rattle.disk.specs.declared.memory.Stop.{Stop}
 use Rattle.wire.specs.declared.note.Note.{Note}
 

@@ -1,6 +1,5 @@
 //! The stream manager of a run.
-ghost use Rattle.std.specs.Prelude.{◌≡◌, ◌≤◌, ◌&&◌, [], ◌∷◌, None, Some, true, false, IfOk, OnOk, OnErr, nat_le, if◌then◌else◌};
-ghost use Rattle.disk.specs.declared.memory.Stop.{Stop as Told};
+ghost use Rattle.std.specs.Prelude.{◌≡◌, ◌≤◌, ◌&&◌, [], None, Some, false, IfOk, OnOk, OnErr};
 ghost use Rattle.wire.specs.declared.actor.ActorId.TheVariants as actors;
 ghost use Rattle.wire.specs.declared.note.Note.TheVariants as notes;
 ghost use Rattle.model_streams.specs.StreamSystem.{StreamSystem, manager_decides, manager_takes, restart as restarted_in, stop as stopped_in};

@@ -1,6 +1,5 @@
 //! The extent nodes of a run.
 ghost use Rattle.std.specs.Prelude.{◌≡◌, ◌<◌, ℕ, suc, true, Some, length, option_map, IfOk, OnOk, OnErr};
-ghost use Rattle.disk.specs.Memory.{memory_state};
 ghost use Rattle.model_streams.specs.StreamSystem.{StreamSystem, is_present, node_takes, restart, start, stop};
 ghost use Rattle.wire.specs.declared.actor.ActorId.TheVariants as actors;
 ghost use Rattle.world_streams.specs.Nodes.{NodeMirrors, NodesMirror, OneNodeSteps, NodesStep, nothing, IsNew, AreNew, all_seen, seen_of, if_running, running_at};

@@ -1,5 +1,5 @@
 //! How large a run is.
-ghost use Rattle.std.specs.Prelude.{◌≡◌, ◌≤◌, ◌↔◌, IsSome, IfSome};
+ghost use Rattle.std.specs.Prelude.{◌≡◌, ◌↔◌, IsSome, IfSome};
 ghost use Rattle.world_streams.specs.Limits.{IsWithinLimits};
 
 use block_types::{MAX_NODE, MAX_TARGET, MIN_TARGET};

@@ -2,7 +2,7 @@ use Rattle.std.proofs.Common.{◌∷◌, [], ap, ◌∙◌}
 use Rattle.std.proofs.lemmas.Bool.{lt-leb}
 use Rattle.std.proofs.lemmas.Result.{IfOk-weaker}
 use Rattle.wire.specs.declared.packet.Packet.{Packet}
-use Rattle.model_partition.specs.Getting.{Tried, look}
+use Rattle.model_partition.specs.Getting.{look}
 use Rattle.model_partition.specs.Getting as getting
 use Rattle.range_reads.specs.ValueCache.{with_fresh}
 use Rattle.range_reads.specs.Lookups.{seen}

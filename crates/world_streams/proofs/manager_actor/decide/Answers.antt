@@ -1,4 +1,4 @@
-use Rattle.std.proofs.Common.{◌≡◌, sym, ap, ◌∙◌, inl, inr, refl, subst}
+use Rattle.std.proofs.Common.{◌≡◌, sym, ◌∙◌, inl, inr, refl, subst}
 use Rattle.wire.specs.declared.packet.Step.{Step}
 use Rattle.wire.specs.declared.refusal.Refusal.TheVariants as refusals
 use Rattle.manager.specs.declared.fault.ManagerFault.TheVariants as faults

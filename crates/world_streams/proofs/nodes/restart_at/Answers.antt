@@ -1,4 +1,3 @@
-use Rattle.std.proofs.Common.{OnOk}
 use Rattle.world_streams.proofs.Stopping.{restarted_from}
 use Rattle.world_streams.proofs.Seen.{set_alike}
 use Rattle.world_streams.proofs.nodes.restart_at.Goals as goal

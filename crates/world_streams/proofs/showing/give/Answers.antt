@@ -1,4 +1,4 @@
-use Rattle.std.proofs.Common.{◌≡◌, ◌∙◌, subst}
+use Rattle.std.proofs.Common.{◌∙◌, subst}
 use Rattle.model_streams.specs.Maps.{entry_at}
 use Rattle.model_partition.specs.Servers.{ServersOutcome, ShowsLoad, server_loads}
 use Rattle.laws_servers.proofs.ServerSteps.{server_takes_shows}

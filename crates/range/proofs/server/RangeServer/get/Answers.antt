@@ -1,4 +1,4 @@
-use Rattle.std.proofs.Common.{rules, ◌≡◌}
+use Rattle.std.proofs.Common.{rules}
 use Rattle.range.proofs.Entries.{removed_after, set_same}
 use Rattle.range.proofs.server.RangeServer.get.Goals as goal
 

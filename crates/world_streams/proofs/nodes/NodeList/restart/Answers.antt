@@ -1,4 +1,4 @@
-use Rattle.std.proofs.Common.{◌≡◌, ◌-◌, ℕ, List, sym, subst, arith, None, OnOk}
+use Rattle.std.proofs.Common.{◌-◌, ℕ, List, sym, subst, arith, OnOk}
 use Rattle.wire.specs.declared.actor.ActorId.TheVariants.{Node}
 use Rattle.model_streams.specs.StreamSystem.{StreamSystem, restart}
 use Rattle.world_streams.specs.Nodes.{NodeSeen, NodesMirror, NodesStep, all_seen, nothing}

@@ -1,4 +1,4 @@
-use Rattle.std.proofs.Common.{◌≡◌, ◌-◌, ℕ, List, sym, subst, arith, None}
+use Rattle.std.proofs.Common.{◌-◌, ℕ, List, sym, subst, arith}
 use Rattle.wire.specs.declared.actor.ActorId.TheVariants.{Node}
 use Rattle.model_streams.specs.StreamSystem.{StreamSystem, stop}
 use Rattle.world_streams.specs.Nodes.{NodeSeen, NodesMirror, NodesStep, all_seen, nothing}

@@ -1,5 +1,4 @@
-use Rattle.std.proofs.Common.{sym, subst, OnOk}
-use Rattle.wire.specs.declared.actor.ActorId.{ActorId}
+use Rattle.std.proofs.Common.{subst, OnOk}
 use Rattle.model_streams.specs.StreamSystem.{StreamSystem, restart}
 use Rattle.world_streams.specs.StreamLayer.{StreamLayerState, StreamLayerMirrors}
 use Rattle.world_streams.proofs.EventSimulation.{state, manager_came}
