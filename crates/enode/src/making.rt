@@ -39,6 +39,7 @@ fn remove_new(replicas: &mut BTreeMap<u64, NodeReplica>, extent: ExtentId)
     ensures gone { find replicas.new.entries extent ≡ None }
     ensures elsewhere { (f : ℕ) → f ≢ extent → find replicas.new.entries f ≡ find replicas.old.entries f }
 {
+    // The replica that was made goes with it.
     let _made = replicas.remove(&extent.0);
 }
 

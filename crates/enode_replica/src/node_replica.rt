@@ -99,5 +99,6 @@ fn drop_first(waiting: &mut VecDeque<Waiting>, count: usize)
     requires { count ≤ deque_len waiting.old }
     ensures { waiting.new.items ≡ drop count waiting.old.items }
 {
+    // Those that are taken out are answered, and go.
     let _answered = waiting.drain(..count);
 }

@@ -153,6 +153,7 @@ impl ValueCache {
     {
         // For the proof: `len` says that no place is held twice.
         let _count = self.cache.len();
+        // Whether it is held is of no use here.
         let _held = self.cache.promote(&key_of(place));
     }
 

@@ -266,6 +266,7 @@ impl PlacedGroups {
         }
         let index = self.before(offset);
         let from = offset - self.start_of(index);
+        // It ends where `out` ends, which was tested above.
         let _end = write_groups(out, &self.groups[index..], from as usize);
         Ok(())
     }
