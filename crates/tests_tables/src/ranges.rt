@@ -266,10 +266,15 @@ fn refusal_count(state: &RangeState, alloc: Global) -> Result<usize, Fail> {
 }
 
 /// Whether the load goes on by an answer to itself, and the range is not dropped.
+#[tactic(auto, using(range_core::proofs::LogAnswers::load_awaited))]
 fn loads(state: &mut RangeState, alloc: Global, answer: &Answer) -> Result<bool, Fail> {
-    let body = body_of(alloc, number(1), answer)?;
-    let taken = state.load(alloc, &context(2, 1), Waiter::Load, &body);
-    drop(body);
+    let request = number(1);
+    if !state.content.load.awaits(&request) {
+        return Ok(false);
+    }
+    let packet = answer_of(body_of(alloc, request, answer)?);
+    let taken = state.load(alloc, &context(2, 1), Waiter::Load, &packet);
+    drop(packet);
     Ok(!taken?.dropped)
 }
 
@@ -284,8 +289,8 @@ fn done_count(
     asked: u64,
     offset: u32,
 ) -> Result<usize, Fail> {
-    let answer = appended(number(asked), offset);
-    let told = match state.appended(&answer) {
+    let answer = answer_of(appended(number(asked), offset));
+    let told = match state.appended(&answer.body) {
         Some((extent, at)) if state.queue.is_out() && state.may_stand(at) => {
             let taken = state.log_done(alloc, &context(11, 1), &answer, extent, at);
             taken?.packets.len()
