@@ -26,8 +26,8 @@ pub(crate) enum Step {
     Renews(u64),
     /// No answer comes, and so many packets are sent.
     GivesUp(usize),
-    /// The load itself goes on by an answer.
-    Loads(Answer),
+    /// The load itself goes on by the answer to the request of the first number, where the server's next request has the second.
+    Loads(u64, u32, Answer),
     /// A transaction of this ticket is queued, and no group is formed yet.
     Queues(u64),
     /// The next group is formed, if one is, and so many transactions are shown as begun.
@@ -137,9 +137,9 @@ const CASES: &[Case<Step>] = &[
     (
         "a load goes on by its own answers",
         &[&[
-            Step::Loads(Answer::Empty),
+            Step::Loads(1, 2, Answer::Empty),
             Step::IsLoading,
-            Step::Loads(Answer::Confirmed),
+            Step::Loads(2, 3, Answer::Confirmed),
             Step::IsEmpty,
         ]],
     ),
@@ -267,13 +267,19 @@ fn refusal_count(state: &RangeState, alloc: Global) -> Result<usize, Fail> {
 
 /// Whether the load goes on by an answer to itself, and the range is not dropped.
 #[tactic(auto, using(range_core::proofs::LogAnswers::load_awaited))]
-fn loads(state: &mut RangeState, alloc: Global, answer: &Answer) -> Result<bool, Fail> {
-    let request = number(1);
+fn loads(
+    state: &mut RangeState,
+    alloc: Global,
+    asked: u64,
+    count: u32,
+    answer: &Answer,
+) -> Result<bool, Fail> {
+    let request = number(asked);
     if !state.content.load.awaits(&request) {
         return Ok(false);
     }
     let packet = answer_of(body_of(alloc, request, answer)?);
-    let taken = state.load(alloc, &context(2, 1), Waiter::Load, &packet);
+    let taken = state.load(alloc, &context(count, 1), Waiter::Load, &packet);
     drop(packet);
     Ok(!taken?.dropped)
 }
@@ -333,7 +339,7 @@ impl Tested for RangeState {
                 Ok(true)
             }
             Step::GivesUp(packets) => Ok(given_up(self, alloc)? == *packets),
-            Step::Loads(answer) => loads(self, alloc, answer),
+            Step::Loads(asked, count, answer) => loads(self, alloc, *asked, *count, answer),
             Step::Queues(ticket) => pushes(alloc, &mut self.queue, *ticket),
             Step::Forms(count) => Ok(begun_count(self, alloc)? == *count),
             Step::LogDone(asked, offset, count) => {
