@@ -1,5 +1,5 @@
 //! Blocks, groups of blocks, and lists of groups. Payloads are shared buffers: a copy of a block copies no byte.
-ghost use Rattle.std.specs.Prelude.{◌≡◌, ◌⊎◌, ◌≤◌, ◌*◌, ◌==◌, ◌||◌, nat_lt, false, Some, None, IfOk, IfErr, MatchResult, length};
+ghost use Rattle.std.specs.Prelude.{◌≡◌, ◌++◌, ◌∷◌, [], OnOk, ◌⊎◌, ◌≤◌, ◌*◌, ◌==◌, ◌||◌, nat_lt, false, Some, None, IfOk, IfErr, MatchResult, length};
 ghost use Rattle.std.specs.List.{AllByRecursion, list_any};
 ghost use Rattle.block_types.specs.Limits.{IsBlock, IsGroup, group_size, group_fault, texts_of};
 

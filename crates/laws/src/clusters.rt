@@ -5,6 +5,7 @@ ghost use Rattle.block_types.specs.declared.record.Nodes.{Nodes};
 ghost use Rattle.wire.specs.declared.packet.Packet.{Packet};
 ghost use Rattle.model_streams.specs.Honest.{Agree, Kept};
 ghost use Rattle.model_streams.specs.Maps.{entry_at};
+ghost use Rattle.model_streams.specs.StreamSystem.{start};
 ghost use Rattle.model_streams.specs.declared.event.Event.{Event};
 ghost use Rattle.model_partition.specs.Past.{Replays};
 ghost use Rattle.model_partition.specs.Servers.{ArePlain, CacheContent, ServerCell, ShowsLoad, server_gives_up, server_loads, server_takes};

@@ -14,7 +14,7 @@ use Rattle.model_partition.specs.Cluster.{Cluster}
 use Rattle.model_partition.specs.Log.{ShowsTables}
 use Rattle.model_partition.specs.Range.{RangeState}
 use Rattle.model_partition.specs.Server.{ServerState}
-use Rattle.model_partition.specs.ServerTurns.{after_all, AreMoves}
+use Rattle.model_partition.specs.ServerTurns.{Whole, after_all, AreMoves}
 use Rattle.model_partition.specs.ServerTurns as machine
 use Rattle.laws_loads.specs.Renaming.{renamed, decoded}
 use Rattle.laws_stream_machine.specs.Refinement.{Sent}

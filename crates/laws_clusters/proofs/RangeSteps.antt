@@ -12,7 +12,7 @@ use Rattle.model_partition.specs.declared.server_context.ServerContext.{ServerCo
 use Rattle.model_partition.specs.Servers.{with_told}
 use Rattle.model_partition.specs.StreamMachine as extents
 use Rattle.model_partition.specs.Range.{RangeOutcome}
-use Rattle.model_partition.specs.ServerTurns.{Turn, Whole, after_all}
+use Rattle.model_partition.specs.ServerTurns.{Turn, Whole, after_all, AreMoves}
 use Rattle.model_partition.specs.ServerTurns as machine
 use Rattle.laws_stream_machine.specs.Refinement.{Purpose, Sent, purpose_of, IsAt, IsAsked, extents_of}
 use Rattle.laws_ranges.specs.Serves.{Stand, Side, after_turns, sent_with, metadata_of, log_of, Wider, IsSentBy, AskedOfBoth, RuleTells}

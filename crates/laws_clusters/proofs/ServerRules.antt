@@ -20,7 +20,7 @@ use Rattle.model_partition.specs.Cluster.{Cluster}
 use Rattle.model_partition.specs.Log.{ShowsTables}
 use Rattle.model_partition.specs.Range.{RangeState, RangeOutcome}
 use Rattle.model_partition.specs.Server.{ServerState}
-use Rattle.model_partition.specs.ServerTurns.{after_all}
+use Rattle.model_partition.specs.ServerTurns.{Phase, after_all}
 use Rattle.model_partition.specs.ServerTurns as machine
 use Rattle.laws_loads.specs.Renaming.{renamed, decoded}
 use Rattle.laws_stream_machine.specs.Refinement.{Purpose, Sent, purpose_of}

@@ -18,7 +18,7 @@ use Rattle.commitlog.specs.declared.log_record.LogRecord.{LogRecord}
 use Rattle.commitlog.specs.Record.{spelling, pieces, transaction_values}
 use Rattle.commitlog.specs.Record as record_specs
 use Rattle.commitlog.specs.Reading.{record_at, each_of}
-use Rattle.commitlog.specs.Replay.{taken}
+use Rattle.commitlog.specs.Replay.{Numbered, taken}
 use Rattle.commitlog.specs.Replay as line_specs
 use Rattle.commitlog.specs.Places.{kept, kept_transactions}
 use Rattle.commitlog.proofs.Measures.{group_size-append, size-spelling}

@@ -6,6 +6,7 @@ use Rattle.wire.specs.declared.note.Note.{Note}
 use Rattle.replica.specs.Groups.{Group}
 use Rattle.model_streams.specs.StreamSystem.{StreamSystem}
 use Rattle.model_partition.specs.Range.{RangeState}
+use Rattle.model_partition.specs.StreamMachine.{SealedExtent, shut_at, first, all_shut}
 use Rattle.model_partition.specs.StreamMachine as machine
 use Rattle.model_partition.specs.ServerTurns as turns
 use Rattle.laws_stream_machine.specs.Refinement.{Sent}

@@ -7,7 +7,7 @@ use Rattle.memtable.specs.declared.cell.Place.{Place}
 use Rattle.streams.specs.declared.table.Position.{Position}
 use Rattle.block_types.specs.declared.fault.BlockFault.{BlockFault}
 use Rattle.block_types.specs.declared.fault.BlockFault.TheVariants as faults
-use Rattle.blocks.specs.Format.{Gives, ◌>>=◌, number_at, bytes_at, pair_at, only_at}
+use Rattle.blocks.specs.Format.{Gives, ◌>>=◌, number_at, bytes_at, pair_at, only_at, many_at, whole}
 use Rattle.blocks.specs.Record.{number}
 use Rattle.block_types.specs.Limits.{is_within}
 use Rattle.blocks.proofs.Formats.{IsBytes, IsBytes-after, bind_some, some_is, IsFormat, number1, number2, number4, number8, within, within_again, bytes_takes, bytes_again, pair_format, only_format, counted_format, whole_takes, whole_again}
@@ -17,7 +17,7 @@ use Rattle.metadata.specs.declared.record.Region.{Region}
 use Rattle.metadata.specs.declared.record.MetaItem.{MetaItem}
 use Rattle.metadata.specs.declared.record.MetaItem.TheVariants.{Ranges, Checkpoint, Regions, SplitStatus}
 use Rattle.metadata.specs.declared.record.MetaRecord.{MetaRecord}
-use Rattle.metadata.specs.Record.{text, optional, high, keys, place, position, flag, index, end, region, counted, item, spelling, IfThere, IsKey, IsHigh, IsIndex, IsEnd, IsNext, IsRegion, IsItem, Fits}
+use Rattle.metadata.specs.Record.{text, optional, high, keys, place, position, flag, index, end, region, counted, item, spelling, IfThere, IsKey, IsHigh, IsKeyRange, IsPlace, IsPosition, IsIndex, IsEnd, IsNext, IsRegion, IsItem, Fits}
 use Rattle.metadata.specs.Reading.{text_at, high_behind, high_at, keys_at, place_at, position_at, flag_at, next_at, index_at, end_behind, end_at, region_at, counted_at, ranges_at, checkpoint_at, regions_at, status_at, item_at, record_at}
 
 -- the same value by another name

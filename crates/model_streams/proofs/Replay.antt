@@ -24,7 +24,7 @@ use Rattle.replica.specs.Replay as replays
 use Rattle.replica.specs.declared.phase.Phase.{Phase}
 use Rattle.replica.specs.declared.phase.Phase.TheVariants as phases
 use Rattle.replica.specs.Reading.{groups_to, groups_from}
-use Rattle.replica.specs.Replay.{applied, fits, is_place, is_boundary}
+use Rattle.replica.specs.Replay.{applied, fits, is_place, is_tail, is_boundary}
 use Rattle.model_streams.specs.declared.checking.Checking.{Checking}
 use Rattle.model_streams.specs.Actors.{is_node, is_manager, is_one_of}
 use Rattle.model_streams.specs.Outcome.{Outcome, all_met, silent, or_refused}
