@@ -45,7 +45,7 @@ fn append_records(
         let added = Record::Append {
             extent: 1,
             offset: 0,
-            group: group.copy(alloc)?,
+            group: group.copy()?,
         };
         file.append(alloc, &added)?;
     }
@@ -59,7 +59,7 @@ fn text_of(alloc: Global, group: &Group) -> Result<Vec<u8>, Failure> {
     let added = Record::Append {
         extent: 1,
         offset: 0,
-        group: group.copy(alloc)?,
+        group: group.copy()?,
     };
     let mut text = Vec::new(alloc);
     encode(&added, &mut text)?;

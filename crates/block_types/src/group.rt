@@ -8,6 +8,7 @@ use crate::limits::{MAX_BLOCK, MAX_BLOCKS};
 use bytes::Bytes;
 use std::alloc::{AllocError, Global};
 use std::marker::Model;
+use std::sync::ArcSlice;
 
 /// The smallest piece that is written or read, from 1 to 65,536 bytes (after Calder et al., SOSP 2011, section 4).
 /// Its value is its bytes.
@@ -71,9 +72,9 @@ impl Block {
 }
 
 /// The blocks of one append, in order, from 1 to 64 of them: all of them are kept, or none (after Calder et al., SOSP
-/// 2011, section 4). Its value is the list of their bytes.
+/// 2011, section 4). Its value is the list of their bytes. Copies share the list.
 pub struct Group {
-    blocks: Vec<Block>,
+    blocks: ArcSlice<Block>,
 }
 
 // Written out, so that a crate above that lets one go has no proof of what is in it.
@@ -88,11 +89,12 @@ impl Model for Group {
 
     ghost Value = { List (List ℕ) };
 
+    ghost use Rattle.std.specs.Arc.{arc_slice_items};
     ghost use Rattle.block_types.specs.Limits.{IsGroup};
 
-    ghost view = { λ g. g.blocks.items };
+    ghost view = { λ g. arc_slice_items g.blocks };
 
-    ghost invariant = { λ g. IsGroup g.blocks.items };
+    ghost invariant = { λ g. IsGroup (arc_slice_items g.blocks) };
 }
 
 impl Group {
@@ -111,15 +113,17 @@ impl Group {
         if any_bad(&texts) {
             return Err(GroupFault::BadBlock);
         }
-        Ok(Group::of(blocks_of(alloc, texts)?))
+        Ok(Group::of(blocks_of(alloc, texts)?)?)
     }
 
-    /// The group of these blocks.
-    pub fn of(blocks: Vec<Block>) -> Group
+    /// The group of these blocks. An error is out of memory (22).
+    pub fn of(blocks: Vec<Block>) -> Result<Group, AllocError>
         requires { IsGroup blocks.items }
-        ensures { result ≡ blocks.items }
+        ensures { IfOk result (λ g. g ≡ blocks.items) }
     {
-        Group { blocks }
+        Ok(Group {
+            blocks: ArcSlice::from_vec(blocks)?,
+        })
     }
 
     /// How many bytes the blocks have together, from 1 to 4,194,304.
@@ -136,15 +140,17 @@ impl Group {
         requires { IsGroup buffers.now }
         ensures { IfOk result (λ g. g ≡ buffers.now) }
     {
-        Ok(Group::of(shares(alloc, buffers)?))
+        Group::of(shares(alloc, buffers)?)
     }
 
-    /// The same group again, which shares the bytes. An error is out of memory (22).
-    pub fn copy(&self, alloc: Global) -> Result<Group, AllocError>
+    /// The same group again, which shares the list of its blocks: it costs the same for each group. An error is out of
+    /// memory (22).
+    pub fn copy(&self) -> Result<Group, AllocError>
         ensures { IfOk result (λ g. g ≡ self.now) }
     {
-        let blocks = self.blocks();
-        Ok(Group::of(copies(alloc, blocks)?))
+        Ok(Group {
+            blocks: self.blocks.clone()?,
+        })
     }
 
     /// The blocks in order, from 1 to 64 of them.
@@ -190,16 +196,6 @@ fn shares(alloc: Global, buffers: &[Bytes]) -> Result<Vec<Block>, AllocError>
     Ok(made)
 }
 
-fn copies(alloc: Global, blocks: &[Block]) -> Result<Vec<Block>, AllocError>
-    ensures { IfOk result (λ v. v.items ≡ blocks.now) }
-{
-    let mut made = Vec::with_capacity(alloc, blocks.len())?;
-    for block in blocks {
-        made.push(Block::of(block.share()?))?;
-    }
-    Ok(made)
-}
-
 fn total(blocks: &[Block]) -> u32
     requires { length blocks.now ≤ 64 }
     ensures value { result ≡ group_size blocks.now }
@@ -239,7 +235,7 @@ impl Groups {
     {
         let mut copied = Vec::with_capacity(alloc, groups.len())?;
         for group in groups {
-            copied.push(group.copy(alloc)?)?;
+            copied.push(group.copy()?)?;
         }
         Ok(Groups { items: copied })
     }

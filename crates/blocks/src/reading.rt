@@ -75,7 +75,7 @@ fn group_of(alloc: Global, version: Version, bytes: &[u8]) -> Result<(Group, &[u
         return Err(BlockFault::Damaged);
     }
     let (blocks, rest) = blocks_of(alloc, version, count, rest)?;
-    Ok((Group::of(blocks), rest))
+    Ok((Group::of(blocks)?, rest))
 }
 
 #[tactic(auto, unfolding(crate::specs::Reading::nodes_at, block_types::specs::Limits::are_nodes))]

@@ -92,7 +92,7 @@ fn put_all_cells(
 {
     let mut next = offset;
     for changes in all {
-        next = put_cells(out, extent, next, &changes.items)?;
+        next = put_cells(out, extent, next, changes.as_slice())?;
     }
     Ok(())
 }
@@ -120,7 +120,7 @@ fn offset_after_all(offset: u32, all: &[Changes]) -> u32
 {
     let mut next = offset;
     for changes in all {
-        next = offset_after(next, &changes.items);
+        next = offset_after(next, changes.as_slice());
     }
     next
 }

@@ -75,7 +75,7 @@ fn sum_of(all: &[Changes]) -> u32
 {
     let mut size = HEADER;
     for changes in all {
-        size += transaction_size(&changes.items);
+        size += transaction_size(changes.as_slice());
     }
     size
 }
@@ -150,6 +150,6 @@ impl Filling {
             → specs.HasRoom (ts ++ changes.now ∷ []) → ⊥ }
         ensures left { result ≡ false → self.new ≡ self.old }
     {
-        self.grown(&changes.items)
+        self.grown(changes.as_slice())
     }
 }

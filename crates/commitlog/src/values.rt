@@ -88,7 +88,7 @@ fn all_transactions_of<'a>(
     let mut rest = blocks;
     for item in items {
         let (changes, after) = changes_of(alloc, blocks.len(), rest, &item.items)?;
-        made.push(Changes { items: changes })?;
+        made.push(Changes::of(changes)?)?;
         rest = after;
     }
     Ok((made, rest))

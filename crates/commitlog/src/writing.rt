@@ -84,7 +84,7 @@ fn put_transactions(out: &mut Vec<u8>, all: &[Changes]) -> Result<(), AllocError
 {
     let mut number = 0;
     for changes in all {
-        number = put_transaction(out, number, &changes.items)?;
+        number = put_transaction(out, number, changes.as_slice())?;
     }
     Ok(())
 }
@@ -159,7 +159,7 @@ fn put_all_values(out: &mut Vec<Block>, all: &[Changes]) -> Result<(), AllocErro
     ensures { OnOk result (out.new.items ≡ out.old.items ++ flat_map transaction_values all.now) }
 {
     for changes in all {
-        put_values(out, &changes.items)?;
+        put_values(out, changes.as_slice())?;
     }
     Ok(())
 }
@@ -174,5 +174,5 @@ pub fn encode(alloc: Global, written: &LogRecord) -> Result<Group, AllocError>
     let text = text_of(alloc, written)?;
     let mut made = pieces_of(alloc, text)?;
     put_all_values(&mut made, &written.transactions.items)?;
-    Ok(Group::of(made))
+    Group::of(made)
 }

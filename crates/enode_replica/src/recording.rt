@@ -39,7 +39,7 @@ fn add_group<D: Disk>(
     let generation = replica.fence();
     let end = replica.len();
     replica.reserve(1)?;
-    let kept = group.copy(alloc)?;
+    let kept = group.copy()?;
     write_append(alloc, file, extent, end, group)?;
     match replica.put(alloc, generation, end, kept) {
         Ok(()) => Ok(()),

@@ -39,7 +39,7 @@ pub(crate) fn write_append<D: Disk>(
     let added = Record::Append {
         extent: extent.0,
         offset,
-        group: group.copy(alloc)?,
+        group: group.copy()?,
     };
     write(alloc, file, added)
 }

@@ -89,7 +89,7 @@ pub(crate) fn answer(
     step.notes.push(Note::Acked {
         extent,
         offset: waiting.offset,
-        group: waiting.group.copy(alloc)?,
+        group: waiting.group.copy()?,
     })?;
     Ok(())
 }

@@ -170,5 +170,5 @@ pub fn encode(alloc: Global, written: &MetaRecord) -> Result<Group, Memory>
     put_item(&mut bytes, &written.item)?;
     let mut blocks = Vec::new(alloc);
     blocks.push(Block::of(Bytes::from_vec(bytes)?))?;
-    Ok(Group::of(blocks))
+    Ok(Group::of(blocks)?)
 }

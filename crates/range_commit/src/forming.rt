@@ -42,7 +42,7 @@ fn changes_of(alloc: Global, group: &[WaitingTransaction]) -> Result<Vec<Changes
 {
     let mut made = Vec::with_capacity(alloc, group.len())?;
     for transaction in group {
-        made.push(transaction.changes.copy(alloc)?)?;
+        made.push(transaction.changes.copy()?)?;
     }
     Ok(made)
 }
@@ -77,7 +77,7 @@ fn notes_of(
     let mut notes = Vec::with_capacity(alloc, group.len())?;
     let mut number = first;
     for transaction in group {
-        let changes = transaction.changes.copy(alloc)?;
+        let changes = transaction.changes.copy()?;
         notes.push(TableNote::Began {
             range,
             generation,

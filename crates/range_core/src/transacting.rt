@@ -68,7 +68,7 @@ impl RangeState {
         if self.lease_ended(context) {
             return Some(Refusal::LeaseEnded);
         }
-        let fault = change_fault(&changes.items, &self.content.said.keys);
+        let fault = change_fault(changes.as_slice(), &self.content.said.keys);
         if fault.is_some() {
             return fault;
         }
@@ -98,7 +98,7 @@ impl RangeState {
         if let Some(refusal) = self.transact_fault(context, changes) {
             return refused(alloc, context, from, request, refusal);
         }
-        let changes = changes.copy(alloc)?;
+        let changes = changes.copy()?;
         self.queue.push(WaitingTransaction {
             from,
             request: *request,

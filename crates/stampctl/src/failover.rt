@@ -114,7 +114,7 @@ fn changes_of(alloc: Global, key: u8) -> Result<Changes, Fail> {
     let value = Some(Bytes::copy_from_slice(alloc, &[key])?);
     let mut changes = Vec::new(alloc);
     changes.push(Change { key: name, value })?;
-    Ok(Changes { items: changes })
+    Ok(Changes::of(changes)?)
 }
 
 fn transaction(changes: Changes, key: u8) -> Event {
@@ -151,7 +151,7 @@ fn is_right(seen: &mut Seen, note: &Note) -> bool {
             changes,
             ..
         } => {
-            if let Some(change) = changes.items.first()
+            if let Some(change) = changes.as_slice().first()
                 && let Some(place) = seen.begun.get_mut((*number).saturating_sub(1) as usize)
                 && let Some(key) = change.key.as_slice().first()
             {

@@ -219,7 +219,7 @@ fn shared(alloc: Global, block: &Block) -> Result<Group, AllocError> {
 fn only(alloc: Global, block: Block) -> Result<Group, AllocError> {
     let mut blocks = Vec::new(alloc);
     blocks.push(block)?;
-    Ok(Group::of(blocks))
+    Group::of(blocks)
 }
 
 /// Whether a group that shares a block has so many bytes, copied, and stands in groups after one of the block.
@@ -227,7 +227,7 @@ fn are_shared(alloc: Global, groups: &mut Groups) -> Result<bool, AllocError> {
     let block = Block::copied(alloc, b"abc")?;
     let is_same = other(&block)?.as_slice() == b"abc".as_slice();
     let shared = shared(alloc, &block)?;
-    let size = shared.copy(alloc)?.size();
+    let size = shared.copy()?.size();
     groups.items.push(only(alloc, block)?)?;
     groups.items.push(shared)?;
     Ok(is_same && size == 3 && groups.items.len() == 2)

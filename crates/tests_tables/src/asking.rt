@@ -76,5 +76,5 @@ pub(crate) fn puts(
     for _ in 0..count {
         changes.push(put(alloc, key, length)?)?;
     }
-    Ok(Changes { items: changes })
+    Ok(Changes::of(changes)?)
 }

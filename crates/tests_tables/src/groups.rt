@@ -94,7 +94,7 @@ fn fault(
     length: usize,
 ) -> Result<Option<Refusal>, Fail> {
     let changes = puts(alloc, key, length, count)?;
-    Ok(change_fault(&changes.items, &keys()))
+    Ok(change_fault(changes.as_slice(), &keys()))
 }
 
 fn sets_next(queue: &mut Queue, next: u64) -> bool {
@@ -108,7 +108,7 @@ fn sets_next(queue: &mut Queue, next: u64) -> bool {
 /// Whether there was room for a transaction of user 7.
 pub(crate) fn pushes(alloc: Global, queue: &mut Queue, ticket: u64) -> Result<bool, Fail> {
     let changes = puts(alloc, b"a", 5_000, 1)?;
-    if queue.count() >= MAX_WAITING || change_fault(&changes.items, &keys()).is_some() {
+    if queue.count() >= MAX_WAITING || change_fault(changes.as_slice(), &keys()).is_some() {
         return Ok(false);
     }
     queue.push(WaitingTransaction {

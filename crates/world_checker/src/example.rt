@@ -30,7 +30,7 @@ pub fn acknowledged(alloc: Global, group: &Group, count: u64) -> Result<Notes, A
 {
     let mut notes = Notes::new(alloc);
     for number in 0..count {
-        let copy = group.copy(alloc)?;
+        let copy = group.copy()?;
         add(&mut notes, number, copy)?;
     }
     Ok(notes)

@@ -124,7 +124,7 @@ fn table_call(alloc: Global, body: &TableBody) -> Result<Option<Body>, AllocErro
             changes,
             request,
         } => {
-            let changes = changes.copy(alloc)?;
+            let changes = changes.copy()?;
             Ok(Some(Body::Table(TableBody::Transact {
                 range: *range,
                 changes,
