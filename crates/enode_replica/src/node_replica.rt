@@ -7,7 +7,7 @@ ghost use Rattle.replica.specs.State.{content_of};
 ghost use Rattle.model_streams.specs.Node.{fresh};
 
 use block_types::Nodes;
-use model_streams::{Checking, Waiting};
+use model_streams::{Checking, WaitingAppend};
 use replica::Replica;
 use std::alloc::Global;
 use std::collections::VecDeque;
@@ -23,7 +23,7 @@ pub struct NodeReplica {
     /// How long its third place is known to be, in bytes.
     pub third_has: u32,
     /// The appends that wait for both secondaries, the oldest first.
-    pub waiting: VecDeque<Waiting>,
+    pub waiting: VecDeque<WaitingAppend>,
     /// The check that is under way.
     pub check: Option<Checking>,
 }
@@ -95,7 +95,7 @@ impl NodeReplica {
 }
 
 /// The first of the waiting appends wait no more.
-fn drop_first(waiting: &mut VecDeque<Waiting>, count: usize)
+fn drop_first(waiting: &mut VecDeque<WaitingAppend>, count: usize)
     requires { count ≤ deque_len waiting.old }
     ensures { waiting.new.items ≡ drop count waiting.old.items }
 {

@@ -16,7 +16,7 @@ use crate::node_replica::NodeReplica;
 use crate::writing::{write, write_append, write_fill};
 use block_types::{Group, Groups, Record};
 use disk::{Disk, DiskFault, RecordFile};
-use model_streams::Waiting;
+use model_streams::WaitingAppend;
 use replica::Replica;
 use std::alloc::Global;
 use wire::{ActorId, Blocks, ExtentId, Fence, ReqNo};
@@ -76,7 +76,7 @@ impl NodeReplica {
         let group = blocks.group(alloc)?;
         match add_group(&mut self.replica, alloc, file, extent, &group) {
             Ok(()) => {
-                let waiting = Waiting {
+                let waiting = WaitingAppend {
                     offset,
                     group,
                     asker,

@@ -10,13 +10,13 @@ use crate::actors::is_node;
 use crate::sending::answer;
 use disk::DiskFault;
 use enode_replica::{NodeReplica, is_open};
-use model_streams::Waiting;
+use model_streams::WaitingAppend;
 use std::alloc::Global;
 use std::collections::VecDeque;
 use wire::{ExtentId, Packet, Step};
 
 /// Whether a waiting append ends within a length.
-fn ends_within(waiting: &Waiting, length: u32) -> bool
+fn ends_within(waiting: &WaitingAppend, length: u32) -> bool
     ensures { result ≡ nat_le (waiting.now.offset + size waiting.now.group) length }
 {
     // Asked for, so that the proof knows that it is a group.
@@ -25,7 +25,7 @@ fn ends_within(waiting: &Waiting, length: u32) -> bool
 }
 
 /// How many of the waiting appends, from the first on, end within a length.
-fn covered(waiting: &VecDeque<Waiting>, length: u32) -> usize
+fn covered(waiting: &VecDeque<WaitingAppend>, length: u32) -> usize
     ensures value { result ≡ covers length waiting.now.items }
     ensures within { result ≤ deque_len waiting.now }
 {
@@ -44,7 +44,7 @@ fn answers_of(
     alloc: Global,
     node: u8,
     extent: ExtentId,
-    waiting: &VecDeque<Waiting>,
+    waiting: &VecDeque<WaitingAppend>,
     count: usize,
 ) -> Result<Step, DiskFault>
     requires { count ≤ deque_len waiting.now }

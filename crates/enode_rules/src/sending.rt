@@ -10,7 +10,7 @@ ghost use Rattle.model_streams.specs.Node.{acked, answers, puts, to_manager};
 
 use block_types::Nodes;
 use disk::DiskFault;
-use model_streams::Waiting;
+use model_streams::WaitingAppend;
 use std::alloc::Global;
 use wire::{
     ActorId, AppendBody, Blocks, Body, ExtentId, Note, Packet, Refusal, ReqNo, SealBody, Step,
@@ -70,7 +70,7 @@ pub(crate) fn answer(
     step: &mut Step,
     node: u8,
     extent: ExtentId,
-    waiting: &Waiting,
+    waiting: &WaitingAppend,
 ) -> Result<(), DiskFault>
     ensures packets { OnOk result (step.new.packets ≡ step.old.packets ++ answers node extent (waiting.now ∷ [])) }
     ensures notes { OnOk result (step.new.notes ≡ step.old.notes ++ acked extent (waiting.now ∷ [])) }

@@ -33,7 +33,7 @@ use Rattle.model_streams.specs.declared.checking.Checking.{Checking}
 use Rattle.model_streams.specs.declared.event.Event.{Event}
 use Rattle.model_streams.specs.declared.event.Event.TheVariants.{Submit, Deliver, Stop, Restart, Decide, GiveUp, Assign, Renew, Moment}
 use Rattle.model_streams.specs.declared.extent.Extent.{Extent}
-use Rattle.model_streams.specs.declared.waiting.Waiting.{Waiting}
+use Rattle.model_streams.specs.declared.waiting_append.WaitingAppend.{WaitingAppend}
 use Rattle.model_streams.specs.Actors.{is_node, is_manager, is_user, generation_of}
 use Rattle.model_streams.specs.Manager as catalog
 use Rattle.model_streams.specs.Manager.{Catalog, is_there}
@@ -60,7 +60,7 @@ unless_bare after me p q None o bare = bare
 
 -- ---- the rules of a node
 
-acked_bare : (e : ℕ) (ws : List Waiting) → table_notes (table.acked e ws) ≡ []
+acked_bare : (e : ℕ) (ws : List WaitingAppend) → table_notes (table.acked e ws) ≡ []
 acked_bare e [] = refl
 acked_bare e (w ∷ ws) = acked_bare e ws
 

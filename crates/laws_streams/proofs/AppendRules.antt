@@ -14,7 +14,7 @@ use Rattle.replica.specs.declared.phase.Phase.TheVariants as phases
 use Rattle.replica.specs.Groups.{Group, joined, size, text_length}
 use Rattle.replica.specs.Content as contents
 use Rattle.replica.proofs.Lengths.{text_length-push}
-use Rattle.model_streams.specs.declared.waiting.Waiting.{Waiting}
+use Rattle.model_streams.specs.declared.waiting_append.WaitingAppend.{WaitingAppend}
 use Rattle.model_streams.specs.Actors.{is_node, generation_of}
 use Rattle.model_streams.specs.Honest.{Stands}
 use Rattle.model_streams.specs.Maps.{changed, changed_at}
@@ -70,7 +70,7 @@ group_small (b ∷ bs) q =
     omega (arith, length-append b (joined bs), l, m)
 
 -- one more that stands at the script's end
-chain_push : (s t : List Group) (from : ℕ) (ws : List Waiting) (w : Waiting) → Begins s t → from ≤ text_length s → Chain s from ws →
+chain_push : (s t : List Group) (from : ℕ) (ws : List WaitingAppend) (w : WaitingAppend) → Begins s t → from ≤ text_length s → Chain s from ws →
     w.offset ≡ text_length s → Stands w.group w.offset t → 0 < size w.group → Chain t from (ws ++ w ∷ [])
 chain_push s t from [] w b l c at stands some = (omega arith, stands, some, tt)
 chain_push s t from (x ∷ xs) w b l c at stands some =

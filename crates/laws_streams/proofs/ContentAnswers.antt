@@ -10,7 +10,7 @@ use Rattle.wire.specs.declared.body.Body.TheVariants as bodies
 use Rattle.wire.specs.declared.note.Note.TheVariants.{Acked, SealedAt}
 use Rattle.wire.specs.declared.packet.Packet.{Packet}
 use Rattle.replica.specs.Groups.{Group, text_length}
-use Rattle.model_streams.specs.declared.waiting.Waiting.{Waiting}
+use Rattle.model_streams.specs.declared.waiting_append.WaitingAppend.{WaitingAppend}
 use Rattle.model_streams.specs.Actors.{generation_of}
 use Rattle.model_streams.specs.Node.{Replica, extent_of, node_rule}
 use Rattle.model_streams.specs.Outcome.{packet}
@@ -88,7 +88,7 @@ module _ (nodes target : ℕ) (before after : List Move) where
   acked_had : (e : ℕ) → AllHad ground e (ground.acked e)
   acked_had e at made = trace.now.holds.sound.all_had e at made
 
-  module _ (n e : ℕ) (past rest : List Move) (move : Move) (split : before ≡ past ++ move ∷ rest) (x : Waiting)
+  module _ (n e : ℕ) (past rest : List Move) (move : Move) (split : before ≡ past ++ move ∷ rest) (x : WaitingAppend)
       (r : Replica) (there : (run_moves past first).replica n e ≡ Some r) (waits : Contains r.waiting x)
       (noted : Contains (run_moves before first).notes (Acked e x.offset x.group)) where
     appended_so : AppendedBy before after first ground.script ground.origin (Node n) x.asker x.request e x.offset

@@ -20,7 +20,7 @@ use Rattle.replica.specs.declared.phase.Phase.TheVariants as phases
 use Rattle.replica.specs.Groups.{Group, text, size, text_length}
 use Rattle.replica.specs.Replay.{is_place}
 use Rattle.model_streams.specs.declared.checking.Checking.{Checking}
-use Rattle.model_streams.specs.declared.waiting.Waiting.{Waiting}
+use Rattle.model_streams.specs.declared.waiting_append.WaitingAppend.{WaitingAppend}
 use Rattle.model_streams.specs.Actors.{is_node, generation_of}
 use Rattle.model_streams.specs.Honest.{Stands}
 use Rattle.model_streams.specs.Node.{Replica}
@@ -148,7 +148,7 @@ FineNote g (Seen e n o bytes) = Shows o bytes (text (g.script e))
 FineNote g _ = Unit {0}
 
 -- the waiting appends stand in the script in order, from here on
-abbrev pub Chain : List Group → ℕ → List Waiting → Type 0
+abbrev pub Chain : List Group → ℕ → List WaitingAppend → Type 0
 Chain script from [] = Unit {0}
 Chain script from (w ∷ ws) =
     (from ≤ w.offset) × Stands w.group w.offset script × (0 < size w.group) × Chain script (w.offset + size w.group) ws
@@ -184,7 +184,7 @@ FineCheck g n e places fence (Some c) = FineChecking g n e places fence c
 
 -- an append that waits at a primary: it was asked for, and its group stands in the script where it says, as the one that
 -- this request appended
-pub record FineWaiting (g : Ground) (n e : ℕ) (w : Waiting) : Type 0 where
+pub record FineWaiting (g : Ground) (n e : ℕ) (w : WaitingAppend) : Type 0 where
   pub generation : ℕ
   pub asked : Contains g.asked (packet w.asker (Node n) (bodies.Append (Append e generation w.group w.request)))
   pub index : ℕ

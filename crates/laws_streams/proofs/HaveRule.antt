@@ -8,7 +8,7 @@ use Rattle.wire.specs.declared.note.Note.TheVariants.{Acked}
 use Rattle.wire.specs.declared.packet.Packet.{Packet}
 use Rattle.replica.specs.declared.phase.Phase.TheVariants as phases
 use Rattle.replica.specs.Groups.{Group, size, text_length}
-use Rattle.model_streams.specs.declared.waiting.Waiting.{Waiting}
+use Rattle.model_streams.specs.declared.waiting_append.WaitingAppend.{WaitingAppend}
 use Rattle.model_streams.specs.Actors.{is_node}
 use Rattle.model_streams.specs.Honest.{Apart}
 use Rattle.model_streams.specs.Maps.{changed}
@@ -24,21 +24,21 @@ use Rattle.laws_streams.proofs.RuleInvariant.{Keeps, each_all, kept_silent, open
 -- ---- the waiting appends
 
 -- the end of the last of them
-acked_to : ℕ → List Waiting → ℕ
+acked_to : ℕ → List WaitingAppend → ℕ
 acked_to from [] = from
 acked_to from (w ∷ ws) = acked_to (w.offset + size w.group) ws
 
-to_more : (s : List Group) (from : ℕ) (ws : List Waiting) → Chain s from ws → from ≤ acked_to from ws
+to_more : (s : List Group) (from : ℕ) (ws : List WaitingAppend) → Chain s from ws → from ≤ acked_to from ws
 unfolding acked_to
 to_more s from [] c = omega arith
 to_more s from (w ∷ ws) c = let m = to_more s (w.offset + size w.group) ws c.3 in omega (arith, m, c.0)
 
-to_end : (s : List Group) (from : ℕ) (ws : List Waiting) → Chain s from ws → from ≤ text_length s → acked_to from ws ≤ text_length s
+to_end : (s : List Group) (from : ℕ) (ws : List WaitingAppend) → Chain s from ws → from ≤ text_length s → acked_to from ws ≤ text_length s
 unfolding acked_to
 to_end s from [] c l = l
 to_end s from (w ∷ ws) c l = to_end s (w.offset + size w.group) ws c.3 (stands_end c.1)
 
-to_length : (length x from : ℕ) (ws : List Waiting) → from ≤ x → length ≤ x → acked_to from (take (covered length ws) ws) ≤ x
+to_length : (length x from : ℕ) (ws : List WaitingAppend) → from ≤ x → length ≤ x → acked_to from (take (covered length ws) ws) ≤ x
 unfolding acked_to
 to_length length x from [] f h = f
 to_length length x from (w ∷ ws) f h =
@@ -46,18 +46,18 @@ to_length length x from (w ∷ ws) f h =
     (λ t. let l = leb-true (w.offset + size w.group) length t in to_length length x (w.offset + size w.group) ws (omega arith) h)
     (λ _. f)
 
-chain_take : (s : List Group) (from k : ℕ) (ws : List Waiting) → Chain s from ws → Chain s from (take k ws)
+chain_take : (s : List Group) (from k : ℕ) (ws : List WaitingAppend) → Chain s from ws → Chain s from (take k ws)
 chain_take s from zero ws c = tt
 chain_take s from (suc k) [] c = tt
 chain_take s from (suc k) (w ∷ ws) c = (c.0, c.1, c.2, chain_take s (w.offset + size w.group) k ws c.3)
 
-chain_drop : (s : List Group) (from k : ℕ) (ws : List Waiting) → Chain s from ws → Chain s (acked_to from (take k ws)) (drop k ws)
+chain_drop : (s : List Group) (from k : ℕ) (ws : List WaitingAppend) → Chain s from ws → Chain s (acked_to from (take k ws)) (drop k ws)
 unfolding acked_to
 chain_drop s from zero ws c = c
 chain_drop s from (suc k) [] c = tt
 chain_drop s from (suc k) (w ∷ ws) c = chain_drop s (w.offset + size w.group) k ws c.3
 
-chain_notes : (h : Ground) (e from : ℕ) (ws : List Waiting) → Chain (h.script e) from ws → acked_to from ws ≤ h.acked e → Each (FineNote h) (acked e ws)
+chain_notes : (h : Ground) (e from : ℕ) (ws : List WaitingAppend) → Chain (h.script e) from ws → acked_to from ws ≤ h.acked e → Each (FineNote h) (acked e ws)
 unfolding acked_to
 chain_notes h e from [] c l = tt
 chain_notes h e from (w ∷ ws) c l = (
@@ -65,7 +65,7 @@ chain_notes h e from (w ∷ ws) c l = (
   chain_notes h e (w.offset + size w.group) ws c.3 l,
 )
 
-chain_far : (s : List Group) (f e o from : ℕ) (group : Group) (ws : List Waiting) → (f ≡ e → o + size group ≤ from) → Chain s from ws →
+chain_far : (s : List Group) (f e o from : ℕ) (group : Group) (ws : List WaitingAppend) → (f ≡ e → o + size group ≤ from) → Chain s from ws →
     Each (Apart (Acked f o group)) (acked e ws)
 chain_far s f e o from group [] l c = tt
 chain_far s f e o from group (w ∷ ws) l c = (
@@ -73,19 +73,19 @@ chain_far s f e o from group (w ∷ ws) l c = (
   chain_far s f e o (w.offset + size w.group) group ws (λ same. let k = l same in omega (arith, k, c.0)) c.3,
 )
 
-chain_apart : (s : List Group) (e from : ℕ) (ws : List Waiting) → Chain s from ws → EachPair Apart (acked e ws)
+chain_apart : (s : List Group) (e from : ℕ) (ws : List WaitingAppend) → Chain s from ws → EachPair Apart (acked e ws)
 chain_apart s e from [] c = tt
 chain_apart s e from (w ∷ ws) c = (
   chain_far s e e w.offset (w.offset + size w.group) w.group ws (λ same. omega arith) c.3,
   chain_apart s e (w.offset + size w.group) ws c.3,
 )
 
-chain_cross : (g : Ground) (e : ℕ) (ws : List Waiting) → Chain (g.script e) (g.acked e) ws → (x : Note) → FineNote g x → Each (Apart x) (acked e ws)
+chain_cross : (g : Ground) (e : ℕ) (ws : List WaitingAppend) → Chain (g.script e) (g.acked e) ws → (x : Note) → FineNote g x → Each (Apart x) (acked e ws)
 chain_cross g e ws c (Acked f o group) fine =
     chain_far (g.script e) f e o (g.acked e) group ws (λ same. let k = ap g.acked same in omega (arith, fine.within)) c
 chain_cross g e ws c x fine = each_all _ (λ y. tt) (acked e ws)
 
-answers_fine : (g : Ground) (n e : ℕ) (ws : List Waiting) → Each (FinePacket g) (answers n e ws)
+answers_fine : (g : Ground) (n e : ℕ) (ws : List WaitingAppend) → Each (FinePacket g) (answers n e ws)
 answers_fine g n e [] = tt
 answers_fine g n e (w ∷ ws) = (tt, answers_fine g n e ws)
 
@@ -99,7 +99,7 @@ lesser_second a b = if_elim (λ x. x ≤ b) (nat_le a b) a b (λ t. leb-true a b
 abbrev count_of : Replica → ℕ
 count_of r = covered (lesser r.second_has r.third_has) r.waiting
 
-abbrev leaving : Replica → List Waiting
+abbrev leaving : Replica → List WaitingAppend
 leaving r = take (count_of r) r.waiting
 
 -- ---- all up to an offset is acknowledged

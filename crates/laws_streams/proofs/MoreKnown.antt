@@ -20,7 +20,7 @@ use Rattle.replica.specs.declared.phase.Phase.TheVariants as phases
 use Rattle.replica.specs.Groups.{Group, text, text_length}
 use Rattle.replica.proofs.Lengths.{text-append}
 use Rattle.model_streams.specs.declared.checking.Checking.{Checking}
-use Rattle.model_streams.specs.declared.waiting.Waiting.{Waiting}
+use Rattle.model_streams.specs.declared.waiting_append.WaitingAppend.{WaitingAppend}
 use Rattle.model_streams.specs.Actors.{generation_of}
 use Rattle.model_streams.specs.Node.{Replica}
 use Rattle.model_streams.specs.Outcome.{packet}
@@ -201,7 +201,7 @@ check_later g h later n e places fence same born (Some c) f = record {
   asked = later.asked (packet c.asker (Node n) (bodies.Check (Check e f.generation c.request))) f.asked;
 }
 
-pub waiting_later : (g h : Ground) → Later g h → (n e : ℕ) (w : Waiting) → FineWaiting g n e w → FineWaiting h n e w
+pub waiting_later : (g h : Ground) → Later g h → (n e : ℕ) (w : WaitingAppend) → FineWaiting g n e w → FineWaiting h n e w
 waiting_later g h later n e w f =
     let b = later.script e in
     let (news, origins, newer) = later.origin e in
@@ -218,12 +218,12 @@ waiting_later g h later n e w f =
     }
 
 -- under the same generation
-pub waiting_generation : (g h : Ground) (later : Later g h) (n e : ℕ) (w : Waiting) (f : FineWaiting g n e w) →
+pub waiting_generation : (g h : Ground) (later : Later g h) (n e : ℕ) (w : WaitingAppend) (f : FineWaiting g n e w) →
     (waiting_later g h later n e w f).generation ≡ f.generation
 unfolding waiting_later
 waiting_generation g h later n e w f = refl
 
-pub waits_later : (g h : Ground) → Later g h → (n e : ℕ) (ws : List Waiting) → Each (FineWaiting g n e) ws → Each (FineWaiting h n e) ws
+pub waits_later : (g h : Ground) → Later g h → (n e : ℕ) (ws : List WaitingAppend) → Each (FineWaiting g n e) ws → Each (FineWaiting h n e) ws
 waits_later g h later n e ws f = each-weaker (FineWaiting g n e) (FineWaiting h n e) (waiting_later g h later n e) ws f
 
 none_script : (g : Ground) → Sound g → (n e : ℕ) → FineNone g n e → (at : Nodes) → n ≡ at.primary →

@@ -25,7 +25,7 @@ use Rattle.replica.specs.declared.phase.Phase.TheVariants as phases
 use Rattle.replica.specs.Groups.{Group, text_length}
 use Rattle.replica.specs.Reading.{groups_to, groups_from}
 use Rattle.model_streams.specs.declared.checking.Checking.{Checking}
-use Rattle.model_streams.specs.declared.waiting.Waiting.{Waiting}
+use Rattle.model_streams.specs.declared.waiting_append.WaitingAppend.{WaitingAppend}
 use Rattle.model_streams.specs.Actors.{is_node, is_manager, generation_of}
 use Rattle.model_streams.specs.Node as table
 use Rattle.model_streams.specs.Node.{Replica, is_open, is_sealed}
@@ -40,7 +40,7 @@ pub record FromWaiting (s : Option Replica) (k : ℕ) (notes : List Note) (to : 
   pub extent : e ≡ k
   pub replica : Replica
   pub there : s ≡ Some replica
-  pub waiting : Waiting
+  pub waiting : WaitingAppend
   pub waits : Contains replica.waiting waiting
   pub asker : to ≡ waiting.asker
   pub request : q ≡ waiting.request
@@ -120,7 +120,7 @@ contains_first (suc k) (y ∷ ys) x (zero, l, e) = (0, omega arith, e)
 contains_first (suc k) (y ∷ ys) x (suc i, l, e) = let m = contains_first k ys x (i, omega (arith, l), e) in (suc m.0, omega (arith, m.1), m.2)
 
 module _ (n : ℕ) (k : ℕ) (p : Packet) (r : Replica) where
-  answers_tell : (notes : List Note) (ws : List Waiting) → ((w : Waiting) → Contains ws w → Contains r.waiting w) →
+  answers_tell : (notes : List Note) (ws : List WaitingAppend) → ((w : WaitingAppend) → Contains ws w → Contains r.waiting w) →
       ((x : Note) → Contains (table.acked k ws) x → Contains notes x) → Each (NodeTells n (Some r) k p notes) (table.answers n k ws)
   answers_tell notes [] all told = tt
   answers_tell notes (w ∷ ws) all told = (

@@ -25,7 +25,7 @@ use Rattle.replica.specs.Groups.{Group, text_length}
 use Rattle.replica.specs.Reading.{groups_to, groups_from}
 use Rattle.replica.specs.Content.{Content}
 use Rattle.model_streams.specs.declared.checking.Checking.{Checking}
-use Rattle.model_streams.specs.declared.waiting.Waiting.{Waiting}
+use Rattle.model_streams.specs.declared.waiting_append.WaitingAppend.{WaitingAppend}
 use Rattle.model_streams.specs.Actors.{is_node, is_manager}
 use Rattle.model_streams.specs.Outcome.{Outcome, all_met, silent, sends, or_refused}
 use Rattle.model_streams.specs.Node.{Replica, fresh, is_open, node_rule, append_body_rule, seal_body_rule, read_body_rule, append_taken, append_refusal, append_tests, make_rule, make_taken, make_tests, put_fits, put_added, put_passed, put_taken, put_refusal, put_rule, answered, answered_if, covered, lesser, with_length, have_rule, read_taken, groups_taken, is_sealed, freezes, freeze_rule, shorts, cuts, seals_again, seals, seal_rule, tail_sent, send_tail_refusal, send_tail_rule, tail_fits, tail_taken, tail_rule, missing, check_body_rule, check_begun, check_taken, probe_refusal, probe_taken, probe_rule, with_probed, settled, probed_by, probed_for}
@@ -52,7 +52,7 @@ sent s packets h few = record { waits = h; few = (few, omega arith) }
 below : (a b : ℕ) → nat_le b a ≡ false → a < b
 below a b h = grind (arith, nat_tests)
 
-one_more : (ws : List Waiting) (w : Waiting) → length ws < 256 → length (ws ++ w ∷ []) ≤ 256
+one_more : (ws : List WaitingAppend) (w : WaitingAppend) → length ws < 256 → length (ws ++ w ∷ []) ≤ 256
 one_more ws w h = omega (arith, h, length-append ws (w ∷ []))
 
 append_bounded : (n : ℕ) (r : Replica) (p : Packet) (e generation : ℕ) (blocks : Group) (q : ReqNo) (x : Option Refusal) → FewWait (Some r) → append_refusal n r p generation blocks ≡ x → Bounded (or_refused (Some r) (Node n) p q x (append_taken n r p e blocks q))
@@ -83,10 +83,10 @@ put_bounded n r p e offset group h =
     (λ t. put_refused_bounded n r p e offset group (put_refusal r) h)
     (λ f. quiet (Some r) h)
 
-part : (count : ℕ) (ws : List Waiting) → length ws ≤ 256 → (length (take count ws) ≤ 256) × (length (drop count ws) ≤ 256)
+part : (count : ℕ) (ws : List WaitingAppend) → length ws ≤ 256 → (length (take count ws) ≤ 256) × (length (drop count ws) ≤ 256)
 part count ws h = (grind (arith, common_steps), grind (arith, common_steps))
 
-mapped : {B : Type 0} (f : Waiting → B) (ws : List Waiting) → length ws ≤ 256 → length (map f ws) ≤ 2048
+mapped : {B : Type 0} (f : WaitingAppend → B) (ws : List WaitingAppend) → length ws ≤ 256 → length (map f ws) ≤ 2048
 mapped f ws h = omega (arith, h, length-map ws f)
 
 answered_bounded : (n : ℕ) (r : Replica) (e : ℕ) → length r.waiting ≤ 256 → Bounded (answered n r e)

@@ -32,7 +32,7 @@ use Rattle.replica.specs.Reading.{bytes_at, groups_to, groups_from}
 pub use Rattle.replica.specs.Replay.{is_open, is_frozen, is_sealed}
 use Rattle.replica.specs.Replay.{is_place, is_tail}
 use Rattle.model_streams.specs.declared.checking.Checking.{Checking}
-use Rattle.model_streams.specs.declared.waiting.Waiting.{Waiting}
+use Rattle.model_streams.specs.declared.waiting_append.WaitingAppend.{WaitingAppend}
 use Rattle.model_streams.specs.Actors.{is_node, is_manager, is_one_of, generation_of}
 use Rattle.model_streams.specs.Outcome.{Outcome, packet, first_met, all_met, silent, sends, refused, or_refused}
 
@@ -42,7 +42,7 @@ pub record Replica : Type 0 where
   pub content : Content
   pub second_has : ℕ
   pub third_has : ℕ
-  pub waiting : List Waiting
+  pub waiting : List WaitingAppend
   pub check : Option Checking
 
 -- with what a stop drops empty
@@ -157,7 +157,7 @@ put_rule n r p e offset group =
 -- ---- Have
 
 -- how many of the waiting appends, from the first on, end within this length
-abbrev pub covered : ℕ → List Waiting → ℕ
+abbrev pub covered : ℕ → List WaitingAppend → ℕ
 covered length [] = 0
 covered length (w ∷ ws) = if nat_le (w.offset + size w.group) length then suc (covered length ws) else 0
 
@@ -167,10 +167,10 @@ lesser a b = if nat_le a b then a else b
 abbrev pub greater : ℕ → ℕ → ℕ
 greater a b = if nat_lt a b then b else a
 
-abbrev pub acked : ℕ → List Waiting → List Note
+abbrev pub acked : ℕ → List WaitingAppend → List Note
 acked e ws = map (λ w. notes.Acked e w.offset w.group) ws
 
-abbrev pub answers : ℕ → ℕ → List Waiting → List Packet
+abbrev pub answers : ℕ → ℕ → List WaitingAppend → List Packet
 answers n e ws = map (λ w. packet (Node n) w.asker (bodies.Append (Appended w.request e w.offset))) ws
 
 -- the appends that both secondaries have are answered, and wait no more

@@ -9,10 +9,10 @@ mod checking;
 mod event;
 mod extent;
 mod manager_record;
-mod waiting;
+mod waiting_append;
 
 pub use checking::Checking;
 pub use event::Event;
 pub use extent::{Asker, Extent, PlaceReport};
 pub use manager_record::ManagerRecord;
-pub use waiting::Waiting;
+pub use waiting_append::WaitingAppend;

@@ -4,7 +4,7 @@ use wire::{ActorId, ReqNo};
 
 /// An append that the primary has on its disk, and that waits until both secondaries have it: where its group stands,
 /// and who is to be answered with which request number.
-pub struct Waiting {
+pub struct WaitingAppend {
     pub offset: u32,
     pub group: Group,
     pub asker: ActorId,
@@ -12,9 +12,9 @@ pub struct Waiting {
 }
 
 // Written out, so that a crate above that lets one go has no proof of what is in it.
-impl Drop for Waiting {
+impl Drop for WaitingAppend {
     fn drop(self) {
-        let Waiting {
+        let WaitingAppend {
             offset: _,
             group: _,
             asker: _,
