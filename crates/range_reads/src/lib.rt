@@ -1,6 +1,6 @@
 //! The Gets of a range: keys are looked up, and values that stand elsewhere are read first.
 //!
-//! The values that were read are held, 256 at most, and the one least recently used goes for a new one. This crate touches
+//! The values that were read are held, `MAX_HELD` at most, and the one least recently used goes for a new one. This crate touches
 //! memory alone, and answers what is to be sent; it sends nothing.
 //! What the layers above may build on, each a clause here:
 //! - `get` answers a Get at once, or keeps it and asks for the value that it needs.

@@ -15,7 +15,7 @@ use std::marker::Model;
 use std::num::NonZeroUsize;
 
 /// How many values are held at most.
-pub const MAX_HELD: usize = 256;
+pub const MAX_HELD: usize = 1024;
 
 /// The place of a value that is held.
 #[derive(Clone, Copy, PartialEq, Eq, Hash)]
@@ -67,12 +67,13 @@ pub(crate) struct ValueCache {
 impl Model for ValueCache {
     ghost use Rattle.std.specs.Prelude.{◌≡◌};
     ghost use Rattle.range_reads.specs.ValueCache.{Values};
+    ghost use Rattle.range_reads.specs.declared.value_cache.TheConstants.{MAX_HELD};
 
     ghost Value = { Values };
 
     ghost view = { λ h. h.cache.entries };
 
-    ghost invariant = { λ h. h.cache.cap ≡ 256 };
+    ghost invariant = { λ h. h.cache.cap ≡ MAX_HELD };
 }
 
 impl ValueCache {
@@ -95,7 +96,7 @@ impl ValueCache {
     fn goes_for(&self, fresh: &Place, place: &Place) -> bool
         ensures value { result ≡ goes_for self.now fresh.now place.now }
         ensures distinct { IsDistinct is_place (keys_of self.now) }
-        ensures bound { length self.now ≤ 256 }
+        ensures bound { length self.now ≤ MAX_HELD }
     {
         if self.cache.len() != MAX_HELD || self.value(fresh).is_some() {
             return false;
