@@ -1,5 +1,5 @@
 -- What a line and a request begin with.
-use Rattle.std.proofs.Common.{◌≡◌, ◌<◌, ◌∷◌, ℕ, Global, length, List, Option, None, Some, Vec, IfSome, [], ap, arith, codes, drop, get_or, subst, sym}
+use Rattle.std.proofs.Common.{◌≡◌, ◌<◌, ◌∷◌, ℕ, length, List, Option, None, Some, IfSome, [], ap, arith, codes, drop, get_or, subst, sym}
 use Rattle.std.specs.List.{AllByRecursion}
 use Rattle.model_streams.specs.declared.event.Event.TheVariants as events
 use Rattle.wire.specs.declared.transaction.Change.{Change}
@@ -64,14 +64,14 @@ form_spelled (Some line) words row filled same h = (filled, subst (HasForm line)
 tx_apart : (b : ℕ) (rest : List ℕ) → (◌≡◌ {A = ℕ} 116 b → ⊥) → codes "tx" ≡ b ∷ rest → ⊥
 tx_apart b rest ne e = ne (ap (λ (t : List ℕ). get_or t 0 0) e)
 
-changes_behind : (changes : Vec Change Global) (words : List (List ℕ)) (P Q : List ℕ → Type 0)
-    → (P then Q then each IsChange changes.items) words → each IsChange changes.items (drop 2 words)
+changes_behind : (changes : List Change) (words : List (List ℕ)) (P Q : List ℕ → Type 0)
+    → (P then Q then each IsChange changes) words → each IsChange changes (drop 2 words)
 changes_behind changes [] P Q h = absurd h
 changes_behind changes (a ∷ []) P Q h = absurd h.1
 changes_behind changes (a ∷ b ∷ words) P Q h = h.1.1
 
 -- a transaction has changes after its server and range
-pub no_transact : (words : List (List ℕ)) → ((list : Vec Change Global) → each IsChange list.items (drop 2 words) → ⊥)
+pub no_transact : (words : List (List ℕ)) → ((list : List Change) → each IsChange list (drop 2 words) → ⊥)
     → (r : Request) → Asks r (codes "tx" ∷ words) → ⊥
 no_transact words none (requests.Transact server range changes) h = none changes (changes_behind changes words _ _ h.1)
 no_transact words none (requests.Create kind) h = tx_apart 99 _ (λ e. absurd (omega (arith, e))) h.0

@@ -40,7 +40,7 @@ asked user number (requests.Append node extent blocks) =
     Submit user (actors.Node node) (bodies.Append (appends.Append extent 0 blocks.items number))
 asked user number (requests.Read node extent offset length) = read_by user node (reads.ReadAt extent offset length number)
 asked user number (requests.Content node extent upto) = read_by user node (reads.ReadGroups extent upto true number)
-asked user number (requests.Transact server range changes) = ask_by user server (tables.Transact range changes.items number)
+asked user number (requests.Transact server range changes) = ask_by user server (tables.Transact range changes number)
 asked user number (requests.Get server range key) = ask_by user server (tables.Get range key number)
 asked user number (requests.Route key) = Submit user actors.Map (bodies.Map (maps.Route key number))
 asked user number (requests.Seal extent) = call_by user (bodies.Seal (seals.SealExtent extent number))

@@ -28,7 +28,7 @@ Asks (requests.Content node extent upto) =
     says (codes "content") then IsNode node then Denotes extent then IsPlace upto then end
 Asks (requests.Seal extent) = says (codes "seal") then Denotes extent then end
 Asks (requests.Transact server range changes) =
-    says (codes "tx") then IsServer server then Denotes range then each IsChange changes.items
+    says (codes "tx") then IsServer server then Denotes range then each IsChange changes
 Asks (requests.Get server range key) =
     says (codes "get") then IsServer server then Denotes range then IsKey key then end
 Asks (requests.Route key) = says (codes "route") then IsKey key then end

@@ -8,8 +8,8 @@ use block_types::Nodes;
 use bytes::Bytes;
 use model_streams::Event;
 use wire::{
-    ActorId, AppendBody, Blocks, Body, Change, Changes, ExtentId, Fence, MapBody, RangeId,
-    ReadBody, ReqNo, SealBody, ServerNo, StreamBody, StreamKind, StreamName, TableBody,
+    ActorId, AppendBody, Blocks, Body, Changes, ExtentId, Fence, MapBody, RangeId, ReadBody, ReqNo,
+    SealBody, ServerNo, StreamBody, StreamKind, StreamName, TableBody,
 };
 
 /// A stream that users work on.
@@ -157,7 +157,7 @@ fn content(user: u64, number: ReqNo, node: u8, extent: u64, upto: u32) -> Event
 }
 
 /// A transaction.
-fn transact(user: u64, number: ReqNo, server: ServerNo, range: u64, changes: Vec<Change>) -> Event
+fn transact(user: u64, number: ReqNo, server: ServerNo, range: u64, changes: Changes) -> Event
     ensures { result ≡ asked user number (requests.Transact server range changes) }
 {
     ask(
@@ -165,7 +165,7 @@ fn transact(user: u64, number: ReqNo, server: ServerNo, range: u64, changes: Vec
         server,
         TableBody::Transact {
             range: RangeId(range),
-            changes: Changes { items: changes },
+            changes,
             request: number,
         },
     )

@@ -2,7 +2,7 @@
 use block_types::Nodes;
 use bytes::Bytes;
 use model_streams::Event;
-use wire::{ActorId, Change, ServerNo, StreamKind};
+use wire::{ActorId, Changes, ServerNo, StreamKind};
 
 /// What a user asks for.
 #[derive(Drop)]
@@ -44,7 +44,7 @@ pub enum Request {
     Transact {
         server: ServerNo,
         range: u64,
-        changes: Vec<Change>,
+        changes: Changes,
     },
     /// What a range has under a key.
     Get {

@@ -1,5 +1,5 @@
 //! What the words of a line spell: numbers and bytes.
-ghost use Rattle.std.specs.Prelude.{◌≡◌, ◌==◌, ◌<◌, ◌≤◌, true, map, length, IfNone, IfOk, IfSome};
+ghost use Rattle.std.specs.Prelude.{◌≡◌, ◌==◌, ◌<◌, ◌≤◌, true, map, length, replicate, IfNone, IfOk, IfSome};
 ghost use Rattle.std.specs.Option.{SomeIff};
 ghost use Rattle.std.specs.Char.{is_ascii_digit};
 ghost use Rattle.std.specs.List.{list_all, repeat, slice_split};
@@ -26,7 +26,7 @@ pub fn value(alloc: Global, word: &str) -> Result<Option<Vec<u8>>, AllocError>
     if word == "-" {
         return Ok(Some(Vec::new(alloc)));
     }
-    match word.as_bytes().to_vec(alloc) {
+    match Vec::from_slice(alloc, word.as_bytes()) {
         Ok(bytes) => Ok(Some(bytes)),
         Err(refused) => Err(refused),
     }
@@ -62,10 +62,32 @@ fn repeated(alloc: Global, count: &str, copied: &str) -> Result<Option<Vec<u8>>,
     if count > MOST_COPIES {
         return Ok(None);
     }
-    match copied.repeat(alloc, count as usize) {
-        Ok(text) => Ok(Some(text.into_bytes())),
+    match copies_of(alloc, count as usize, copied) {
+        Ok(bytes) => Ok(Some(bytes)),
         Err(refused) => Err(refused),
     }
+}
+
+/// The bytes of so many copies of a character. Most characters are one byte, and of that there is one fill.
+fn copies_of(alloc: Global, count: usize, copied: &str) -> Result<Vec<u8>, AllocError>
+    ensures { IfOk result (λ bytes. bytes.items ≡ repeat count copied.now) }
+{
+    match copied.as_bytes() {
+        [byte] => filled(alloc, count, *byte),
+        _ => match copied.repeat(alloc, count) {
+            Ok(text) => Ok(text.into_bytes()),
+            Err(refused) => Err(refused),
+        },
+    }
+}
+
+/// So many copies of a byte, in one piece of memory of just that length.
+fn filled(alloc: Global, count: usize, byte: u8) -> Result<Vec<u8>, AllocError>
+    ensures { IfOk result (λ bytes. bytes.items ≡ replicate count byte) }
+{
+    let mut bytes = Vec::with_capacity(alloc, count)?;
+    bytes.resize(count, byte)?;
+    Ok(bytes)
 }
 
 /// How many characters the word has.
@@ -105,6 +127,5 @@ pub fn words(alloc: Global, line: &str) -> Result<Vec<&str>, AllocError>
 pub fn key(alloc: Global, word: &str) -> Result<Bytes, AllocError>
     ensures { IfOk result (λ key. key ≡ word.now) }
 {
-    let bytes = word.as_bytes().to_vec(alloc)?;
-    Ok(Bytes::from_vec(bytes)?)
+    Bytes::copy_from_slice(alloc, word.as_bytes())
 }

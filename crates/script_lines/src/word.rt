@@ -8,7 +8,7 @@ ghost use Rattle.script_lines.specs.Words.{Denotes, DenotesUpTo, IsActor, IsChan
 use crate::spelling::{key, number, value};
 use bytes::Bytes;
 use std::alloc::{AllocError, Global};
-use wire::{ActorId, Change, ServerNo, StreamKind};
+use wire::{ActorId, Change, Changes, ServerNo, StreamKind};
 
 /// The numbers of these words, if there are so many and each is one.
 pub fn numbers<const N: usize>(words: &[&str]) -> Option<[u64; N]>
@@ -162,9 +162,9 @@ pub fn blocks(alloc: Global, words: &[&str]) -> Result<Option<Vec<Bytes>>, Alloc
 }
 
 /// The changes of these words.
-pub fn changes(alloc: Global, words: &[&str]) -> Result<Option<Vec<Change>>, AllocError>
+pub fn changes(alloc: Global, words: &[&str]) -> Result<Option<Changes>, AllocError>
     ensures { IfOk result (λ changes. Reads
-        (λ list texts. each IsChange list.items texts) changes (map (λ w. w.now) words.now)) }
+        (λ list texts. each IsChange list texts) changes (map (λ w. w.now) words.now)) }
 {
     let mut changes = Vec::with_capacity(alloc, words.len())?;
     for word in words {
@@ -173,5 +173,5 @@ pub fn changes(alloc: Global, words: &[&str]) -> Result<Option<Vec<Change>>, All
             None => return Ok(None),
         }
     }
-    Ok(Some(changes))
+    Ok(Some(Changes::of(changes)?))
 }

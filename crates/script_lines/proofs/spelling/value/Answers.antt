@@ -35,4 +35,4 @@ pub returns-in-Ok-clause-found : goal.returns-in-Ok-clause-found
 returns-in-Ok-clause-found c =
     let word : List ℕ = c.args.word.now in
     let other : IsValue word word = itself c.in_default.ensures.none (λ e. true≢false (sym ((bytes_eq-Decides word (codes "-")).1 e) ∙ sym c.eq.ensures ∙ c.if-eq.false)) in
-    subst (IsValue word) (sym (c.in-Ok.ensures.items_if_clones_equal (λ x y e. e) ∙ c.as_bytes.ensures.value)) other
+    subst (IsValue word) (sym (c.in-Ok.ensures.items ∙ c.as_bytes.ensures.value)) other

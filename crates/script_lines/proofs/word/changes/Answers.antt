@@ -6,7 +6,7 @@ use Rattle.script_lines.proofs.word.changes.Goals as goal
 pub returns-in-None : goal.returns-in-None
 returns-in-None c = λ list spelled.
     each_stop IsChange c.args.words.now c.loop-word.word-index _ (omega arith)
-    (rw c.in-None.is at c.in_ok-change.ensures) list.items spelled
+    (rw c.in-None.is at c.in_ok-change.ensures) list spelled
 
 pub loop-word-preserved : goal.loop-word-preserved
 loop-word-preserved c =
