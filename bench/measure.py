@@ -1,53 +1,32 @@
-"""Measures stampctl and bench, each figure for some size and for twice that size, and prints one table of ratios.
+"""Measures stampctl and bench, and prints the tables of docs/BENCH.md.
 
-Times are the least of several runs. A row is what was measured, the figure at N and at 2N, their ratio, and the most that the
-ratio may be. Nothing is tested here but that each run did what it was asked to do.
+The first has each figure for a size N and for 2N, their ratio, and the most that the ratio may be. The second has instructions
+and allocations for one request, and, where an older stampctl is named, those of the old program over those of the new; the
+plain program stands beside both. The third, only with an older program, has times, taken by turns, and peaks of memory. Times
+are seconds of the processor, the least of several runs. Nothing is tested here but that each run did what it was asked to do.
 """
+import argparse
 import os
-import subprocess
-import sys
 import tempfile
-import time
 
-BENCH, STAMPCTL = (os.path.abspath(path) for path in sys.argv[1:3])
-ROUNDS = 5
-# The greatest target, 16,777,216 bytes, takes 16,384 appends of 1 KiB; each of the four streams can have one extent.
-APPENDS_PER_STREAM = 16_000
-# A primary lets at most 256 appends wait.
-APPENDS_PER_SETTLE = 64
-# So many transactions may wait in one settle, and so often is a range loaded.
-TRANSACTIONS_PER_SETTLE = 256
-LOADS = 10
-# The request, two Puts, two Haves and the answer.
-DELIVERIES_PER_APPEND = 6
+import scripts
+from running import ROUNDS, allocations, best, by_turns, instructions, run
 
-
-def run(words, text=None):
-    """The seconds, the peak of resident bytes and the output of a command."""
-    start = time.monotonic()
-    child = subprocess.Popen(words, stdin=subprocess.PIPE, stdout=subprocess.PIPE)
-    if text is not None:
-        child.stdin.write(text)
-    child.stdin.close()
-    out = child.stdout.read()
-    _, status, usage = os.wait4(child.pid, 0)
-    assert status == 0, (words, status)
-    return time.monotonic() - start, usage.ru_maxrss * 1024, out
-
-
-def best(words, text=None):
-    """The run that took least time, of some."""
-    return min((run(words, text) for _ in range(ROUNDS)), key=lambda r: r[0])
-
-
-def told_micros(words, told):
-    """The least time in microseconds that a run of bench tells, behind these words, of some runs."""
-    found = []
-    for _ in range(ROUNDS):
-        out = run([BENCH, *words])[2].split()
-        assert out[:-1] == told.encode().split() + [b"micros"], out
-        found.append(int(out[-1]))
-    return min(found)
+words = argparse.ArgumentParser(description=__doc__.splitlines()[0])
+words.add_argument("bench")
+words.add_argument("stampctl")
+words.add_argument("--old-stampctl", help="a stampctl of before, which is measured beside this one")
+words.add_argument("--old-bench", help="a bench of before")
+words.add_argument("--plain", help="the plain program, where it could be built")
+words.add_argument("--allocations", help="the library that counts allocations, where it could be built")
+words.add_argument("--only", choices=["sizes", "counts", "times"], help="one table alone")
+ARGS = words.parse_args()
+BENCH, STAMPCTL = os.path.abspath(ARGS.bench), os.path.abspath(ARGS.stampctl)
+OLD_BENCH = ARGS.old_bench and os.path.abspath(ARGS.old_bench)
+OLD_STAMPCTL = ARGS.old_stampctl and os.path.abspath(ARGS.old_stampctl)
+PLAIN = ARGS.plain and os.path.abspath(ARGS.plain)
+LIBRARY = ARGS.allocations and os.path.abspath(ARGS.allocations)
+KIB = 1024
 
 
 def answers(out, word):
@@ -55,110 +34,158 @@ def answers(out, word):
     return sum(line.split()[3:4] == [word] for line in out.splitlines())
 
 
-def settled(lines, requests, each):
-    """Lines of requests, each made of its number, with a settle behind so many of them and at the end."""
-    for number in range(requests):
-        yield from lines(number)
-        if number % each == each - 1:
-            yield "settle"
-    yield "settle"
+def did(ran, word, count):
+    """The run, if it told so many answers of this kind."""
+    assert answers(ran.out, word) == count, (word, count, ran.out[-80:])
+    return ran
 
 
-def appends_to_three_nodes(count):
-    """Appends of 1 KiB to extents on three nodes that all answer, an extent for each 16,000."""
-    def lines(ticket):
-        stream, before = divmod(ticket, APPENDS_PER_STREAM)
-        if before == 0:
-            yield from (f"user 1 create {stream}", "settle", f"user 1 extend {stream} none 1 2 3", "settle")
-        yield f"user 1 append 1 {stream + 1} 1024*a"
-    return "\n".join(["setup 3 1 16777216 1", *settled(lines, count, APPENDS_PER_SETTLE)]).encode()
+def appended(script, count, payload):
+    """Time, deliveries a second and the peak over the payload of appends by a script."""
+    ran = did(best([STAMPCTL], script), b"appended", count)
+    return [ran.seconds, scripts.DELIVERIES_PER_APPEND * count / ran.seconds, ran.peak / payload]
 
 
-def seals_of_extents(count):
-    """Extents of one stream, each filled with 64 appends of 1 KiB and sealed while the third place is cut off."""
-    lines = ["setup 3 1 16777216 1", "user 1 create 0", "settle"]
-    for extent in range(1, count + 1):
-        last = "none" if extent == 1 else extent - 1
-        lines += [f"user 1 extend 0 {last} 1 2 3", "settle"]
-        lines += [f"user 1 append 1 {extent} 1024*a"] * 64
-        lines += ["settle", "cut n3", f"user 1 seal {extent}", "settle", f"decide {extent}", "settle"]
-        lines += ["heal n3", f"decide {extent}", "settle"]
-    return "\n".join(lines).encode()
-
-
-def transactions_on_a_range(count, loads):
-    """Transactions of one put of 100 bytes on one range; then the server stops and the range is loaded again, so many times."""
-    lines = ["setup 3 1 16777216 64", "moment 1", "assign 1 1 1000000", "settle"]
-    lines += settled(lambda number: [f"user 1 tx 1 1 +k{number:06}=100*x"], count, TRANSACTIONS_PER_SETTLE)
-    lines += ["stop s1 0 drop", "restart s1", "assign 1 1 1000000", "settle"] * loads
-    return "\n".join(lines).encode()
+def told_micros(words, told):
+    """The least time in seconds that a run of bench tells, behind these words, of some runs."""
+    found = []
+    for _ in range(ROUNDS):
+        out = run([BENCH, *words]).out.split()
+        assert out[:-1] == told.encode().split() + [b"micros"], out
+        found.append(int(out[-1]) / 1e6)
+    return [min(found)]
 
 
 def node(count):
-    seconds, peak, out = best([BENCH, "node", str(count)])
-    assert out.split()[1] == str(count).encode(), out
-    return [seconds, peak / (count * 1024)]
-
-
-def script(count):
-    seconds, peak, out = best([STAMPCTL], appends_to_three_nodes(count))
-    assert answers(out, b"appended") == count, out[-80:]
-    return [seconds, DELIVERIES_PER_APPEND * count / seconds, peak / (count * 1024)]
+    ran = best([BENCH, "node", str(count)])
+    assert ran.out.split()[1] == str(count).encode(), ran.out
+    return [ran.seconds, ran.peak / (count * KIB)]
 
 
 def seals(count):
-    seconds, peak, out = best([STAMPCTL], seals_of_extents(count))
-    sealed = sum(line.startswith(b"sealed ") and line.endswith(b" 65536") for line in out.splitlines())
-    assert sealed == count and answers(out, b"appended") == 64 * count, sealed
-    return [seconds, peak / (count * 65536)]
+    ran = did(best([STAMPCTL], lambda: scripts.seals_of_extents(count)), b"appended", 64 * count)
+    sealed = sum(line.startswith(b"sealed ") and line.endswith(b" 65536") for line in ran.out.splitlines())
+    assert sealed == count, sealed
+    return [ran.seconds, ran.peak / (count * 64 * KIB)]
 
 
-def restart(count):
-    return [told_micros(["restart", str(count)], f"taken {count}") / 1e6]
+def repeats(script):
+    """The seconds that each of some restarts, or of some loads, takes: a script with them over one without."""
+    without, more = at_sizes(script, [0, scripts.RESTARTS])
+    return (more.seconds - without.seconds) / scripts.RESTARTS, without, more
 
 
-def check(count):
-    return [told_micros(["check", str(count)], f"check {count} found none") / 1e6]
+def at_sizes(script, sizes):
+    """The runs that took least time, of one program over scripts of several sizes."""
+    return [best([STAMPCTL], lambda: script(size)) for size in sizes]
 
 
-def streams(count):
-    return [told_micros(["streams", str(count)], f"found {100 * count}") / 1e6]
+def restarts(script):
+    return [repeats(script)[0]]
 
 
 def transactions(count):
-    seconds, peak, out = best([STAMPCTL], transactions_on_a_range(count, 0))
-    assert answers(out, b"committed") == count, out[-80:]
-    more, _, out = best([STAMPCTL], transactions_on_a_range(count, LOADS))
-    assert out.splitlines()[-1] == f"loaded 1 {LOADS + 1} {count + 1} {count}".encode(), out[-80:]
-    return [seconds, count / seconds, peak / (count * 100), (more - seconds) / LOADS]
+    load, ran, loaded = repeats(lambda loads: scripts.transactions(count, loads=loads))
+    did(ran, b"committed", count)
+    assert loaded.out.splitlines()[-1] == f"loaded 1 {scripts.RESTARTS + 1} {count + 1} {count}".encode(), loaded.out[-80:]
+    return [ran.seconds, count / ran.seconds, ran.peak / (count * 100), load]
 
 
+def large_values(count):
+    load, ran, loaded = repeats(lambda loads: scripts.large_values(count, loads))
+    assert loaded.out.splitlines()[-1] == f"loaded 1 {scripts.RESTARTS + 1} {count + 1} {count}".encode(), loaded.out[-80:]
+    return [ran.seconds, ran.peak / (count * scripts.LARGE_VALUE), load]
+
+
+TIME = ("time", "s", 2.3)
+APPEND_FIGURES = [TIME, ("deliveries a second", "", None), ("peak over payload", "", None)]
 # What is measured, N, and of each figure its name, its unit, and the most that the ratio of 2N to N may be, where it has one.
-MEASURES = [
-    (node, "appends of 1 KiB to one node", 10_000, [("time", "s", 2.3), ("peak over payload", "", None)]),
-    (script, "appends of 1 KiB to three nodes, by a script", 10_000,
-     [("time", "s", 2.3), ("deliveries a second", "", None), ("peak over payload", "", None)]),
-    (seals, "extents of 64 appends, sealed with a node cut off", 1_000, [("time", "s", 2.3), ("peak over payload", "", None)]),
-    (restart, "records of 1 KiB at a node's restart", 100_000, [("time", "s", 2.3)]),
-    (check, "acknowledged appends whose observations are checked", 10_000, [("time", "s", 2.5)]),
-    (streams, "extents in each of 100 streams, added and found", 5_000, [("time", "s", 2.3)]),
-    (transactions, "transactions of one put of 100 bytes on one range", 20_000,
-     [("time", "s", 2.3), ("transactions a second", "", None), ("peak over values", "", None), ("time of a load", "s", 2.3)]),
+SIZES = [
+    ("appends of 1 KiB to one node", 10_000, node, [TIME, ("peak over payload", "", None)]),
+    ("appends of 1 KiB to three nodes, by a script", 10_000,
+     lambda n: appended(lambda: scripts.appends(n, scripts.FILLED), n, n * KIB), APPEND_FIGURES),
+    ("the same, each word spelled out", 10_000,
+     lambda n: appended(lambda: scripts.appends(n, scripts.SPELLED), n, n * KIB), APPEND_FIGURES),
+    ("appends of one byte to three nodes", 10_000,
+     lambda n: appended(lambda: scripts.appends(n, scripts.BYTE), n, n), APPEND_FIGURES),
+    ("groups of 64 blocks of 1 KiB to three nodes", 500,
+     lambda n: appended(lambda: scripts.groups(n), n, n * 64 * KIB), APPEND_FIGURES),
+    ("appends of 1 KiB to one extent, which 16,384 fill", 8_192,
+     lambda n: appended(lambda: scripts.one_extent(n), n, n * KIB), APPEND_FIGURES),
+    ("acknowledged appends of one extent whose observations are checked", 8_192,
+     lambda n: told_micros(["extent", str(n)], f"extent {n} found none"), [("time", "s", 2.5)]),
+    ("acknowledged appends, 64 to an extent, whose observations are checked", 10_000,
+     lambda n: told_micros(["check", str(n)], f"check {n} found none"), [("time", "s", 2.5)]),
+    ("extents of 64 appends, sealed with a node cut off", 1_000, seals, [TIME, ("peak over payload", "", None)]),
+    ("records of 1 KiB at a node's restart", 100_000, lambda n: told_micros(["restart", str(n)], f"taken {n}"), [TIME]),
+    ("records of 1 KiB at a node's restart in a script", 10_000,
+     lambda n: restarts(lambda times: scripts.node_restarts(n, times)), [TIME]),
+    ("extents at the manager's restart in a script", 2_000,
+     lambda n: restarts(lambda times: scripts.manager_restarts(n, times)), [TIME]),
+    ("records at the map's restart in a script", 20_000,
+     lambda n: restarts(lambda times: scripts.map_restarts(n, times)), [TIME]),
+    ("extents in each of 100 streams, added and found", 5_000,
+     lambda n: told_micros(["streams", str(n)], f"found {100 * n}"), [TIME]),
+    ("transactions of one put of 100 bytes on one range", 20_000, transactions,
+     [TIME, ("transactions a second", "", None), ("peak over values", "", None), ("time of a load", "s", 2.3)]),
+    ("transactions of one put of 5,000 bytes, kept by its place", 1_000, large_values,
+     [TIME, ("peak over values", "", None), ("time of a load", "s", 2.3)]),
+]
+
+# A run of these sizes less one of half of them, for what one request takes.
+FEW, MANY = 2_048, 4_096
+# A row: its name, the script of so many, the answer that each request gets, and the bytes that each brings.
+ROWS = [
+    ("append of 1 KiB to three nodes, `1024*a`", lambda n: scripts.appends(n, scripts.FILLED), b"appended", KIB),
+    ("append of 1 KiB, the word spelled out", lambda n: scripts.appends(n, scripts.SPELLED), b"appended", KIB),
+    ("append of one byte", lambda n: scripts.appends(n, scripts.BYTE), b"appended", 1),
+    ("transaction of one put of 100 bytes, batch 64",
+     lambda n: scripts.transactions(n, each=scripts.REQUESTS_PER_SETTLE), b"committed", 100),
+]
+# Rows whose times are taken by turns: the requests of a run, the script of so many, the answer, the bytes of each.
+TURNS = [(name, 10_000 if size < KIB else 8_192, script, word, size) for name, script, word, size in ROWS] + [
+    ("group of 64 blocks of 1 KiB", 250, scripts.groups, b"appended", 64 * KIB),
+    ("append of 1 KiB to one extent, which they fill", 16_384, scripts.one_extent, b"appended", KIB),
+    ("put of 5,000 bytes, kept by its place", 1_000, lambda n: scripts.large_values(n, 0), b"committed", scripts.LARGE_VALUE),
+]
+# What is brought back, N, and the script of so many with so many restarts or loads.
+COMING_BACK = [
+    ("restart of a node with 10,000 records of 1 KiB", lambda times: scripts.node_restarts(10_000, times)),
+    ("restart of the manager with 2,000 extents", lambda times: scripts.manager_restarts(2_000, times)),
+    ("restart of the map with 20,000 records", lambda times: scripts.map_restarts(20_000, times)),
+    ("load of 20,000 values of 100 bytes", lambda times: scripts.transactions(20_000, loads=times)),
+    ("load of 1,000 values by place", lambda times: scripts.large_values(1_000, times)),
+]
+# What bench measures by itself: the words.
+BY_BENCH = [
+    ("restart of a node with 100,000 records of 1 KiB, by bench", ["restart", "100000"]),
+    ("check of 16,384 appends of one extent", ["extent", "16384"]),
+    ("check of 20,000 appends, 64 to an extent", ["check", "20000"]),
 ]
 
 
-def figure(value, unit):
+def figure(value, unit=""):
+    if value is None:
+        return "-"
     return f"{value:,.0f}" if value >= 1_000 else f"{value:.3g} {unit}".strip()
 
 
-def table():
-    yield "| What | N | Figure | at N | at 2N | 2N over N | at most |"
+def over(old, new):
+    return "-" if old is None or new is None else f"{old / new:.2f}"
+
+
+def line(*cells):
+    return "| " + " | ".join(str(cell) for cell in cells) + " |"
+
+
+def sizes():
+    yield line("What", "N", "Figure", "at N", "at 2N", "2N over N", "at most")
     yield "|---|---|---|---|---|---|---|"
-    for measure, what, count, figures in MEASURES:
+    for what, count, measure, figures in SIZES:
         once, twice = measure(count), measure(2 * count)
         for (name, unit, most), small, great in zip(figures, once, twice):
-            limit = most if most else "-"
-            yield f"| {what} | {count:,} | {name} | {figure(small, unit)} | {figure(great, unit)} | {great / small:.2f} | {limit} |"
+            ratio = f"{great / small:.2f}" if small > 0 else "-"
+            yield line(what, f"{count:,}", name, figure(small, unit), figure(great, unit), ratio, most or "-")
     yield record_file()
 
 
@@ -167,12 +194,87 @@ def record_file():
     ratios = []
     with tempfile.TemporaryDirectory() as folder:
         for turn in range(ROUNDS):
-            words = run([BENCH, "file", "500", os.path.join(folder, f"records{turn}")])[2].split()
-            ratios.append(int(words[1]) / int(words[3]))
+            found = run([BENCH, "file", "500", os.path.join(folder, f"records{turn}")]).out.split()
+            ratios.append(int(found[1]) / int(found[3]))
     ratios.sort()
-    return (f"| records of 1 KiB over a real file, over a plain write and two syncs | 500 | time | "
-            f"{ratios[0]:.2f} to {ratios[-1]:.2f} | - | {ratios[len(ratios) // 2]:.2f} | 1.3 |")
+    return line("records of 1 KiB over a real file, over a plain write and two syncs", 500, "time",
+                f"{ratios[0]:.2f} to {ratios[-1]:.2f}", "-", f"{ratios[len(ratios) // 2]:.2f}", 1.3)
 
 
-for row in table():
-    print(row, flush=True)
+def of_one(count, program, script):
+    """What one request takes, by this count: a run of many less a run of fewer."""
+    if program is None:
+        return None
+    many, few = (count([program], script(size)) for size in (MANY, FEW))
+    if isinstance(many, tuple):
+        return [(more - less) / (MANY - FEW) for more, less in zip(many, few)]
+    return (many - few) / (MANY - FEW)
+
+
+def pieces(program, script):
+    """The pieces of memory that one request asks for, and their bytes, or neither where that can't be counted."""
+    if program is None or LIBRARY is None:
+        return [None, None]
+    return of_one(lambda command, lines: allocations(command, lines, LIBRARY), program, script)
+
+
+def counts():
+    yield line("For one request", "instructions", "old", "old over new", "plain", "new over plain",
+               "allocations", "old", "plain", "bytes asked for", "old", "plain")
+    yield "|" + "---|" * 12
+    programs = (STAMPCTL, OLD_STAMPCTL, PLAIN)
+    for what, script, word, _ in ROWS:
+        did(run([STAMPCTL], script(FEW)), word, FEW)
+        new, old, plain = (of_one(instructions, program, script) for program in programs)
+        asked = [pieces(program, script) for program in programs]
+        yield line(what, figure(new), figure(old), over(old, new), figure(plain), over(new, plain),
+                   *(figure(calls) for calls, _ in asked), *(figure(size) for _, size in asked))
+
+
+def times():
+    programs = [program for program in (STAMPCTL, OLD_STAMPCTL, PLAIN) if program]
+    yield line("By turns", "N", "time", "old", "old over new", "plain", "new over plain",
+               "peak over payload", "old", "plain")
+    yield "|" + "---|" * 10
+    for what, count, script, word, size in TURNS:
+        found = by_turns([[program] for program in programs], lambda: script(count))
+        by_program = dict(zip(programs, (did(ran, word, count) for ran in found)))
+        new, old, plain = (by_program.get(program) for program in (STAMPCTL, OLD_STAMPCTL, PLAIN))
+        seconds = [ran and ran.seconds for ran in (new, old, plain)]
+        peaks = [figure(ran and ran.peak / (count * size)) if size >= 100 else "-" for ran in (new, old, plain)]
+        yield line(what, f"{count:,}", figure(seconds[0], "s"), figure(seconds[1], "s"), over(seconds[1], seconds[0]),
+                   figure(seconds[2], "s"), over(seconds[0], seconds[2]), *peaks)
+    for what, script in COMING_BACK:
+        yield coming_back(what, script)
+    for what, command in BY_BENCH:
+        yield of_bench(what, command)
+
+
+def coming_back(what, script):
+    """One restart, or one load, of the old program and of the new: a script with some less one without."""
+    programs = [[STAMPCTL], [OLD_STAMPCTL]]
+    more, less = (by_turns(programs, lambda: script(size)) for size in (scripts.RESTARTS, 0))
+    new, old = ((with_it.seconds - without.seconds) / scripts.RESTARTS for with_it, without in zip(more, less))
+    return line(what, "-", figure(new, "s"), figure(old, "s"), over(old, new), *["-"] * 5)
+
+
+def of_bench(what, command):
+    """What bench measures by itself; an old one may not know it."""
+    found = {BENCH: [], OLD_BENCH: []}
+    for _ in range(ROUNDS):
+        for program in filter(None, found):
+            try:
+                found[program].append(int(run([program, *command]).out.split()[-1]) / 1e6)
+            except AssertionError:
+                assert program != BENCH, command
+    new, old = (min(found[program], default=None) for program in (BENCH, OLD_BENCH))
+    return line(what, "-", figure(new, "s"), figure(old, "s"), over(old, new), *["-"] * 5)
+
+
+TABLES = {"sizes": sizes, "counts": counts, "times": times}
+wanted = [ARGS.only] if ARGS.only else ["sizes", "counts"] + ["times"] * bool(OLD_STAMPCTL)
+for number, name in enumerate(wanted):
+    if number:
+        print()
+    for row in TABLES[name]():
+        print(row, flush=True)

@@ -1,7 +1,30 @@
 #!/usr/bin/env bash
-# Proves and builds what is measured where that is not done yet, runs all measurements, and prints one table of ratios.
+# bench/run.sh [OLD_STAMPCTL [OLD_BENCH]]: proves and builds what is measured where that is not done yet, runs all measurements,
+# and prints the tables of docs/BENCH.md. With a stampctl of another commit, and its bench, the old ones are measured by turns with
+# the new. STAMPCTL and BENCH, where both are set, name programs that stand already, and nothing is proved or built of the two.
 set -euo pipefail
+OLD=("${@/#/}")
+for at in "${!OLD[@]}"; do OLD[at]=$(realpath "${OLD[at]}"); done
+if [ -n "${STAMPCTL:-}" ] && [ -n "${BENCH:-}" ]; then
+    STAMPCTL=$(realpath "$STAMPCTL") BENCH=$(realpath "$BENCH")
+fi
 cd "$(dirname "$0")/.."
-(cd crates/bench && rt run > /dev/null)
-(cd crates/stampctl && rt run < stdin > /dev/null)
-exec python3 bench/measure.py crates/bench/out/bench crates/stampctl/out/stampctl
+if [ -z "${STAMPCTL:-}" ] || [ -z "${BENCH:-}" ]; then
+    (cd crates/bench && rt run > /dev/null)
+    (cd crates/stampctl && rt run < stdin > /dev/null)
+    STAMPCTL=crates/stampctl/out/stampctl BENCH=crates/bench/out/bench
+fi
+MADE=$(mktemp -d)
+trap 'rm -r "$MADE"' EXIT
+WORDS=("$BENCH" "$STAMPCTL")
+[ ${#OLD[@]} -lt 1 ] || WORDS+=(--old-stampctl "${OLD[0]}")
+[ ${#OLD[@]} -lt 2 ] || WORDS+=(--old-bench "${OLD[1]}")
+if command -v gcc > /dev/null; then
+    gcc -O2 -shared -fPIC -o "$MADE/allocations.so" bench/allocations.c
+    WORDS+=(--allocations "$MADE/allocations.so")
+fi
+if command -v rustc > /dev/null; then
+    rustc -O --edition 2021 -o "$MADE/plain" bench/plain/plain.rs
+    WORDS+=(--plain "$MADE/plain")
+fi
+python3 bench/measure.py "${WORDS[@]}" ${ONLY:+--only "$ONLY"}

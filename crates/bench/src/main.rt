@@ -4,8 +4,9 @@
 //! extent. `bench restart N` does the same, and then starts the node again from its disk. `bench file N FILE` appends N
 //! records of 1 KiB to a record file over FILE, and writes and syncs as many bytes to FILE.plain, a write and two syncs each,
 //! by turns of a tenth of N. `bench check N` checks the observations that N acknowledged appends of 1 KiB give, 64 to an
-//! extent. `bench streams N` makes streams of N extents and finds each extent in its stream. Times are printed in
-//! microseconds. Without words it appends ten groups and prints how many were taken.
+//! extent, and `bench extent N` those of N appends to one extent, at most 16,384. `bench streams N` makes streams of N
+//! extents and finds each extent in its stream. Times are printed in microseconds. Without words it appends ten groups and
+//! prints how many were taken.
 #![tactic(auto)]
 
 mod checking;
@@ -20,7 +21,7 @@ use std::rt::{Clock, Env, Files};
 use std::{env, fs, io};
 
 const USAGE: &str =
-    "usage: bench node N | bench restart N | bench file N FILE | bench check N | bench streams N";
+    "usage: bench node N | bench restart N | bench file N FILE | bench check N | bench extent N | bench streams N";
 
 fn run<R: AllocGlobal + Env + Files<File = fs::File> + Clock + Print>(
     rt: &R,
@@ -60,6 +61,7 @@ fn measure<R: AllocGlobal + Clock + Print>(rt: &R, name: &str, count: u64) -> Re
         "node" => node::measure(rt, count),
         "restart" => node::measure_restart(rt, count),
         "check" => checking::measure(rt, count),
+        "extent" => checking::measure_extent(rt, count),
         "streams" => extents::measure(rt, count),
         _ => Err(Failure::Words),
     }

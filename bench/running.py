@@ -1,0 +1,57 @@
+"""How a program is run and measured: by time, by its peak of memory, by instructions and by allocations."""
+import os
+import re
+import subprocess
+import tempfile
+from dataclasses import dataclass
+
+ROUNDS = 5
+
+
+@dataclass
+class Ran:
+    """Seconds of the processor, the peak of resident bytes, and what was printed."""
+    seconds: float
+    peak: int
+    out: bytes
+    told: bytes
+
+
+def run(words, lines=(), more=None):
+    """Runs a command on a script, which is written to a file first; its status has to be 0."""
+    with tempfile.TemporaryFile() as script, tempfile.TemporaryFile() as told:
+        for line in lines:
+            script.write(line.encode() + b"\n")
+        script.seek(0)
+        environment = {**os.environ, **(more or {})}
+        child = subprocess.Popen(words, stdin=script, stdout=subprocess.PIPE, stderr=told, env=environment)
+        out = child.stdout.read()
+        _, status, usage = os.wait4(child.pid, 0)
+        told.seek(0)
+        said = told.read()
+        assert status == 0, (words, status, said[-400:])
+        return Ran(usage.ru_utime + usage.ru_stime, usage.ru_maxrss * 1024, out, said)
+
+
+def best(words, script=tuple):
+    """The run that took least time, of some; `script` gives the lines anew for each."""
+    return min((run(words, script()) for _ in range(ROUNDS)), key=lambda ran: ran.seconds)
+
+
+def by_turns(programs, script=tuple):
+    """The runs that took least time, of some, of several commands by turns, so that all meet the same machine."""
+    rounds = [[run(words, script()) for words in programs] for _ in range(ROUNDS)]
+    return [min(runs, key=lambda ran: ran.seconds) for runs in zip(*rounds)]
+
+
+def instructions(words, lines):
+    """How many instructions the command takes, as callgrind counts them."""
+    told = run(["valgrind", "--tool=callgrind", "--callgrind-out-file=/dev/null", *words], lines).told
+    return int(re.search(rb"Collected *: *(\d+)", told)[1])
+
+
+def allocations(words, lines, library):
+    """How many pieces of memory the command asks for, and their bytes, as the preloaded library counts them."""
+    told = run(words, lines, {"LD_PRELOAD": library}).told
+    found = re.search(rb"allocations (\d+) bytes (\d+)", told)
+    return int(found[1]), int(found[2])

@@ -1,0 +1,99 @@
+"""The scripts that are measured: each a function that gives the lines of so many requests, one after another, so that no
+script is ever whole in the memory of the one who measures.
+"""
+
+# The greatest target, 16,777,216 bytes, takes 16,384 appends of 1 KiB; each of the four streams can have one extent.
+TARGET = 16_777_216
+APPENDS_PER_STREAM = 16_000
+# A group has at most 64 blocks, and so many groups of 64 blocks of 1 KiB fill an extent.
+BLOCKS_PER_GROUP = 64
+GROUPS_PER_STREAM = 250
+# A primary lets at most 256 appends wait.
+REQUESTS_PER_SETTLE = 64
+# So many transactions may wait in one settle, and so often is an actor brought back.
+TRANSACTIONS_PER_SETTLE = 256
+RESTARTS = 10
+# The request, two Puts, two Haves and the answer.
+DELIVERIES_PER_APPEND = 6
+# A value of more than 4,096 bytes is kept by its place.
+LARGE_VALUE = 5_000
+
+FILLED = "1024*a"
+SPELLED = "a" * 1024
+BYTE = "x"
+
+
+def settled(lines, requests, each):
+    """Lines of requests, each made of its number, with a settle behind so many of them and at the end."""
+    for number in range(requests):
+        yield from lines(number)
+        if number % each == each - 1:
+            yield "settle"
+    yield "settle"
+
+
+def appends(count, words, per_stream=APPENDS_PER_STREAM):
+    """Appends of these words to extents on three nodes that all answer, an extent for so many of them."""
+    def lines(ticket):
+        stream, before = divmod(ticket, per_stream)
+        if before == 0:
+            yield from (f"user 1 create {stream}", "settle", f"user 1 extend {stream} none 1 2 3", "settle")
+        yield f"user 1 append 1 {stream + 1} {words}"
+    yield f"setup 3 1 {TARGET} 1"
+    yield from settled(lines, count, REQUESTS_PER_SETTLE)
+
+
+def groups(count):
+    """Appends of groups of 64 blocks of 1 KiB."""
+    return appends(count, " ".join([FILLED] * BLOCKS_PER_GROUP), GROUPS_PER_STREAM)
+
+
+def one_extent(count):
+    """Appends of 1 KiB to one extent; 16,384 of them fill it."""
+    return appends(count, FILLED, TARGET // 1024)
+
+
+def node_restarts(count, restarts):
+    """Appends of 1 KiB, and then a node that stops and comes back, so many times."""
+    yield from appends(count, FILLED)
+    yield from ["stop n1 0 drop", "restart n1"] * restarts
+
+
+def seals_of_extents(count):
+    """Extents of one stream, each filled with 64 appends of 1 KiB and sealed while the third place is cut off."""
+    yield from (f"setup 3 1 {TARGET} 1", "user 1 create 0", "settle")
+    for extent in range(1, count + 1):
+        last = "none" if extent == 1 else extent - 1
+        yield from (f"user 1 extend 0 {last} 1 2 3", "settle")
+        yield from [f"user 1 append 1 {extent} {FILLED}"] * 64
+        yield from ("settle", "cut n3", f"user 1 seal {extent}", "settle", f"decide {extent}", "settle")
+        yield from ("heal n3", f"decide {extent}", "settle")
+
+
+def manager_restarts(count, restarts):
+    """Empty extents of one stream, added and sealed; then the manager stops and comes back, so many times."""
+    yield from (f"setup 3 1 {TARGET} 1", "user 1 create 0", "settle")
+    for extent in range(1, count + 1):
+        last = "none" if extent == 1 else extent - 1
+        yield from (f"user 1 extend 0 {last} 1 2 3", "settle", f"user 1 seal {extent}", "settle", f"decide {extent}", "settle")
+    yield from ["stop m 0 drop", "restart m"] * restarts
+
+
+def map_restarts(count, restarts):
+    """Renewals of one lease; then the map stops and comes back, so many times."""
+    yield from (f"setup 3 1 {TARGET} 1", "moment 1", "assign 1 1 1000", "settle")
+    for number in range(1, count + 1):
+        yield f"renew 1 1 {1000 + number}"
+    yield from ["stop p 0 drop", "restart p"] * restarts
+
+
+def transactions(count, value="100*x", each=TRANSACTIONS_PER_SETTLE, loads=0):
+    """Transactions of one put on one range; then the server stops and the range is loaded again, so many times."""
+    yield from (f"setup 3 1 {TARGET} 64", "moment 1", "assign 1 1 1000000", "settle")
+    yield from settled(lambda number: [f"user 1 tx 1 1 +k{number:06}={value}"], count, each)
+    yield from ["stop s1 0 drop", "restart s1", "assign 1 1 1000000", "settle"] * loads
+
+
+def large_values(count, loads):
+    """As above, with values that are kept by their places."""
+    return transactions(count, f"{LARGE_VALUE}*x", loads=loads)
