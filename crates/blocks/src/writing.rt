@@ -1,9 +1,10 @@
 //! Writing a record as bytes. Each writer appends what its clause says; where one runs out of memory, a part of it
-//! may stand in the buffer, so `encode_as` writes into a buffer of its own.
+//! may stand in the buffer after what was there, and `encode_as` cuts it off.
 ghost use Rattle.std.specs.Prelude.{◌≡◌, ◌∷◌, ◌++◌, ◌<◌, ◌^◌, length, OnOk, OnErr};
 ghost use Rattle.block_types.specs.Limits.{IsGroup};
 ghost use Rattle.block_types.specs.declared.record.Version.TheVariants.{V1};
 ghost use Rattle.blocks.specs.Record.{number, block, group, groups, nodes, body, spelling, Fits, IsInRange};
+ghost use Rattle.blocks.specs.Writing.{Keeps};
 
 use crate::writer::{put_bytes, put_u8, put_u32, put_u64};
 use block_types::{Block, Group, Groups, Memory, Nodes, Record, Version};
@@ -11,8 +12,14 @@ use byteorder::{BigEndian, ByteOrder};
 use sha2::{Digest, Sha256};
 use std::alloc::AllocError;
 
+// Room for a kind and the numbers of a record, and for what stands about the bytes of a block.
+const ROOM: usize = 64;
+
+const PER_BLOCK: usize = 36;
+
 fn put_block(out: &mut Vec<u8>, version: Version, text: &Block) -> Result<(), AllocError>
-    ensures { OnOk result (out.new.items ≡ out.old.items ++ block version text.now) }
+    ensures ok { OnOk result (out.new.items ≡ out.old.items ++ block version text.now) }
+    ensures kept { Keeps out.old.items out.new.items }
 {
     let bytes = text.as_slice();
     put_u32(out, bytes.len() as u32)?;
@@ -26,7 +33,8 @@ fn put_block(out: &mut Vec<u8>, version: Version, text: &Block) -> Result<(), Al
 #[tactic(auto, unfolding(crate::specs::Record::number))]
 fn put_group(out: &mut Vec<u8>, version: Version, blocks: &[Block]) -> Result<(), AllocError>
     requires { IsGroup blocks.now }
-    ensures { OnOk result (out.new.items ≡ out.old.items ++ group version blocks.now) }
+    ensures ok { OnOk result (out.new.items ≡ out.old.items ++ group version blocks.now) }
+    ensures kept { Keeps out.old.items out.new.items }
 {
     put_u8(out, blocks.len() as u8)?;
     for text in blocks {
@@ -37,7 +45,8 @@ fn put_group(out: &mut Vec<u8>, version: Version, blocks: &[Block]) -> Result<()
 
 fn put_groups(out: &mut Vec<u8>, version: Version, all: &[Group]) -> Result<(), AllocError>
     requires { length all.now < 2 ^ 32 }
-    ensures { OnOk result (out.new.items ≡ out.old.items ++ groups version all.now) }
+    ensures ok { OnOk result (out.new.items ≡ out.old.items ++ groups version all.now) }
+    ensures kept { Keeps out.old.items out.new.items }
 {
     put_u32(out, all.len() as u32)?;
     for one in all {
@@ -47,7 +56,8 @@ fn put_groups(out: &mut Vec<u8>, version: Version, all: &[Group]) -> Result<(), 
 }
 
 fn put_nodes(out: &mut Vec<u8>, places: &Nodes) -> Result<(), AllocError>
-    ensures { OnOk result (out.new.items ≡ out.old.items ++ nodes places.now) }
+    ensures ok { OnOk result (out.new.items ≡ out.old.items ++ nodes places.now) }
+    ensures kept { Keeps out.old.items out.new.items }
 {
     put_u8(out, places.primary)?;
     put_u8(out, places.second)?;
@@ -61,8 +71,9 @@ fn put_make(
     target: u32,
     places: &Nodes,
 ) -> Result<(), AllocError>
-    ensures { OnOk result (out.new.items
+    ensures ok { OnOk result (out.new.items
         ≡ out.old.items ++ 1 ∷ (number 8 extent ++ (number 8 fence ++ (number 4 target ++ nodes places.now)))) }
+    ensures kept { Keeps out.old.items out.new.items }
 {
     put_u8(out, 1)?;
     put_u64(out, extent)?;
@@ -78,8 +89,9 @@ fn put_append(
     offset: u32,
     text: &Group,
 ) -> Result<(), AllocError>
-    ensures { OnOk result (out.new.items
+    ensures ok { OnOk result (out.new.items
         ≡ out.old.items ++ 2 ∷ (number 8 extent ++ (number 4 offset ++ group version text.now))) }
+    ensures kept { Keeps out.old.items out.new.items }
 {
     put_u8(out, 2)?;
     put_u64(out, extent)?;
@@ -88,7 +100,8 @@ fn put_append(
 }
 
 fn put_fence(out: &mut Vec<u8>, extent: u64, generation: u64) -> Result<(), AllocError>
-    ensures { OnOk result (out.new.items ≡ out.old.items ++ 3 ∷ (number 8 extent ++ number 8 generation)) }
+    ensures ok { OnOk result (out.new.items ≡ out.old.items ++ 3 ∷ (number 8 extent ++ number 8 generation)) }
+    ensures kept { Keeps out.old.items out.new.items }
 {
     put_u8(out, 3)?;
     put_u64(out, extent)?;
@@ -96,14 +109,16 @@ fn put_fence(out: &mut Vec<u8>, extent: u64, generation: u64) -> Result<(), Allo
 }
 
 fn put_freeze(out: &mut Vec<u8>, extent: u64) -> Result<(), AllocError>
-    ensures { OnOk result (out.new.items ≡ out.old.items ++ 4 ∷ number 8 extent) }
+    ensures ok { OnOk result (out.new.items ≡ out.old.items ++ 4 ∷ number 8 extent) }
+    ensures kept { Keeps out.old.items out.new.items }
 {
     put_u8(out, 4)?;
     put_u64(out, extent)
 }
 
 fn put_seal(out: &mut Vec<u8>, extent: u64, length: u32) -> Result<(), AllocError>
-    ensures { OnOk result (out.new.items ≡ out.old.items ++ 5 ∷ (number 8 extent ++ number 4 length)) }
+    ensures ok { OnOk result (out.new.items ≡ out.old.items ++ 5 ∷ (number 8 extent ++ number 4 length)) }
+    ensures kept { Keeps out.old.items out.new.items }
 {
     put_u8(out, 5)?;
     put_u64(out, extent)?;
@@ -119,8 +134,9 @@ fn put_fill(
     all: &Groups,
 ) -> Result<(), AllocError>
     requires { length all.now < 2 ^ 32 }
-    ensures { OnOk result (out.new.items
+    ensures ok { OnOk result (out.new.items
         ≡ out.old.items ++ 6 ∷ (number 8 extent ++ (number 4 from ++ (number 4 upto ++ groups version all.now)))) }
+    ensures kept { Keeps out.old.items out.new.items }
 {
     put_u8(out, 6)?;
     put_u64(out, extent)?;
@@ -130,7 +146,8 @@ fn put_fill(
 }
 
 fn put_manage(out: &mut Vec<u8>, text: &[u8]) -> Result<(), AllocError>
-    ensures { OnOk result (out.new.items ≡ out.old.items ++ 7 ∷ text.now) }
+    ensures ok { OnOk result (out.new.items ≡ out.old.items ++ 7 ∷ text.now) }
+    ensures kept { Keeps out.old.items out.new.items }
 {
     put_u8(out, 7)?;
     put_bytes(out, text)
@@ -138,7 +155,8 @@ fn put_manage(out: &mut Vec<u8>, text: &[u8]) -> Result<(), AllocError>
 
 fn put_body(out: &mut Vec<u8>, version: Version, written: &Record) -> Result<(), AllocError>
     requires { IsInRange written.now }
-    ensures { OnOk result (out.new.items ≡ out.old.items ++ body version written.now) }
+    ensures ok { OnOk result (out.new.items ≡ out.old.items ++ body version written.now) }
+    ensures kept { Keeps out.old.items out.new.items }
 {
     match written {
         Record::Make {
@@ -165,22 +183,50 @@ fn put_body(out: &mut Vec<u8>, version: Version, written: &Record) -> Result<(),
     }
 }
 
+/// So many bytes of room are made before a record is written, so that few writers have to grow the buffer.
+fn room_of(written: &Record) -> usize {
+    match written {
+        Record::Append { group, .. } => ROOM
+            + group.blocks().len() * PER_BLOCK
+            + group.size() as usize,
+        Record::Fill { from, length, .. } => ROOM + length.saturating_sub(*from) as usize,
+        Record::Manage { text } => text.as_slice().len().saturating_add(ROOM),
+        _ => ROOM,
+    }
+}
+
+/// Appends a record, whose length is put in when its body stands behind it.
+#[tactic(auto, unfolding(crate::specs::Record::number))]
+fn put_record(out: &mut Vec<u8>, version: Version, written: &Record) -> Result<(), AllocError>
+    requires { Fits version written.now }
+    ensures ok { OnOk result (out.new.items ≡ out.old.items ++ spelling version written.now) }
+    ensures kept { Keeps out.old.items out.new.items }
+{
+    out.reserve(room_of(written))?;
+    let start = out.len();
+    put_u32(out, 0)?;
+    put_body(out, version, written)?;
+    let len = (out.len() - start - 4) as u32;
+    BigEndian::write_u32(&mut out[start..], len);
+    Ok(())
+}
+
 /// Appends the one spelling of a record in the version. Where memory runs out (22) it changes nothing.
 ///
 /// That the record fits the version is the caller's condition: its fields are in range, and its body's size fits 32 bits.
-#[tactic(auto, unfolding(crate::specs::Record::number))]
 pub fn encode_as(version: Version, written: &Record, out: &mut Vec<u8>) -> Result<(), Memory>
     requires { Fits version written.now }
     ensures ok { OnOk result (out.new.items ≡ out.old.items ++ spelling version written.now) }
     ensures err { OnErr result (out.new.items ≡ out.old.items) }
 {
-    let mut text = Vec::new(*out.allocator());
-    put_u32(&mut text, 0)?;
-    put_body(&mut text, version, written)?;
-    let len = (text.len() - 4) as u32;
-    BigEndian::write_u32(&mut text, len);
-    put_bytes(out, &text)?;
-    Ok(())
+    let start = out.len();
+    match put_record(out, version, written) {
+        Ok(()) => Ok(()),
+        Err(_) => {
+            out.truncate(start);
+            Err(Memory)
+        }
+    }
 }
 
 /// As `encode_as` in version 1.

@@ -29,16 +29,16 @@ pub record IsReady (v : Version) (rs : List Record) (r : Record) (end : ℕ) (s0
 abbrev pub shown : {D : Type 0} → (D → DiskState) → D → Version → Bool → Filed D
 shown state disk v stopped = record { disk = disk; version = v; records = records_in v (state disk).seen; stopped = stopped }
 
-pub ready : {D : Type 0} (state : D → DiskState) (disk : D) (v : Version) (end : ℕ) (stopped : Bool) (old : Filed D) (r : Record) (s : DiskState) (empty spelled closed bytes : List ℕ) (count : ℕ)
+pub ready : {D : Type 0} (state : D → DiskState) (disk : D) (v : Version) (end : ℕ) (stopped : Bool) (old : Filed D) (r : Record) (s : DiskState) (closed bytes : List ℕ) (count : ℕ)
     → shown state disk v stopped ≡ old → IsKept (state disk) v end stopped (records_in v (state disk).seen) → old.stopped ≡ false → Fits old.version r
     → OnlyNow (state disk) → SyncedIsThere (state disk) → IsUntouched (state disk) s → (end + count + 1 ≤ s.reserved) × (6 ≤ s.room)
-    → empty ≡ [] → spelled ≡ empty ++ spelling v r → closed ≡ spelled ++ 0 ∷ [] → bytes ≡ closed → count ≡ length closed
+    → closed ≡ spelling v r ++ 0 ∷ [] → bytes ≡ closed → count ≡ length closed
     → IsReady v (records_in v (state disk).seen) r end (state disk) s bytes
-ready state disk v end stopped old r s empty spelled closed bytes count view_is kept running fits only_now there same room is_empty is_spelled is_closed is_bytes is_count = record {
+ready state disk v end stopped old r s closed bytes count view_is kept running fits only_now there same room is_closed is_bytes is_count = record {
   fits = subst (λ (f : Filed _). Fits f.version r) (sym view_is) fits;
   was = kept.running (ap (λ (f : Filed _). f.stopped) view_is ∙ running);
   same = same;
-  text = is_bytes ∙ is_closed ∙ ap (λ (l : List ℕ). l ++ 0 ∷ []) (is_spelled ∙ ap (λ (l : List ℕ). l ++ spelling v r) is_empty);
+  text = is_bytes ∙ is_closed;
   only_now = only_now;
   there = there;
   fitting = omega (arith, room.0, is_count, ap length is_bytes);
@@ -63,8 +63,8 @@ module _ {D : Type 0} (state : D → DiskState) (disk : D) (v : Version) (end : 
     begun : LeavesOnly (state disk) (state disk) Old
     begun = started (state disk) Old (λ c left. as_before c (only_now c left))
 
-    pub unchanged : LeavesOnly (state old.disk) (state old.disk) (IsBeforeOrAfter old.version old.records r)
-    unchanged = subst (λ (f : Filed _). LeavesOnly (state f.disk) (state f.disk) (IsBeforeOrAfter f.version f.records r)) view_is begun
+    pub unchanged : LeavesOnly (state old.disk) (state disk) (IsBeforeOrAfter old.version old.records r)
+    unchanged = subst (λ (f : Filed _). LeavesOnly (state f.disk) (state disk) (IsBeforeOrAfter f.version f.records r)) view_is begun
 
     pub untouched : (now : DiskState) → IsUntouched (state disk) now → LeavesOnly (state old.disk) now (IsBeforeOrAfter old.version old.records r)
     untouched now same = subst (λ (f : Filed _). LeavesOnly (state f.disk) now (IsBeforeOrAfter f.version f.records r)) view_is (goes_on (state disk) (state disk) now Old begun same.time (λ c left. as_before c (same.may_leave c left)))

@@ -12,8 +12,8 @@ use crate::fault::FileFault;
 use crate::memory::{MemDisk, Stop};
 use crate::opening::{find, write_header};
 use crate::scan::read_file;
+use crate::text::{kept, spelled};
 use block_types::{Record, Version};
-use blocks::encode_as;
 use std::alloc::{AllocError, Global};
 use std::marker::Model;
 
@@ -21,7 +21,8 @@ use std::marker::Model;
 const NEW_VERSION: Version = Version::V1;
 
 /// A list of records on a disk, to which records are added one by one. In a clause its value shows the disk, the
-/// version, the records and whether it is stopped; in memory it holds none of the records. An append makes four device
+/// version, the records and whether it is stopped; in memory it holds none of the records, but the buffer that the last
+/// one was spelled in. An append makes four device
 /// calls: it writes the record after the last gate, which is still closed, and a closed gate after that; syncs; opens
 /// the gate; and syncs. After Calder et al., SOSP 2011, section 4.
 pub struct RecordFile<D: Disk> {
@@ -31,6 +32,8 @@ pub struct RecordFile<D: Disk> {
     end: usize,
     // a device call of an append has failed, so that the gate may be open or closed
     stopped: bool,
+    // what the last record was spelled in, to be used again
+    text: Option<Vec<u8>>,
 }
 
 // Written out, so that a crate above that lets one go has no proof of what is in it.
@@ -41,6 +44,7 @@ impl<D: Disk + Drop> Drop for RecordFile<D> {
             version: _,
             end: _,
             stopped: _,
+            text: _,
         } = self;
     }
 }
@@ -68,9 +72,7 @@ impl<D: Disk> RecordFile<D> {
         ensures any_moment { LeavesOnly (D.state self.old.disk) (D.state self.new.disk)
             (IsBeforeOrAfter self.old.version self.old.records added.now) }
     {
-        let mut text = Vec::new(alloc);
-        encode_as(self.version, added, &mut text)?;
-        text.push(0)?;
+        let text = spelled(&mut self.text, alloc, self.version, added)?;
         // Read for its bound: so few bytes are there that the places below fit.
         let _size = self.disk.len();
         let next = self.end + text.len();
@@ -82,6 +84,7 @@ impl<D: Disk> RecordFile<D> {
         self.disk.sync()?;
         self.end = next;
         self.stopped = false;
+        self.text = kept(text);
         Ok(())
     }
 
@@ -110,6 +113,7 @@ impl<D: Disk> RecordFile<D> {
                 version: NEW_VERSION,
                 end: 4,
                 stopped: false,
+                text: None,
             }),
             Err(fault) => Err((fault, disk)),
         }
@@ -145,6 +149,7 @@ impl<D: Disk> RecordFile<D> {
                 version,
                 end,
                 stopped: false,
+                text: None,
             }),
             Err(fault) => Err((fault, disk)),
         }
@@ -189,6 +194,7 @@ impl<D: Disk> RecordFile<D> {
             version: _,
             end: _,
             stopped: _,
+            text: _,
         } = self;
         disk
     }

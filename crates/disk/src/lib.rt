@@ -17,6 +17,7 @@ mod memory;
 mod opening;
 mod real;
 mod scan;
+mod text;
 
 pub use device::{Disk, DiskFault};
 pub use fault::FileFault;

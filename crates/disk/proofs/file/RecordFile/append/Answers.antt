@@ -3,13 +3,8 @@ use Rattle.std.proofs.lemmas.Result.{err_from_is_err_and}
 use Rattle.disk.proofs.Appending.{ready, gate_within, unchanged, untouched, fail1, fail2, fail3, fail4, succeed, appends_failed, appends_ok, stands_stopped, stands_running}
 use Rattle.disk.proofs.file.RecordFile.append.Goals as goal
 
-pub returns-in_err-encode_as-clause-any_moment : goal.returns-in_err-encode_as-clause-any_moment
-returns-in_err-encode_as-clause-any_moment g c =
-    let it = c.self.inside in
-    unchanged g.D.Disk.state it.disk it.version it.end it.stopped _ c.self.view_is c.self.invariant c.requires.running c.args.added.now (g.met.D.Disk.only_now it.disk)
-
-pub returns-in_err-push-clause-any_moment : goal.returns-in_err-push-clause-any_moment
-returns-in_err-push-clause-any_moment g c =
+pub returns-in_err-text-clause-any_moment : goal.returns-in_err-text-clause-any_moment
+returns-in_err-text-clause-any_moment g c =
     let it = c.self.inside in
     unchanged g.D.Disk.state it.disk it.version it.end it.stopped _ c.self.view_is c.self.invariant c.requires.running c.args.added.now (g.met.D.Disk.only_now it.disk)
 
@@ -41,7 +36,7 @@ write_at-requires g c =
 pub invariant_of-self-in_err-write_at : goal.invariant_of-self-in_err-write_at
 invariant_of-self-in_err-write_at g c =
     let it = c.self.inside in
-    let begun = ready g.D.Disk.state it.disk it.version it.end it.stopped _ c.args.added.now (g.D.Disk.state c.reserve.new.self) c.new-text.result.items c.encode_as.new.out.items c.push.new.self.items c.deref.result.now c.len.result c.self.view_is c.self.invariant c.requires.running c.requires.fits (g.met.D.Disk.only_now it.disk) (g.met.D.Disk.synced_is_there it.disk) c.reserve.ensures.same c.in_ok-reserve.ensures.ok c.new-text.ensures.items c.in_ok-encode_as.ensures.ok c.in_ok-push.ensures.items c.deref.ensures.value (omega (arith, c.len.ensures)) in
+    let begun = ready g.D.Disk.state it.disk it.version it.end it.stopped _ c.args.added.now (g.D.Disk.state c.reserve.new.self) c.in_ok-text.text.items c.deref.result.now c.len.result c.self.view_is c.self.invariant c.requires.running c.requires.fits (g.met.D.Disk.only_now it.disk) (g.met.D.Disk.synced_is_there it.disk) c.reserve.ensures.same c.in_ok-reserve.ensures.ok c.in_ok-text.ensures c.deref.ensures.value (omega (arith, c.len.ensures)) in
     let fails = fail1 it.version _ c.args.added.now it.end (g.D.Disk.state it.disk) (g.D.Disk.state c.reserve.new.self) c.deref.result.now begun (g.D.Disk.state c.write_at.new.self) c.in_err-write_at.field-0.0 c.in_err-write_at.ensures in
     let counts = g.met.D.Disk.counts_now c.write_at.new.self in
     let there = g.met.D.Disk.seen_is_there c.write_at.new.self in
@@ -50,7 +45,7 @@ invariant_of-self-in_err-write_at g c =
 pub returns-in_err-write_at : goal.returns-in_err-write_at
 returns-in_err-write_at g c =
     let it = c.self.inside in
-    let begun = ready g.D.Disk.state it.disk it.version it.end it.stopped _ c.args.added.now (g.D.Disk.state c.reserve.new.self) c.new-text.result.items c.encode_as.new.out.items c.push.new.self.items c.deref.result.now c.len.result c.self.view_is c.self.invariant c.requires.running c.requires.fits (g.met.D.Disk.only_now it.disk) (g.met.D.Disk.synced_is_there it.disk) c.reserve.ensures.same c.in_ok-reserve.ensures.ok c.new-text.ensures.items c.in_ok-encode_as.ensures.ok c.in_ok-push.ensures.items c.deref.ensures.value (omega (arith, c.len.ensures)) in
+    let begun = ready g.D.Disk.state it.disk it.version it.end it.stopped _ c.args.added.now (g.D.Disk.state c.reserve.new.self) c.in_ok-text.text.items c.deref.result.now c.len.result c.self.view_is c.self.invariant c.requires.running c.requires.fits (g.met.D.Disk.only_now it.disk) (g.met.D.Disk.synced_is_there it.disk) c.reserve.ensures.same c.in_ok-reserve.ensures.ok c.in_ok-text.ensures c.deref.ensures.value (omega (arith, c.len.ensures)) in
     let fails = fail1 it.version _ c.args.added.now it.end (g.D.Disk.state it.disk) (g.D.Disk.state c.reserve.new.self) c.deref.result.now begun (g.D.Disk.state c.write_at.new.self) c.in_err-write_at.field-0.0 c.in_err-write_at.ensures in
     let counts = g.met.D.Disk.counts_now c.write_at.new.self in
     let there = g.met.D.Disk.seen_is_there c.write_at.new.self in
@@ -63,7 +58,7 @@ returns-in_err-write_at g c =
 pub invariant_of-self-in_err-sync : goal.invariant_of-self-in_err-sync
 invariant_of-self-in_err-sync g c =
     let it = c.self.inside in
-    let begun = ready g.D.Disk.state it.disk it.version it.end it.stopped _ c.args.added.now (g.D.Disk.state c.reserve.new.self) c.new-text.result.items c.encode_as.new.out.items c.push.new.self.items c.deref.result.now c.len.result c.self.view_is c.self.invariant c.requires.running c.requires.fits (g.met.D.Disk.only_now it.disk) (g.met.D.Disk.synced_is_there it.disk) c.reserve.ensures.same c.in_ok-reserve.ensures.ok c.new-text.ensures.items c.in_ok-encode_as.ensures.ok c.in_ok-push.ensures.items c.deref.ensures.value (omega (arith, c.len.ensures)) in
+    let begun = ready g.D.Disk.state it.disk it.version it.end it.stopped _ c.args.added.now (g.D.Disk.state c.reserve.new.self) c.in_ok-text.text.items c.deref.result.now c.len.result c.self.view_is c.self.invariant c.requires.running c.requires.fits (g.met.D.Disk.only_now it.disk) (g.met.D.Disk.synced_is_there it.disk) c.reserve.ensures.same c.in_ok-reserve.ensures.ok c.in_ok-text.ensures c.deref.ensures.value (omega (arith, c.len.ensures)) in
     let fails = fail2 it.version _ c.args.added.now it.end (g.D.Disk.state it.disk) (g.D.Disk.state c.reserve.new.self) c.deref.result.now begun (g.D.Disk.state c.write_at.new.self) c.in_ok-write_at.ensures (g.D.Disk.state c.sync.new.self) c.in_err-sync.field-0.0 c.in_err-sync.ensures in
     let counts = g.met.D.Disk.counts_now c.sync.new.self in
     let there = g.met.D.Disk.seen_is_there c.sync.new.self in
@@ -72,7 +67,7 @@ invariant_of-self-in_err-sync g c =
 pub returns-in_err-sync : goal.returns-in_err-sync
 returns-in_err-sync g c =
     let it = c.self.inside in
-    let begun = ready g.D.Disk.state it.disk it.version it.end it.stopped _ c.args.added.now (g.D.Disk.state c.reserve.new.self) c.new-text.result.items c.encode_as.new.out.items c.push.new.self.items c.deref.result.now c.len.result c.self.view_is c.self.invariant c.requires.running c.requires.fits (g.met.D.Disk.only_now it.disk) (g.met.D.Disk.synced_is_there it.disk) c.reserve.ensures.same c.in_ok-reserve.ensures.ok c.new-text.ensures.items c.in_ok-encode_as.ensures.ok c.in_ok-push.ensures.items c.deref.ensures.value (omega (arith, c.len.ensures)) in
+    let begun = ready g.D.Disk.state it.disk it.version it.end it.stopped _ c.args.added.now (g.D.Disk.state c.reserve.new.self) c.in_ok-text.text.items c.deref.result.now c.len.result c.self.view_is c.self.invariant c.requires.running c.requires.fits (g.met.D.Disk.only_now it.disk) (g.met.D.Disk.synced_is_there it.disk) c.reserve.ensures.same c.in_ok-reserve.ensures.ok c.in_ok-text.ensures c.deref.ensures.value (omega (arith, c.len.ensures)) in
     let fails = fail2 it.version _ c.args.added.now it.end (g.D.Disk.state it.disk) (g.D.Disk.state c.reserve.new.self) c.deref.result.now begun (g.D.Disk.state c.write_at.new.self) c.in_ok-write_at.ensures (g.D.Disk.state c.sync.new.self) c.in_err-sync.field-0.0 c.in_err-sync.ensures in
     let counts = g.met.D.Disk.counts_now c.sync.new.self in
     let there = g.met.D.Disk.seen_is_there c.sync.new.self in
@@ -85,7 +80,7 @@ returns-in_err-sync g c =
 pub invariant_of-self-in_err-write_at-2 : goal.invariant_of-self-in_err-write_at-2
 invariant_of-self-in_err-write_at-2 g c =
     let it = c.self.inside in
-    let begun = ready g.D.Disk.state it.disk it.version it.end it.stopped _ c.args.added.now (g.D.Disk.state c.reserve.new.self) c.new-text.result.items c.encode_as.new.out.items c.push.new.self.items c.deref.result.now c.len.result c.self.view_is c.self.invariant c.requires.running c.requires.fits (g.met.D.Disk.only_now it.disk) (g.met.D.Disk.synced_is_there it.disk) c.reserve.ensures.same c.in_ok-reserve.ensures.ok c.new-text.ensures.items c.in_ok-encode_as.ensures.ok c.in_ok-push.ensures.items c.deref.ensures.value (omega (arith, c.len.ensures)) in
+    let begun = ready g.D.Disk.state it.disk it.version it.end it.stopped _ c.args.added.now (g.D.Disk.state c.reserve.new.self) c.in_ok-text.text.items c.deref.result.now c.len.result c.self.view_is c.self.invariant c.requires.running c.requires.fits (g.met.D.Disk.only_now it.disk) (g.met.D.Disk.synced_is_there it.disk) c.reserve.ensures.same c.in_ok-reserve.ensures.ok c.in_ok-text.ensures c.deref.ensures.value (omega (arith, c.len.ensures)) in
     let fails = fail3 it.version _ c.args.added.now it.end (g.D.Disk.state it.disk) (g.D.Disk.state c.reserve.new.self) c.deref.result.now begun (g.D.Disk.state c.write_at.new.self) c.in_ok-write_at.ensures (g.D.Disk.state c.sync.new.self) c.in_ok-sync.ensures (g.D.Disk.state c.write_at-2.new.self) c.in_err-write_at-2.field-0.0 c.in_err-write_at-2.ensures in
     let counts = g.met.D.Disk.counts_now c.write_at-2.new.self in
     let there = g.met.D.Disk.seen_is_there c.write_at-2.new.self in
@@ -94,7 +89,7 @@ invariant_of-self-in_err-write_at-2 g c =
 pub returns-in_err-write_at-2 : goal.returns-in_err-write_at-2
 returns-in_err-write_at-2 g c =
     let it = c.self.inside in
-    let begun = ready g.D.Disk.state it.disk it.version it.end it.stopped _ c.args.added.now (g.D.Disk.state c.reserve.new.self) c.new-text.result.items c.encode_as.new.out.items c.push.new.self.items c.deref.result.now c.len.result c.self.view_is c.self.invariant c.requires.running c.requires.fits (g.met.D.Disk.only_now it.disk) (g.met.D.Disk.synced_is_there it.disk) c.reserve.ensures.same c.in_ok-reserve.ensures.ok c.new-text.ensures.items c.in_ok-encode_as.ensures.ok c.in_ok-push.ensures.items c.deref.ensures.value (omega (arith, c.len.ensures)) in
+    let begun = ready g.D.Disk.state it.disk it.version it.end it.stopped _ c.args.added.now (g.D.Disk.state c.reserve.new.self) c.in_ok-text.text.items c.deref.result.now c.len.result c.self.view_is c.self.invariant c.requires.running c.requires.fits (g.met.D.Disk.only_now it.disk) (g.met.D.Disk.synced_is_there it.disk) c.reserve.ensures.same c.in_ok-reserve.ensures.ok c.in_ok-text.ensures c.deref.ensures.value (omega (arith, c.len.ensures)) in
     let fails = fail3 it.version _ c.args.added.now it.end (g.D.Disk.state it.disk) (g.D.Disk.state c.reserve.new.self) c.deref.result.now begun (g.D.Disk.state c.write_at.new.self) c.in_ok-write_at.ensures (g.D.Disk.state c.sync.new.self) c.in_ok-sync.ensures (g.D.Disk.state c.write_at-2.new.self) c.in_err-write_at-2.field-0.0 c.in_err-write_at-2.ensures in
     let counts = g.met.D.Disk.counts_now c.write_at-2.new.self in
     let there = g.met.D.Disk.seen_is_there c.write_at-2.new.self in
@@ -107,7 +102,7 @@ returns-in_err-write_at-2 g c =
 pub invariant_of-self-in_err-sync-2 : goal.invariant_of-self-in_err-sync-2
 invariant_of-self-in_err-sync-2 g c =
     let it = c.self.inside in
-    let begun = ready g.D.Disk.state it.disk it.version it.end it.stopped _ c.args.added.now (g.D.Disk.state c.reserve.new.self) c.new-text.result.items c.encode_as.new.out.items c.push.new.self.items c.deref.result.now c.len.result c.self.view_is c.self.invariant c.requires.running c.requires.fits (g.met.D.Disk.only_now it.disk) (g.met.D.Disk.synced_is_there it.disk) c.reserve.ensures.same c.in_ok-reserve.ensures.ok c.new-text.ensures.items c.in_ok-encode_as.ensures.ok c.in_ok-push.ensures.items c.deref.ensures.value (omega (arith, c.len.ensures)) in
+    let begun = ready g.D.Disk.state it.disk it.version it.end it.stopped _ c.args.added.now (g.D.Disk.state c.reserve.new.self) c.in_ok-text.text.items c.deref.result.now c.len.result c.self.view_is c.self.invariant c.requires.running c.requires.fits (g.met.D.Disk.only_now it.disk) (g.met.D.Disk.synced_is_there it.disk) c.reserve.ensures.same c.in_ok-reserve.ensures.ok c.in_ok-text.ensures c.deref.ensures.value (omega (arith, c.len.ensures)) in
     let fails = fail4 it.version _ c.args.added.now it.end (g.D.Disk.state it.disk) (g.D.Disk.state c.reserve.new.self) c.deref.result.now begun (g.D.Disk.state c.write_at.new.self) c.in_ok-write_at.ensures (g.D.Disk.state c.sync.new.self) c.in_ok-sync.ensures (g.D.Disk.state c.write_at-2.new.self) c.in_ok-write_at-2.ensures (g.D.Disk.state c.sync-2.new.self) c.in_err-sync-2.field-0.0 c.in_err-sync-2.ensures in
     let counts = g.met.D.Disk.counts_now c.sync-2.new.self in
     let there = g.met.D.Disk.seen_is_there c.sync-2.new.self in
@@ -116,7 +111,7 @@ invariant_of-self-in_err-sync-2 g c =
 pub returns-in_err-sync-2 : goal.returns-in_err-sync-2
 returns-in_err-sync-2 g c =
     let it = c.self.inside in
-    let begun = ready g.D.Disk.state it.disk it.version it.end it.stopped _ c.args.added.now (g.D.Disk.state c.reserve.new.self) c.new-text.result.items c.encode_as.new.out.items c.push.new.self.items c.deref.result.now c.len.result c.self.view_is c.self.invariant c.requires.running c.requires.fits (g.met.D.Disk.only_now it.disk) (g.met.D.Disk.synced_is_there it.disk) c.reserve.ensures.same c.in_ok-reserve.ensures.ok c.new-text.ensures.items c.in_ok-encode_as.ensures.ok c.in_ok-push.ensures.items c.deref.ensures.value (omega (arith, c.len.ensures)) in
+    let begun = ready g.D.Disk.state it.disk it.version it.end it.stopped _ c.args.added.now (g.D.Disk.state c.reserve.new.self) c.in_ok-text.text.items c.deref.result.now c.len.result c.self.view_is c.self.invariant c.requires.running c.requires.fits (g.met.D.Disk.only_now it.disk) (g.met.D.Disk.synced_is_there it.disk) c.reserve.ensures.same c.in_ok-reserve.ensures.ok c.in_ok-text.ensures c.deref.ensures.value (omega (arith, c.len.ensures)) in
     let fails = fail4 it.version _ c.args.added.now it.end (g.D.Disk.state it.disk) (g.D.Disk.state c.reserve.new.self) c.deref.result.now begun (g.D.Disk.state c.write_at.new.self) c.in_ok-write_at.ensures (g.D.Disk.state c.sync.new.self) c.in_ok-sync.ensures (g.D.Disk.state c.write_at-2.new.self) c.in_ok-write_at-2.ensures (g.D.Disk.state c.sync-2.new.self) c.in_err-sync-2.field-0.0 c.in_err-sync-2.ensures in
     let counts = g.met.D.Disk.counts_now c.sync-2.new.self in
     let there = g.met.D.Disk.seen_is_there c.sync-2.new.self in
@@ -129,7 +124,7 @@ returns-in_err-sync-2 g c =
 pub invariant_of-self-2 : goal.invariant_of-self-2
 invariant_of-self-2 g c =
     let it = c.self.inside in
-    let begun = ready g.D.Disk.state it.disk it.version it.end it.stopped _ c.args.added.now (g.D.Disk.state c.reserve.new.self) c.new-text.result.items c.encode_as.new.out.items c.push.new.self.items c.deref.result.now c.len.result c.self.view_is c.self.invariant c.requires.running c.requires.fits (g.met.D.Disk.only_now it.disk) (g.met.D.Disk.synced_is_there it.disk) c.reserve.ensures.same c.in_ok-reserve.ensures.ok c.new-text.ensures.items c.in_ok-encode_as.ensures.ok c.in_ok-push.ensures.items c.deref.ensures.value (omega (arith, c.len.ensures)) in
+    let begun = ready g.D.Disk.state it.disk it.version it.end it.stopped _ c.args.added.now (g.D.Disk.state c.reserve.new.self) c.in_ok-text.text.items c.deref.result.now c.len.result c.self.view_is c.self.invariant c.requires.running c.requires.fits (g.met.D.Disk.only_now it.disk) (g.met.D.Disk.synced_is_there it.disk) c.reserve.ensures.same c.in_ok-reserve.ensures.ok c.in_ok-text.ensures c.deref.ensures.value (omega (arith, c.len.ensures)) in
     let succeeds = succeed it.version _ c.args.added.now it.end (g.D.Disk.state it.disk) (g.D.Disk.state c.reserve.new.self) c.deref.result.now begun (g.D.Disk.state c.write_at.new.self) c.in_ok-write_at.ensures (g.D.Disk.state c.sync.new.self) c.in_ok-sync.ensures (g.D.Disk.state c.write_at-2.new.self) c.in_ok-write_at-2.ensures (g.D.Disk.state c.sync-2.new.self) c.in_ok-sync-2.ensures in
     let place : it.end + length c.deref.result.now ≡ it.end + c.len.result = omega (arith, c.len.ensures, ap length c.deref.ensures.value) in
     stands_running g.D.Disk.state it.disk c.sync-2.new.self it.version c.args.added.now _ _ place succeeds
@@ -137,7 +132,7 @@ invariant_of-self-2 g c =
 pub returns : goal.returns
 returns g c =
     let it = c.self.inside in
-    let begun = ready g.D.Disk.state it.disk it.version it.end it.stopped _ c.args.added.now (g.D.Disk.state c.reserve.new.self) c.new-text.result.items c.encode_as.new.out.items c.push.new.self.items c.deref.result.now c.len.result c.self.view_is c.self.invariant c.requires.running c.requires.fits (g.met.D.Disk.only_now it.disk) (g.met.D.Disk.synced_is_there it.disk) c.reserve.ensures.same c.in_ok-reserve.ensures.ok c.new-text.ensures.items c.in_ok-encode_as.ensures.ok c.in_ok-push.ensures.items c.deref.ensures.value (omega (arith, c.len.ensures)) in
+    let begun = ready g.D.Disk.state it.disk it.version it.end it.stopped _ c.args.added.now (g.D.Disk.state c.reserve.new.self) c.in_ok-text.text.items c.deref.result.now c.len.result c.self.view_is c.self.invariant c.requires.running c.requires.fits (g.met.D.Disk.only_now it.disk) (g.met.D.Disk.synced_is_there it.disk) c.reserve.ensures.same c.in_ok-reserve.ensures.ok c.in_ok-text.ensures c.deref.ensures.value (omega (arith, c.len.ensures)) in
     let succeeds = succeed it.version _ c.args.added.now it.end (g.D.Disk.state it.disk) (g.D.Disk.state c.reserve.new.self) c.deref.result.now begun (g.D.Disk.state c.write_at.new.self) c.in_ok-write_at.ensures (g.D.Disk.state c.sync.new.self) c.in_ok-sync.ensures (g.D.Disk.state c.write_at-2.new.self) c.in_ok-write_at-2.ensures (g.D.Disk.state c.sync-2.new.self) c.in_ok-sync-2.ensures in
     rw (← c.self.view_is) (record {
       appends = appends_ok g.D.Disk.state it.disk c.sync-2.new.self it.version c.args.added.now it.stopped _ succeeds;

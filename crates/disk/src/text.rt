@@ -1,0 +1,48 @@
+//! The text of a record that is appended, in a buffer that is used again.
+ghost use Rattle.std.specs.Prelude.{◌≡◌, ◌++◌, ◌∷◌, [], IfOk};
+ghost use Rattle.blocks.specs.Record.{spelling, Fits};
+
+use block_types::{Memory, Record, Version};
+use blocks::encode_as;
+use std::alloc::Global;
+
+// A longer buffer is let go, so that one long record does not keep its room.
+const MOST_KEPT: usize = 65_536;
+
+// The buffer that was kept, emptied, or a new one.
+fn emptied(buffer: Option<Vec<u8>>, alloc: Global) -> Vec<u8>
+    ensures { result.items ≡ [] }
+{
+    match buffer {
+        Some(mut text) => {
+            text.clear();
+            text
+        }
+        None => Vec::new(alloc),
+    }
+}
+
+/// A record and a closed gate after it, in the buffer that was kept or in a new one.
+pub(crate) fn spelled(
+    buffer: &mut Option<Vec<u8>>,
+    alloc: Global,
+    version: Version,
+    added: &Record,
+) -> Result<Vec<u8>, Memory>
+    requires { Fits version added.now }
+    ensures { IfOk result (λ text. text.items ≡ spelling version added.now ++ 0 ∷ []) }
+{
+    let mut text = emptied(buffer.take(), alloc);
+    encode_as(version, added, &mut text)?;
+    text.push(0)?;
+    Ok(text)
+}
+
+/// The buffer to be kept, if it is not too long.
+pub(crate) fn kept(text: Vec<u8>) -> Option<Vec<u8>> {
+    if text.len() <= MOST_KEPT {
+        Some(text)
+    } else {
+        None
+    }
+}
