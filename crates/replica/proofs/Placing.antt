@@ -1,15 +1,16 @@
 -- Where groups end.
 use Rattle.std.proofs.Common.{◌≡◌, ◌⊎◌, ℕ, ◌==◌, zero, suc, ◌+◌, ◌-◌, ◌<◌, ◌≤◌, true, false, nat_le, List, [], ◌∷◌, ◌++◌, length, take, drop, get_or, Some, None, refl, sym, ap, ◌∙◌, subst, inl, inr, arith, length-append, length-drop}
-use Rattle.std.proofs.lemmas.Bool.{cases_lt, leb-true, leb-false}
+use Rattle.std.proofs.lemmas.Bool.{cases_lt}
 use Rattle.std.proofs.lemmas.Bool.Decides.{nat_tests}
 use Rattle.std.specs.List.{AllByRecursion}
-use Rattle.std.specs.List.Sorted.{IsPartitionedBy, IsPartitionPoint}
 use Rattle.std.proofs.lemmas.List.{take-append-drop, take_all}
 use Rattle.std.proofs.Math.Seq.{drop-append-add}
 use Rattle.block_types.specs.Limits.{IsGroup, group_size}
 use Rattle.replica.specs.Groups.{Group, joined, text, size, text_length}
+use Rattle.replica.specs.Ends.{RiseAbove}
 use Rattle.replica.specs.Placed.{ends_from, NoneEmpty, IsPlaced, IsBefore}
 use Rattle.replica.specs.Reading.{bytes_at, groups_to}
+use Rattle.replica.proofs.Searching.{ended, ended-yes, ended-no, ended-none, ended-within}
 use Rattle.replica.proofs.Lengths.{text-append, text_length-push, group_size-size}
 
 pub ends-length : (s : ℕ) (gs : List Group) → length (ends_from s gs) ≡ length gs
@@ -48,26 +49,55 @@ is_at_most a b h = grind (arith, nat_tests)
 is_above : (a b : ℕ) → b < a → nat_le a b ≡ false
 is_above a b h = grind (arith, nat_tests)
 
-start_at : (gs : List Group) (offset r : ℕ) → r ≤ length gs → ((k d : ℕ) → 0 ≤ k → k < r → nat_le (get_or (ends_from 0 gs) k d) offset ≡ true) → text_length (take r gs) ≤ offset
-start_at gs offset zero h low = omega arith
-start_at gs offset (suc k) h low = omega (arith, leb-true _ offset (low k 0 (omega arith) (omega arith)), ends-at 0 gs k 0 (omega (arith, h)))
+-- the ends rise
+rise : (s : ℕ) (gs : List Group) → NoneEmpty gs → RiseAbove s (ends_from s gs)
+rise s [] full = tt
+rise s (g ∷ gs) full = (omega (arith, full.0), rise (s + size g) gs full.1)
 
-next_at : (gs : List Group) (offset r : ℕ) → r ≤ length gs → ((k d : ℕ) → r ≤ k → k < length (ends_from 0 gs) → nat_le (get_or (ends_from 0 gs) k d) offset ≡ false) → (r ≡ length gs) ⊎ (offset < text_length (take (suc r) gs))
-next_at gs offset r h high =
-    elim (cases_lt r (length gs)) [
-      | inl under ↦ inr (omega (arith, leb-false _ offset (high r 0 (omega arith) (omega (arith, ends-length 0 gs, under))), ends-at 0 gs r 0 under))
-      | inr over ↦ inl (omega (arith, h, over))
+pub ends-rise : (gs : List Group) (es : List ℕ) (l : ℕ) → IsPlaced gs es l → RiseAbove 0 es
+ends-rise gs es l is = subst (RiseAbove 0) (sym is.ends) (rise 0 gs is.full)
+
+-- those that end at or below an offset
+no_ends : (s : ℕ) (g : Group) (gs : List Group) (offset : ℕ) → NoneEmpty gs → offset < s + size g → ended offset (ends_from s (g ∷ gs)) ≡ 0
+no_ends s g gs offset full h = ended-no offset (s + size g) (ends_from (s + size g) gs) h ∙ ended-none offset (s + size g) (ends_from (s + size g) gs) (rise (s + size g) gs full) (omega (arith, h))
+
+start_at : (s : ℕ) (gs : List Group) (offset r : ℕ) → NoneEmpty gs → s ≤ offset → r ≡ ended offset (ends_from s gs) → s + text_length (take r gs) ≤ offset
+start_at s gs offset zero full h is = omega (arith, h)
+start_at s [] offset (suc r) full h is = absurd (omega (arith, is))
+start_at s (g ∷ gs) offset (suc r) full h is =
+    elim (cases_lt offset (s + size g)) [
+      | inl under ↦ absurd (omega (arith, is, no_ends s g gs offset full.1 under))
+      | inr over ↦
+          let rest : r ≡ ended offset (ends_from (s + size g) gs) = omega (arith, is, ended-yes offset (s + size g) (ends_from (s + size g) gs) over) in
+          omega (arith, length-cons g (take r gs), start_at (s + size g) gs offset r full.1 over rest)
     ]
 
-pub found : (gs : List Group) (offset r : ℕ) → r ≤ length (ends_from 0 gs) → IsPartitionPoint (λ e. nat_le e offset ≡ true) (λ e. nat_le e offset ≡ false) (ends_from 0 gs) r → IsBefore gs offset r
-found gs offset r bound split =
-    let within : r ≤ length gs = omega (arith, bound, ends-length 0 gs) in
-    record { within = within; start = start_at gs offset r within split.0; next = next_at gs offset r within split.1 }
+next_at : (s : ℕ) (gs : List Group) (offset r : ℕ) → NoneEmpty gs → r ≡ ended offset (ends_from s gs) → (r ≡ length gs) ⊎ (offset < s + text_length (take (suc r) gs))
+next_at s [] offset r full is = inl is
+next_at s (g ∷ gs) offset zero full is =
+    elim (cases_lt offset (s + size g)) [
+      | inl under ↦ inr (omega (arith, length-cons g [], under))
+      | inr over ↦ absurd (omega (arith, is, ended-yes offset (s + size g) (ends_from (s + size g) gs) over))
+    ]
+next_at s (g ∷ gs) offset (suc r) full is =
+    elim (cases_lt offset (s + size g)) [
+      | inl under ↦ absurd (omega (arith, is, no_ends s g gs offset full.1 under))
+      | inr over ↦
+          let rest : r ≡ ended offset (ends_from (s + size g) gs) = omega (arith, is, ended-yes offset (s + size g) (ends_from (s + size g) gs) over) in
+          elim (next_at (s + size g) gs offset r full.1 rest) [
+            | inl all ↦ inl (omega (arith, all))
+            | inr before ↦ inr (omega (arith, before, length-cons g (take (suc r) gs)))
+          ]
+    ]
 
-pub parted : (gs : List Group) (offset : ℕ) → IsPartitionedBy (λ e. nat_le e offset) (ends_from 0 gs)
-parted gs offset = λ i j d le lt e.
-    let within : j < length gs = omega (arith, lt, ends-length 0 gs) in
-    is_at_most _ offset (omega (arith, leb-true _ offset e, ends-at 0 gs j d within, ends-at 0 gs i d (omega (arith, le, within)), rises gs (suc i) (suc j) (omega (arith, le))))
+pub placed_before : (gs : List Group) (es : List ℕ) (l offset r : ℕ) → IsPlaced gs es l → r ≡ ended offset es → IsBefore gs offset r
+placed_before gs es l offset r is r_is =
+    let at : r ≡ ended offset (ends_from 0 gs) = r_is ∙ ap (ended offset) is.ends in
+    record {
+      within = omega (arith, at, ended-within offset (ends_from 0 gs), ends-length 0 gs);
+      start = omega (arith, start_at 0 gs offset r is.full (omega arith) at);
+      next = elim (next_at 0 gs offset r is.full at) [ inl all ↦ inl all | inr under ↦ inr (omega (arith, under)) ];
+    }
 
 some_size : (b : List ℕ) (g : Group) → 1 ≤ length b → 0 < size (b ∷ g)
 some_size b g h = omega (arith, h, length-append b (joined g))
@@ -130,6 +160,9 @@ pushed gs more es ends l n end g is group size_is end_is more_is ends_is =
       full = subst NoneEmpty (sym more_is) (full-push gs g is.full (has_size g group));
     }
 
+pub pushed-rise : (gs : List Group) (es : List ℕ) (l n end : ℕ) (g : Group) → IsPlaced gs es l → IsGroup g → n ≡ group_size g → end ≡ l + n → RiseAbove 0 (es ++ end ∷ [])
+pushed-rise gs es l n end g is group size_is end_is = ends-rise (gs ++ g ∷ []) (es ++ end ∷ []) end (pushed gs (gs ++ g ∷ []) es (es ++ end ∷ []) l n end g is group size_is end_is refl refl)
+
 ends-take : (s : ℕ) (gs : List Group) (i : ℕ) → take i (ends_from s gs) ≡ ends_from s (take i gs)
 ends-take s gs zero = refl
 ends-take s [] (suc i) = refl
@@ -154,11 +187,11 @@ front_within [] (suc i) = omega arith
 front_within (g ∷ gs) (suc i) = omega (arith, front_within gs i, length-cons g gs, length-cons g (take i gs))
 
 -- where a group starts that is not the first
-pub starts : (gs : List Group) (es : List ℕ) (l i last x : ℕ) → IsPlaced gs es l → i ≤ length gs → 1 ≤ i → last ≡ i - 1 → x ≡ get_or es last x → x ≡ text_length (take i gs)
+pub starts : (gs : List Group) (es : List ℕ) (l i last x : ℕ) → IsPlaced gs es l → i ≤ length gs → 1 ≤ i → last ≡ i - 1 → x ≡ get_or es last 0 → x ≡ text_length (take i gs)
 starts gs es l zero last x is h one last_is x_is = absurd (omega (arith, one))
 starts gs es l (suc i) last x is h one last_is x_is =
     let at : last ≡ i = omega (arith, last_is) in
-    x_is ∙ ap (λ (k : ℕ). get_or es k x) at ∙ ap (λ (k : List ℕ). get_or k i x) is.ends ∙ omega (arith, ends-at 0 gs i x (omega (arith, h)))
+    x_is ∙ ap (λ (k : ℕ). get_or es k 0) at ∙ ap (λ (k : List ℕ). get_or k i 0) is.ends ∙ omega (arith, ends-at 0 gs i 0 (omega (arith, h)))
 
 pub start_within : (gs : List Group) (es : List ℕ) (l i last : ℕ) → IsPlaced gs es l → i ≤ length gs → 1 ≤ i → last ≡ i - 1 → last < length es
 start_within gs es l i last is h one last_is = omega (arith, last_is, h, one, ap length is.ends, ends-length 0 gs)

@@ -1,5 +1,6 @@
 pub mod Groups
 pub mod Content
+pub mod Ends
 pub mod Placed
 pub mod Reading
 pub mod Put

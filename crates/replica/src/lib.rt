@@ -9,6 +9,7 @@
 //! without a failure once there is room, so that a node can write the record first.
 #![tactic(auto)]
 
+mod ends;
 mod fault;
 mod frozen;
 mod kept;
@@ -18,6 +19,7 @@ mod placed;
 mod replica;
 mod sealed;
 
+pub use ends::Ends;
 pub use fault::{FillFault, PastEnd, PutFault, Stale};
 pub use frozen::FrozenReplica;
 pub use open::OpenReplica;

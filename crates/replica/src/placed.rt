@@ -5,6 +5,7 @@ ghost use Rattle.replica.specs.Placed.{IsBefore, first, found_or};
 ghost use Rattle.replica.specs.Reading.{bytes_at, groups_to, groups_from};
 ghost use Rattle.replica.specs.Replay.{is_boundary};
 
+use crate::ends::Ends;
 use crate::fault::PastEnd;
 use block_types::{Block, Group, Groups};
 use bytes::Bytes;
@@ -15,7 +16,7 @@ use std::marker::Model;
 #[derive(Drop)]
 pub(crate) struct PlacedGroups {
     groups: Vec<Group>,
-    ends: Vec<u32>,
+    ends: Ends,
     length: u32,
 }
 
@@ -27,10 +28,10 @@ impl Model for PlacedGroups {
 
     ghost view = { λ p. record {
       groups = p.groups.items;
-      room = min (vec_capacity p.groups - vec_len p.groups) (vec_capacity p.ends - vec_len p.ends);
+      room = min (vec_capacity p.groups - vec_len p.groups) (p.ends.room);
     } };
 
-    ghost invariant = { λ p. IsPlaced p.groups.items p.ends.items p.length };
+    ghost invariant = { λ p. IsPlaced p.groups.items p.ends.ends p.length };
 }
 
 /// Copies a block's bytes from one on, at most so many.
@@ -171,7 +172,7 @@ impl PlacedGroups {
     {
         PlacedGroups {
             groups: Vec::new(alloc),
-            ends: Vec::new(alloc),
+            ends: Ends::new(alloc),
             length: 0,
         }
     }
@@ -204,7 +205,7 @@ impl PlacedGroups {
         let _blocks = group.blocks();
         let end = self.length + group.size();
         self.groups.push_reserved(group);
-        self.ends.push_reserved(end);
+        self.ends.push(end);
         self.length = end;
     }
 
@@ -223,7 +224,8 @@ impl PlacedGroups {
     fn before(&self, offset: u32) -> usize
         ensures { IsBefore self.now.groups offset result }
     {
-        self.ends.partition_point(|end| *end <= offset)
+        let mut probes = 0;
+        self.ends.find(offset, &mut probes)
     }
 
     /// Where the group with this index starts.
@@ -233,7 +235,10 @@ impl PlacedGroups {
     {
         match index.checked_sub(1) {
             None => 0,
-            Some(last) => self.ends[last],
+            Some(last) => {
+                let mut probes = 0;
+                self.ends.end_at(last, &mut probes)
+            }
         }
     }
 

@@ -7,7 +7,7 @@ use Rattle.replica.proofs.placed.PlacedGroups.cut.Goals as goal
 pub invariant_of-self : goal.invariant_of-self
 invariant_of-self c =
     let start : text_length (take c.in-Some.index c.self.inside.groups.items) ≡ c.args.upto = ap (λ (v : Placed). text_length (take c.in-Some.index v.groups)) c.self.view_is ∙ c.in-Some.ensures.start in
-    cut c.self.inside.groups.items c.self.inside.ends.items c.self.inside.length c.in-Some.index c.args.upto c.truncate.new.self.items c.truncate-2.new.self.items c.self.invariant start c.truncate.ensures.items c.truncate-2.ensures.items
+    cut c.self.inside.groups.items c.self.inside.ends.ends c.self.inside.length c.in-Some.index c.args.upto c.truncate.new.self.items c.truncate-2.new.self.ends c.self.invariant start c.truncate.ensures.items c.truncate-2.ensures
 
 pub returns-clause-shorter : goal.returns-clause-shorter
 returns-clause-shorter c =
