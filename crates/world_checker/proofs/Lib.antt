@@ -3,3 +3,4 @@ mod Showing
 mod Pairs
 mod Comparing
 mod Linking
+mod ToldOf

@@ -1,2 +1,5 @@
 pub mod Acknowledged
 pub mod Checking
+pub mod Links
+pub mod Orderly
+pub mod Telling

@@ -11,7 +11,9 @@ mod compare;
 mod example;
 mod index;
 mod search;
+mod telling;
 mod texts;
+mod told;
 
 pub use example::acknowledged;
 pub use search::{check, check_indexed};

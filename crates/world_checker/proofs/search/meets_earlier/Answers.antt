@@ -7,7 +7,7 @@ use Rattle.world_checker.proofs.search.meets_earlier.Goals as goal
 
 pub loop-below-init : goal.loop-below-init
 loop-below-init c =
-    let linked = link_of c.args.notes.now c.args.links.now c.args.place c.link-below.result c.requires.linked c.link-below.ensures.linked c.link-below.ensures.unlinked in
+    let linked = link_of c.args.notes.now c.args.links.now c.args.place c.args.place c.link-below.result c.requires.linked (omega arith) c.link-below.ensures.linked c.link-below.ensures.unlinked in
     record {
       within = linked.0;
       meets = walk_begins c.args.notes.now c.args.place c.index-notes-place.result c.in-Some.extent c.requires.within c.index-notes-place.is (sym c.extent_of.ensures ∙ c.in-Some.is) c.link-below.result linked;
@@ -22,7 +22,7 @@ loop-below-preserved-then-not-is_of c = record {
 
 pub loop-below-preserved : goal.loop-below-preserved
 loop-below-preserved c =
-    let linked = link_of c.args.notes.now c.args.links.now (c.loop-below.below - 1) c.link-below-in-loop-below.result c.requires.linked c.link-below-in-loop-below.ensures.linked c.link-below-in-loop-below.ensures.unlinked in
+    let linked = link_of c.args.notes.now c.args.links.now c.args.place (c.loop-below.below - 1) c.link-below-in-loop-below.result c.requires.linked (omega (arith, c.loop-below.invariant.within)) c.link-below-in-loop-below.ensures.linked c.link-below-in-loop-below.ensures.unlinked in
     let e = c.in-Some.extent in
     let mine : extent_of c.index-notes-place.result ≡ Some e = sym c.extent_of.ensures ∙ c.in-Some.is in
     let earlier : extent_of c.index-notes-before.result ≡ Some e = c.is_of.ensures.0 c.if-not-is_of.false in
