@@ -10,7 +10,7 @@ import os
 import tempfile
 
 import scripts
-from running import ROUNDS, allocations, best, by_turns, instructions, run
+from running import LIBRARY, ROUNDS, best, by_turns, counted, instructions, run
 
 words = argparse.ArgumentParser(description=__doc__.splitlines()[0])
 words.add_argument("bench")
@@ -18,14 +18,12 @@ words.add_argument("stampctl")
 words.add_argument("--old-stampctl", help="a stampctl of before, which is measured beside this one")
 words.add_argument("--old-bench", help="a bench of before")
 words.add_argument("--plain", help="the plain program, where it could be built")
-words.add_argument("--allocations", help="the library that counts allocations, where it could be built")
 words.add_argument("--only", choices=["sizes", "counts", "times"], help="one table alone")
 ARGS = words.parse_args()
 BENCH, STAMPCTL = os.path.abspath(ARGS.bench), os.path.abspath(ARGS.stampctl)
 OLD_BENCH = ARGS.old_bench and os.path.abspath(ARGS.old_bench)
 OLD_STAMPCTL = ARGS.old_stampctl and os.path.abspath(ARGS.old_stampctl)
 PLAIN = ARGS.plain and os.path.abspath(ARGS.plain)
-LIBRARY = ARGS.allocations and os.path.abspath(ARGS.allocations)
 KIB = 1024
 
 
@@ -38,6 +36,11 @@ def did(ran, word, count):
     """The run, if it told so many answers of this kind."""
     assert answers(ran.out, word) == count, (word, count, ran.out[-80:])
     return ran
+
+
+def print_the_same(what, new, plain):
+    """The plain program, where there is one, prints what stampctl prints."""
+    assert plain is None or new.out == plain.out, what
 
 
 def appended(script, count, payload):
@@ -206,16 +209,14 @@ def of_one(count, program, script):
     if program is None:
         return None
     many, few = (count([program], script(size)) for size in (MANY, FEW))
-    if isinstance(many, tuple):
-        return [(more - less) / (MANY - FEW) for more, less in zip(many, few)]
     return (many - few) / (MANY - FEW)
 
 
 def pieces(program, script):
     """The pieces of memory that one request asks for, and their bytes, or neither where that can't be counted."""
-    if program is None or LIBRARY is None:
+    if LIBRARY is None:
         return [None, None]
-    return of_one(lambda command, lines: allocations(command, lines, LIBRARY), program, script)
+    return [of_one(lambda *run_on: counted(*run_on)[part], program, script) for part in (0, 1)]
 
 
 def counts():
@@ -224,7 +225,7 @@ def counts():
     yield "|" + "---|" * 12
     programs = (STAMPCTL, OLD_STAMPCTL, PLAIN)
     for what, script, word, _ in ROWS:
-        did(run([STAMPCTL], script(FEW)), word, FEW)
+        print_the_same(what, did(run([STAMPCTL], script(FEW)), word, FEW), PLAIN and run([PLAIN], script(FEW)))
         new, old, plain = (of_one(instructions, program, script) for program in programs)
         asked = [pieces(program, script) for program in programs]
         yield line(what, figure(new), figure(old), over(old, new), figure(plain), over(new, plain),
@@ -240,6 +241,7 @@ def times():
         found = by_turns([[program] for program in programs], lambda: script(count))
         by_program = dict(zip(programs, (did(ran, word, count) for ran in found)))
         new, old, plain = (by_program.get(program) for program in (STAMPCTL, OLD_STAMPCTL, PLAIN))
+        print_the_same(what, new, plain)
         seconds = [ran and ran.seconds for ran in (new, old, plain)]
         peaks = [figure(ran and ran.peak / (count * size)) if size >= 100 else "-" for ran in (new, old, plain)]
         yield line(what, f"{count:,}", figure(seconds[0], "s"), figure(seconds[1], "s"), over(seconds[1], seconds[0]),

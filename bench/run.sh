@@ -21,7 +21,7 @@ WORDS=("$BENCH" "$STAMPCTL")
 [ ${#OLD[@]} -lt 2 ] || WORDS+=(--old-bench "${OLD[1]}")
 if command -v gcc > /dev/null; then
     gcc -O2 -shared -fPIC -o "$MADE/allocations.so" bench/allocations.c
-    WORDS+=(--allocations "$MADE/allocations.so")
+    export ALLOCATIONS="$MADE/allocations.so"
 fi
 if command -v rustc > /dev/null; then
     rustc -O --edition 2021 -o "$MADE/plain" bench/plain/plain.rs
