@@ -3,14 +3,15 @@
 The first has each figure for a size N and for 2N, their ratio, and the most that the ratio may be. The second has instructions
 and allocations for one request, and, where an older stampctl is named, those of the old program over those of the new; the
 plain program stands beside both. The third, only with an older program, has times, taken by turns, and peaks of memory. Times
-are seconds of the processor, the least of several runs. Nothing is tested here but that each run did what it was asked to do.
+of scripts are seconds of the processor, those that bench tells are seconds of the clock, and each is the least of several runs.
+Nothing is tested here but that each run did what it was asked to do, and that the plain program prints what stampctl prints.
 """
 import argparse
 import os
 import tempfile
 
 import scripts
-from running import ROUNDS, allocations, best, by_turns, instructions, run
+from running import LIBRARY, ROUNDS, best, by_turns, counted, instructions, run
 
 words = argparse.ArgumentParser(description=__doc__.splitlines()[0])
 words.add_argument("bench")
@@ -18,14 +19,12 @@ words.add_argument("stampctl")
 words.add_argument("--old-stampctl", help="a stampctl of before, which is measured beside this one")
 words.add_argument("--old-bench", help="a bench of before")
 words.add_argument("--plain", help="the plain program, where it could be built")
-words.add_argument("--allocations", help="the library that counts allocations, where it could be built")
 words.add_argument("--only", choices=["sizes", "counts", "times"], help="one table alone")
 ARGS = words.parse_args()
 BENCH, STAMPCTL = os.path.abspath(ARGS.bench), os.path.abspath(ARGS.stampctl)
 OLD_BENCH = ARGS.old_bench and os.path.abspath(ARGS.old_bench)
 OLD_STAMPCTL = ARGS.old_stampctl and os.path.abspath(ARGS.old_stampctl)
 PLAIN = ARGS.plain and os.path.abspath(ARGS.plain)
-LIBRARY = ARGS.allocations and os.path.abspath(ARGS.allocations)
 KIB = 1024
 
 
@@ -38,6 +37,11 @@ def did(ran, word, count):
     """The run, if it told so many answers of this kind."""
     assert answers(ran.out, word) == count, (word, count, ran.out[-80:])
     return ran
+
+
+def print_the_same(what, new, plain):
+    """The plain program, where there is one, prints what stampctl prints."""
+    assert plain is None or new.out == plain.out, what
 
 
 def appended(script, count, payload):
@@ -132,8 +136,9 @@ SIZES = [
      [TIME, ("peak over values", "", None), ("time of a load", "s", 2.3)]),
 ]
 
-# A run of these sizes less one of half of them, for what one request takes.
+# A run of many less one of few, for what one request takes; so many things are brought back, so often.
 FEW, MANY = 2_048, 4_096
+BACK, TIMES = 512, 4
 # A row: its name, the script of so many, the answer that each request gets, and the bytes that each brings.
 ROWS = [
     ("append of 1 KiB to three nodes, `1024*a`", lambda n: scripts.appends(n, scripts.FILLED), b"appended", KIB),
@@ -147,6 +152,24 @@ TURNS = [(name, 10_000 if size < KIB else 8_192, script, word, size) for name, s
     ("group of 64 blocks of 1 KiB", 250, scripts.groups, b"appended", 64 * KIB),
     ("append of 1 KiB to one extent, which they fill", 16_384, scripts.one_extent, b"appended", KIB),
     ("put of 5,000 bytes, kept by its place", 1_000, lambda n: scripts.large_values(n, 0), b"committed", scripts.LARGE_VALUE),
+]
+# What is counted by a run less another, neither of which the plain program knows: a name, whether bench does it, the words and the
+# lines of the one and of the other, and how many more things the one does.
+COUNTED = [
+    ("group of 64 blocks of 1 KiB to three nodes", False, ([], scripts.groups(128)), ([], scripts.groups(64)), 64),
+    ("record of 1 KiB at a node's restart, by bench", True, (["restart", str(MANY)], ()), (["node", str(MANY)], ()), MANY),
+    ("append of one extent that is checked, of 4,096", True, (["extent", str(MANY)], ()), (["extent", "0"], ()), MANY),
+    ("append of one extent that is checked, of 8,192", True, (["extent", str(2 * MANY)], ()), (["extent", "0"], ()), 2 * MANY),
+]
+COUNTED += [
+    (name, False, ([], script(TIMES)), ([], script(0)), BACK * TIMES)
+    for name, script in [
+        ("record of 1 KiB at a node's restart in a script", lambda times: scripts.node_restarts(BACK, times)),
+        ("extent at the manager's restart in a script", lambda times: scripts.manager_restarts(BACK, times)),
+        ("record at the map's restart in a script", lambda times: scripts.map_restarts(BACK, times)),
+        ("value of 100 bytes that is loaded", lambda times: scripts.transactions(BACK, loads=times)),
+        ("value of 5,000 bytes that is loaded by its place", lambda times: scripts.large_values(BACK, times)),
+    ]
 ]
 # What is brought back, N, and the script of so many with so many restarts or loads.
 COMING_BACK = [
@@ -201,34 +224,39 @@ def record_file():
                 f"{ratios[0]:.2f} to {ratios[-1]:.2f}", "-", f"{ratios[len(ratios) // 2]:.2f}", 1.3)
 
 
-def of_one(count, program, script):
-    """What one request takes, by this count: a run of many less a run of fewer."""
+def of_one(count, program, more, less, things):
+    """What one thing takes, by this count: a run less another, over how many more things the one does; None where a program is not
+    there, or does not know the words."""
     if program is None:
         return None
-    many, few = (count([program], script(size)) for size in (MANY, FEW))
-    if isinstance(many, tuple):
-        return [(more - less) / (MANY - FEW) for more, less in zip(many, few)]
-    return (many - few) / (MANY - FEW)
+    try:
+        return (count([program, *more[0]], more[1]) - count([program, *less[0]], less[1])) / things
+    except AssertionError:
+        assert program not in (STAMPCTL, BENCH), more[0]
+        return None
 
 
-def pieces(program, script):
-    """The pieces of memory that one request asks for, and their bytes, or neither where that can't be counted."""
-    if program is None or LIBRARY is None:
-        return [None, None]
-    return of_one(lambda command, lines: allocations(command, lines, LIBRARY), program, script)
+def counts_of(what, programs, more, less, things):
+    """A row of instructions, of pieces of memory that were asked for, and of their bytes."""
+    more, less = ((words, list(lines)) for words, lines in (more, less))
+    new, old, plain = (of_one(instructions, program, more, less, things) for program in programs)
+    asked = [
+        of_one(lambda *run_on: counted(*run_on)[part], program if LIBRARY else None, more, less, things)
+        for part in (0, 1) for program in programs
+    ]
+    return line(what, figure(new), figure(old), over(old, new), figure(plain), over(new, plain), *map(figure, asked))
 
 
 def counts():
-    yield line("For one request", "instructions", "old", "old over new", "plain", "new over plain",
+    yield line("For one", "instructions", "old", "old over new", "plain", "new over plain",
                "allocations", "old", "plain", "bytes asked for", "old", "plain")
     yield "|" + "---|" * 12
-    programs = (STAMPCTL, OLD_STAMPCTL, PLAIN)
     for what, script, word, _ in ROWS:
-        did(run([STAMPCTL], script(FEW)), word, FEW)
-        new, old, plain = (of_one(instructions, program, script) for program in programs)
-        asked = [pieces(program, script) for program in programs]
-        yield line(what, figure(new), figure(old), over(old, new), figure(plain), over(new, plain),
-                   *(figure(calls) for calls, _ in asked), *(figure(size) for _, size in asked))
+        print_the_same(what, did(run([STAMPCTL], script(FEW)), word, FEW), PLAIN and run([PLAIN], script(FEW)))
+        yield counts_of(what, (STAMPCTL, OLD_STAMPCTL, PLAIN), ([], script(MANY)), ([], script(FEW)), MANY - FEW)
+    for what, is_by_bench, more, less, things in COUNTED:
+        programs = (BENCH, OLD_BENCH) if is_by_bench else (STAMPCTL, OLD_STAMPCTL)
+        yield counts_of(what, (*programs, None), more, less, things)
 
 
 def times():
@@ -240,6 +268,7 @@ def times():
         found = by_turns([[program] for program in programs], lambda: script(count))
         by_program = dict(zip(programs, (did(ran, word, count) for ran in found)))
         new, old, plain = (by_program.get(program) for program in (STAMPCTL, OLD_STAMPCTL, PLAIN))
+        print_the_same(what, new, plain)
         seconds = [ran and ran.seconds for ran in (new, old, plain)]
         peaks = [figure(ran and ran.peak / (count * size)) if size >= 100 else "-" for ran in (new, old, plain)]
         yield line(what, f"{count:,}", figure(seconds[0], "s"), figure(seconds[1], "s"), over(seconds[1], seconds[0]),

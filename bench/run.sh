@@ -1,30 +1,34 @@
 #!/usr/bin/env bash
 # bench/run.sh [OLD_STAMPCTL [OLD_BENCH]]: proves and builds what is measured where that is not done yet, runs all measurements,
-# and prints the tables of docs/BENCH.md. With a stampctl of another commit, and its bench, the old ones are measured by turns with
-# the new. STAMPCTL and BENCH, where both are set, name programs that stand already, and nothing is proved or built of the two.
+# and prints the tables of docs/BENCH.md. With the stampctl of another commit, and its bench, the old ones are measured by turns with
+# the new. STAMPCTL and BENCH, where both are set, name programs that stand already, and then neither is proved or built. ONLY is
+# one table of sizes, counts and times. Without gcc no allocation is counted, and without rustc there is no plain program.
 set -euo pipefail
-OLD=("${@/#/}")
-for at in "${!OLD[@]}"; do OLD[at]=$(realpath "${OLD[at]}"); done
+OLD=()
+for program in "$@"; do OLD+=("$(realpath "$program")"); done
 if [ -n "${STAMPCTL:-}" ] && [ -n "${BENCH:-}" ]; then
-    STAMPCTL=$(realpath "$STAMPCTL") BENCH=$(realpath "$BENCH")
-fi
-cd "$(dirname "$0")/.."
-if [ -z "${STAMPCTL:-}" ] || [ -z "${BENCH:-}" ]; then
+    STAMPCTL=$(realpath "$STAMPCTL")
+    BENCH=$(realpath "$BENCH")
+    cd "$(dirname "$0")/.."
+else
+    cd "$(dirname "$0")/.."
     (cd crates/bench && rt run > /dev/null)
     (cd crates/stampctl && rt run < stdin > /dev/null)
-    STAMPCTL=crates/stampctl/out/stampctl BENCH=crates/bench/out/bench
+    STAMPCTL=crates/stampctl/out/stampctl
+    BENCH=crates/bench/out/bench
 fi
 MADE=$(mktemp -d)
 trap 'rm -r "$MADE"' EXIT
 WORDS=("$BENCH" "$STAMPCTL")
 [ ${#OLD[@]} -lt 1 ] || WORDS+=(--old-stampctl "${OLD[0]}")
 [ ${#OLD[@]} -lt 2 ] || WORDS+=(--old-bench "${OLD[1]}")
+[ -z "${ONLY:-}" ] || WORDS+=(--only "$ONLY")
 if command -v gcc > /dev/null; then
     gcc -O2 -shared -fPIC -o "$MADE/allocations.so" bench/allocations.c
-    WORDS+=(--allocations "$MADE/allocations.so")
+    export ALLOCATIONS="$MADE/allocations.so"
 fi
 if command -v rustc > /dev/null; then
     rustc -O --edition 2021 -o "$MADE/plain" bench/plain/plain.rs
     WORDS+=(--plain "$MADE/plain")
 fi
-python3 bench/measure.py "${WORDS[@]}" ${ONLY:+--only "$ONLY"}
+python3 bench/measure.py "${WORDS[@]}"

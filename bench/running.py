@@ -6,6 +6,8 @@ import tempfile
 from dataclasses import dataclass
 
 ROUNDS = 5
+# The library of bench/allocations.c, where it could be built.
+LIBRARY = os.environ.get("ALLOCATIONS")
 
 
 @dataclass
@@ -33,25 +35,34 @@ def run(words, lines=(), more=None):
         return Ran(usage.ru_utime + usage.ru_stime, usage.ru_maxrss * 1024, out, said)
 
 
+def counted(words, lines):
+    """The pieces of memory that a command asks for, their bytes, and the peak of resident bytes, as LIBRARY counts them."""
+    told = run(words, lines, {"LD_PRELOAD": LIBRARY}).told
+    found = re.search(rb"allocations (\d+) bytes (\d+) peak (\d+)", told)
+    return int(found[1]), int(found[2]), int(found[3]) * 1024
+
+
+def least(runs, words, lines):
+    """The run that took least time. Its peak is what the library tells in one more run, where there is one: what the system tells
+    of a child is never less than the peak of the one who started it."""
+    found = min(runs, key=lambda ran: ran.seconds)
+    if LIBRARY:
+        found.peak = counted(words, lines)[2]
+    return found
+
+
 def best(words, script=tuple):
     """The run that took least time, of some; `script` gives the lines anew for each."""
-    return min((run(words, script()) for _ in range(ROUNDS)), key=lambda ran: ran.seconds)
+    return least([run(words, script()) for _ in range(ROUNDS)], words, script())
 
 
 def by_turns(programs, script=tuple):
     """The runs that took least time, of some, of several commands by turns, so that all meet the same machine."""
     rounds = [[run(words, script()) for words in programs] for _ in range(ROUNDS)]
-    return [min(runs, key=lambda ran: ran.seconds) for runs in zip(*rounds)]
+    return [least(runs, words, script()) for words, runs in zip(programs, zip(*rounds))]
 
 
 def instructions(words, lines):
     """How many instructions the command takes, as callgrind counts them."""
     told = run(["valgrind", "--tool=callgrind", "--callgrind-out-file=/dev/null", *words], lines).told
     return int(re.search(rb"Collected *: *(\d+)", told)[1])
-
-
-def allocations(words, lines, library):
-    """How many pieces of memory the command asks for, and their bytes, as the preloaded library counts them."""
-    told = run(words, lines, {"LD_PRELOAD": library}).told
-    found = re.search(rb"allocations (\d+) bytes (\d+)", told)
-    return int(found[1]), int(found[2])
