@@ -15,4 +15,4 @@ pub loop-item-preserved : goal.loop-item-preserved
 loop-item-preserved c =
     let total = length c.args.blocks.now in
     let h = rw (c.deref.ensures.value, c.item.view_is) at c.in_ok-changes.ensures in
-    rw c.in_ok-push.ensures.items (each_steps (changes_of total) c.loop-item.made.items c.loop-item.rest.now c.args.items.now c.loop-item.item-index c.item-item.result c.in_ok-changes.changes.items c.in_ok-changes.after.now (each_of (changes_of total) c.args.blocks.now c.args.items.now) c.loop-item-test.true c.item-item.is h c.loop-item.invariant)
+    rw (c.in_ok-push.ensures.items, c.in_ok-of.ensures) (each_steps (changes_of total) c.loop-item.made.items c.loop-item.rest.now c.args.items.now c.loop-item.item-index c.item-item.result c.in_ok-changes.changes.items c.in_ok-changes.after.now (each_of (changes_of total) c.args.blocks.now c.args.items.now) c.loop-item-test.true c.item-item.is h c.loop-item.invariant)

@@ -10,11 +10,11 @@ pub returns-clause-taken : goal.returns-clause-taken
 returns-clause-taken c = λ ts is is_new.
     let old = c.args.self.now in
     let new = c.grown.new.self in
-    let answer = c.grown.ensures.answer ∙ ap (λ (t : List Change). nat_le (blocks_with c.args.self.now t) 64) (c.deref.ensures.value ∙ c.changes.view_is) in
-    let taken = subst (λ (t : List Change). c.grown.result ≡ true → c.grown.new.self ≡ (c.args.self.now.0 + transaction_size t, c.args.self.now.1 + length (transaction_values t))) (c.deref.ensures.value ∙ c.changes.view_is) c.grown.ensures.taken in
+    let answer = c.grown.ensures.answer ∙ ap (λ (t : List Change). nat_le (blocks_with c.args.self.now t) 64) c.as_slice.ensures in
+    let taken = subst (λ (t : List Change). c.grown.result ≡ true → c.grown.new.self ≡ (c.args.self.now.0 + transaction_size t, c.args.self.now.1 + length (transaction_values t))) c.as_slice.ensures c.grown.ensures.taken in
     filling_taken ts c.args.changes.now c.args.self.now c.grown.new.self c.grown.result is answer taken is_new
 
 pub returns-clause-full : goal.returns-clause-full
 returns-clause-full c = λ ts is left room.
-    let answer = c.grown.ensures.answer ∙ ap (λ (t : List Change). nat_le (blocks_with c.args.self.now t) 64) (c.deref.ensures.value ∙ c.changes.view_is) in
+    let answer = c.grown.ensures.answer ∙ ap (λ (t : List Change). nat_le (blocks_with c.args.self.now t) 64) c.as_slice.ensures in
     filling_full ts c.args.changes.now c.args.self.now c.grown.result is answer left room
