@@ -14,5 +14,6 @@ mod node;
 mod recovery;
 mod rules;
 
+pub use enode_replica::Waiting;
 pub use fault::NodeFault;
 pub use node::Node;

@@ -1,2 +1,4 @@
+pub mod Covering
 pub mod Filling
+pub mod Queued
 pub mod Written

@@ -10,7 +10,9 @@ mod node_replica;
 mod phases;
 mod recording;
 mod recovery;
+mod waiting;
 mod writing;
 
 pub use node_replica::NodeReplica;
 pub use phases::{is_frozen, is_open, is_sealed};
+pub use waiting::Waiting;

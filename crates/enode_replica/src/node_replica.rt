@@ -1,16 +1,15 @@
 //! A replica at a node, with what a stop drops.
 ghost use Rattle.std.specs.Prelude.{◌≡◌, ◌≤◌, drop, length};
-ghost use Rattle.std.specs.VecDeque.{deque_len};
 ghost use Rattle.block_types.specs.Limits.{IsTarget};
 ghost use Rattle.replica.specs.Content.{new_content};
 ghost use Rattle.replica.specs.State.{content_of};
 ghost use Rattle.model_streams.specs.Node.{fresh};
 
+use crate::waiting::Waiting;
 use block_types::Nodes;
-use model_streams::{Checking, WaitingAppend};
+use model_streams::Checking;
 use replica::Replica;
 use std::alloc::Global;
-use std::collections::VecDeque;
 use std::marker::Model;
 use wire::Fence;
 
@@ -22,8 +21,7 @@ pub struct NodeReplica {
     pub second_has: u32,
     /// How long its third place is known to be, in bytes.
     pub third_has: u32,
-    /// The appends that wait for both secondaries, the oldest first.
-    pub waiting: VecDeque<WaitingAppend>,
+    pub(crate) waiting: Waiting,
     /// The check that is under way.
     pub check: Option<Checking>,
 }
@@ -47,7 +45,7 @@ impl Model for NodeReplica {
 
     ghost Value = { State };
 
-    ghost view = { λ h. record { content = content_of h.replica; second_has = h.second_has; third_has = h.third_has; waiting = h.waiting.items; check = h.check } };
+    ghost view = { λ h. record { content = content_of h.replica; second_has = h.second_has; third_has = h.third_has; waiting = h.waiting; check = h.check } };
 }
 
 impl NodeReplica {
@@ -61,7 +59,7 @@ impl NodeReplica {
             replica: Replica::new(alloc, places, target, fence.0),
             second_has: 0,
             third_has: 0,
-            waiting: VecDeque::new(alloc),
+            waiting: Waiting::new(alloc),
             check: None,
         }
     }
@@ -73,6 +71,13 @@ impl NodeReplica {
         &self.replica
     }
 
+    /// The appends that wait for both secondaries, the oldest first.
+    pub fn waiting(&self) -> &Waiting
+        ensures { result.now ≡ self.now.waiting }
+    {
+        &self.waiting
+    }
+
     /// The secondaries are known to be so long, and the first of the waiting appends wait no more.
     pub fn answer(&mut self, second_has: u32, third_has: u32, count: usize)
         requires { count ≤ length self.old.waiting }
@@ -80,7 +85,7 @@ impl NodeReplica {
     {
         self.second_has = second_has;
         self.third_has = third_has;
-        drop_first(&mut self.waiting, count);
+        self.waiting.drop_first(count);
     }
 
     /// What a stop drops is gone.
@@ -92,13 +97,4 @@ impl NodeReplica {
         self.waiting.clear();
         self.check = None;
     }
-}
-
-/// The first of the waiting appends wait no more.
-fn drop_first(waiting: &mut VecDeque<WaitingAppend>, count: usize)
-    requires { count ≤ deque_len waiting.old }
-    ensures { waiting.new.items ≡ drop count waiting.old.items }
-{
-    // Those that are taken out are answered, and go.
-    let _answered = waiting.drain(..count);
 }

@@ -72,21 +72,24 @@ impl NodeReplica {
         ensures file { Appends D.state file.old file.new (records.Append extent (text_length self.old.content.groups) blocks.now) result }
     {
         let offset = self.replica.len();
-        self.waiting.reserve(1)?;
+        let queue = &mut self.waiting;
+        queue.appends.reserve(1)?;
+        queue.ends.reserve(1)?;
         let group = blocks.group(alloc)?;
         match add_group(&mut self.replica, alloc, file, extent, &group) {
-            Ok(()) => {
-                let waiting = WaitingAppend {
-                    offset,
-                    group,
-                    asker,
-                    request,
-                };
-                self.waiting.push_back_reserved(waiting);
-                Ok(())
-            }
-            Err(fault) => Err(fault),
+            Ok(()) => {}
+            Err(fault) => return Err(fault),
         }
+        let append = WaitingAppend {
+            offset,
+            group,
+            asker,
+            request,
+        };
+        queue.appends.push_back_reserved(append);
+        // It ends where the replica ends now, so that its blocks are not counted again.
+        queue.ends.push_back_reserved(self.replica.len());
+        Ok(())
     }
 
     /// Adds a group to the end of an open replica below its target, once that is recorded. 20: the disk failed, and the

@@ -14,9 +14,6 @@ use enode_replica::{NodeReplica, is_open};
 use std::alloc::Global;
 use wire::{Blocks, ExtentId, Fence, Packet, Refusal, ReqNo, Step};
 
-/// So many appends wait at a primary for its secondaries, and no more.
-const MAX_WAITING: usize = 256;
-
 /// Why an append is not taken, the first reason.
 fn append_refusal(
     hosted: &NodeReplica,
@@ -49,7 +46,7 @@ fn append_refusal(
     if hosted.replica().len() >= hosted.replica().target() {
         return Some(Refusal::ExtentFull);
     }
-    if hosted.waiting.len() >= MAX_WAITING {
+    if hosted.waiting().is_full() {
         return Some(Refusal::Busy);
     }
     None

@@ -1,60 +1,32 @@
 //! A replica at its primary: what the secondaries have, and the appends that are answered then.
-ghost use Rattle.std.specs.Prelude.{◌≡◌, ◌≤◌, Some, take, IfOk, IfErr, length, nat_le, ◌+◌};
-ghost use Rattle.std.specs.VecDeque.{deque_len};
+ghost use Rattle.std.specs.Prelude.{◌≡◌, ◌≤◌, take, IfOk, IfErr, length};
 ghost use Rattle.disk.specs.declared.device.DiskFault.TheVariants as faults;
-ghost use Rattle.model_streams.specs.Node.{acked, answered, answers, covered as covers, greater, lesser, have_rule};
-ghost use Rattle.replica.specs.Groups.{size};
+ghost use Rattle.model_streams.specs.Node.{acked, answered, answers, greater, lesser, have_rule};
 ghost use Rattle.enode_rules.specs.Performs.{ReplicaPerformsInMemory};
 
 use crate::actors::is_node;
 use crate::sending::answer;
 use disk::DiskFault;
-use enode_replica::{NodeReplica, is_open};
-use model_streams::WaitingAppend;
+use enode_replica::{NodeReplica, Waiting, is_open};
 use std::alloc::Global;
-use std::collections::VecDeque;
 use wire::{ExtentId, Packet, Step};
-
-/// Whether a waiting append ends within a length.
-fn ends_within(waiting: &WaitingAppend, length: u32) -> bool
-    ensures { result ≡ nat_le (waiting.now.offset + size waiting.now.group) length }
-{
-    // Asked for, so that the proof knows that it is a group.
-    let _blocks = waiting.group.blocks();
-    u64::from(waiting.offset) + u64::from(waiting.group.size()) <= u64::from(length)
-}
-
-/// How many of the waiting appends, from the first on, end within a length.
-fn covered(waiting: &VecDeque<WaitingAppend>, length: u32) -> usize
-    ensures value { result ≡ covers length waiting.now.items }
-    ensures within { result ≤ deque_len waiting.now }
-{
-    let mut count = 0;
-    while let Some(next) = waiting.get(count) {
-        if !ends_within(next, length) {
-            break;
-        }
-        count += 1;
-    }
-    count
-}
 
 /// The answers to the first waiting appends, and that they are acknowledged.
 fn answers_of(
     alloc: Global,
     node: u8,
     extent: ExtentId,
-    waiting: &VecDeque<WaitingAppend>,
+    waiting: &Waiting,
     count: usize,
 ) -> Result<Step, DiskFault>
-    requires { count ≤ deque_len waiting.now }
-    ensures packets { IfOk result (λ step. step.packets ≡ answers node extent (take count waiting.now.items)) }
-    ensures notes { IfOk result (λ step. step.notes ≡ acked extent (take count waiting.now.items)) }
+    requires { count ≤ length waiting.now }
+    ensures packets { IfOk result (λ step. step.packets ≡ answers node extent (take count waiting.now)) }
+    ensures notes { IfOk result (λ step. step.notes ≡ acked extent (take count waiting.now)) }
     ensures fault { IfErr result (λ e. e ≡ faults.Memory) }
 {
     let mut step = Step::silent(alloc);
     for index in 0..count {
-        answer(alloc, &mut step, node, extent, &waiting[index])?;
+        answer(alloc, &mut step, node, extent, waiting.get(index))?;
     }
     Ok(step)
 }
@@ -125,8 +97,11 @@ fn told(
 ) -> Result<Step, DiskFault>
     ensures { ReplicaPerformsInMemory hosted.old hosted.new (answered node (record hosted.old { second_has = second_has; third_has = third_has }) extent) result }
 {
-    let count = covered(&hosted.waiting, lesser(second_has, third_has));
-    let step = answers_of(alloc, node, extent, &hosted.waiting, count)?;
+    // Counted from 0, so that no more than those that are answered and one is looked at.
+    let mut looks = 0;
+    let waiting = hosted.waiting();
+    let count = waiting.covered(lesser(second_has, third_has), &mut looks);
+    let step = answers_of(alloc, node, extent, waiting, count)?;
     hosted.answer(second_has, third_has, count);
     Ok(step)
 }

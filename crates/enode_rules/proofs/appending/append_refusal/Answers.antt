@@ -10,8 +10,5 @@ returns-then-has_bad_block-clause-value c = search rules
 pub returns-then-len-target-clause-value : goal.returns-then-len-target-clause-value
 returns-then-len-target-clause-value c = search rules
 
-pub returns-then-len-ge-MAX_WAITING-clause-value : goal.returns-then-len-ge-MAX_WAITING-clause-value
-returns-then-len-ge-MAX_WAITING-clause-value c = search rules
-
 pub returns-clause-value : goal.returns-clause-value
 returns-clause-value c = search rules
