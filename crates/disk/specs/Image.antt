@@ -1,5 +1,5 @@
 -- The bytes of a disk in memory, and what a crash may do to them.
-use Rattle.std.specs.Prelude.{◌≡◌, ◌⊎◌, ℕ, ◌≤◌, Bool, Option, List, length, take, min, nat_le, if◌then◌else◌}
+use Rattle.std.specs.Prelude.{◌≡◌, ◌⊎◌, ℕ, ◌≤◌, Bool, Option, List, ◌++◌, length, take, min, nat_le, if◌then◌else◌}
 use Rattle.disk.specs.Disk.{DiskState}
 use Rattle.disk.specs.History.{Event, failures_in, HeldSince}
 
@@ -10,11 +10,9 @@ pub record ImageBytes : Type 0 where
   pub seen_room : ℕ
   pub synced_room : ℕ
 
--- both lists begin with the same n bytes
-pub record IsClean (n : ℕ) (seen synced : List ℕ) : Type 0 where
-  pub in_seen : n ≤ length seen
-  pub in_synced : n ≤ length synced
-  pub same : take n seen ≡ take n synced
+-- what the last sync has made sure of: the first n bytes that are there, and after them what was there before
+abbrev pub synced_of : ℕ → List ℕ → List ℕ → List ℕ
+synced_of n seen old = take n seen ++ old
 
 -- neither list has lost room
 pub record KeepsRoom (old new : ImageBytes) : Type 0 where

@@ -1,5 +1,5 @@
 //! What a disk has held, for clauses alone. It takes no memory, and its methods do nothing when they run.
-ghost use Rattle.std.specs.Prelude.{◌≡◌, List, [], ◌∷◌};
+ghost use Rattle.std.specs.Prelude.{◌≡◌, List, [], ◌∷◌, ◌++◌};
 ghost use Rattle.std.specs.Borrow.{ftrue};
 ghost use Rattle.disk.specs.History.{Event, event_of};
 
@@ -28,5 +28,10 @@ impl History {
     /// Notes a call: whether it failed, 1 or 0, and what the disk held before it.
     pub(crate) fn note(&mut self, _failed: &[u64], _bytes: &[u8])
         ensures { self.new.events ≡ event_of _failed.now _bytes.now ∷ self.old.events }
+    {}
+
+    /// Notes a call that did not fail, and what the disk held before it, in two parts.
+    pub(crate) fn note_parts(&mut self, _front: &[u8], _back: &[u8])
+        ensures { self.new.events ≡ (0, _front.now ++ _back.now) ∷ self.old.events }
     {}
 }

@@ -1,17 +1,18 @@
-//! Bytes in memory beside those that the last sync has made sure of. A write and a sync cost what was written.
-ghost use Rattle.std.specs.Prelude.{◌≡◌, ◌+◌, ◌≤◌, ◌<◌, ◌++◌, ◌^◌, [], length, take, drop, OnOk, OnErr, IsOk, IfOk, vec_capacity};
+//! The bytes of a disk in memory, and of those that the last sync has made sure of what was written over since. A write
+//! costs what was written since, and a sync nothing.
+ghost use Rattle.std.specs.Prelude.{◌≡◌, ◌+◌, ◌≤◌, ◌<◌, ◌++◌, ◌^◌, [], length, OnOk, OnErr, IsOk, IfOk, vec_capacity};
 ghost use Rattle.disk.specs.Disk.{Holds};
 ghost use Rattle.disk.specs.Image.{KeepsRoom};
 
 use std::alloc::{AllocError, Global};
 use std::marker::Model;
-use std::mem;
 
 pub struct Image {
     bytes: Vec<u8>,
-    synced: Vec<u8>,
-    // so many leading bytes are the same in both
+    // so many leading bytes are as the last sync has made sure of them
     clean: usize,
+    // what it has made sure of after those: it was there before the writes that came after the sync
+    aside: Vec<u8>,
 }
 
 // Written out, so that a crate above that lets one go has no proof of what is in it.
@@ -19,21 +20,31 @@ impl Drop for Image {
     fn drop(self) {
         let Image {
             bytes: _,
-            synced: _,
             clean: _,
+            aside: _,
         } = self;
     }
 }
 
 impl Model for Image {
-    ghost use Rattle.std.specs.Prelude.{vec_capacity};
-    ghost use Rattle.disk.specs.Image.{ImageBytes, IsClean};
+    ghost use Rattle.std.specs.Prelude.{◌+◌, ◌≤◌, length, vec_capacity};
+    ghost use Rattle.disk.specs.Image.{ImageBytes, synced_of};
 
     ghost Value = { ImageBytes };
 
-    ghost view = { λ i. record { seen = i.bytes.items; synced = i.synced.items; seen_room = vec_capacity i.bytes; synced_room = vec_capacity i.synced } };
+    ghost view = { λ i. record { seen = i.bytes.items; synced = synced_of i.clean i.bytes.items i.aside.items; seen_room = vec_capacity i.bytes; synced_room = vec_capacity i.aside } };
 
-    ghost invariant = { λ i. IsClean i.clean i.bytes.items i.synced.items };
+    // the bytes never get fewer
+    ghost invariant = { λ i. i.clean + length i.aside.items ≤ length i.bytes.items };
+}
+
+// Puts bytes in the place of those from `at` on.
+fn put_over(bytes: &mut Vec<u8>, at: usize, new: &[u8])
+    requires { at + length new.now ≤ length bytes.old.items }
+    ensures items { Holds bytes.old.items at new.now bytes.new.items }
+    ensures capacity { vec_capacity bytes.new ≡ vec_capacity bytes.old }
+{
+    bytes[at..at + new.len()].copy_from_slice(new);
 }
 
 // Puts bytes in the place of those from `at` on, and past the end.
@@ -46,7 +57,7 @@ fn overwrite(bytes: &mut Vec<u8>, at: usize, new: &[u8]) -> Result<(), AllocErro
 {
     let inside = bytes.len() - at;
     if new.len() <= inside {
-        bytes[at..at + new.len()].copy_from_slice(new);
+        put_over(bytes, at, new);
     } else {
         bytes.reserve(new.len() - inside)?;
         bytes.truncate(at);
@@ -55,20 +66,37 @@ fn overwrite(bytes: &mut Vec<u8>, at: usize, new: &[u8]) -> Result<(), AllocErro
     Ok(())
 }
 
-// Puts the source's bytes from `from` on in the place of those that the target has there.
-fn copy_tail(target: &mut Vec<u8>, from: usize, source: &[u8]) -> Result<(), AllocError>
-    requires in_target { from ≤ length target.old.items }
-    requires in_source { from ≤ length source.now }
-    ensures ok { OnOk result (target.new.items ≡ take from target.old.items ++ drop from source.now) }
-    ensures err { OnErr result (target.new.items ≡ target.old.items) }
-    ensures succeeds { length source.now ≤ vec_capacity target.old → IsOk result }
-    ensures capacity { vec_capacity target.old ≤ vec_capacity target.new }
+// Puts bytes before those that are there.
+fn put_before(bytes: &mut Vec<u8>, front: &[u8]) -> Result<(), AllocError>
+    ensures ok { OnOk result (bytes.new.items ≡ front.now ++ bytes.old.items) }
+    ensures err { OnErr result (bytes.new.items ≡ bytes.old.items) }
+    ensures succeeds { length front.now + length bytes.old.items ≤ vec_capacity bytes.old → IsOk result }
+    ensures capacity { vec_capacity bytes.old ≤ vec_capacity bytes.new }
 {
-    if source.len() > target.len() {
-        target.reserve(source.len() - target.len())?;
+    let count = bytes.len();
+    bytes.extend_from_slice(front)?;
+    if count > 0 {
+        bytes.copy_within(0..count, front.len());
+        put_over(bytes, 0, front);
     }
-    target.truncate(from);
-    target.extend_from_slice(&source[from..])
+    Ok(())
+}
+
+// Makes room for so many bytes. An empty buffer is replaced, since to grow it would copy room that was never written.
+fn make_room(bytes: &mut Vec<u8>, room: usize) -> Result<(), AllocError>
+    ensures same { bytes.new.items ≡ bytes.old.items }
+    ensures ok { OnOk result (room ≤ vec_capacity bytes.new) }
+    ensures succeeds { room ≤ vec_capacity bytes.old → IsOk result }
+    ensures capacity { vec_capacity bytes.old ≤ vec_capacity bytes.new }
+{
+    if room <= bytes.capacity() {
+        return Ok(());
+    }
+    if bytes.is_empty() {
+        *bytes = Vec::with_capacity(*bytes.allocator(), room)?;
+        return Ok(());
+    }
+    bytes.reserve(room - bytes.len())
 }
 
 impl Image {
@@ -78,8 +106,8 @@ impl Image {
     {
         Image {
             bytes: Vec::new(alloc),
-            synced: Vec::new(alloc),
             clean: 0,
+            aside: Vec::new(alloc),
         }
     }
 
@@ -89,8 +117,8 @@ impl Image {
     {
         Image {
             bytes,
-            synced: Vec::new(alloc),
             clean: 0,
+            aside: Vec::new(alloc),
         }
     }
 
@@ -107,10 +135,11 @@ impl Image {
         &self.bytes
     }
 
-    pub(crate) fn synced(&self) -> &[u8]
-        ensures { result.now ≡ self.now.synced }
+    /// What the last sync has made sure of, in two parts.
+    pub(crate) fn synced(&self) -> (&[u8], &[u8])
+        ensures { result.0.now ++ result.1.now ≡ self.now.synced }
     {
-        &self.synced
+        (&self.bytes[..self.clean], &self.aside)
     }
 
     pub(crate) fn read(&self, alloc: Global) -> Result<Vec<u8>, AllocError>
@@ -128,10 +157,10 @@ impl Image {
     {
         let end = end.max(self.bytes.len());
         self.bytes.reserve(end - self.bytes.len())?;
-        if end > self.synced.len() {
-            self.synced.reserve(end - self.synced.len())?;
+        if end <= self.aside.capacity() {
+            return Ok(());
         }
-        Ok(())
+        make_room(&mut self.aside, self.bytes.capacity())
     }
 
     /// Puts bytes in the place of those from `at` on, and past the end.
@@ -141,30 +170,33 @@ impl Image {
         ensures err { OnErr result (self.new.seen ≡ self.old.seen) }
         ensures synced { self.new.synced ≡ self.old.synced }
         ensures keeps { KeepsRoom self.old self.new }
-        ensures succeeds { at + length new.now ≤ self.old.seen_room → IsOk result }
+        ensures succeeds { at + length new.now ≤ self.old.seen_room → length self.old.seen ≤ self.old.synced_room → IsOk result }
     {
-        overwrite(&mut self.bytes, at, new)?;
-        self.clean = self.clean.min(at);
-        Ok(())
+        if at < self.clean {
+            put_before(&mut self.aside, &self.bytes[at..self.clean])?;
+            self.clean = at;
+        }
+        overwrite(&mut self.bytes, at, new)
     }
 
     /// Makes sure of all bytes.
-    pub(crate) fn sync(&mut self) -> Result<(), AllocError>
+    pub(crate) fn sync(&mut self)
         ensures seen { self.new.seen ≡ self.old.seen }
-        ensures ok { OnOk result (self.new.synced ≡ self.old.seen) }
-        ensures err { OnErr result (self.new.synced ≡ self.old.synced) }
+        ensures synced { self.new.synced ≡ self.old.seen }
         ensures keeps { KeepsRoom self.old self.new }
-        ensures succeeds { length self.old.seen ≤ self.old.synced_room → IsOk result }
     {
-        copy_tail(&mut self.synced, self.clean, &self.bytes)?;
+        self.aside.clear();
         self.clean = self.bytes.len();
-        Ok(())
     }
 
     /// Goes back to what the last sync has made sure of.
     pub(crate) fn forget(&mut self)
-        ensures { (self.new.seen ≡ self.old.synced) × (self.new.synced ≡ self.old.seen) }
+        ensures seen { self.new.seen ≡ self.old.synced }
+        ensures synced { self.new.synced ≡ self.old.synced }
     {
-        mem::swap(&mut self.bytes, &mut self.synced);
+        let end = self.clean + self.aside.len();
+        self.bytes[self.clean..end].copy_from_slice(&self.aside);
+        self.bytes.truncate(end);
+        self.sync();
     }
 }

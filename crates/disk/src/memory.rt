@@ -98,7 +98,7 @@ impl MemDisk {
     {
         let mut disk = MemDisk::new(alloc);
         disk.image = Image::of(alloc, self.image.read(alloc)?);
-        disk.image.sync()?;
+        disk.image.sync();
         Ok(disk)
     }
 
@@ -160,15 +160,17 @@ impl Disk for MemDisk {
     fn sync(&mut self) -> Result<(), DiskFault> {
         match due(&mut self.stop) {
             None => {
-                self.history.note(&[0], self.image.synced());
-                Ok(self.image.sync()?)
+                let (front, back) = self.image.synced();
+                self.history.note_parts(front, back);
+                self.image.sync();
+                Ok(())
             }
             Some(true) => {
-                self.history.note(&[1], self.image.synced());
+                self.history.note(&[1], self.image.bytes());
                 Err(DiskFault::Failed)
             }
             Some(false) => {
-                self.history.note(&[1], self.image.synced());
+                self.history.note(&[1], self.image.bytes());
                 self.image.forget();
                 Err(DiskFault::Failed)
             }

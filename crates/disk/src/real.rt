@@ -226,12 +226,13 @@ impl<F: FileExt + OpenFile> Disk for FileDisk<F> {
         ensures broken { StaysBroken self.old self.new result }
         ensures whole { IsWhole self.old → IsWhole self.new }
     {
-        self.image.reserve(0)?;
         if !self.flush() {
-            self.history.note(&[1], self.image.synced());
+            self.history.note(&[1], self.image.bytes());
             return Err(DiskFault::Failed);
         }
-        self.history.note(&[0], self.image.synced());
-        Ok(self.image.sync()?)
+        let (front, back) = self.image.synced();
+        self.history.note_parts(front, back);
+        self.image.sync();
+        Ok(())
     }
 }

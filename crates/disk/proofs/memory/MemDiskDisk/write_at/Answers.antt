@@ -40,8 +40,8 @@ returns-in-Some-false c =
     let now = c.forget.new.self in
     record {
       written = tt;
-      crash = crash_none was.image now c.args.at _ (λ f there. ⊎_elim (λ seen. inr (seen ∙ c.forget.ensures.0)) (λ synced. inl (synced ∙ c.forget.ensures.1)) there);
-      time = goes_by was.image now was.history.events c.note-in-Some-false.new.self.events 1 was.image.seen _ _ _ (c.note-in-Some-false.ensures ∙ ap (λ (l : List ℕ). (1, l) ∷ was.history.events) c.bytes-in-Some-false.ensures) (inl refl) (λ f there. ⊎_elim (λ seen. inl seen) (λ synced. inr (inl (synced ∙ sym c.forget.ensures.0))) there);
+      crash = crash_none was.image now c.args.at _ (λ f there. ⊎_elim (λ seen. inr (seen ∙ c.forget.ensures.seen)) (λ synced. inr (synced ∙ c.forget.ensures.synced)) there);
+      time = goes_by was.image now was.history.events c.note-in-Some-false.new.self.events 1 was.image.seen _ _ _ (c.note-in-Some-false.ensures ∙ ap (λ (l : List ℕ). (1, l) ∷ was.history.events) c.bytes-in-Some-false.ensures) (inl refl) (λ f there. ⊎_elim (λ seen. inl seen) (λ synced. inr (inl (synced ∙ sym c.forget.ensures.seen))) there);
       cause = search rules;
       spent = λ _. tt;
       synced = tt;
