@@ -153,7 +153,7 @@ TURNS = [(name, 10_000 if size < KIB else 8_192, script, word, size) for name, s
     ("append of 1 KiB to one extent, which they fill", 16_384, scripts.one_extent, b"appended", KIB),
     ("put of 5,000 bytes, kept by its place", 1_000, lambda n: scripts.large_values(n, 0), b"committed", scripts.LARGE_VALUE),
 ]
-# What is counted by a run less another, neither of which the plain program knows: a name, whether bench does it, the words and the
+# What is counted by a run less another, and most of which the plain program does not know: a name, whether bench does it, the words and the
 # lines of the one and of the other, and how many more things the one does.
 COUNTED = [
     ("group of 64 blocks of 1 KiB to three nodes", False, ([], scripts.groups(128)), ([], scripts.groups(64)), 64),
@@ -255,8 +255,8 @@ def counts():
         print_the_same(what, did(run([STAMPCTL], script(FEW)), word, FEW), PLAIN and run([PLAIN], script(FEW)))
         yield counts_of(what, (STAMPCTL, OLD_STAMPCTL, PLAIN), ([], script(MANY)), ([], script(FEW)), MANY - FEW)
     for what, is_by_bench, more, less, things in COUNTED:
-        programs = (BENCH, OLD_BENCH) if is_by_bench else (STAMPCTL, OLD_STAMPCTL)
-        yield counts_of(what, (*programs, None), more, less, things)
+        programs = (BENCH, OLD_BENCH, None) if is_by_bench else (STAMPCTL, OLD_STAMPCTL, PLAIN)
+        yield counts_of(what, programs, more, less, things)
 
 
 def times():
