@@ -8,6 +8,7 @@ Nothing is tested here but that each run did what it was asked to do, and that t
 """
 import argparse
 import os
+import shutil
 import tempfile
 
 import scripts
@@ -84,8 +85,15 @@ def at_sizes(script, sizes):
     return [best([STAMPCTL], lambda: script(size)) for size in sizes]
 
 
-def restarts(script):
-    return [repeats(script)[0]]
+def restarts(script, last):
+    """The seconds of a restart, after which the actor tells what it told without; `last` is its last line."""
+    seconds, without, more = repeats(script)
+    assert without.out == more.out and more.out.splitlines()[-1] == last.encode(), more.out[-80:]
+    return [seconds]
+
+
+def first_replica(count):
+    return f"replica 1 1 open {min(count, scripts.APPENDS_PER_STREAM) * KIB} 0"
 
 
 def transactions(count):
@@ -123,11 +131,11 @@ SIZES = [
     ("extents of 64 appends, sealed with a node cut off", 1_000, seals, [TIME, ("peak over payload", "", None)]),
     ("records of 1 KiB at a node's restart", 100_000, lambda n: told_micros(["restart", str(n)], f"taken {n}"), [TIME]),
     ("records of 1 KiB at a node's restart in a script", 10_000,
-     lambda n: restarts(lambda times: scripts.node_restarts(n, times)), [TIME]),
+     lambda n: restarts(lambda times: scripts.node_restarts(n, times), first_replica(n)), [TIME]),
     ("extents at the manager's restart in a script", 2_000,
-     lambda n: restarts(lambda times: scripts.manager_restarts(n, times)), [TIME]),
+     lambda n: restarts(lambda times: scripts.manager_restarts(n, times), f"user 1 {2 * n + 1} extended {n + 1}"), [TIME]),
     ("records at the map's restart in a script", 20_000,
-     lambda n: restarts(lambda times: scripts.map_restarts(n, times)), [TIME]),
+     lambda n: restarts(lambda times: scripts.map_restarts(n, times), "user 1 0 route 1 1"), [TIME]),
     ("extents in each of 100 streams, added and found", 5_000,
      lambda n: told_micros(["streams", str(n)], f"found {100 * n}"), [TIME]),
     ("transactions of one put of 100 bytes on one range", 20_000, transactions,
@@ -153,8 +161,8 @@ TURNS = [(name, 10_000 if size < KIB else 8_192, script, word, size) for name, s
     ("append of 1 KiB to one extent, which they fill", 16_384, scripts.one_extent, b"appended", KIB),
     ("put of 5,000 bytes, kept by its place", 1_000, lambda n: scripts.large_values(n, 0), b"committed", scripts.LARGE_VALUE),
 ]
-# What is counted by a run less another, neither of which the plain program knows: a name, whether bench does it, the words and the
-# lines of the one and of the other, and how many more things the one does.
+# What is counted by a run less another, and most of which the plain program does not know: a name, whether bench does it, the
+# words and the lines of the one and of the other, and how many more things the one does.
 COUNTED = [
     ("group of 64 blocks of 1 KiB to three nodes", False, ([], scripts.groups(128)), ([], scripts.groups(64)), 64),
     ("record of 1 KiB at a node's restart, by bench", True, (["restart", str(MANY)], ()), (["node", str(MANY)], ()), MANY),
@@ -248,6 +256,9 @@ def counts_of(what, programs, more, less, things):
 
 
 def counts():
+    if shutil.which("valgrind") is None:
+        yield "There is no valgrind here, so nothing is counted."
+        return
     yield line("For one", "instructions", "old", "old over new", "plain", "new over plain",
                "allocations", "old", "plain", "bytes asked for", "old", "plain")
     yield "|" + "---|" * 12
@@ -255,8 +266,8 @@ def counts():
         print_the_same(what, did(run([STAMPCTL], script(FEW)), word, FEW), PLAIN and run([PLAIN], script(FEW)))
         yield counts_of(what, (STAMPCTL, OLD_STAMPCTL, PLAIN), ([], script(MANY)), ([], script(FEW)), MANY - FEW)
     for what, is_by_bench, more, less, things in COUNTED:
-        programs = (BENCH, OLD_BENCH) if is_by_bench else (STAMPCTL, OLD_STAMPCTL)
-        yield counts_of(what, (*programs, None), more, less, things)
+        programs = (BENCH, OLD_BENCH, None) if is_by_bench else (STAMPCTL, OLD_STAMPCTL, PLAIN)
+        yield counts_of(what, programs, more, less, things)
 
 
 def times():

@@ -31,4 +31,4 @@ if command -v rustc > /dev/null; then
     rustc -O --edition 2021 -o "$MADE/plain" bench/plain/plain.rs
     WORDS+=(--plain "$MADE/plain")
 fi
-python3 bench/measure.py "${WORDS[@]}"
+python3 -B bench/measure.py "${WORDS[@]}"

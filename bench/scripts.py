@@ -54,9 +54,10 @@ def one_extent(count):
 
 
 def node_restarts(count, restarts):
-    """Appends of 1 KiB, and then a node that stops and comes back, so many times."""
+    """Appends of 1 KiB, and then a node that stops and comes back, so many times; its replica is shown at the end."""
     yield from appends(count, FILLED)
     yield from ["stop n1 0 drop", "restart n1"] * restarts
+    yield "show 1 1"
 
 
 def seals_of_extents(count):
@@ -71,20 +72,22 @@ def seals_of_extents(count):
 
 
 def manager_restarts(count, restarts):
-    """Empty extents of one stream, added and sealed; then the manager stops and comes back, so many times."""
+    """Empty extents of one stream, added and sealed; then the manager stops and comes back, so many times, and adds one more."""
     yield from (f"setup 3 1 {TARGET} 1", "user 1 create 0", "settle")
     for extent in range(1, count + 1):
         last = "none" if extent == 1 else extent - 1
         yield from (f"user 1 extend 0 {last} 1 2 3", "settle", f"user 1 seal {extent}", "settle", f"decide {extent}", "settle")
     yield from ["stop m 0 drop", "restart m"] * restarts
+    yield from (f"user 1 extend 0 {count} 1 2 3", "settle")
 
 
 def map_restarts(count, restarts):
-    """Renewals of one lease; then the map stops and comes back, so many times."""
+    """Renewals of one lease; then the map stops and comes back, so many times, and tells who holds the range."""
     yield from (f"setup 3 1 {TARGET} 1", "moment 1", "assign 1 1 1000", "settle")
     for number in range(1, count + 1):
         yield f"renew 1 1 {1000 + number}"
     yield from ["stop p 0 drop", "restart p"] * restarts
+    yield from ("user 1 route k", "settle")
 
 
 def transactions(count, value="100*x", each=TRANSACTIONS_PER_SETTLE, loads=0):
