@@ -1,3 +1,4 @@
 pub mod RowEntries
 pub mod GroupReach
+pub mod SeenIndex
 pub mod ServerList

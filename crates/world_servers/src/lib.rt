@@ -7,7 +7,7 @@
 //! - `loading`: the table that an answer to a server is about to show.
 //! - `moment`: the clock of leases, which all see.
 //! - `rows_of`: the rows of a memory table, each value that stands elsewhere taken from the earliest observation that covers
-//!   its place.
+//!   its place. Only observations of its extent are looked at: `SeenByExtent` has their places.
 //!
 //! An error is out of memory (22), and nothing has changed; that is the one error that no clause limits.
 #![tactic(auto)]
@@ -16,7 +16,9 @@ mod cell;
 mod list;
 mod place;
 mod rows;
+mod seen;
 
 pub use cell::GiveUpAnswer;
 pub use list::Servers;
 pub use rows::rows_of;
+pub use seen::SeenByExtent;

@@ -2,7 +2,9 @@
 ghost use Rattle.std.specs.Prelude.{◌≡◌, ◌&&◌, ◌+◌, ◌<◌, ◌^◌, ◌∷◌, ℕ, List, nat_le, IfOk};
 ghost use Rattle.replica.specs.Groups.{joined, text, text_length};
 ghost use Rattle.model_partition.specs.Servers.{part, shown_in, first_shown};
+ghost use Rattle.world_servers.specs.Seen.{shown_at, IsIndex};
 
+use crate::seen::SeenByExtent;
 use block_types::Group;
 use bytes::Bytes;
 use memtable::Place;
@@ -129,16 +131,34 @@ fn shown_in(alloc: Global, note: &Note, place: &Place) -> Result<Option<Bytes>, 
     }
 }
 
-/// What the earliest observation that covers the place shows of it. An error is out of memory (22).
+/// What the observation of this number shows of a place, if there is one that covers it.
+fn shown_at(
+    alloc: Global,
+    notes: &[Note],
+    at: usize,
+    place: &Place,
+) -> Result<Option<Bytes>, AllocError>
+    ensures { IfOk result (λ shown. shown ≡ shown_at notes.now at place.now) }
+{
+    match notes.get(at) {
+        None => Ok(None),
+        Some(note) => shown_in(alloc, note, place),
+    }
+}
+
+/// What the earliest observation that covers the place shows of it. Only those of its extent are looked at, which the index
+/// has. An error is out of memory (22).
 pub(crate) fn first_shown(
     alloc: Global,
     notes: &[Note],
+    seen: &SeenByExtent,
     place: &Place,
 ) -> Result<Option<Bytes>, AllocError>
+    requires { IsIndex notes.now seen.now }
     ensures { IfOk result (λ shown. shown ≡ first_shown notes.now place.now) }
 {
-    for note in notes {
-        match shown_in(alloc, note, place)? {
+    for at in seen.places(place.extent) {
+        match shown_at(alloc, notes, *at, place)? {
             Some(value) => return Ok(Some(value)),
             None => {}
         }

@@ -1,8 +1,10 @@
 //! The rows of a memory table.
 ghost use Rattle.std.specs.Prelude.{◌≡◌, ◌++◌, IfOk, OnOk};
 ghost use Rattle.model_partition.specs.Servers.{row_of, rows_of};
+ghost use Rattle.world_servers.specs.Seen.{IsIndex};
 
 use crate::place::first_shown;
+use crate::seen::SeenByExtent;
 use bytes::Bytes;
 use memtable::Cell;
 use std::alloc::{AllocError, Global};
@@ -13,15 +15,17 @@ fn push_row(
     alloc: Global,
     rows: &mut Vec<Row>,
     notes: &[Note],
+    seen: &SeenByExtent,
     key: &Bytes,
     cell: &Cell,
 ) -> Result<(), AllocError>
+    requires { IsIndex notes.now seen.now }
     ensures { OnOk result (rows.new.items ≡ rows.old.items ++ row_of notes.now key.now cell.now) }
 {
     let found = match cell {
         Cell::Deleted => None,
         Cell::Inline(value) => Some(value.clone()?),
-        Cell::Placed(place) => first_shown(alloc, notes, place)?,
+        Cell::Placed(place) => first_shown(alloc, notes, seen, place)?,
     };
     match found {
         None => Ok(()),
@@ -34,18 +38,20 @@ fn push_row(
 }
 
 /// The rows of these entries, after these observations: a key that was deleted has none, and neither has one whose value
-/// no observation covers. An error is out of memory (22).
+/// no observation covers. The index is one of these observations. An error is out of memory (22).
 #[tactic(auto, using(crate::proofs::RowEntries::one_more))]
 pub fn rows_of(
     alloc: Global,
     notes: &[Note],
+    seen: &SeenByExtent,
     entries: &BTreeMap<Bytes, Cell>,
 ) -> Result<Rows, AllocError>
+    requires { IsIndex notes.now seen.now }
     ensures { IfOk result (λ rows. rows ≡ rows_of notes.now entries.now.entries) }
 {
     let mut rows = Vec::new(alloc);
     for (key, cell) in entries {
-        push_row(alloc, &mut rows, notes, key, cell)?;
+        push_row(alloc, &mut rows, notes, seen, key, cell)?;
     }
     Ok(Rows { items: rows })
 }
