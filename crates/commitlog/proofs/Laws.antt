@@ -68,9 +68,9 @@ joined_at_again r le =
 
 -- ---- records
 
-pub record_takes : (blocks : List (List ℕ)) (r : LogRecord) → IsGroup blocks → ((t : List ℕ × List (List ℕ)) → joined_at blocks ≡ Some t → IsBytes t.0) → record_at blocks ≡ Some r → Fits r × (spelling r ≡ blocks)
+pub record_takes : (blocks : List (List ℕ)) (r : LogRecord) → length blocks ≤ 64 → ((t : List ℕ × List (List ℕ)) → joined_at blocks ≡ Some t → IsBytes t.0) → record_at blocks ≡ Some r → Fits r × (spelling r ≡ blocks)
 unfolding record_at
-record_takes blocks r group fits e =
+record_takes blocks r few fits e =
     let make : ℕ → List (List Change) → LogRecord = λ first ts. record { first = first; transactions = ts } in
     let t = bind_some (joined_at blocks) (λ t. text_at t.0 >>= λ x. transactions_of t.1 x.1 >>= λ ts. Some (make x.0 ts)) r e in
     let x = bind_some (text_at t.0.0) (λ x. transactions_of t.0.1 x.1 >>= λ ts. Some (make x.0 ts)) r t.2 in
@@ -86,7 +86,7 @@ record_takes blocks r group fits e =
       numbered = (sx.1.1.0, omega (arith, size, sx.1.1.1));
       count = (omega (arith, size, sx.1.0.1.0.1.0), omega (arith, size, sx.1.0.1.0.1.1));
       transactions = st.2;
-      blocks = omega (arith, group.1, ap length spelled);
+      blocks = omega (arith, few, ap length spelled);
     } in
     subst (λ (y : LogRecord). Fits y × (spelling y ≡ blocks)) (some_is made r ts.2) (made-fits, sym spelled)
 
@@ -103,10 +103,10 @@ record_again r fits =
     let read : text_at (text r) ≡ Some (r.first, text_transactions 0 r.transactions) = text_again (r.first, text_transactions 0 r.transactions) fields-fit (omega (arith, small.0)) in
     rw (joined_at_again r fits.blocks, read, transactions_again r.transactions fits.transactions) refl
 
-pub is_found : (blocks : List (List ℕ)) (x : Result LogRecord BlockFault) → IsGroup blocks → IfOk x (λ r. (t : List ℕ × List (List ℕ)) → joined_at blocks ≡ Some t → IsBytes t.0) → Gives (λ y. y) x (record_at blocks)
+pub is_found : (blocks : List (List ℕ)) (x : Result LogRecord BlockFault) → length blocks ≤ 64 → IfOk x (λ r. (t : List ℕ × List (List ℕ)) → joined_at blocks ≡ Some t → IsBytes t.0) → Gives (λ y. y) x (record_at blocks)
     → IfOk x (λ r. Fits r × (spelling r ≡ blocks))
-is_found blocks (Ok r) group bytes given = record_takes blocks r group bytes given
-is_found blocks (Err e) group bytes given = tt
+is_found blocks (Ok r) few bytes given = record_takes blocks r few bytes given
+is_found blocks (Err e) few bytes given = tt
 
 pub is_only : (blocks : List (List ℕ)) (x : Result LogRecord BlockFault) → Gives (λ y. y) x (record_at blocks) → (r : LogRecord) → Fits r → spelling r ≡ blocks → MatchResult x (λ y. y ≡ r) (λ e. e ≡ faults.Memory)
 is_only blocks (Ok y) given r fits is = some_is y r (sym given ∙ ap record_at (sym is) ∙ record_again r fits)
@@ -141,9 +141,13 @@ all_blocks : (ts : List (List Change)) → AllByRecursion IsTransaction ts → A
 all_blocks [] p = tt
 all_blocks (t ∷ ts) p = rw flat_map-cons (All-append IsBlock (transaction_values t) (flat_map transaction_values ts) (transaction_blocks t p.0.1) (all_blocks ts p.1))
 
--- a record that fits is spelled as a group
-pub is_group : (r : LogRecord) → Fits r → IsGroup (spelling r)
-is_group r fits =
+-- a record that has room is spelled as a group
+pub is_group_of : (r : LogRecord) → length (spelling r) ≤ 64 → AllByRecursion IsTransaction r.transactions → IsGroup (spelling r)
+is_group_of r room fits =
     let parts : length (spelling r) ≡ length (pieces (text r)) + length (flat_map transaction_values r.transactions) = length-append (pieces (text r)) (flat_map transaction_values r.transactions) in
     let count : length (pieces (text r)) ≡ piece_count (length (text r)) = length-cut 65536 (omega arith) (piece_count (length (text r))) (text r) in
-    (omega (arith, parts, count, (text_length r).1), fits.blocks, All-append IsBlock (pieces (text r)) (flat_map transaction_values r.transactions) (cut_blocks 65536 (omega arith) (omega arith) (piece_count (length (text r))) (text r) (enough (length (text r))).1) (all_blocks r.transactions fits.transactions))
+    (omega (arith, parts, count, (text_length r).1), room, All-append IsBlock (pieces (text r)) (flat_map transaction_values r.transactions) (cut_blocks 65536 (omega arith) (omega arith) (piece_count (length (text r))) (text r) (enough (length (text r))).1) (all_blocks r.transactions fits))
+
+-- a record that fits is spelled as a group
+pub is_group : (r : LogRecord) → Fits r → IsGroup (spelling r)
+is_group r fits = is_group_of r fits.blocks fits.transactions

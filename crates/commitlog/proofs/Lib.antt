@@ -6,3 +6,4 @@ pub mod Laws
 pub mod Measures
 pub mod Entries
 pub mod Skipped
+pub mod Growth

@@ -1,9 +1,7 @@
 -- How long the text is, and how many blocks the group has.
-use Rattle.std.proofs.Common.{◌≡◌, ℕ, ◌+◌, ◌≤◌, ◌<◌, Bool, true, false, List, [], ◌∷◌, ◌++◌, length, Option, Some, None, refl, sym, ap, subst, ◌∙◌, append_assoc, arith}
+use Rattle.std.proofs.Common.{◌≡◌, ℕ, ◌+◌, ◌≤◌, true, false, List, [], ◌∷◌, ◌++◌, length, take, drop, Option, Some, None, refl, ap, ◌∙◌, arith}
 use Rattle.std.specs.List.{flat_map, sum_by}
-use Rattle.std.specs.Prelude.{nat_le}
-use Rattle.std.proofs.lemmas.Bool.{leb-true, leb-false}
-use Rattle.std.proofs.lemmas.List.{length-append, append-nil}
+use Rattle.std.proofs.lemmas.List.{length-append, append-nil, take-append-drop}
 use Rattle.std.proofs.lemmas.List.Concat.{flat_map-cons, flat_map-append}
 use Rattle.std.proofs.lemmas.List.Sums.{sum_by-cons, sum_by_push, sum_by-append}
 use Rattle.block_types.specs.Limits.{group_size}
@@ -13,7 +11,7 @@ use Rattle.wire.specs.declared.transaction.Change.{Change}
 use Rattle.memtable.specs.Limits.{is_large}
 use Rattle.commitlog.specs.declared.log_record.LogRecord.{LogRecord}
 use Rattle.commitlog.specs.Record.{change_values, transaction_values, text_cell, text_change, text_changes, text_transactions, cell_bytes, key_bytes, change_bytes, transaction_bytes, transactions_bytes, body, text, piece_count, pieces, spelling, Fits}
-use Rattle.commitlog.specs.Sizes.{cell_size, change_size, transaction_size, text_size, filling, HasRoom}
+use Rattle.commitlog.specs.Sizes.{cell_size, change_size, transaction_size, text_size, HasRoom}
 use Rattle.commitlog.proofs.Pieces.{length-cut, enough, cut_size}
 use Rattle.commitlog.proofs.Laws.{text_length, text_small}
 
@@ -34,10 +32,10 @@ length-changes n (c ∷ t) =
     let next : ℕ = n + length (change_values c) in
     omega (arith, ap length (flat_map-cons change_bytes (text_change n c) (text_changes (n + length (change_values c)) t)), length-append (change_bytes (text_change n c)) (flat_map change_bytes (text_changes (n + length (change_values c)) t)), length-change n c, length-changes (n + length (change_values c)) t, sum_by-cons change_size c t)
 
-length-transaction : (n : ℕ) (t : List Change) → length (transaction_bytes (text_changes n t)) ≡ transaction_size t
+pub length-transaction : (n : ℕ) (t : List Change) → length (transaction_bytes (text_changes n t)) ≡ transaction_size t
 length-transaction n t = omega (arith, length-append (number 1 (length (text_changes n t))) (flat_map change_bytes (text_changes n t)), length-number 1 (length (text_changes n t)), length-changes n t)
 
-length-transactions : (n : ℕ) (ts : List (List Change)) → length (flat_map transaction_bytes (text_transactions n ts)) ≡ sum_by transaction_size ts
+pub length-transactions : (n : ℕ) (ts : List (List Change)) → length (flat_map transaction_bytes (text_transactions n ts)) ≡ sum_by transaction_size ts
 length-transactions n [] = refl
 length-transactions n (t ∷ ts) =
     omega (arith, ap length (flat_map-cons transaction_bytes (text_changes n t) (text_transactions (n + length (transaction_values t)) ts)), length-append (transaction_bytes (text_changes n t)) (flat_map transaction_bytes (text_transactions (n + length (transaction_values t)) ts)), length-transaction n t, length-transactions (n + length (transaction_values t)) ts, sum_by-cons transaction_size t ts)
@@ -57,34 +55,39 @@ text_bound r fits = omega (arith, length-text r, (text_small r fits.blocks).0)
 
 -- ---- one transaction more
 
-filling_more : (ts : List (List Change)) (t : List Change) → filling (ts ++ t ∷ []) ≡ ((filling ts).0 + transaction_size t, (filling ts).1 + length (transaction_values t))
-filling_more ts t =
-    let bytes : text_size (ts ++ t ∷ []) ≡ text_size ts + transaction_size t = omega (arith, sum_by_push transaction_size ts t) in
-    let one : flat_map transaction_values (t ∷ []) ≡ transaction_values t = flat_map-cons transaction_values t [] ∙ append-nil (transaction_values t) in
-    let values : length (flat_map transaction_values (ts ++ t ∷ [])) ≡ length (flat_map transaction_values ts) + length (transaction_values t) =
-    ap length (flat_map-append transaction_values ts (t ∷ [])) ∙ length-append (flat_map transaction_values ts) (flat_map transaction_values (t ∷ [])) ∙ ap (λ (l : List (List ℕ)). length (flat_map transaction_values ts) + length l) one in
-    ap (λ (k : ℕ). (k, length (flat_map transaction_values (ts ++ t ∷ [])))) bytes ∙ ap (λ (k : ℕ). (text_size ts + transaction_size t, k)) values
+pub flat_map-push : {A B : Type 0} (f : A → List B) (xs : List A) (x : A) → flat_map f (xs ++ x ∷ []) ≡ flat_map f xs ++ f x
+flat_map-push {A = A} {B = B} f xs x = flat_map-append f xs (x ∷ []) ∙ ap (λ (l : List B). flat_map f xs ++ l) (flat_map-cons f x [] ∙ append-nil (f x))
 
-abbrev pub blocks_with : ℕ × ℕ → List Change → ℕ
-blocks_with old t = piece_count (old.0 + transaction_size t) + (old.1 + length (transaction_values t))
+pub text_size-push : (ts : List (List Change)) (t : List Change) → text_size (ts ++ t ∷ []) ≡ text_size ts + transaction_size t
+text_size-push ts t = omega (arith, sum_by_push transaction_size ts t)
 
-blocks_more : (ts : List (List Change)) (t : List Change) (first : ℕ) → length (spelling (record { first = first; transactions = ts ++ t ∷ [] })) ≡ blocks_with (filling ts) t
-blocks_more ts t first =
-    length-spelling (record { first = first; transactions = ts ++ t ∷ [] }) ∙ ap (λ (x : ℕ × ℕ). piece_count x.0 + x.1) (filling_more ts t)
+pub values-push : (ts : List (List Change)) (t : List Change) → length (flat_map transaction_values (ts ++ t ∷ [])) ≡ length (flat_map transaction_values ts) + length (transaction_values t)
+values-push ts t = ap length (flat_map-push transaction_values ts t) ∙ length-append (flat_map transaction_values ts) (transaction_values t)
 
-pub filling_taken : (ts : List (List Change)) (t : List Change) (old new : ℕ × ℕ) (result : Bool) → old ≡ filling ts → result ≡ nat_le (blocks_with old t) 64
-    → (result ≡ true → new ≡ (old.0 + transaction_size t, old.1 + length (transaction_values t))) → result ≡ true → (new ≡ filling (ts ++ t ∷ [])) × HasRoom (ts ++ t ∷ [])
-filling_taken ts t old new false is answer taken is_new = absurd cc
-filling_taken ts t old new true is answer taken is_new =
-    let next : new ≡ filling (ts ++ t ∷ []) = taken is_new ∙ ap (λ (x : ℕ × ℕ). (x.0 + transaction_size t, x.1 + length (transaction_values t))) is ∙ sym (filling_more ts t) in
-    let few : blocks_with (filling ts) t ≤ 64 = subst (λ (x : ℕ × ℕ). blocks_with x t ≤ 64) is (leb-true _ _ (sym answer)) in
-    (next, λ first. subst (λ (k : ℕ). k ≤ 64) (sym (blocks_more ts t first)) few)
+-- the blocks of a group with one transaction more
+pub length-spelling-push : (first : ℕ) (ts : List (List Change)) (t : List Change)
+    → length (spelling (record { first = first; transactions = ts ++ t ∷ [] })) ≡ piece_count (text_size ts + transaction_size t) + (length (flat_map transaction_values ts) + length (transaction_values t))
+length-spelling-push first ts t =
+    length-spelling (record { first = first; transactions = ts ++ t ∷ [] }) ∙ ap (λ (k : ℕ). piece_count k + length (flat_map transaction_values (ts ++ t ∷ []))) (text_size-push ts t)
+    ∙ ap (λ (k : ℕ). piece_count (text_size ts + transaction_size t) + k) (values-push ts t)
 
-pub filling_full : (ts : List (List Change)) (t : List Change) (old : ℕ × ℕ) (result : Bool) → old ≡ filling ts → result ≡ nat_le (blocks_with old t) 64
-    → result ≡ false → HasRoom (ts ++ t ∷ []) → ⊥
-filling_full ts t old result is answer not_new room =
-    let many : 64 < blocks_with (filling ts) t = subst (λ (x : ℕ × ℕ). 64 < blocks_with x t) is (leb-false _ _ (sym answer ∙ not_new)) in
-    omega (arith, many, blocks_more ts t 1, room 1)
+-- ---- the first transactions of a group
+
+sum_front : (n : ℕ) (ts : List (List Change)) → sum_by transaction_size (take n ts) ≤ sum_by transaction_size ts
+sum_front n ts = omega (arith, ap (sum_by transaction_size) (take-append-drop n ts), sum_by-append transaction_size (take n ts) (drop n ts))
+
+values_front : (n : ℕ) (ts : List (List Change)) → length (flat_map transaction_values (take n ts)) ≤ length (flat_map transaction_values ts)
+values_front n ts =
+    omega (arith, ap (λ (l : List (List Change)). length (flat_map transaction_values l)) (take-append-drop n ts), ap length (flat_map-append transaction_values (take n ts) (drop n ts)), length-append (flat_map transaction_values (take n ts)) (flat_map transaction_values (drop n ts)))
+
+-- where a group has room for some, it has room for the first of them
+pub room_front : (n : ℕ) (ts : List (List Change)) → HasRoom ts → HasRoom (take n ts)
+room_front n ts room = λ first.
+    omega (arith, room first, length-spelling (record { first = first; transactions = take n ts }), length-spelling (record { first = first; transactions = ts }), sum_front n ts, values_front n ts)
+
+-- a record that fits has room
+pub room_of : (r : LogRecord) → Fits r → HasRoom r.transactions
+room_of r fits = λ first. omega (arith, fits.blocks, length-spelling r, length-spelling (record { first = first; transactions = r.transactions }))
 
 -- ---- bytes of the group
 
@@ -98,12 +101,3 @@ size-spelling r =
 -- the values of the items from one on
 pub values_from : {A : Type 0} (f : A → List (List ℕ)) (x : A) (xs : List A) → group_size (flat_map f (x ∷ xs)) ≡ group_size (f x) + group_size (flat_map f xs)
 values_from f x xs = ap group_size (flat_map-cons f x xs) ∙ group_size-append (f x) (flat_map f xs)
-
--- the text as it is written
-pub text_written : (r : LogRecord) (ts : List (List Change)) (size : ℕ) (t0 t1 t2 t3 : List ℕ) → ts ≡ r.transactions → size ≡ length (text r) → t0 ≡ [] → t1 ≡ t0 ++ number 4 size → t2 ≡ t1 ++ number 8 r.first
-    → t3 ≡ t2 ++ transactions_bytes (text_transactions 0 ts) → t3 ≡ text r
-text_written r ts size t0 t1 t2 t3 same is e0 e1 e2 e3 =
-    let rest : List ℕ = transactions_bytes (text_transactions 0 r.transactions) in
-    let first : t1 ≡ number 4 (4 + length (body r)) = e1 ∙ ap (λ (l : List ℕ). l ++ number 4 size) e0 ∙ ap (λ (k : ℕ). number 4 k) (is ∙ (text_length r).0) in
-    e3 ∙ ap (λ (l : List (List Change)). t2 ++ transactions_bytes (text_transactions 0 l)) same ∙ ap (λ (l : List ℕ). l ++ transactions_bytes (text_transactions 0 r.transactions)) e2
-    ∙ append_assoc t1 (number 8 r.first) (transactions_bytes (text_transactions 0 r.transactions)) ∙ ap (λ (l : List ℕ). l ++ body r) first

@@ -93,7 +93,7 @@ change_format : IsFormat change_bytes change_at FitsChange
 unfolding change_at
 change_format = pair_format key_format cell_format
 
-transaction_format : IsFormat transaction_bytes transaction_at FitsChanges
+pub transaction_format : IsFormat transaction_bytes transaction_at FitsChanges
 unfolding transaction_at
 transaction_format = counted_format (only_format (is_within 1 32) (λ n. (1 ≤ n) × (n ≤ 32)) (within 1 32) (within_again 1 32) number1) change_format
 

@@ -1,9 +1,9 @@
 -- How many bytes the text has, and how many blocks the group.
 use Rattle.std.specs.Prelude.{ℕ, ◌+◌, ◌≤◌, List, length, Option, Some, None, if◌then◌else◌}
-use Rattle.std.specs.List.{flat_map, sum_by}
+use Rattle.std.specs.List.{sum_by}
 use Rattle.wire.specs.declared.transaction.Change.{Change}
 use Rattle.memtable.specs.Limits.{is_large}
-use Rattle.commitlog.specs.Record.{transaction_values, spelling}
+use Rattle.commitlog.specs.Record.{spelling}
 
 abbrev pub cell_size : Option (List ℕ) → ℕ
 cell_size None = 1
@@ -17,10 +17,6 @@ transaction_size t = 1 + sum_by change_size t
 
 abbrev pub text_size : List (List Change) → ℕ
 text_size ts = 14 + sum_by transaction_size ts
-
--- the bytes of the text of these transactions, and their large values
-abbrev pub filling : List (List Change) → ℕ × ℕ
-filling ts = (text_size ts, length (flat_map transaction_values ts))
 
 -- the group of these transactions has at most 64 blocks, whatever the first number
 abbrev pub HasRoom : List (List Change) → Type 0

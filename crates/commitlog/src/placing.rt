@@ -58,8 +58,12 @@ fn kept_change(
     Ok(((key, cell), next))
 }
 
-/// Adds what rows keep of the changes of a transaction, and answers the offset of the next large value.
-fn put_cells(
+/// Adds what rows keep of the changes of a transaction whose first large value stands in the extent at the offset, and answers
+/// the offset of the next large value. Small values share their buffers. An error is out of memory (22), and what it leaves of
+/// the cells is of no use.
+///
+/// That the transaction is in range is the caller's condition, as is that its large values end below 2^32 in the extent.
+pub fn put_cells(
     out: &mut Vec<(Bytes, Cell)>,
     extent: ExtentId,
     offset: u32,
@@ -97,8 +101,8 @@ fn put_all_cells(
     Ok(())
 }
 
-/// The offset after the large values of a transaction, which must fit 32 bits.
-fn offset_after(offset: u32, changes: &[Change]) -> u32
+/// The offset after the large values of a transaction, the first of which stands at this one; it must fit 32 bits.
+pub fn offset_after(offset: u32, changes: &[Change]) -> u32
     requires { offset + group_size (transaction_values changes.now) < 2 ^ 32 }
     ensures { result ≡ offset + group_size (transaction_values changes.now) }
 {

@@ -248,7 +248,7 @@ fn joined_of(alloc: Global, blocks: &[Block]) -> Result<(Vec<u8>, &[Block]), Blo
 }
 
 #[tactic(auto, unfolding(crate::specs::Reading::record_at))]
-fn record_of(alloc: Global, blocks: &[Block]) -> Result<LogRecord, BlockFault>
+pub(crate) fn record_of(alloc: Global, blocks: &[Block]) -> Result<LogRecord, BlockFault>
     ensures read { Gives (λ r. r) result (record_at blocks.now) }
 
     // The text is bytes.

@@ -1,12 +1,13 @@
 //! Writing a record as a group. The writers of text append what their clauses say, or where memory runs out a part of it.
-ghost use Rattle.std.specs.Prelude.{◌≡◌, ◌+◌, ◌≤◌, ◌++◌, length, IfOk, OnOk};
+ghost use Rattle.std.specs.Prelude.{◌≡◌, ◌+◌, ◌<◌, ◌≤◌, ◌^◌, ◌++◌, ◌∷◌, [], length, IfOk, OnOk};
 ghost use Rattle.std.specs.List.{AllByRecursion, flat_map};
-ghost use Rattle.commitlog.specs.Record.{large, change_values, transaction_values, text_cell, text_change, text_changes, text_transactions, cell_bytes, change_bytes, transaction_bytes, transactions_bytes, text as text_from, pieces, spelling, HasValue, IsChange, IsTransaction, Fits};
+ghost use Rattle.commitlog.specs.Record.{large, change_values, transaction_values, text_cell, text_change, text_changes, cell_bytes, change_bytes, transaction_bytes, pieces, spelling, HasValue, IsChange, IsTransaction, Fits};
+ghost use Rattle.commitlog.specs.Sizes.{HasRoom};
 
+use crate::group_text::GroupText;
 use crate::log_record::LogRecord;
-use crate::sizes::text_size;
 use block_types::{Block, Group, MAX_BLOCK};
-use blocks::writer::{put_bytes, put_u8, put_u16, put_u32, put_u64};
+use blocks::writer::{put_bytes, put_u8, put_u16, put_u32};
 use bytes::Bytes;
 use memtable::is_large;
 use std::alloc::{AllocError, Global};
@@ -67,7 +68,11 @@ fn put_changes(out: &mut Vec<u8>, number: u32, changes: &[Change]) -> Result<u32
 }
 
 /// Appends a transaction, and answers the number of the next large value.
-fn put_transaction(out: &mut Vec<u8>, number: u32, changes: &[Change]) -> Result<u32, AllocError>
+pub(crate) fn put_transaction(
+    out: &mut Vec<u8>,
+    number: u32,
+    changes: &[Change],
+) -> Result<u32, AllocError>
     requires fits { IsTransaction changes.now }
     requires room { number + length (transaction_values changes.now) ≤ 256 }
     ensures text { OnOk result (out.new.items ≡ out.old.items ++ transaction_bytes (text_changes number changes.now)) }
@@ -77,44 +82,8 @@ fn put_transaction(out: &mut Vec<u8>, number: u32, changes: &[Change]) -> Result
     put_changes(out, number, changes)
 }
 
-fn put_transactions(out: &mut Vec<u8>, all: &[Changes]) -> Result<(), AllocError>
-    requires fits { AllByRecursion IsTransaction all.now }
-    requires room { length (flat_map transaction_values all.now) ≤ 256 }
-    ensures { OnOk result (out.new.items ≡ out.old.items ++ flat_map transaction_bytes (text_transactions 0 all.now)) }
-{
-    let mut number = 0;
-    for changes in all {
-        number = put_transaction(out, number, changes.as_slice())?;
-    }
-    Ok(())
-}
-
-/// Appends how many transactions there are, and they.
-fn put_counted(out: &mut Vec<u8>, all: &[Changes]) -> Result<(), AllocError>
-    requires fits { AllByRecursion IsTransaction all.now }
-    requires room { length (flat_map transaction_values all.now) ≤ 256 }
-    requires count { length all.now ≤ 1024 }
-    ensures { OnOk result (out.new.items ≡ out.old.items ++ transactions_bytes (text_transactions 0 all.now)) }
-{
-    put_u16(out, all.len() as u16)?;
-    put_transactions(out, all)
-}
-
-/// The text of a record.
-fn text_of(alloc: Global, written: &LogRecord) -> Result<Vec<u8>, AllocError>
-    requires { Fits written.now }
-    ensures { IfOk result (λ text. text.items ≡ text_from written.now) }
-{
-    let size = text_size(written);
-    let mut text = Vec::new(alloc);
-    put_u32(&mut text, size)?;
-    put_u64(&mut text, written.first)?;
-    put_counted(&mut text, &written.transactions.items)?;
-    Ok(text)
-}
-
 /// The pieces of a text, which share its buffer.
-fn pieces_of(alloc: Global, text: Vec<u8>) -> Result<Vec<Block>, AllocError>
+pub(crate) fn pieces_of(alloc: Global, text: Vec<u8>) -> Result<Vec<Block>, AllocError>
     ensures { IfOk result (λ made. made.items ≡ pieces text.items) }
 {
     let count = (text.len() + (MAX_BLOCK as usize - 1)) / MAX_BLOCK as usize;
@@ -144,7 +113,7 @@ fn put_value(out: &mut Vec<Block>, value: &Option<Bytes>) -> Result<(), AllocErr
     }
 }
 
-fn put_values(out: &mut Vec<Block>, changes: &[Change]) -> Result<(), AllocError>
+pub(crate) fn put_values(out: &mut Vec<Block>, changes: &[Change]) -> Result<(), AllocError>
     requires { AllByRecursion IsChange changes.now }
     ensures { OnOk result (out.new.items ≡ out.old.items ++ transaction_values changes.now) }
 {
@@ -154,14 +123,38 @@ fn put_values(out: &mut Vec<Block>, changes: &[Change]) -> Result<(), AllocError
     Ok(())
 }
 
-fn put_all_values(out: &mut Vec<Block>, all: &[Changes]) -> Result<(), AllocError>
-    requires { AllByRecursion IsTransaction all.now }
-    ensures { OnOk result (out.new.items ≡ out.old.items ++ flat_map transaction_values all.now) }
+/// Adds a transaction that fits.
+fn add_fitting(
+    text: &mut GroupText,
+    changes: &[Change],
+    encodings: &mut u64,
+) -> Result<(), AllocError>
+    requires fits { IsTransaction changes.now }
+    requires room { HasRoom (text.old ++ changes.now ∷ []) }
+    requires counts { encodings.old + 1 < 2 ^ 64 }
+    ensures ok { OnOk result (text.new ≡ text.old ++ changes.now ∷ []) }
+    ensures counts { encodings.new ≡ encodings.old + 1 }
 {
-    for changes in all {
-        put_values(out, changes.as_slice())?;
+    match text.add(changes, encodings) {
+        Ok(true) => Ok(()),
+        Ok(false) => unreachable!(),
+        Err(full) => Err(full),
     }
-    Ok(())
+}
+
+/// The text of these transactions.
+fn text_of(alloc: Global, all: &[Changes]) -> Result<GroupText, AllocError>
+    requires fits { AllByRecursion IsTransaction all.now }
+    requires room { HasRoom all.now }
+    requires count { length all.now ≤ 1024 }
+    ensures { IfOk result (λ text. text ≡ all.now) }
+{
+    let mut text = GroupText::new(alloc);
+    let mut encodings = 0;
+    for changes in all {
+        add_fitting(&mut text, changes.as_slice(), &mut encodings)?;
+    }
+    Ok(text)
 }
 
 /// The group that a record is spelled as: the pieces of its text, and then its large values, which share their buffers.
@@ -171,8 +164,6 @@ pub fn encode(alloc: Global, written: &LogRecord) -> Result<Group, AllocError>
     requires { Fits written.now }
     ensures { IfOk result (λ group. group ≡ spelling written.now) }
 {
-    let text = text_of(alloc, written)?;
-    let mut made = pieces_of(alloc, text)?;
-    put_all_values(&mut made, &written.transactions.items)?;
-    Group::of(made)
+    let text = text_of(alloc, &written.transactions.items)?;
+    text.group(alloc, written.first)
 }

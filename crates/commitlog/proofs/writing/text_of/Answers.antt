@@ -1,10 +1,16 @@
-use Rattle.std.proofs.Common.{◌++◌, ap, ◌∙◌}
-use Rattle.blocks.specs.Record.{number}
-use Rattle.commitlog.specs.declared.log_record.LogRecord.{LogRecord}
-use Rattle.commitlog.proofs.Measures.{text_written}
+use Rattle.std.proofs.Common.{◌≡◌, ◌+◌, ◌++◌, ◌∷◌, [], List, get_or, take, subst, sym, ap, ◌∙◌}
+use Rattle.std.proofs.lemmas.List.{take_more}
+use Rattle.wire.specs.declared.transaction.Change.{Change}
+use Rattle.commitlog.specs.Sizes.{HasRoom}
+use Rattle.commitlog.proofs.Measures.{room_front}
 use Rattle.commitlog.proofs.writing.text_of.Goals as goal
 
-pub returns : goal.returns
-returns c =
-    text_written c.args.written.now c.deref.result.now c.text_size-size.result c.new-text.result.items c.put_u32.new.out.items c.put_u64.new.out.items c.put_counted.new.out.items
-    (c.deref.ensures.value ∙ ap (λ (w : LogRecord). w.transactions) c.written.view_is) c.text_size-size.ensures.value c.new-text.ensures.items c.in_ok-put_u32.ensures.ok (c.in_ok-put_u64.ensures.ok ∙ ap (λ (w : LogRecord). c.put_u32.new.out.items ++ number 8 w.first) c.written.view_is) c.in_ok-put_counted.ensures
+pub add_fitting-requires-clause-room : goal.add_fitting-requires-clause-room
+add_fitting-requires-clause-room c =
+    let all = c.args.all.now in
+    let index = c.loop-changes.changes-index in
+    let front : take (c.loop-changes.changes-index + 1) c.args.all.now ≡ c.loop-changes.text ++ c.as_slice.result.now ∷ [] =
+    take_more all index c.changes-item.result c.loop-changes-test.true
+    ∙ ap (λ (l : List (List Change)). l ++ get_or c.args.all.now c.loop-changes.changes-index c.changes-item.result ∷ []) (sym c.loop-changes.invariant.text)
+    ∙ ap (λ (t : List Change). c.loop-changes.text ++ t ∷ []) (sym c.changes-item.is ∙ sym c.as_slice.ensures) in
+    subst HasRoom front (room_front (index + 1) all c.requires.room)
