@@ -31,7 +31,7 @@ length-blocks : (v : Version) (g : Group) → AllByRecursion IsBlock g → lengt
 length-blocks v [] all = omega arith
 length-blocks v (b ∷ g) all = omega (arith, ap length (flat_map-cons (block v) b g), length-append (block v b) (flat_map (block v) g), length-block v b all.0, length-blocks v g all.1, length-append b (joined g))
 
-size-some : (g : Group) → IsGroup g → 1 ≤ size g
+pub size-some : (g : Group) → IsGroup g → 1 ≤ size g
 size-some [] is = absurd (omega (arith, is.0))
 size-some (b ∷ g) is = omega (arith, is.2.0.0, length-append b (joined g))
 

@@ -21,6 +21,7 @@ pub struct NodeReplica {
     pub second_has: u32,
     /// How long its third place is known to be, in bytes.
     pub third_has: u32,
+    /// The appends that wait for both secondaries. While the replica is open they end within it.
     pub(crate) waiting: Waiting,
     /// The check that is under way.
     pub check: Option<Checking>,
@@ -42,10 +43,13 @@ impl Drop for NodeReplica {
 impl Model for NodeReplica {
     ghost use Rattle.replica.specs.State.{content_of};
     ghost use Rattle.model_streams.specs.Node.{Replica as State};
+    ghost use Rattle.enode_replica.specs.Ends.{EndWithin};
 
     ghost Value = { State };
 
     ghost view = { λ h. record { content = content_of h.replica; second_has = h.second_has; third_has = h.third_has; waiting = h.waiting; check = h.check } };
+
+    ghost invariant = { λ h. EndWithin (content_of h.replica) h.waiting };
 }
 
 impl NodeReplica {

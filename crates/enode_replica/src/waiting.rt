@@ -1,5 +1,6 @@
 //! The appends that wait at a primary.
 ghost use Rattle.std.specs.Prelude.{◌≡◌, ◌≤◌, ◌<◌, ◌+◌, ◌^◌, Some, [], drop, length, nat_le, slice_get, slice_index};
+ghost use Rattle.std.specs.List.Sorted.{IsStrictlyIncreasing};
 ghost use Rattle.std.specs.VecDeque.{deque_len};
 ghost use Rattle.model_streams.specs.Node.{covered as covers};
 ghost use Rattle.enode_replica.specs.Ends.{ends_of};
@@ -12,8 +13,9 @@ use std::marker::Model;
 /// So many appends wait at a primary for its secondaries, and no more.
 const MAX_WAITING: usize = 256;
 
-/// The appends that a primary has on its disk, and that wait until both secondaries have them: a queue, the oldest first.
-/// Its value is the list of them. The end of each is kept beside it, in bytes from the beginning of the extent.
+/// The appends that a primary has on its disk, and that wait until both secondaries have them: a queue, the oldest first,
+/// whose ends rise. Its value is the list of them. The end of each is kept beside it, in bytes from the beginning of the
+/// extent.
 pub struct Waiting {
     pub(crate) appends: VecDeque<WaitingAppend>,
     pub(crate) ends: VecDeque<u32>,
@@ -30,15 +32,15 @@ impl Drop for Waiting {
 }
 
 impl Model for Waiting {
-    ghost use Rattle.std.specs.Prelude.{◌≡◌, List};
+    ghost use Rattle.std.specs.Prelude.{List};
     ghost use Rattle.model_streams.specs.declared.waiting_append.WaitingAppend.{WaitingAppend};
-    ghost use Rattle.enode_replica.specs.Ends.{ends_of};
+    ghost use Rattle.enode_replica.specs.Ends.{AreEnds};
 
     ghost Value = { List WaitingAppend };
 
     ghost view = { λ w. w.appends.items };
 
-    ghost invariant = { λ w. w.ends.items ≡ ends_of w.appends.items };
+    ghost invariant = { λ w. AreEnds w.appends.items w.ends.items };
 }
 
 impl Waiting {
@@ -75,12 +77,14 @@ impl Waiting {
         &self.appends[i]
     }
 
-    /// The end of the append at an index, in bytes from the beginning of the extent. Each look is counted.
+    /// The end of the append at an index, in bytes from the beginning of the extent: above the ends before it. Each look is
+    /// counted.
     pub fn end_at(&self, i: usize, looks: &mut u64) -> u32
         requires within { i < length self.now }
         requires counts { looks.old + 1 < 2 ^ 64 }
         ensures value { result ≡ slice_index (ends_of self.now) i }
         ensures one { looks.new ≡ looks.old + 1 }
+        ensures rising { IsStrictlyIncreasing (ends_of self.now) }
     {
         *looks += 1;
         self.ends[i]

@@ -189,6 +189,11 @@ const READS: &[(&str, &str)] = &[
         "user 1 append 1 1 abc\nuser 1 append 1 1 def\ndeliver 7\ndeliver 8\ndeliver 11\nshow 2 1\ndeliver 9\nshow 2 1\ndeliver 11\nshow 2 1\nsettle\n",
         "replica 2 1 open 0 0\nreplica 2 1 open 3 0\nreplica 2 1 open 6 0\nacked 1 0 3\nacked 1 3 3\nuser 1 2 appended 0\nuser 1 3 appended 3\n",
     ),
+    // Appends of two extents, whose packets are delivered out of order: each extent answers its own, the oldest first.
+    (
+        "user 1 create 3\nsettle\nuser 1 extend 3 none 1 2 3\nsettle\nuser 1 append 1 1 ab\nuser 1 append 1 2 cde\nuser 1 append 1 1 f\ndeliver 14\ndeliver 15\ndeliver 16\ndeliver 17\ndeliver 21\ndeliver 18\ndeliver 22\ndeliver 24\nshow 1 1\ndeliver 26\nsettle\n",
+        "user 1 2 created\nuser 1 3 extended 2\nreplica 1 1 open 3 0\nacked 1 0 2\nacked 1 2 1\nuser 1 4 appended 0\nuser 1 6 appended 2\nacked 2 0 3\nuser 1 5 appended 0\n",
+    ),
     (
         "user 1 append 1 1 4095*a\nsettle\nuser 1 append 1 1 65536*b 65536*b 65536*b 65536*b 65536*b 65536*b 65536*b 65536*b 65536*b 65536*b 65536*b 65536*b 65536*b 65536*b 65536*b 65536*b 65536*b 65536*b 65536*b 65536*b 65536*b 65536*b 65536*b 65536*b 65536*b 65536*b 65536*b 65536*b 65536*b 65536*b 65536*b 65536*b 65536*b 65536*b 65536*b 65536*b 65536*b 65536*b 65536*b 65536*b 65536*b 65536*b 65536*b 65536*b 65536*b 65536*b 65536*b 65536*b 65536*b 65536*b 65536*b 65536*b 65536*b 65536*b 65536*b 65536*b 65536*b 65536*b 65536*b 65536*b 65536*b 65536*b 65536*b 65536*b\nsettle\nshow 1 1\nuser 1 append 1 1 c\nsettle\n",
         "acked 1 0 4095\nuser 1 2 appended 0\nacked 1 4095 4194304\nuser 1 3 appended 4095\nreplica 1 1 open 4198399 0\nuser 1 4 refused 7 ExtentFull\n",

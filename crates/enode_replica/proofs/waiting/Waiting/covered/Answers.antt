@@ -1,5 +1,4 @@
-use Rattle.std.proofs.Common.{add-one, ap, sym, subst, ◌<◌, ◌≤◌, get_or, arith}
-use Rattle.enode_replica.specs.Ends.{ends_of}
+use Rattle.std.proofs.Common.{add-one, arith}
 use Rattle.enode_replica.proofs.Covering.{none_covered, one_covered}
 use Rattle.enode_replica.proofs.waiting.Waiting.covered.Goals as goal
 
