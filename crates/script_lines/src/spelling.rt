@@ -14,6 +14,9 @@ use std::alloc::{AllocError, Global};
 /// The most copies that a word may ask for.
 const MOST_COPIES: u64 = 16_777_216;
 
+/// As many words as nearly all lines have, for which room is made at once.
+const USUAL_WORDS: usize = 8;
+
 /// The bytes of a value word: `N*c` is N copies of the character c, `-` is no byte, and any other word is itself.
 /// A word that asks for more copies than the most cannot be read.
 pub fn value(alloc: Global, word: &str) -> Result<Option<Vec<u8>>, AllocError>
@@ -120,7 +123,9 @@ pub fn number(word: &str) -> Option<u64>
 pub fn words(alloc: Global, line: &str) -> Result<Vec<&str>, AllocError>
     ensures { IfOk result (λ words. map (λ w. w.now) words.items ≡ slice_split (λ b. b == 32) line.now) }
 {
-    line.split(' ').collect(alloc)
+    let mut words = Vec::with_capacity(alloc, USUAL_WORDS)?;
+    words.extend(line.split(' '))?;
+    Ok(words)
 }
 
 /// The bytes of a key, which are the word's own. An error is out of memory (22).

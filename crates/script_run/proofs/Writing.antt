@@ -1,5 +1,5 @@
 -- What a whole script writes, and what an event prints.
-use Rattle.std.proofs.Common.{◌≡◌, ◌++◌, ℕ, List, Option, Some, None, IfSome, drop, length, option_map, refl, ap, subst, ◌∙◌}
+use Rattle.std.proofs.Common.{◌≡◌, ◌++◌, ℕ, List, Option, drop, length, option_map, refl, ap, subst, ◌∙◌}
 use Rattle.std.specs.Io.KnownBytes.{Appends}
 use Rattle.model_streams.specs.declared.event.Event.{Event}
 use Rattle.model_partition.specs.Cluster.{first_cluster}
@@ -25,11 +25,9 @@ tells a b c x y event report before after first last came is one other =
     (line_of_refusal (refusal_of x event) ++ shown, record { came = came; is = refl }, appends_both a b c _ shown refused observed)
 
 -- the lines of a script that was read were run in order
-pub writes : (known : Option (List ℕ)) (text : List ℕ) (a b : Option (List ℕ)) (size : Size) (plan : List Line) (first last : SessionState)
-    → IfSome known (λ bytes. text ≡ bytes) → IsScript text size plan → IsFresh first
+pub writes : (text : List ℕ) (a b : Option (List ℕ)) (size : Size) (plan : List Line) (first last : SessionState)
+    → IsScript text size plan → IsFresh first
     → ClusterMirrors first.run (first_cluster size.nodes size.servers size.target size.batch)
-    → Prints a b (λ written. PlaysAll first plan written last) → IfSome known (λ bytes. Prints a b (λ written. Writes bytes written))
-writes None text a b size plan first last same is fresh mirrors printed = tt
-writes (Some bytes) text a b size plan first last same is fresh mirrors printed =
-    let script : IsScript bytes size plan = subst (λ (t : List ℕ). IsScript t size plan) same is in
-    (printed.0, record { size = size; plan = plan; is = script; first = first; fresh = fresh; mirrors = mirrors; last = last; plays = printed.1 }, printed.2)
+    → Prints a b (λ written. PlaysAll first plan written last) → Prints a b (λ written. Writes text written)
+writes text a b size plan first last is fresh mirrors printed =
+    (printed.0, record { size = size; plan = plan; is = is; first = first; fresh = fresh; mirrors = mirrors; last = last; plays = printed.1 }, printed.2)

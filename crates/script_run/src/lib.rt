@@ -1,11 +1,12 @@
 //! Scripts: a text of lines is read, run on one stamp, and what is observed and answered is printed.
 //!
-//! The crate reads one reader and writes one writer, and touches nothing else. Its one call, `script`, reads and tests the whole
-//! text before its first event runs, and prints each line as the text of one report. The lines are those of docs/FORMATS.md.
-//! Where it ends well, it has written what the script of the text prints (specs/Script.antt: `Writes`): each line was run, in
-//! order, over one run of `world`. Where it fails, no clause says how far it came, but that nothing was printed of a text that
-//! is no script, and that the line told of such a text is the first that no script has there (`IsFirstBad`). Empty lines count.
-//! Of a text with nothing but empty lines it is the one after the last, where the setup is missing.
+//! The crate reads one reader and writes one writer, and touches nothing else. `script` reads the reader to its end, and a caller
+//! that has the text calls `run_text`. Both read and test the whole text before its first event runs, let it go, and print each
+//! line as the text of one report. The lines are those of docs/FORMATS.md. Where they end well, they have written what the script
+//! of the text prints (specs/Script.antt: `Writes`): each line was run, in order, over one run of `world`. Where they fail, no
+//! clause says how far they came, but that nothing was printed of a text that is no script, and that the line told of such a text
+//! is the first that no script has there (`IsFirstBad`). Empty lines count. Of a text with nothing but empty lines it is the one
+//! after the last, where the setup is missing.
 #![tactic(auto)]
 
 mod deliveries;
@@ -18,4 +19,4 @@ mod session;
 mod tickets;
 
 pub use error::Failure;
-pub use running::script;
+pub use running::{run_text, script};

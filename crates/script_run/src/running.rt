@@ -1,5 +1,5 @@
-//! The task that runs a script.
-ghost use Rattle.std.specs.Prelude.{◌≡◌, ℕ, IfErr, IfOk, IfSome, List, OnOk};
+//! The tasks that run a script.
+ghost use Rattle.std.specs.Prelude.{◌≡◌, [], ℕ, IfErr, IfOk, IfSome, List, OnOk};
 ghost use Rattle.std.specs.Str.Lines.{lines};
 ghost use Rattle.std.specs.Io.KnownBytes.{Keeps};
 ghost use Rattle.script_run.specs.Failures.{IsInputFailure, IsRunFailure};
@@ -42,6 +42,31 @@ fn play_all<W: Write>(
     Ok(())
 }
 
+/// Runs the script of this text, and prints what is observed and answered. The whole text is read before the first event, and
+/// is then let go. An error is a text that is no script (60), with the number of the first line at which it is none; such a text
+/// stays. Or it is running out of memory (22), or a writer that fails.
+pub fn run_text<W: Write>(alloc: Global, text: &mut Vec<u8>, writer: &mut W) -> Result<(), Failure>
+    // What is written is what the script of the text prints: every line of it was read, and was run in order.
+    ensures written { OnOk result
+        (Prints (W.contents writer.old) (W.contents writer.new) (λ written. Writes text.old.items written)) }
+    // What is refused for its text is refused before the first line is printed.
+    ensures checked_first { IfErr result (λ e. (IsRunFailure e → ⊥)
+        → Keeps (W.contents writer.old) (W.contents writer.new)) }
+    // A text that is a script is not refused as one that is none.
+    ensures refused { IfErr result (λ e. (n : ℕ) → e ≡ Failure.BadScript n
+        → (size : Size) (plan : List Line) → IsScript text.old.items size plan → ⊥) }
+    // And the line told is the first that no script has there: one may begin with the lines before it, and not with it too.
+    ensures first { IfErr result (λ e. (n : ℕ) → e ≡ Failure.BadScript n → IsFirstBad (lines text.old.items) n) }
+    // A text that is no script is still there, so that its line can be shown, and one that has run is not.
+    ensures kept { IfErr result (λ e. (n : ℕ) → e ≡ Failure.BadScript n → text.new.items ≡ text.old.items) }
+    ensures gone { OnOk result (text.new.items ≡ []) }
+{
+    let plan = read_plan(alloc, text.as_slice())?;
+    *text = Vec::new(alloc);
+    let mut session = Session::start(alloc, &plan.setup)?;
+    play_all(&mut session, plan.lines, writer)
+}
+
 /// Runs the script that the reader holds, and prints what is observed and answered. The whole text is read first. An error is
 /// a text that is no script (60), with the number of the first line at which it is none, running out of memory (22), a reader that
 /// fails (62), or a writer that fails.
@@ -63,8 +88,6 @@ pub fn script<R: Read + Drop, W: Write>(
     ensures first { IfErr result (λ e. (n : ℕ) → e ≡ Failure.BadScript n → IfSome (R.remaining reader) (λ text.
         IsFirstBad (lines text) n)) }
 {
-    let text = read_text(alloc, reader)?;
-    let plan = read_plan(alloc, text.as_slice())?;
-    let mut session = Session::start(alloc, &plan.setup)?;
-    play_all(&mut session, plan.lines, writer)
+    let mut text = read_text(alloc, reader)?;
+    run_text(alloc, &mut text, writer)
 }

@@ -34,7 +34,7 @@
 //! # What is proved of it
 //!
 //! `main` is the system's entry, and can have no contract of its own. What it calls has: `command` names the task that the
-//! words spell, exactly; `perform` answers the status; and what is printed is what `script_run::script` wrote into memory, which
+//! words spell, exactly; `perform` answers the status; and what is printed is what `script_run::run_text` wrote into memory, which
 //! promises that it is what the lines of the text print, run in order over one run of `world`, and that the line which it names
 //! of a text that is no script is the first at which it is none. Of that run `world` promises
 //! that what is observed of extents agrees and keeps each acknowledged append, and that what is observed of tables replays.

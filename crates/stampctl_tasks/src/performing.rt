@@ -8,7 +8,7 @@ ghost use Rattle.stampctl_words.specs.declared.named.CommandError.TheVariants.{M
 
 use crate::escaped::Escaped;
 use script_lines::lines_of;
-use script_run::{Failure, script};
+use script_run::{Failure, run_text};
 use stampctl_words::{CommandError, Task};
 use std::alloc::Global;
 use std::fs;
@@ -103,16 +103,16 @@ fn finish<R: Print>(rt: &R, ended: &Result<(), Failure>, written: &[u8]) -> Exit
     }
 }
 
-/// Runs the script over bytes in memory, so that what `script` promises is said of this very call.
+/// Runs the script over bytes in memory, so that what `run_text` promises is said of this very call.
 fn run<R: Eprint + Files + Input + Print>(rt: &R, alloc: Global, path: Option<&str>) -> ExitCode
     ensures { exit_status result < 2 }
 {
-    let text = match text_of(rt, alloc, path) {
+    let mut text = match text_of(rt, alloc, path) {
         Ok(text) => text,
         Err(error) => return unread(rt, path, error),
     };
     let mut written = Vec::new(alloc);
-    let ended = script(alloc, text.as_slice(), &mut written);
+    let ended = run_text(alloc, &mut text, &mut written);
     let status = finish(rt, &ended, &written);
     if let Err(Failure::BadScript(number)) = ended {
         tell_line(rt, alloc, &text, number);

@@ -1,38 +1,26 @@
-use Rattle.std.proofs.Common.{ℕ, List, subst}
+use Rattle.std.proofs.Common.{ℕ, List}
 use Rattle.std.proofs.lemmas.Result.{IfErr-weaker, on_ok_weaker}
 use Rattle.std.specs.Str.Lines.{lines}
-use Rattle.script_run.specs.Failures.{IsRunFailure}
-use Rattle.script_run.specs.Script.{IsFirstBad, IsScript, size_of}
-use Rattle.script_run.proofs.Refusing.{first_of_known, no_script_known, not_for_text, told_on}
-use Rattle.script_run.proofs.Writing.{writes}
+use Rattle.script_lines.specs.declared.line.Line.{Line}
+use Rattle.script_run.specs.Output.{Prints}
+use Rattle.script_run.specs.Script.{IsFirstBad, IsScript, Size, Writes}
+use Rattle.script_run.proofs.Refusing.{of_known}
 use Rattle.script_run.proofs.running.script.Goals as goal
 
 pub returns-clause-written : goal.returns-clause-written
 returns-clause-written g c =
-    let size = size_of c.in_ok-plan.plan.setup in
-    let plan = c.in_ok-plan.plan.lines.items in
-    on_ok_weaker c.play_all.result
-    (writes (g.R.Read.remaining c.args.reader) c.in_ok-text.text.items _ _ size plan c.in_ok-session.session _ c.in_ok-text.ensures.text
-    (subst (λ (t : List ℕ). IsScript t size plan) c.as_slice.ensures.value c.in_ok-plan.ensures.found) c.in_ok-session.ensures.fresh c.in_ok-session.ensures.mirrors)
-    c.play_all.ensures.played
-
-pub returns-clause-checked_first : goal.returns-clause-checked_first
-returns-clause-checked_first g c = IfErr-weaker c.play_all.result IsRunFailure _ (λ e failed not. absurd (not failed)) c.play_all.ensures.failed
+    on_ok_weaker c.run_text.result
+    (of_known (g.R.Read.remaining c.args.reader) c.in_ok-text.text.items (λ bytes. Prints _ _ (λ written. Writes bytes written)) c.in_ok-text.ensures.text)
+    c.run_text.ensures.written
 
 pub returns-clause-refused : goal.returns-clause-refused
-returns-clause-refused g c = not_for_text c.play_all.result _ c.play_all.ensures.failed
+returns-clause-refused g c =
+    IfErr-weaker c.run_text.result _ _
+    (λ e told n is. of_known (g.R.Read.remaining c.args.reader) c.in_ok-text.text.items (λ bytes. (size : Size) (plan : List Line) → IsScript bytes size plan → ⊥) c.in_ok-text.ensures.text (told n is))
+    c.run_text.ensures.refused
 
 pub returns-clause-first : goal.returns-clause-first
-returns-clause-first g c = not_for_text c.play_all.result _ c.play_all.ensures.failed
-
-pub returns-in_err-plan-clause-refused : goal.returns-in_err-plan-clause-refused
-returns-in_err-plan-clause-refused g c =
-    told_on c.from_residual-in_err-plan.result c.in_err-plan.field-0.0 _ c.from_residual-in_err-plan.ensures.1
-    (λ n is. no_script_known (g.R.Read.remaining c.args.reader) c.in_ok-text.text.items n c.in_ok-text.ensures.text
-    (subst (λ (t : List ℕ). IsFirstBad (lines t) n) c.as_slice.ensures.value (c.in_err-plan.ensures.told n is)))
-
-pub returns-in_err-plan-clause-first : goal.returns-in_err-plan-clause-first
-returns-in_err-plan-clause-first g c =
-    told_on c.from_residual-in_err-plan.result c.in_err-plan.field-0.0 _ c.from_residual-in_err-plan.ensures.1
-    (λ n is. first_of_known (g.R.Read.remaining c.args.reader) c.in_ok-text.text.items n c.in_ok-text.ensures.text
-    (subst (λ (t : List ℕ). IsFirstBad (lines t) n) c.as_slice.ensures.value (c.in_err-plan.ensures.told n is)))
+returns-clause-first g c =
+    IfErr-weaker c.run_text.result _ _
+    (λ e told n is. of_known (g.R.Read.remaining c.args.reader) c.in_ok-text.text.items (λ bytes. IsFirstBad (lines bytes) n) c.in_ok-text.ensures.text (told n is))
+    c.run_text.ensures.first
