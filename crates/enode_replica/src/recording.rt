@@ -19,6 +19,7 @@ use disk::{Disk, DiskFault, RecordFile};
 use model_streams::WaitingAppend;
 use replica::Replica;
 use std::alloc::Global;
+use std::slice;
 use wire::{ActorId, Blocks, ExtentId, Fence, ReqNo};
 
 /// Adds a copy of a group to the end of an open replica below its target, once it is recorded there.
@@ -38,7 +39,7 @@ fn add_group<D: Disk>(
 {
     let generation = replica.fence();
     let end = replica.len();
-    replica.reserve(1)?;
+    replica.reserve(slice::from_ref(group))?;
     let kept = group.copy()?;
     write_append(alloc, file, extent, end, group)?;
     match replica.put(alloc, generation, end, kept) {
@@ -225,7 +226,7 @@ impl NodeReplica {
         ensures file { Appends D.state file.old file.new (records.Fill extent from length groups.now) result }
     {
         let items = groups.items.as_slice();
-        self.replica.reserve(items.len())?;
+        self.replica.reserve(items)?;
         let kept = Groups::copied(alloc, items)?;
         write_fill(alloc, file, extent, from, length, groups)?;
         match self.replica.fill_tail(alloc, from, length, kept) {

@@ -4,6 +4,7 @@ use Rattle.block_types.specs.declared.record.Nodes.{Nodes}
 use Rattle.replica.specs.declared.phase.Phase.{Phase}
 use Rattle.replica.specs.declared.phase.Phase.TheVariants.{Open, Frozen, Sealed}
 use Rattle.replica.specs.Groups.{Group}
+use Rattle.replica.specs.Room.{Room}
 
 pub record Content : Type 0 where
   pub places : Nodes
@@ -12,10 +13,10 @@ pub record Content : Type 0 where
   pub phase : Phase
   pub groups : List Group
 
--- and for how many more groups there is memory
+-- and for what there is memory
 pub record StoredContent : Type 0 where
   pub content : Content
-  pub room : ℕ
+  pub room : Room
 
 -- an open replica with nothing in it
 abbrev pub new_content : Nodes → ℕ → ℕ → Content

@@ -1,7 +1,10 @@
 pub mod Groups
+pub mod Room
 pub mod Content
 pub mod Ends
+pub mod Buffers
 pub mod Placed
+pub mod Spelled
 pub mod Reading
 pub mod Put
 pub mod Kept

@@ -1,11 +1,12 @@
 -- Groups, and where each of them ends.
 use Rattle.std.specs.Prelude.{◌≡◌, ◌⊎◌, ℕ, suc, ◌+◌, ◌<◌, ◌≤◌, List, [], ◌∷◌, length, take, Option, Some, None}
 use Rattle.replica.specs.Groups.{Group, size, text_length}
+use Rattle.replica.specs.Room.{Room}
 
--- and for how many more of them there is memory
+-- and for what there is memory
 pub record Placed : Type 0 where
   pub groups : List Group
-  pub room : ℕ
+  pub room : Room
 
 -- the end of each, where the first one starts there
 abbrev pub ends_from : ℕ → List Group → List ℕ

@@ -1,6 +1,6 @@
 -- A replica in any state.
-use Rattle.std.specs.Prelude.{ℕ}
 use Rattle.replica.specs.Content.{Content}
+use Rattle.replica.specs.Room.{Room}
 use Rattle.replica.specs.declared.replica.Replica.{Replica}
 use Rattle.replica.specs.declared.replica.Replica.TheVariants.{Open, Frozen, Sealed}
 
@@ -10,8 +10,8 @@ content_of (Open held) = held.content
 content_of (Frozen held) = held.content
 content_of (Sealed held) = held.content
 
--- for how many more groups there is memory
-abbrev pub room_of : Replica → ℕ
+-- for what there is memory
+abbrev pub room_of : Replica → Room
 room_of (Open held) = held.room
 room_of (Frozen held) = held.room
 room_of (Sealed held) = held.room

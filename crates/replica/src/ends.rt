@@ -48,12 +48,12 @@ impl Ends {
         self.ends.len()
     }
 
-    /// Makes room for so many more. Without memory nothing has changed.
+    /// Makes room for so many more. An error is out of memory (22), and nothing has changed but room.
     pub fn reserve(&mut self, count: usize) -> Result<(), AllocError>
         ensures same { self.new.ends ≡ self.old.ends }
         ensures room { OnOk result (count ≤ self.new.room) }
         ensures more { self.old.room ≤ self.new.room }
-        ensures ready { 0 < count → count ≤ self.old.room → IsOk result }
+        ensures ready { count ≤ self.old.room → IsOk result }
     {
         self.ends.reserve(count)
     }

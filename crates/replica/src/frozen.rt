@@ -4,6 +4,7 @@ ghost use Rattle.block_types.specs.Limits.{IsTarget};
 ghost use Rattle.replica.specs.Groups.{text_length};
 ghost use Rattle.replica.specs.Content.{sealed_with};
 ghost use Rattle.replica.specs.Kept.{held_as};
+ghost use Rattle.replica.specs.Room.{HasRoom};
 ghost use Rattle.replica.specs.Put.{fill_fault};
 ghost use Rattle.replica.specs.Reading.{groups_to};
 ghost use Rattle.replica.specs.Replay.{is_boundary, is_tail, cut_to, longest};
@@ -12,7 +13,7 @@ use crate::fault::{FillFault, PastEnd};
 use crate::kept::Kept;
 use crate::phase::Phase;
 use crate::sealed::SealedReplica;
-use block_types::Groups;
+use block_types::{Group, Groups};
 use std::alloc::AllocError;
 use std::marker::Model;
 
@@ -80,13 +81,13 @@ impl FrozenReplica {
         &self.kept
     }
 
-    /// Makes room for so many more groups. Without memory nothing has changed.
-    pub(crate) fn reserve(&mut self, count: usize) -> Result<(), AllocError>
+    /// Makes room for these groups. Without memory nothing has changed.
+    pub(crate) fn reserve(&mut self, groups: &[Group]) -> Result<(), AllocError>
         ensures same { self.new.content ≡ self.old.content }
-        ensures room { OnOk result (count ≤ self.new.room) }
-        ensures ready { 0 < count → count ≤ self.old.room → IsOk result }
+        ensures room { OnOk result (HasRoom self.new.room groups.now) }
+        ensures ready { HasRoom self.old.room groups.now → IsOk result }
     {
-        self.kept.held.reserve(count)
+        self.kept.held.reserve(groups)
     }
 
     /// Keeps the groups up to a length, for good. Where no group ends there it is refused (8), which hands the replica
@@ -106,10 +107,10 @@ impl FrozenReplica {
     }
 
     /// Adds groups at the end, into room that was made, for good.
-    fn fill(self, groups: Groups) -> SealedReplica
-        requires room { length groups ≤ self.room }
-        requires bound { text_length self.content.groups + text_length groups ≤ longest }
-        ensures { result.content ≡ sealed_with self.content (self.content.groups ++ groups) }
+    fn fill(self, groups: &[Group]) -> SealedReplica
+        requires room { HasRoom self.room groups.now }
+        requires bound { text_length self.content.groups + text_length groups.now ≤ longest }
+        ensures { result.content ≡ sealed_with self.content (self.content.groups ++ groups.now) }
     {
         let FrozenReplica { mut kept } = self;
         kept.held.extend(groups);
@@ -131,14 +132,14 @@ impl FrozenReplica {
             (λ e. (e.0 ≡ FillFault.Memory) ⊎ (is_tail self.content from end groups ≡ false)) }
         ensures fault { MatchResult result (λ _. fill_fault self.content from end groups ≡ None)
             (λ e. (e.0 ≡ FillFault.Memory) ⊎ (fill_fault self.content from end groups ≡ Some e.0)) }
-        ensures room { length groups ≤ self.room → IfErr result (λ e. e.0 ≢ FillFault.Memory) }
+        ensures room { HasRoom self.room groups → IfErr result (λ e. e.0 ≢ FillFault.Memory) }
     {
         if let Some(fault) = self.kept.fill_fault(from, end, &groups) {
             return Err((fault, self, groups));
         }
         let mut frozen = self;
-        match frozen.reserve(groups.items.len()) {
-            Ok(()) => Ok(frozen.fill(groups)),
+        match frozen.reserve(&groups.items) {
+            Ok(()) => Ok(frozen.fill(&groups.items)),
             Err(_refused) => Err((FillFault::Memory, frozen, groups)),
         }
     }

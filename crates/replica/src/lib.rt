@@ -7,13 +7,18 @@
 //! An [`OpenReplica`] takes groups at its end and higher fences. A [`FrozenReplica`] takes only what brings it to its
 //! last length, and a [`SealedReplica`] nothing. [`Replica`] is one of the three: it is what is read, and it steps in place
 //! without a failure once there is room, so that a node can write the record first.
+//!
+//! The text of its groups lies in buffers of 65,536 bytes, the last shorter, beside where each group ends and how many bytes
+//! each block has. A place among the groups is found by [`Ends::find`], which counts the ends that it reads.
 #![tactic(auto)]
 
+mod buffers;
 mod ends;
 mod fault;
 mod frozen;
 mod kept;
 mod open;
+mod parts;
 mod phase;
 mod placed;
 mod replica;
@@ -23,7 +28,7 @@ pub use ends::Ends;
 pub use fault::{FillFault, PastEnd, PutFault, Stale};
 pub use frozen::FrozenReplica;
 pub use open::OpenReplica;
+pub use parts::{part_of_group, part_of_text};
 pub use phase::Phase;
-pub use placed::{part_of_group, part_of_text};
 pub use replica::Replica;
 pub use sealed::SealedReplica;

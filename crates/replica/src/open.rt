@@ -1,9 +1,10 @@
 //! A replica that takes groups.
-ghost use Rattle.std.specs.Prelude.{◌≡◌, ◌≢◌, ◌⊎◌, ◌+◌, ◌<◌, ◌≤◌, true, false, None, Some, IfOk, IfErr, IsOk, OnOk, MatchResult};
+ghost use Rattle.std.specs.Prelude.{[], ◌∷◌, ◌≡◌, ◌≢◌, ◌⊎◌, ◌+◌, ◌<◌, ◌≤◌, true, false, None, Some, IfOk, IfErr, IsOk, OnOk, MatchResult};
 ghost use Rattle.block_types.specs.Limits.{IsTarget};
 ghost use Rattle.replica.specs.Groups.{text_length};
 ghost use Rattle.replica.specs.Content.{new_content, appended, fenced, frozen};
 ghost use Rattle.replica.specs.Kept.{held_as};
+ghost use Rattle.replica.specs.Room.{HasRoom};
 ghost use Rattle.replica.specs.Put.{put_fault};
 ghost use Rattle.replica.specs.Reading.{groups_to};
 ghost use Rattle.replica.specs.Replay.{is_boundary, cut_to};
@@ -17,6 +18,7 @@ use crate::sealed::SealedReplica;
 use block_types::{Group, Nodes};
 use std::alloc::{AllocError, Global};
 use std::marker::Model;
+use std::slice;
 
 /// An open replica: it takes groups at its end, while its length is below its target.
 pub struct OpenReplica {
@@ -88,20 +90,20 @@ impl OpenReplica {
         &self.kept
     }
 
-    /// Makes room for so many more groups. Without memory nothing has changed.
-    pub(crate) fn reserve(&mut self, count: usize) -> Result<(), AllocError>
+    /// Makes room for these groups. Without memory nothing has changed.
+    pub(crate) fn reserve(&mut self, groups: &[Group]) -> Result<(), AllocError>
         ensures same { self.new.content ≡ self.old.content }
-        ensures room { OnOk result (count ≤ self.new.room) }
-        ensures ready { 0 < count → count ≤ self.old.room → IsOk result }
+        ensures room { OnOk result (HasRoom self.new.room groups.now) }
+        ensures ready { HasRoom self.old.room groups.now → IsOk result }
     {
-        self.kept.held.reserve(count)
+        self.kept.held.reserve(groups)
     }
 
     /// Adds a group at the end, into room that was made.
-    fn add(&mut self, group: Group)
-        requires room { 0 < self.old.room }
+    fn add(&mut self, group: &Group)
+        requires room { HasRoom self.old.room (group.now ∷ []) }
         requires below { text_length self.old.content.groups < self.old.content.target }
-        ensures { self.new.content ≡ appended self.old.content group }
+        ensures { self.new.content ≡ appended self.old.content group.now }
     {
         // Asked for, so that the proof knows how long it is at most.
         let _size = group.size();
@@ -110,7 +112,7 @@ impl OpenReplica {
 
     /// Adds a group of a generation at an offset, which is to be the replica's length. The first reason refuses it:
     /// 3 (the generation is below the fence), 8 (another offset), 7 (the length has reached the target), 22. A refusal
-    /// hands the replica and the group back as they were. Where there is room for one more group it takes no memory.
+    /// hands the replica and the group back as they were. Where there is room for the group it takes no memory.
     pub fn put(
         self,
         generation: u64,
@@ -121,7 +123,7 @@ impl OpenReplica {
         ensures refused { IfErr result (λ e. (e.1.content ≡ self.content) × (e.2 ≡ group)) }
         ensures fault { MatchResult result (λ _. put_fault self.content generation offset ≡ None)
             (λ e. (e.0 ≡ PutFault.Memory) ⊎ (put_fault self.content generation offset ≡ Some e.0)) }
-        ensures room { 0 < self.room → IfErr result (λ e. e.0 ≢ PutFault.Memory) }
+        ensures room { HasRoom self.room (group ∷ []) → IfErr result (λ e. e.0 ≢ PutFault.Memory) }
     {
         if generation < self.kept.fence {
             return Err((PutFault::Stale, self, group));
@@ -133,9 +135,9 @@ impl OpenReplica {
             return Err((PutFault::ExtentFull, self, group));
         }
         let mut open = self;
-        match open.reserve(1) {
+        match open.reserve(slice::from_ref(&group)) {
             Ok(()) => {
-                open.add(group);
+                open.add(&group);
                 Ok(open)
             }
             Err(_refused) => Err((PutFault::Memory, open, group)),

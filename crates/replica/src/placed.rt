@@ -1,10 +1,15 @@
-//! Groups in order, and where each of them ends, so that a place is found by a search.
-ghost use Rattle.std.specs.Prelude.{◌≡◌, ◌+◌, ◌-◌, ◌<◌, ◌≤◌, ◌++◌, [], ◌∷◌, take, drop, length, min, vec_len, vec_capacity, IfOk, IfSome, IsOk, OnOk, OnErr, MatchResult};
-ghost use Rattle.replica.specs.Groups.{text, text_length, joined};
+//! The text of groups, and where each of them and of their blocks ends, so that a place is found by a search.
+ghost use Rattle.std.specs.Prelude.{◌≡◌, ◌+◌, ◌-◌, ◌<◌, ◌≤◌, ◌^◌, ◌++◌, [], ◌∷◌, take, drop, get_or, length, nat_le, vec_len, vec_capacity, IfNone, IfOk, IfSome, IsOk, OnOk, OnErr, MatchResult};
+ghost use Rattle.std.specs.List.{AllByRecursion};
+ghost use Rattle.block_types.specs.Limits.{IsBlock};
+ghost use Rattle.replica.specs.Groups.{joined, size, text_length};
 ghost use Rattle.replica.specs.Placed.{IsBefore, first, found_or};
 ghost use Rattle.replica.specs.Reading.{bytes_at, groups_to, groups_from};
 ghost use Rattle.replica.specs.Replay.{is_boundary};
+ghost use Rattle.replica.specs.Room.{HasRoom, TakesRoom, block_count};
+ghost use Rattle.replica.specs.Spelled.{block_sizes, blocks_of};
 
+use crate::buffers::Buffers;
 use crate::ends::Ends;
 use crate::fault::PastEnd;
 use block_types::{Block, Group, Groups};
@@ -12,157 +17,97 @@ use bytes::Bytes;
 use std::alloc::{AllocError, Global};
 use std::marker::Model;
 
-/// Groups in order. To find a place among them takes a search, and to read from there costs what is read.
+/// Groups in order, as one text. To find a place among them takes a search, and to read from there costs what is read.
 #[derive(Drop)]
 pub(crate) struct PlacedGroups {
-    groups: Vec<Group>,
+    text: Buffers,
     ends: Ends,
+    /// How many blocks there are up to the last one of each group.
+    lasts: Vec<u32>,
+    /// How many bytes each block has.
+    sizes: Vec<u32>,
     length: u32,
 }
 
 impl Model for PlacedGroups {
     ghost use Rattle.std.specs.Prelude.{◌-◌, min, vec_capacity, vec_len};
-    ghost use Rattle.replica.specs.Placed.{Placed, IsPlaced};
+    ghost use Rattle.replica.specs.Placed.{Placed};
+    ghost use Rattle.replica.specs.Spelled.{IsSpelled, groups_of};
 
     ghost Value = { Placed };
 
     ghost view = { λ p. record {
-      groups = p.groups.items;
-      room = min (vec_capacity p.groups - vec_len p.groups) (p.ends.room);
+      groups = groups_of 0 p.lasts.items p.sizes.items p.text.bytes;
+      room = record {
+        text = p.text.spare;
+        blocks = vec_capacity p.sizes - vec_len p.sizes;
+        groups = min (vec_capacity p.lasts - vec_len p.lasts) p.ends.room;
+      };
     } };
 
-    ghost invariant = { λ p. IsPlaced p.groups.items p.ends.ends p.length };
+    ghost invariant = { λ p. IsSpelled (groups_of 0 p.lasts.items p.sizes.items p.text.bytes) p.ends.ends p.lasts.items p.sizes.items p.text.bytes p.length };
 }
 
-/// Copies a block's bytes from one on, at most so many.
-fn copy_block(out: &mut Vec<u8>, block: &Block, from: usize, most: usize) -> Result<(), AllocError>
-    ensures { OnOk result (out.new.items ≡ out.old.items ++ take most (drop from block.now)) }
-{
-    let bytes = block.as_slice();
-    let Some(rest) = bytes.get(from..) else {
-        return Ok(());
-    };
-    match rest.get(..most) {
-        Some(part) => out.extend_from_slice(part),
-        None => out.extend_from_slice(rest),
-    }
+/// How many bytes and blocks groups have.
+#[derive(Drop)]
+struct Needs {
+    text: usize,
+    blocks: usize,
 }
 
-/// Copies a group's bytes from one on, at most so many.
-fn copy_group(out: &mut Vec<u8>, group: &Group, from: usize, most: usize) -> Result<(), AllocError>
-    ensures { OnOk result (out.new.items ≡ out.old.items ++ take most (drop from (joined group.now))) }
+/// What groups need; none where that is not a number of 64 bits.
+fn needs_of(groups: &[Group]) -> Option<Needs>
+    ensures some { IfSome result (λ n. (n.text ≡ text_length groups.now) × (n.blocks ≡ block_count groups.now)) }
+    ensures none { IfNone result (2 ^ 64 ≤ text_length groups.now) }
 {
-    let mut from = from;
-    let mut most = most;
-    for block in group.blocks() {
-        let before = out.len();
-        copy_block(out, block, from, most)?;
-        from = from.saturating_sub(block.as_slice().len());
-        most -= out.len() - before;
-    }
-    Ok(())
-}
-
-/// Copies the bytes of groups from one on, at most so many.
-fn copy_groups(
-    out: &mut Vec<u8>,
-    groups: &[Group],
-    from: usize,
-    most: usize,
-) -> Result<(), AllocError>
-    ensures { OnOk result (out.new.items ≡ out.old.items ++ take most (drop from (text groups.now))) }
-{
-    let mut from = from;
-    let mut most = most;
+    let mut text: usize = 0;
+    let mut blocks: usize = 0;
     for group in groups {
-        if most == 0 {
-            break;
-        }
-        let before = out.len();
-        copy_group(out, group, from, most)?;
-        from = from.saturating_sub(group.size() as usize);
-        most -= out.len() - before;
+        let Some(sum) = text.checked_add(group.size() as usize) else {
+            return None;
+        };
+        text = sum;
+        blocks += group.blocks().len();
     }
-    Ok(())
+    Some(Needs { text, blocks })
 }
 
-/// A copy of a group's bytes from an offset on, at most so many. An error is out of memory.
-pub fn part_of_group(
+/// Adds the bytes of blocks at the end of a text, and their sizes at the end of a list, into room that was made.
+fn add_blocks(text: &mut Buffers, sizes: &mut Vec<u32>, blocks: &[Block])
+    requires text { size blocks.now ≤ text.old.spare }
+    requires sizes { vec_len sizes.old + length blocks.now ≤ vec_capacity sizes.old }
+    ensures bytes { text.new.bytes ≡ text.old.bytes ++ joined blocks.now }
+    ensures spare { text.new.spare + size blocks.now ≡ text.old.spare }
+    ensures sizes { sizes.new.items ≡ sizes.old.items ++ block_sizes blocks.now }
+    ensures len { vec_len sizes.new ≡ vec_len sizes.old + length blocks.now }
+    ensures capacity { vec_capacity sizes.new ≡ vec_capacity sizes.old }
+{
+    for block in blocks {
+        let bytes = block.as_slice();
+        text.push(bytes);
+        sizes.push_reserved(bytes.len() as u32);
+    }
+}
+
+/// The blocks of these sizes that a text has from an offset on. An error is out of memory.
+fn blocks_at(
     alloc: Global,
-    group: &Group,
-    from: usize,
-    most: usize,
-) -> Result<Bytes, AllocError>
-    ensures { IfOk result (λ bytes. bytes ≡ take most (drop from (joined group.now))) }
+    text: &Buffers,
+    offset: u32,
+    sizes: &[u32],
+) -> Result<Vec<Block>, AllocError>
+    requires blocks { AllByRecursion IsBlock (blocks_of sizes.now (drop offset text.now.bytes)) }
+    requires few { length sizes.now ≤ 64 }
+    ensures { IfOk result (λ blocks. blocks.items ≡ blocks_of sizes.now (drop offset text.now.bytes)) }
 {
-    let mut out = Vec::new(alloc);
-    copy_group(&mut out, group, from, most)?;
-    Ok(Bytes::from_vec(out)?)
-}
-
-/// A copy of the bytes of groups from an offset on, at most so many. An error is out of memory.
-pub fn part_of_text(
-    alloc: Global,
-    groups: &[Group],
-    from: usize,
-    most: usize,
-) -> Result<Bytes, AllocError>
-    ensures { IfOk result (λ bytes. bytes ≡ take most (drop from (text groups.now))) }
-{
-    let mut out = Vec::new(alloc);
-    copy_groups(&mut out, groups, from, most)?;
-    Ok(Bytes::from_vec(out)?)
-}
-
-/// Writes a block's bytes from one on into the places from one on, as far as there are any, and says where they end.
-fn write_block(out: &mut [u8], at: usize, block: &Block, from: usize) -> usize
-    requires { at ≤ length out.old }
-    ensures written { take result out.new ≡ take at out.old ++ take (length out.old - at) (drop from block.now) }
-    ensures within { result ≤ length out.old }
-    ensures len { length out.new ≡ length out.old }
-{
-    let bytes = block.as_slice();
-    let Some(rest) = bytes.get(from..) else {
-        return at;
-    };
-    let count = rest.len().min(out.len() - at);
-    let end = at + count;
-    out[at..end].copy_from_slice(&rest[..count]);
-    end
-}
-
-/// Writes a group's bytes from one on into the places from one on, as far as there are any, and says where they end.
-fn write_group(out: &mut [u8], at: usize, group: &Group, from: usize) -> usize
-    requires { at ≤ length out.old }
-    ensures written { take result out.new ≡ take at out.old ++ take (length out.old - at) (drop from (joined group.now)) }
-    ensures within { result ≤ length out.old }
-    ensures len { length out.new ≡ length out.old }
-{
-    let mut from = from;
-    let mut at = at;
-    for block in group.blocks() {
-        at = write_block(out, at, block, from);
-        from = from.saturating_sub(block.as_slice().len());
+    let mut at = offset as usize;
+    let mut blocks = Vec::with_capacity(alloc, sizes.len())?;
+    for size in sizes {
+        let bytes = text.piece(alloc, at, *size as usize)?;
+        blocks.push(Block::of(bytes))?;
+        at += *size as usize;
     }
-    at
-}
-
-/// Writes the bytes of groups from one on into places, as far as there are any, and says where they end.
-fn write_groups(out: &mut [u8], groups: &[Group], from: usize) -> usize
-    ensures written { take result out.new ≡ take (length out.old) (drop from (text groups.now)) }
-    ensures within { result ≤ length out.old }
-    ensures len { length out.new ≡ length out.old }
-{
-    let mut from = from;
-    let mut at = 0;
-    for group in groups {
-        if at == out.len() {
-            break;
-        }
-        at = write_group(out, at, group, from);
-        from = from.saturating_sub(group.size() as usize);
-    }
-    at
+    Ok(blocks)
 }
 
 impl PlacedGroups {
@@ -171,8 +116,10 @@ impl PlacedGroups {
         ensures { result.groups ≡ [] }
     {
         PlacedGroups {
-            groups: Vec::new(alloc),
+            text: Buffers::new(alloc),
             ends: Ends::new(alloc),
+            lasts: Vec::new(alloc),
+            sizes: Vec::new(alloc),
             length: 0,
         }
     }
@@ -184,38 +131,51 @@ impl PlacedGroups {
         self.length
     }
 
-    /// Makes room for so many more groups. Without memory nothing has changed but room.
-    pub(crate) fn reserve(&mut self, count: usize) -> Result<(), AllocError>
-        ensures same { self.new.groups ≡ self.old.groups }
-        ensures room { OnOk result (count ≤ self.new.room) }
-        ensures ready { 0 < count → count ≤ self.old.room → IsOk result }
+    /// How many groups there are.
+    fn count(&self) -> usize
+        ensures { result ≡ length self.now.groups }
     {
-        self.groups.reserve(count)?;
-        self.ends.reserve(count)
+        self.ends.len()
+    }
+
+    /// Makes room for these groups. Without memory nothing has changed but room.
+    pub(crate) fn reserve(&mut self, groups: &[Group]) -> Result<(), AllocError>
+        ensures same { self.new.groups ≡ self.old.groups }
+        ensures room { OnOk result (HasRoom self.new.room groups.now) }
+        ensures ready { HasRoom self.old.room groups.now → IsOk result }
+    {
+        // Read, so that the proof knows that it is a number of 64 bits.
+        let _spare = self.text.spare();
+        let Some(needs) = needs_of(groups) else {
+            return Err(AllocError);
+        };
+        self.text.reserve(needs.text)?;
+        self.sizes.reserve(needs.blocks)?;
+        self.lasts.reserve(groups.len())?;
+        self.ends.reserve(groups.len())
     }
 
     /// Adds a group at the end, into room that was made.
-    pub(crate) fn push(&mut self, group: Group)
-        requires room { 0 < self.old.room }
+    pub(crate) fn push(&mut self, group: &Group)
+        requires room { HasRoom self.old.room (group.now ∷ []) }
         requires below { text_length self.old.groups < 4290000000 }
-        ensures value { self.new.groups ≡ self.old.groups ++ group ∷ [] }
-        ensures room { self.old.room ≤ self.new.room + 1 }
+        ensures value { self.new.groups ≡ self.old.groups ++ group.now ∷ [] }
+        ensures room { TakesRoom self.old.room self.new.room group.now }
     {
-        // Asked for, so that the proof knows that it has a byte.
-        let _blocks = group.blocks();
         let end = self.length + group.size();
-        self.groups.push_reserved(group);
+        add_blocks(&mut self.text, &mut self.sizes, group.blocks());
+        self.lasts.push_reserved(self.sizes.len() as u32);
         self.ends.push(end);
         self.length = end;
     }
 
     /// Adds groups at the end, into room that was made.
-    pub(crate) fn extend(&mut self, groups: Groups)
-        requires room { length groups ≤ self.old.room }
-        requires below { text_length self.old.groups + text_length groups < 4290000000 }
-        ensures { self.new.groups ≡ self.old.groups ++ groups }
+    pub(crate) fn extend(&mut self, groups: &[Group])
+        requires room { HasRoom self.old.room groups.now }
+        requires below { text_length self.old.groups + text_length groups.now < 4290000000 }
+        ensures { self.new.groups ≡ self.old.groups ++ groups.now }
     {
-        for group in groups.into_vec() {
+        for group in groups {
             self.push(group);
         }
     }
@@ -246,16 +206,36 @@ impl PlacedGroups {
     pub(crate) fn bytes(&self, alloc: Global, offset: u32, length: u32) -> Result<Bytes, AllocError>
         ensures { IfOk result (λ bytes. bytes ≡ bytes_at offset length self.now.groups) }
     {
-        let index = self.before(offset);
-        let from = offset - self.start_of(index);
-        let mut out = Vec::new(alloc);
-        copy_groups(
-            &mut out,
-            &self.groups[index..],
-            from as usize,
-            length as usize,
-        )?;
-        Ok(Bytes::from_vec(out)?)
+        self.text.copied(alloc, offset as usize, length as usize)
+    }
+
+    /// Whether there are so many bytes.
+    fn reaches(&self, end: u32) -> bool
+        ensures { result ≡ nat_le end (text_length self.now.groups) }
+    {
+        match end.checked_sub(1) {
+            None => true,
+            Some(last) => self.before(last) < self.count(),
+        }
+    }
+
+    /// Whether there are so many bytes from an offset on.
+    fn has(&self, offset: u32, count: usize) -> bool
+        ensures { result ≡ nat_le (offset + count) (text_length self.now.groups) }
+    {
+        let Ok(count) = u32::try_from(count) else {
+            // Read, so that how many there are is known to the proof.
+            let _length = self.length;
+            return false;
+        };
+        match offset.checked_add(count) {
+            Some(end) => self.reaches(end),
+            None => {
+                // Read, so that how many there are is known to the proof.
+                let _length = self.length;
+                false
+            }
+        }
     }
 
     /// Fills a slice with the bytes from an offset on. Where there are not so many it is refused (8), and the slice
@@ -266,13 +246,11 @@ impl PlacedGroups {
         ensures fault { MatchResult result (λ _. offset + length out.old ≤ text_length self.now.groups)
             (λ _. text_length self.now.groups < offset + length out.old) }
     {
-        if offset > self.length || out.len() > (self.length - offset) as usize {
+        if !self.has(offset, out.len()) {
             return Err(PastEnd);
         }
-        let index = self.before(offset);
-        let from = offset - self.start_of(index);
         // It ends where `out` ends, which was tested above.
-        let _end = write_groups(out, &self.groups[index..], from as usize);
+        let _end = self.text.write_to(out, offset as usize);
         Ok(())
     }
 
@@ -299,27 +277,62 @@ impl PlacedGroups {
         self.place_of(upto).is_some()
     }
 
-    /// The first groups, of this many bytes together, which share their bytes; none where a group goes over that
-    /// boundary. An error is out of memory.
+    /// How many blocks the groups before the one with this index have.
+    fn blocks_before(&self, index: usize) -> usize
+        requires { index ≤ length self.now.groups }
+        ensures { result ≡ block_count (take index self.now.groups) }
+    {
+        match index.checked_sub(1) {
+            None => 0,
+            Some(last) => self.lasts[last] as usize,
+        }
+    }
+
+    /// The group with this index. Its blocks share their bytes, but those that do not lie in one full buffer, which are
+    /// copied. An error is out of memory.
+    fn group_at(&self, alloc: Global, index: usize) -> Result<Group, AllocError>
+        requires { index < length self.now.groups }
+        ensures { IfOk result (λ group. group ≡ get_or self.now.groups index []) }
+    {
+        let last = self.lasts[index] as usize;
+        let first = self.blocks_before(index);
+        let at = self.start_of(index);
+        let blocks = blocks_at(alloc, &self.text, at, &self.sizes[first..last])?;
+        Ok(Group::of(blocks)?)
+    }
+
+    /// The groups from one index to another. An error is out of memory.
+    fn groups_between(&self, alloc: Global, from: usize, to: usize) -> Result<Groups, AllocError>
+        requires { (from ≤ to) × (to ≤ length self.now.groups) }
+        ensures { IfOk result (λ groups. groups ≡ drop from (take to self.now.groups)) }
+    {
+        let mut items = Vec::with_capacity(alloc, to - from)?;
+        for index in from..to {
+            items.push(self.group_at(alloc, index)?)?;
+        }
+        Ok(Groups { items })
+    }
+
+    /// The first groups, of this many bytes together; none where a group goes over that boundary. An error is out of
+    /// memory.
     pub(crate) fn groups_to(&self, alloc: Global, upto: u32) -> Result<Option<Groups>, AllocError>
         ensures { IfOk result (λ groups. groups ≡ groups_to upto self.now.groups) }
     {
         let Some(index) = self.place_of(upto) else {
             return Ok(None);
         };
-        let found = Groups::copied(alloc, &self.groups[..index])?;
+        let found = self.groups_between(alloc, 0, index)?;
         Ok(Some(found))
     }
 
-    /// The groups after that boundary, which share their bytes; none where a group goes over it. An error is want of
-    /// memory.
+    /// The groups after that boundary; none where a group goes over it. An error is want of memory.
     pub(crate) fn groups_from(&self, alloc: Global, from: u32) -> Result<Option<Groups>, AllocError>
         ensures { IfOk result (λ groups. groups ≡ groups_from from self.now.groups) }
     {
         let Some(index) = self.place_of(from) else {
             return Ok(None);
         };
-        let found = Groups::copied(alloc, &self.groups[index..])?;
+        let found = self.groups_between(alloc, index, self.count())?;
         Ok(Some(found))
     }
 
@@ -332,8 +345,11 @@ impl PlacedGroups {
         let Some(index) = self.place_of(upto) else {
             return false;
         };
-        self.groups.truncate(index);
+        let blocks = self.blocks_before(index);
+        self.text.truncate(upto as usize);
         self.ends.truncate(index);
+        self.lasts.truncate(index);
+        self.sizes.truncate(blocks);
         self.length = upto;
         true
     }

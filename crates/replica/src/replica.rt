@@ -1,5 +1,5 @@
 //! A replica in any state.
-ghost use Rattle.std.specs.Prelude.{◌≡◌, ◌≢◌, ◌⊎◌, ◌<◌, ◌+◌, ◌≤◌, ◌++◌, true, false, length, None, Some, IfOk, IfErr, IsOk, OnOk, OnErr, MatchResult};
+ghost use Rattle.std.specs.Prelude.{[], ◌∷◌, ◌≡◌, ◌≢◌, ◌⊎◌, ◌<◌, ◌+◌, ◌≤◌, ◌++◌, true, false, length, None, Some, IfOk, IfErr, IsOk, OnOk, OnErr, MatchResult};
 ghost use Rattle.std.specs.List.{AllByRecursion};
 ghost use Rattle.block_types.specs.Limits.{IsGroup, IsTarget};
 ghost use Rattle.replica.specs.Groups.{text_length};
@@ -7,6 +7,7 @@ ghost use Rattle.replica.specs.Content.{appended, fenced, frozen, new_content, s
 ghost use Rattle.replica.specs.Put.{fill_fault, put_fault};
 ghost use Rattle.replica.specs.Reading.{bytes_at, groups_from, groups_to};
 ghost use Rattle.replica.specs.Replay.{cut_to, is_boundary, is_frozen, is_open, is_sealed, is_tail};
+ghost use Rattle.replica.specs.Room.{HasRoom};
 ghost use Rattle.replica.specs.State.{content_of, room_of};
 
 use crate::fault::{FillFault, PastEnd, PutFault, Stale};
@@ -142,32 +143,33 @@ impl Replica {
         self.kept().fill_fault(from, length, groups).is_none()
     }
 
-    /// The first groups, of `upto` bytes together, which share their bytes; none where a group goes over that boundary,
-    /// or where there are not so many bytes. An error is out of memory (22).
+    /// The first groups, of `upto` bytes together; none where a group goes over that boundary, or where there are not so
+    /// many bytes. A block that lies in one full buffer is shared, any other is copied. An error is out of memory (22).
     pub fn groups_to(&self, alloc: Global, upto: u32) -> Result<Option<Groups>, AllocError>
         ensures { IfOk result (λ groups. groups ≡ groups_to upto (content_of self.now).groups) }
     {
         self.kept().held.groups_to(alloc, upto)
     }
 
-    /// The groups from `from` on, which share their bytes; none where a group goes over that boundary, or where there
-    /// are not so many bytes. An error is out of memory (22).
+    /// The groups from `from` on; none where a group goes over that boundary, or where there are not so many bytes. A
+    /// block that lies in one full buffer is shared, any other is copied. An error is out of memory (22).
     pub fn groups_from(&self, alloc: Global, from: u32) -> Result<Option<Groups>, AllocError>
         ensures { IfOk result (λ groups. groups ≡ groups_from from (content_of self.now).groups) }
     {
         self.kept().held.groups_from(alloc, from)
     }
 
-    /// Makes room for so many more groups. Without memory nothing has changed but room.
-    pub fn reserve(&mut self, count: usize) -> Result<(), AllocError>
+    /// Makes room for these groups: for their bytes, their blocks and their ends. Where there is room for them it takes no
+    /// memory. Out of memory (22) nothing has changed but room.
+    pub fn reserve(&mut self, groups: &[Group]) -> Result<(), AllocError>
         ensures same { content_of self.new ≡ content_of self.old }
-        ensures room { OnOk result (count ≤ room_of self.new) }
-        ensures ready { 0 < count → count ≤ room_of self.old → IsOk result }
+        ensures room { OnOk result (HasRoom (room_of self.new) groups.now) }
+        ensures ready { HasRoom (room_of self.old) groups.now → IsOk result }
     {
         match self {
-            Replica::Open(open) => open.reserve(count),
-            Replica::Frozen(frozen) => frozen.reserve(count),
-            Replica::Sealed(sealed) => sealed.reserve(count),
+            Replica::Open(open) => open.reserve(groups),
+            Replica::Frozen(frozen) => frozen.reserve(groups),
+            Replica::Sealed(sealed) => sealed.reserve(groups),
         }
     }
 
@@ -222,7 +224,7 @@ impl Replica {
 
     /// Adds a group of a generation at an offset to an open replica, as [`OpenReplica::put`] does. The first reason
     /// refuses it: 3 (the generation is below the fence), 8 (another offset), 7 (the length has reached the target), 22. A
-    /// refusal leaves the replica as it was. Where there is room for one more group it takes no memory.
+    /// refusal leaves the replica as it was. Where there is room for the group it takes no memory.
     pub fn put(
         &mut self,
         alloc: Global,
@@ -235,7 +237,7 @@ impl Replica {
         ensures refused { OnErr result (content_of self.new ≡ content_of self.old) }
         ensures fault { MatchResult result (λ _. put_fault (content_of self.old) generation offset ≡ None)
             (λ e. (e ≡ PutFault.Memory) ⊎ (put_fault (content_of self.old) generation offset ≡ Some e)) }
-        ensures room { 0 < room_of self.old → IfErr result (λ e. e ≢ PutFault.Memory) }
+        ensures room { HasRoom (room_of self.old) (group ∷ []) → IfErr result (λ e. e ≢ PutFault.Memory) }
     {
         let open = self.take(alloc).into_open();
         match open.put(generation, offset, group) {
@@ -317,7 +319,7 @@ impl Replica {
             (λ e. (e ≡ FillFault.Memory) ⊎ (is_tail (content_of self.old) from end groups ≡ false)) }
         ensures fault { MatchResult result (λ _. fill_fault (content_of self.old) from end groups ≡ None)
             (λ e. (e ≡ FillFault.Memory) ⊎ (fill_fault (content_of self.old) from end groups ≡ Some e)) }
-        ensures room { length groups ≤ room_of self.old → IfErr result (λ e. e ≢ FillFault.Memory) }
+        ensures room { HasRoom (room_of self.old) groups → IfErr result (λ e. e ≢ FillFault.Memory) }
     {
         let frozen = self.take(alloc).into_frozen();
         match frozen.fill_tail(from, end, groups) {

@@ -3,10 +3,12 @@ ghost use Rattle.std.specs.Prelude.{◌≡◌, ◌<◌, ◌≤◌, IsOk, OnOk};
 ghost use Rattle.block_types.specs.Limits.{IsTarget};
 ghost use Rattle.replica.specs.Groups.{text_length};
 ghost use Rattle.replica.specs.Kept.{held_as};
+ghost use Rattle.replica.specs.Room.{HasRoom};
 ghost use Rattle.replica.specs.Replay.{longest};
 
 use crate::kept::Kept;
 use crate::phase::Phase;
+use block_types::Group;
 use std::alloc::AllocError;
 use std::marker::Model;
 
@@ -75,12 +77,12 @@ impl SealedReplica {
         &self.kept
     }
 
-    /// Makes room for so many more groups. Without memory nothing has changed.
-    pub(crate) fn reserve(&mut self, count: usize) -> Result<(), AllocError>
+    /// Makes room for these groups. Without memory nothing has changed.
+    pub(crate) fn reserve(&mut self, groups: &[Group]) -> Result<(), AllocError>
         ensures same { self.new.content ≡ self.old.content }
-        ensures room { OnOk result (count ≤ self.new.room) }
-        ensures ready { 0 < count → count ≤ self.old.room → IsOk result }
+        ensures room { OnOk result (HasRoom self.new.room groups.now) }
+        ensures ready { HasRoom self.old.room groups.now → IsOk result }
     {
-        self.kept.held.reserve(count)
+        self.kept.held.reserve(groups)
     }
 }

@@ -7,4 +7,4 @@ use Rattle.replica.proofs.open.OpenReplica.add.Goals as goal
 pub invariant_of-self : goal.invariant_of-self
 invariant_of-self c =
     let below = subst (λ (h : StoredContent). text_length h.content.groups < h.content.target) (sym c.self.view_is) c.requires.below in
-    (c.self.invariant.0, omega (arith, below, c.size-size.ensures.value, c.size-size.ensures.bound, group_size-size c.args.group, ap text_length c.push.ensures.value, text_length-push c.self.inside.kept.held.groups c.args.group))
+    (c.self.invariant.0, omega (arith, below, c.size-size.ensures.value, c.size-size.ensures.bound, group_size-size c.args.group.now, ap text_length c.push.ensures.value, text_length-push c.self.inside.kept.held.groups c.args.group.now))

@@ -9,7 +9,7 @@ pub returns-then-start_of-upto-clause-found : goal.returns-then-start_of-upto-cl
 returns-then-start_of-upto-clause-found c =
     let groups = c.args.self.now.groups in
     let index = c.before-index.result in
-    let full = subst (λ (v : Placed). NoneEmpty v.groups) c.self.view_is c.self.invariant.full in
+    let full = subst (λ (v : Placed). NoneEmpty v.groups) c.self.view_is c.self.invariant.placed.full in
     let at : text_length (take index groups) ≡ c.args.upto = sym c.start_of.ensures ∙ c.if-start_of-upto.true in
     ap (λ n. groups_to n groups) (sym at) ∙ boundary groups index c.before-index.ensures.within full
 

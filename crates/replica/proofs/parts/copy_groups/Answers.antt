@@ -4,7 +4,7 @@ use Rattle.std.proofs.lemmas.List.{drop_more}
 use Rattle.replica.specs.Groups.{joined, text}
 use Rattle.replica.proofs.Lengths.{group_size-size}
 use Rattle.replica.proofs.Copying.{piece}
-use Rattle.replica.proofs.placed.copy_groups.Goals as goal
+use Rattle.replica.proofs.parts.copy_groups.Goals as goal
 
 pub loop-group-preserved : goal.loop-group-preserved
 loop-group-preserved c =

@@ -3,7 +3,7 @@ use Rattle.std.proofs.lemmas.Grind.{common_steps}
 use Rattle.std.proofs.lemmas.List.{drop_more}
 use Rattle.replica.specs.Groups.{joined}
 use Rattle.replica.proofs.Copying.{piece}
-use Rattle.replica.proofs.placed.copy_group.Goals as goal
+use Rattle.replica.proofs.parts.copy_group.Goals as goal
 
 pub loop-block-preserved : goal.loop-block-preserved
 loop-block-preserved c =
