@@ -5,6 +5,6 @@ pub mod Crash
 pub mod Files
 pub mod Appending
 pub mod Scanning
-pub mod Rereading
+pub mod Outcomes
 pub mod Steps
 pub mod Beginning

@@ -87,20 +87,6 @@ pub record Reserves (old new : DiskState) (end : ℕ) (result : Result Unit Allo
   pub same : IsUntouched old new
   pub ok : OnOk result ((end ≤ new.reserved) × (6 ≤ new.room))
 
--- what a read leaves: the bytes, what a crash may leave, and the plan stay
-pub record IsSame (old new : DiskState) : Type 0 where
-  pub seen : new.seen ≡ old.seen
-  pub crash : (c : List ℕ) → new.may_leave c → old.may_leave c
-  pub time : Elapses old new
-  pub stop : new.stop ≡ old.stop
-  pub synced : new.synced ≡ old.synced
-  pub sure : new.sure ≡ old.sure
-
-pub record Reads {T : Type 0} (old new : DiskState) (result : Result T DiskFault) : Type 0 where
-  pub same : IsSame old new
-  pub cause : HasCause old new result
-  pub steady : IsSteady old → IsErrOf result Failed → ⊥
-
 pub record Writes (old new : DiskState) (at : ℕ) (bytes : List ℕ) (result : Result Unit DiskFault) : Type 0 where
   pub written : OnOk result (Holds old.seen at bytes new.seen)
   pub crash : Follows (Torn at (length bytes)) old.may_leave new.may_leave

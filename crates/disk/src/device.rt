@@ -1,7 +1,7 @@
 //! A disk: what a read gives, and what a crash may leave.
 ghost use Rattle.std.specs.Prelude.{◌≡◌, ◌≤◌, ◌<◌, ◌^◌, length, IfOk};
 ghost use Rattle.disk.specs.declared.device.DiskFault.TheVariants as faults;
-ghost use Rattle.disk.specs.Disk.{DiskState, Reads, Reserves, Writes, Syncs, CountsNow, OnlyNow, SeenIsThere, SyncedIsThere};
+ghost use Rattle.disk.specs.Disk.{DiskState, Reserves, Writes, Syncs, CountsNow, OnlyNow, SeenIsThere, SyncedIsThere};
 
 use std::alloc::{AllocError, AllocFailed, Global};
 use thiserror::Error;
@@ -54,11 +54,9 @@ pub trait Disk {
         ensures value { result ≡ length (state self.now).seen }
         ensures bound { result < 2 ^ 63 };
 
-    /// All the bytes. `Failed` (20) where the device failed; `Memory` (22) where there was none for the bytes. The
-    /// bytes, and what a crash may leave, stay the same in each case.
-    fn read(&mut self, alloc: Global) -> Result<Vec<u8>, DiskFault>
-        ensures bytes { IfOk result (λ bytes. bytes.items ≡ (state self.old).seen) }
-        ensures step { Reads (state self.old) (state self.new) result };
+    /// All the bytes. It is no call of the device. An error is out of memory (22).
+    fn read(&self, alloc: Global) -> Result<Vec<u8>, AllocError>
+        ensures { IfOk result (λ bytes. bytes.items ≡ (state self.now).seen) };
 
     /// Makes room, so that the next six writes and syncs, the writes ending at `end` or before, take no memory. It is no
     /// call of the device, and without memory it changes nothing.

@@ -4,6 +4,7 @@ ghost use Rattle.disk.specs.Faults.{of_disk, of_block};
 
 use crate::device::DiskFault;
 use block_types::BlockFault;
+use std::alloc::AllocError;
 use thiserror::Error;
 
 /// Why a record file could not be opened or read.
@@ -18,6 +19,16 @@ pub enum FileFault {
     /// 22: no memory was left.
     #[error("no memory was left")]
     Memory,
+}
+
+impl From<AllocError> for FileFault {
+    ghost use Rattle.disk.specs.declared.fault.FileFault.TheVariants as files;
+
+    ghost from_gives = { λ _ e. e ≡ files.Memory };
+
+    fn from(_: AllocError) -> FileFault {
+        FileFault::Memory
+    }
 }
 
 impl From<DiskFault> for FileFault {

@@ -3,7 +3,7 @@
 ghost use Rattle.std.specs.Prelude.{◌≡◌, ◌≢◌, ◌<◌, ◌≤◌, [], List, IsErrOf, IfOk, IfErr, MatchResult, None, Some, false, true, option_map};
 ghost use Rattle.blocks.specs.Record.{Fits};
 ghost use Rattle.disk.specs.Appends.{Appends};
-ghost use Rattle.disk.specs.Disk.{LeavesOnly, IsSame, IsUntouched, IsSteady, Only};
+ghost use Rattle.disk.specs.Disk.{LeavesOnly, IsUntouched, IsSteady, Only};
 ghost use Rattle.disk.specs.Memory.{memory_state};
 ghost use Rattle.disk.specs.File.{IsFileOf, IsBeforeOrAfter, HasNoRecord};
 
@@ -13,7 +13,7 @@ use crate::memory::{MemDisk, Stop};
 use crate::opening::{find, write_header};
 use crate::scan::read_file;
 use crate::text::{kept, spelled};
-use block_types::{Record, Version};
+use block_types::{BlockFault, Record, Version};
 use std::alloc::{AllocError, Global};
 use std::marker::Model;
 
@@ -142,28 +142,56 @@ impl<D: Disk> RecordFile<D> {
             (λ file. IsSteady (D.state file.disk))
             (λ e. (e.0 ≢ FileFault.Failed) × IsSteady (D.state e.1)) }
     {
+        match RecordFile::open_with_records(alloc, disk) {
+            Ok((file, _)) => Ok(file),
+            Err(refused) => Err(refused),
+        }
+    }
+
+    /// As `open`, with the records of the file.
+    pub fn open_with_records(
+        alloc: Global,
+        disk: D,
+    ) -> Result<(RecordFile<D>, Vec<Record>), (FileFault, D)>
+        ensures records { IfOk result (λ x. x.1.items ≡ x.0.records) }
+        ensures ok { IfOk result (λ x. (x.0.stopped ≡ false) × ((D.state x.0.disk).seen ≡ (D.state disk).seen)
+            × IsFileOf x.0.version x.0.records (D.state disk).seen) }
+
+        // Damaged only where the bytes are no file of records.
+        ensures only { (v : Version) (rs : List Record) → IsFileOf v rs (D.state disk).seen
+            → MatchResult result (λ x. (x.0.version ≡ v) × (x.0.records ≡ rs)) (λ e. e.0 ≢ FileFault.Damaged) }
+
+        // A crash at any moment leaves what one before it might have left.
+        ensures any_moment { MatchResult result
+            (λ x. LeavesOnly (D.state disk) (D.state x.0.disk) (D.state disk).may_leave)
+            (λ e. LeavesOnly (D.state disk) (D.state e.1) (D.state disk).may_leave) }
+        ensures failed { MatchResult result
+            (λ x. (D.state disk).failures ≤ (D.state x.0.disk).failures)
+            (λ e. e.0 ≡ FileFault.Failed → (D.state disk).failures < (D.state e.1).failures) }
+        ensures steady { IsSteady (D.state disk) → MatchResult result
+            (λ x. IsSteady (D.state x.0.disk))
+            (λ e. (e.0 ≢ FileFault.Failed) × IsSteady (D.state e.1)) }
+    {
         let mut disk = disk;
         match find(alloc, &mut disk) {
-            Ok((version, end)) => Ok(RecordFile {
-                disk,
-                version,
-                end,
-                stopped: false,
-                text: None,
-            }),
+            Ok((version, end, records)) => {
+                let file = RecordFile {
+                    disk,
+                    version,
+                    end,
+                    stopped: false,
+                    text: None,
+                };
+                Ok((file, records))
+            }
             Err(fault) => Err((fault, disk)),
         }
     }
 
-    /// All its records, read again. `Failed` (20) comes only where the disk's count of failures rose, and `Memory` (22)
-    /// where there was none for the bytes and the records; neither changes the file. `Damaged` (21) does not come.
-    pub fn records(&mut self, alloc: Global) -> Result<Vec<Record>, FileFault>
-        ensures ok { IfOk result (λ rs. rs.items ≡ self.old.records) }
-        ensures same { (self.new.stopped ≡ self.old.stopped) × (self.new.version ≡ self.old.version) × (self.new.records ≡ self.old.records) }
-        ensures disk { IsSame (D.state self.old.disk) (D.state self.new.disk) }
-        ensures failed { IsErrOf result FileFault.Failed → (D.state self.old.disk).failures < (D.state self.new.disk).failures }
-        ensures damaged { IsErrOf result FileFault.Damaged → ⊥ }
-        ensures steady { IsSteady (D.state self.old.disk) → IsErrOf result FileFault.Failed → ⊥ }
+    /// All its records, read again. An error is out of memory (22): `Damaged` (21) does not come.
+    pub fn records(&self, alloc: Global) -> Result<Vec<Record>, BlockFault>
+        ensures ok { IfOk result (λ rs. rs.items ≡ self.now.records) }
+        ensures damaged { IsErrOf result BlockFault.Damaged → ⊥ }
     {
         let bytes = self.disk.read(alloc)?;
         let (_, records, _) = read_file(alloc, &bytes)?;

@@ -1,5 +1,5 @@
-//! The bytes of a disk in memory, and of those that the last sync has made sure of what was written over since. A write
-//! costs what was written since, and a sync nothing.
+//! The bytes of a disk in memory, and what was written over of those that the last sync has made sure of. A write costs
+//! its bytes and those that are set aside, from its place on; a sync costs nothing.
 ghost use Rattle.std.specs.Prelude.{◌≡◌, ◌+◌, ◌≤◌, ◌<◌, ◌++◌, ◌^◌, [], length, OnOk, OnErr, IsOk, IfOk, vec_capacity};
 ghost use Rattle.disk.specs.Disk.{Holds};
 ghost use Rattle.disk.specs.Image.{KeepsRoom};

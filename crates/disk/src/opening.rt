@@ -9,11 +9,15 @@ use crate::scan::read_file;
 use block_types::{Record, Version};
 use std::alloc::Global;
 
-/// The version of the file on a disk, and the place of its last gate. It syncs first.
-pub(crate) fn find<D: Disk>(alloc: Global, disk: &mut D) -> Result<(Version, usize), FileFault>
+/// The version of the file on a disk, the place of its last gate, and its records. It syncs first.
+pub(crate) fn find<D: Disk>(
+    alloc: Global,
+    disk: &mut D,
+) -> Result<(Version, usize, Vec<Record>), FileFault>
     ensures ok { IfOk result (λ x. IsOpen (D.state disk.new) x.0 x.1 (records_in x.0 (D.state disk.new).seen)) }
     ensures only { (v : Version) (rs : List Record) → IsFileOf v rs (D.state disk.old).seen
         → MatchResult result (λ x. (x.0 ≡ v) × (records_in x.0 (D.state disk.new).seen ≡ rs)) (λ e. e ≢ FileFault.Damaged) }
+    ensures records { IfOk result (λ x. x.2.items ≡ records_in x.0 (D.state disk.new).seen) }
     ensures seen { OnOk result ((D.state disk.new).seen ≡ (D.state disk.old).seen) }
     ensures any_moment { LeavesOnly (D.state disk.old) (D.state disk.new) (D.state disk.old).may_leave }
     ensures failed { IsErrOf result FileFault.Failed → (D.state disk.old).failures < (D.state disk.new).failures }
@@ -22,8 +26,8 @@ pub(crate) fn find<D: Disk>(alloc: Global, disk: &mut D) -> Result<(Version, usi
 {
     disk.sync()?;
     let bytes = disk.read(alloc)?;
-    let (version, _, end) = read_file(alloc, &bytes)?;
-    Ok((version, end))
+    let (version, records, end) = read_file(alloc, &bytes)?;
+    Ok((version, end, records))
 }
 
 /// Puts a file with no record on an empty disk.

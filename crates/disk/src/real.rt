@@ -196,8 +196,8 @@ impl<F: FileExt + OpenFile> Disk for FileDisk<F> {
         self.image.len()
     }
 
-    fn read(&mut self, alloc: Global) -> Result<Vec<u8>, DiskFault> {
-        Ok(self.image.read(alloc)?)
+    fn read(&self, alloc: Global) -> Result<Vec<u8>, AllocError> {
+        self.image.read(alloc)
     }
 
     fn reserve(&mut self, end: usize) -> Result<(), AllocError> {

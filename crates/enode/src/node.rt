@@ -2,7 +2,7 @@
 ghost use Rattle.std.specs.Prelude.{◌≡◌, ◌≢◌, ◌<◌, List, [], Some, None, false, true, IfOk, IfErr, IsErrOf, MatchResult, option_map};
 ghost use Rattle.block_types.specs.declared.record.Record.{Record};
 ghost use Rattle.block_types.specs.declared.record.Version.{Version};
-ghost use Rattle.disk.specs.Disk.{IsSame, IsSteady, LeavesOnly};
+ghost use Rattle.disk.specs.Disk.{IsSteady, LeavesOnly};
 ghost use Rattle.disk.specs.File.{IsFileOf};
 ghost use Rattle.disk.specs.Memory.{memory_state};
 ghost use Rattle.replica.specs.State.{content_of};
@@ -16,6 +16,7 @@ ghost use Rattle.model_streams.specs.Bounds.{AreFew};
 use crate::fault::{NodeFault, answer};
 use crate::recovery::replicas_of;
 use crate::rules::take;
+use block_types::Record;
 use disk::{Disk, MemDisk, RecordFile};
 use enode_replica::NodeReplica;
 use replica::Replica;
@@ -60,20 +61,17 @@ fn recovered<D: Disk>(
     alloc: Global,
     number: u8,
     file: RecordFile<D>,
+    records: Vec<Record>,
 ) -> Result<Node<D>, (NodeFault, D)>
-    requires { file.stopped ≡ false }
+    requires { records.items ≡ file.records }
     ensures number { IfOk result (λ node. node.number ≡ number) }
-    ensures same { IfOk result (λ node. (node.file.stopped ≡ false) × (node.file.version ≡ file.version) × (node.file.records ≡ file.records)) }
     ensures replays { IfOk result (λ node. IsRestart number node.replicas file.records) }
     ensures damaged { fit number file.records ≡ true → IfErr result (λ e. e.0 ≢ NodeFault.Damaged) }
-    ensures failed { IfErr result (λ e. e.0 ≡ NodeFault.Failed → (D.state file.disk).failures < (D.state e.1).failures) }
-    ensures steady { IsSteady (D.state file.disk) → IfOk result (λ node. IsSteady (D.state node.file.disk)) }
-    ensures disk { MatchResult result
-        (λ node. IsSame (D.state file.disk) (D.state node.file.disk))
-        (λ e. IsSame (D.state file.disk) (D.state e.1)) }
+    ensures failed { IfErr result (λ e. e.0 ≢ NodeFault.Failed) }
+    ensures file { IfOk result (λ node. node.file ≡ file) }
+    ensures disk { IfErr result (λ e. e.1 ≡ file.disk) }
 {
-    let mut file = file;
-    match replicas_of(alloc, number, &mut file) {
+    match replicas_of(alloc, number, records) {
         Ok(replicas) => Ok(Node {
             number,
             replicas,
@@ -110,8 +108,8 @@ impl<D: Disk> Node<D> {
             (λ node. LeavesOnly (D.state disk) (D.state node.file.disk) (D.state disk).may_leave)
             (λ e. LeavesOnly (D.state disk) (D.state e.1) (D.state disk).may_leave) }
     {
-        match RecordFile::open(alloc, disk) {
-            Ok(file) => recovered(alloc, number, file),
+        match RecordFile::open_with_records(alloc, disk) {
+            Ok((file, records)) => recovered(alloc, number, file, records),
             Err((fault, disk)) => Err((fault.into(), disk)),
         }
     }

@@ -1,14 +1,13 @@
 //! Replicas from the records of a node's file.
-ghost use Rattle.std.specs.Prelude.{◌≡◌, ◌<◌, ℕ, Some, None, true, false, IfOk, IsErrOf};
+ghost use Rattle.std.specs.Prelude.{◌≡◌, ℕ, Some, None, true, IfOk, IsErrOf};
 ghost use Rattle.block_types.specs.declared.record.Record.TheVariants as records;
-ghost use Rattle.disk.specs.Disk.{IsSame, IsSteady};
 ghost use Rattle.replica.specs.Replay.{extent_of, fit};
 ghost use Rattle.enode.specs.Node.{find, IsRestart};
 ghost use Rattle.enode.specs.Recovery.{Recovers};
 
 use crate::making::{insert_new, is_place};
 use block_types::{MAX_TARGET, MIN_TARGET, Nodes, Record};
-use disk::{Disk, FileFault, RecordFile};
+use disk::FileFault;
 use enode_replica::NodeReplica;
 use std::alloc::Global;
 use std::collections::BTreeMap;
@@ -105,22 +104,18 @@ fn recover(
     }
 }
 
-/// The replicas that the records of a file make.
-pub(crate) fn replicas_of<D: Disk>(
+/// The replicas that the records of a file make. `Failed` (20) does not come.
+pub(crate) fn replicas_of(
     alloc: Global,
     number: u8,
-    file: &mut RecordFile<D>,
+    records: Vec<Record>,
 ) -> Result<BTreeMap<u64, NodeReplica>, FileFault>
-    requires { file.old.stopped ≡ false }
-    ensures ok { IfOk result (λ replicas. IsRestart number replicas.entries file.old.records) }
-    ensures same { (file.new.stopped ≡ false) × (file.new.version ≡ file.old.version) × (file.new.records ≡ file.old.records) }
-    ensures damaged { fit number file.old.records ≡ true → IsErrOf result FileFault.Damaged → ⊥ }
-    ensures failed { IsErrOf result FileFault.Failed → (D.state file.old.disk).failures < (D.state file.new.disk).failures }
-    ensures steady { IsSteady (D.state file.old.disk) → IsSteady (D.state file.new.disk) }
-    ensures disk { IsSame (D.state file.old.disk) (D.state file.new.disk) }
+    ensures ok { IfOk result (λ replicas. IsRestart number replicas.entries records.items) }
+    ensures damaged { fit number records.items ≡ true → IsErrOf result FileFault.Damaged → ⊥ }
+    ensures failed { IsErrOf result FileFault.Failed → ⊥ }
 {
     let mut replicas = BTreeMap::new(alloc);
-    for record_read in file.records(alloc)? {
+    for record_read in records {
         recover(&mut replicas, alloc, number, record_read)?;
     }
     Ok(replicas)

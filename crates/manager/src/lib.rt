@@ -10,7 +10,6 @@
 mod fault;
 mod manager;
 mod performing;
-mod recovery;
 mod sealing;
 
 pub use fault::ManagerFault;

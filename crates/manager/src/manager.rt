@@ -3,7 +3,7 @@ ghost use Rattle.std.specs.Prelude.{◌≡◌, ◌≢◌, ◌<◌, ◌≤◌, �
 ghost use Rattle.block_types.specs.Limits.{IsTarget};
 ghost use Rattle.block_types.specs.declared.record.Record.{Record};
 ghost use Rattle.block_types.specs.declared.record.Version.{Version};
-ghost use Rattle.disk.specs.Disk.{IsSame, IsSteady, LeavesOnly, Only};
+ghost use Rattle.disk.specs.Disk.{IsSteady, LeavesOnly, Only};
 ghost use Rattle.disk.specs.File.{IsFileOf, IsBeforeOrAfter, HoldsAtMost};
 ghost use Rattle.disk.specs.Memory.{memory_state};
 ghost use Rattle.wire.specs.declared.refusal.Refusal.{Refusal};
@@ -17,8 +17,8 @@ ghost use Rattle.manager.specs.Performs.{ManagerPerforms, as_rule, fault_of, sea
 
 use crate::fault::ManagerFault;
 use crate::performing::{decide_on, handle_on, write};
-use crate::recovery::table_of;
 use crate::sealing::{answer, refusal, sealing_of};
+use block_types::Record;
 use disk::{Disk, DiskFault, FileFault, MemDisk, RecordFile};
 use manager_state::ManagerTable;
 use model_streams::ManagerRecord;
@@ -91,25 +91,25 @@ fn begin<D: Disk>(
 }
 
 /// The manager that the records of a file make.
-fn recovered<D: Disk>(alloc: Global, file: RecordFile<D>) -> Result<Manager<D>, (FileFault, D)>
-    requires { file.stopped ≡ false }
-    ensures same { IfOk result (λ m. (m.file.stopped ≡ false) × (m.file.version ≡ file.version) × (m.file.records ≡ file.records)) }
-    ensures replays { IfOk result (λ m. ManagerIsReplay m file.records) }
+fn recovered<D: Disk>(
+    alloc: Global,
+    opened: RecordFile<D>,
+    records: Vec<Record>,
+) -> Result<Manager<D>, (FileFault, D)>
+    requires { records.items ≡ opened.records }
+    ensures replays { IfOk result (λ m. ManagerIsReplay m opened.records) }
     ensures fresh { IfOk result (λ m. m ≡ forgotten_state m) }
-    ensures damaged { file.records ≢ [] → catalog_fits file.records ≡ true → IfErr result (λ e. e.0 ≢ FileFault.Damaged) }
-    ensures failed { IfErr result (λ e. e.0 ≡ FileFault.Failed → (D.state file.disk).failures < (D.state e.1).failures) }
-    ensures steady { IsSteady (D.state file.disk) → IfOk result (λ m. IsSteady (D.state m.file.disk)) }
-    ensures disk { MatchResult result
-        (λ m. IsSame (D.state file.disk) (D.state m.file.disk))
-        (λ e. IsSame (D.state file.disk) (D.state e.1)) }
+    ensures damaged { opened.records ≢ [] → catalog_fits opened.records ≡ true → IfErr result (λ e. e.0 ≢ FileFault.Damaged) }
+    ensures failed { IfErr result (λ e. e.0 ≢ FileFault.Failed) }
+    ensures file { IfOk result (λ m. m.file ≡ opened) }
+    ensures disk { IfErr result (λ e. e.1 ≡ opened.disk) }
 {
-    let mut opened = file;
-    match table_of(alloc, &mut opened) {
+    match ManagerTable::replayed(alloc, records) {
         Ok(table) => Ok(Manager {
             table,
             file: opened,
         }),
-        Err(fault) => Err((fault, opened.into_disk())),
+        Err(fault) => Err((fault.into(), opened.into_disk())),
     }
 }
 
@@ -178,8 +178,8 @@ impl<D: Disk> Manager<D> {
             (λ m. LeavesOnly (D.state disk) (D.state m.file.disk) (D.state disk).may_leave)
             (λ e. LeavesOnly (D.state disk) (D.state e.1) (D.state disk).may_leave) }
     {
-        match RecordFile::open(alloc, disk) {
-            Ok(file) => recovered(alloc, file),
+        match RecordFile::open_with_records(alloc, disk) {
+            Ok((file, records)) => recovered(alloc, file, records),
             Err(refused) => Err(refused),
         }
     }

@@ -13,7 +13,6 @@ mod performing;
 mod plan;
 mod planning;
 mod record_bytes;
-mod recovery;
 mod refusing;
 mod replay;
 mod table;

@@ -2,7 +2,7 @@
 ghost use Rattle.std.specs.Prelude.{◌≡◌, ◌≢◌, ◌<◌, List, [], Ok, Err, Some, None, false, true, IfOk, IfErr, MatchResult, option_map};
 ghost use Rattle.block_types.specs.declared.record.Record.{Record};
 ghost use Rattle.block_types.specs.declared.record.Version.{Version};
-ghost use Rattle.disk.specs.Disk.{IsSame, IsSteady, LeavesOnly};
+ghost use Rattle.disk.specs.Disk.{IsSteady, LeavesOnly};
 ghost use Rattle.disk.specs.File.{IsFileOf};
 ghost use Rattle.disk.specs.Memory.{memory_state};
 ghost use Rattle.wire.specs.declared.refusal.Refusal.{Refusal};
@@ -16,9 +16,10 @@ ghost use Rattle.pmap.specs.Performs.{MapPerforms, as_rule, fault_of};
 use crate::fault::MapFault;
 use crate::performing::{assign_on, renew_on};
 use crate::planning::answer_to;
-use crate::recovery::table_of;
 use crate::refusing::{answer, assign_fault, renew_fault};
+use crate::replay::replayed;
 use crate::table::RangeTable;
+use block_types::Record;
 use disk::{Disk, DiskFault, FileFault, MemDisk, RecordFile};
 use model_partition::RangeEntry;
 use std::alloc::Global;
@@ -52,26 +53,24 @@ impl<D: Disk> Model for PartitionMap<D> {
 }
 
 /// The map that the records of a file make.
-fn recovered<D: Disk>(alloc: Global, file: RecordFile<D>) -> Result<PartitionMap<D>, (FileFault, D)>
-    requires { file.stopped ≡ false }
-    ensures same { IfOk result (λ m. (m.file.stopped ≡ false) × (m.file.version ≡ file.version) × (m.file.records ≡ file.records)) }
-    ensures replays { IfOk result (λ m. MakesMap file.records (map_of m)) }
-    ensures damaged { map_fits file.records ≡ true → IfErr result (λ e. e.0 ≢ FileFault.Damaged) }
-    ensures failed { IfErr result (λ e. e.0 ≡ FileFault.Failed → (D.state file.disk).failures < (D.state e.1).failures) }
-    ensures steady { IsSteady (D.state file.disk) → MatchResult result
-        (λ m. IsSteady (D.state m.file.disk))
-        (λ e. (e.0 ≢ FileFault.Failed) × IsSteady (D.state e.1)) }
-    ensures disk { MatchResult result
-        (λ m. IsSame (D.state file.disk) (D.state m.file.disk))
-        (λ e. IsSame (D.state file.disk) (D.state e.1)) }
+fn recovered<D: Disk>(
+    alloc: Global,
+    opened: RecordFile<D>,
+    records: &[Record],
+) -> Result<PartitionMap<D>, (FileFault, D)>
+    requires { records.now ≡ opened.records }
+    ensures replays { IfOk result (λ m. MakesMap opened.records (map_of m)) }
+    ensures damaged { map_fits opened.records ≡ true → IfErr result (λ e. e.0 ≢ FileFault.Damaged) }
+    ensures failed { IfErr result (λ e. e.0 ≢ FileFault.Failed) }
+    ensures file { IfOk result (λ m. m.file ≡ opened) }
+    ensures disk { IfErr result (λ e. e.1 ≡ opened.disk) }
 {
-    let mut opened = file;
-    match table_of(alloc, &mut opened) {
+    match replayed(alloc, records) {
         Ok(table) => Ok(PartitionMap {
             table,
             file: opened,
         }),
-        Err(fault) => Err((fault, opened.into_disk())),
+        Err(fault) => Err((fault.into(), opened.into_disk())),
     }
 }
 
@@ -103,8 +102,8 @@ impl<D: Disk> PartitionMap<D> {
             (λ m. LeavesOnly (D.state disk) (D.state m.file.disk) (D.state disk).may_leave)
             (λ e. LeavesOnly (D.state disk) (D.state e.1) (D.state disk).may_leave) }
     {
-        match RecordFile::open(alloc, disk) {
-            Ok(file) => recovered(alloc, file),
+        match RecordFile::open_with_records(alloc, disk) {
+            Ok((file, records)) => recovered(alloc, file, &records),
             Err(refused) => Err(refused),
         }
     }

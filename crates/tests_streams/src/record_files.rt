@@ -6,9 +6,9 @@ ghost use Rattle.block_types.specs.declared.record.Version.{Version};
 ghost use Rattle.block_types.specs.declared.record.Version.TheVariants.{V1};
 
 use crate::groups::group_of;
-use block_types::{Nodes, Record};
+use block_types::{BlockFault, Nodes, Record};
 use disk::{Disk, DiskFault, FileDisk, FileFault, MemDisk, RecordFile};
-use std::alloc::Global;
+use std::alloc::{AllocError, Global};
 use std::fs;
 use std::test::Fail;
 
@@ -78,11 +78,8 @@ fn reopened<D: Disk + Drop>(alloc: Global, disk: D) -> Result<RecordFile<D>, Fai
     Ok(RecordFile::open(alloc, disk).ok().ok_or("opened")?)
 }
 
-fn count(alloc: Global, file: RecordFile<MemDisk>) -> Result<usize, FileFault> {
-    let mut file = file;
-    let records = file.records(alloc);
-    drop(file);
-    Ok(records?.len())
+fn count(alloc: Global, file: &RecordFile<MemDisk>) -> Result<usize, BlockFault> {
+    Ok(file.records(alloc)?.len())
 }
 
 fn two_written(alloc: Global) -> Result<MemDisk, Fail> {
@@ -91,7 +88,7 @@ fn two_written(alloc: Global) -> Result<MemDisk, Fail> {
     Ok(file.into_disk())
 }
 
-fn has_bytes(alloc: Global, disk: &mut MemDisk, wanted: &[u8]) -> Result<bool, DiskFault> {
+fn has_bytes(alloc: Global, disk: &MemDisk, wanted: &[u8]) -> Result<bool, AllocError> {
     Ok(disk.read(alloc)?.as_slice() == wanted)
 }
 
@@ -110,19 +107,17 @@ fn are_the_two(records: &[Record]) -> bool {
 }
 
 /// Whether a file has the two records, and takes none once it is halted.
-fn has_the_two(alloc: Global, file: RecordFile<MemDisk>) -> Result<bool, FileFault> {
+fn has_the_two(alloc: Global, file: RecordFile<MemDisk>) -> Result<bool, BlockFault> {
     let mut file = file;
-    let records = file.records(alloc);
+    let records = file.records(alloc)?;
     file.halt();
-    let is_stopped = file.is_stopped();
-    drop(file);
-    Ok(are_the_two(records?.as_slice()) && is_stopped)
+    Ok(are_the_two(records.as_slice()) && file.is_stopped())
 }
 
 #[test]
 fn a_file_of_two_records(rt: HostRuntime) -> Result<(), Fail> {
-    let mut disk = two_written(rt.alloc())?;
-    assert!(rt; has_bytes(rt.alloc(), &mut disk, &TWO_RECORDS)?);
+    let disk = two_written(rt.alloc())?;
+    assert!(rt; has_bytes(rt.alloc(), &disk, &TWO_RECORDS)?);
     assert!(rt; has_the_two(rt.alloc(), reopened(rt.alloc(), disk)?)?);
     Ok(())
 }
@@ -154,7 +149,7 @@ fn found_in(
     len: usize,
 ) -> Result<Option<usize>, FileFault> {
     match opened {
-        Ok(file) => Ok(Some(count(alloc, file)?)),
+        Ok(file) => Ok(Some(count(alloc, &file)?)),
         Err((fault, disk)) => {
             let is_whole = disk.len() == len;
             drop(disk);
@@ -232,7 +227,7 @@ fn stopped(alloc: Global, calls: u64, keep: bool) -> Result<usize, Fail> {
     if !stopped_there(&mut file, calls, failed) {
         return Err(Fail::new("stopped at another call"));
     }
-    Ok(count(alloc, reopened(alloc, file.into_disk())?)?)
+    Ok(count(alloc, &reopened(alloc, file.into_disk())?)?)
 }
 
 #[test]

@@ -1,4 +1,4 @@
 use Rattle.tests_streams.proofs.record_files.one_more_record.Goals as goal
 
 pub append-requires-clause-fits : goal.append-requires-clause-fits
-append-requires-clause-fits g c = c.make.ensures.any c.records.new.self.version
+append-requires-clause-fits g c = c.make.ensures.any c.args.file.now.version

@@ -1,7 +1,6 @@
-use Rattle.std.proofs.Common.{◌≡◌, sym, ap, subst, ◌∙◌, List}
+use Rattle.std.proofs.Common.{◌≡◌, sym, subst, ◌∙◌, List}
 use Rattle.std.proofs.lemmas.Result.{err_from_is_err_and}
 use Rattle.disk.specs.File.{IsFileOf, records_in}
-use Rattle.disk.specs.Faults.{of_block}
 use Rattle.disk.proofs.file.RecordFile.records.Goals as goal
 
 pub returns-in_err-records-clause-damaged : goal.returns-in_err-records-clause-damaged
@@ -9,14 +8,13 @@ returns-in_err-records-clause-damaged g c = λ damaged.
     let p = err_from_is_err_and c.from_residual-in_err-records.result c.from_residual-in_err-records.ensures.1 in
     let it = c.self.inside in
     let rs : List _ = records_in it.version (g.D.Disk.state it.disk).seen in
-    let same : c.deref.result.now ≡ (g.D.Disk.state it.disk).seen = c.deref.ensures.value ∙ c.in_ok-bytes.ensures.bytes in
+    let same : c.deref.result.now ≡ (g.D.Disk.state it.disk).seen = c.deref.ensures.value ∙ c.in_ok-bytes.ensures in
     let memory = c.in_err-records.ensures.only it.version rs (subst (IsFileOf it.version rs) (sym same) c.self.invariant.file) in
-    let is = p.2 ∙ ap of_block memory in
-    cc (damaged, p.1, is)
+    cc (damaged, p.1, p.2, memory)
 
 pub returns-clause-ok : goal.returns-clause-ok
 returns-clause-ok g c =
     let it = c.self.inside in
     let rs : List _ = records_in it.version (g.D.Disk.state it.disk).seen in
-    let same : c.deref.result.now ≡ (g.D.Disk.state it.disk).seen = c.deref.ensures.value ∙ c.in_ok-bytes.ensures.bytes in
+    let same : c.deref.result.now ≡ (g.D.Disk.state it.disk).seen = c.deref.ensures.value ∙ c.in_ok-bytes.ensures in
     rw (← c.self.view_is) (c.in_ok-records.ensures.only it.version rs (subst (IsFileOf it.version rs) (sym same) c.self.invariant.file)).1
