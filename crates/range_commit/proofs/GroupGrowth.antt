@@ -57,28 +57,14 @@ pub grows_end : (next : ℕ) (all : List WaitingTransaction) (n more : ℕ) → 
 grows_end next all n zero le = refl
 grows_end next all n (suc more) le = rw (lt-leb (suc n) (length all) (omega (arith, le))) refl
 
--- a group that grew fits
-abbrev Grew : ℕ → List WaitingTransaction → ℕ → ℕ → Type 0
-Grew next all n m = (m ≡ n) ⊎ ((m ≤ length all) × (length (spelling (record_of next (take m all))) ≤ 64))
-
-fitting : (next : ℕ) (all : List WaitingTransaction) (m : ℕ) → fits_a_group next all m ≡ true → (m ≤ length all) × (length (spelling (record_of next (take m all))) ≤ 64)
-fitting next all m is = let tests = and_parts _ _ is in (leb-true _ _ tests.0, leb-true _ _ tests.1)
-
-after_one : (next : ℕ) (all : List WaitingTransaction) (n m : ℕ) → fits_a_group next all (suc n) ≡ true → Grew next all (suc n) m → Grew next all n m
-after_one next all n m is (inl same) = inr (subst (λ (k : ℕ). (k ≤ length all) × (length (spelling (record_of next (take k all))) ≤ 64)) (sym same) (fitting next all (suc n) is))
-after_one next all n m is (inr fits) = inr fits
-
-grew : (next : ℕ) (all : List WaitingTransaction) (n more : ℕ) → Grew next all n (grown next all n more)
-grew next all n zero = inl refl
-grew next all n (suc more) =
-    elim (fits_a_group next all (suc n)) as (λ b. fits_a_group next all (suc n) ≡ b → Grew next all n (grown next all n (suc more))) [
-      | true ↦ λ is. rw is (after_one next all n (grown next all (suc n) more) is (grew next all (suc n) more))
-      | false ↦ λ is. rw is (inl refl)
+-- a group has no more than wait
+within_from : (next : ℕ) (all : List WaitingTransaction) (n more : ℕ) → n ≤ length all → grown next all n more ≤ length all
+within_from next all n zero le = le
+within_from next all n (suc more) le =
+    elim (fits_a_group next all (suc n)) as (λ b. fits_a_group next all (suc n) ≡ b → grown next all n (suc more) ≤ length all) [
+      | true ↦ λ is. rw is (within_from next all (suc n) more (leb-true _ _ (and_parts _ _ is).0))
+      | false ↦ λ is. rw is le
     ] refl
 
-some_fit : (next : ℕ) (all : List WaitingTransaction) (m : ℕ) → 0 < m → Grew next all 0 m → (m ≤ length all) × (length (spelling (record_of next (take m all))) ≤ 64)
-some_fit next all m lt (inl none) = absurd (omega (arith, lt, none))
-some_fit next all m lt (inr fits) = fits
-
-pub grown_fits : (next : ℕ) (all : List WaitingTransaction) (batch m : ℕ) → 0 < m → m ≡ grown next all 0 batch → (m ≤ length all) × (length (spelling (record_of next (take m all))) ≤ 64)
-grown_fits next all batch m lt is = some_fit next all m lt (subst (Grew next all 0) (sym is) (grew next all 0 batch))
+pub grown_within : (next : ℕ) (all : List WaitingTransaction) (batch : ℕ) → grown next all 0 batch ≤ length all
+grown_within next all batch = within_from next all 0 batch (omega arith)

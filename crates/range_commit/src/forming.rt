@@ -1,15 +1,16 @@
 //! The group that is formed next.
-ghost use Rattle.std.specs.Prelude.{◌≡◌, ◌+◌, ◌<◌, ◌≤◌, ◌^◌, ℕ, false, length, map, take, IfOk, IfSome, IfNone};
+ghost use Rattle.std.specs.Prelude.{◌≡◌, ◌+◌, ◌<◌, ◌≤◌, ◌^◌, ℕ, [], false, length, map, take, IfOk, IfSome, IfNone};
 ghost use Rattle.block_types.specs.Limits.{group_size};
-ghost use Rattle.commitlog.specs.Record.{spelling, Fits};
+ghost use Rattle.commitlog.specs.Record.{spelling};
 ghost use Rattle.range_commit.specs.Queue.{is_formed, AreTransactions, IsNextGroup};
 ghost use Rattle.model_partition.specs.Serving.{began, grown, record_of};
 
+use crate::queue::Queue;
 use block_types::Group;
-use commitlog::{Filling, LogRecord, Transactions, encode};
-use model_partition::{ServerContext, TableNote, WaitingTransaction};
+use commitlog::GroupText;
+use model_partition::{TableNote, WaitingTransaction};
 use std::alloc::{AllocError, Global};
-use wire::{Blocks, Changes, Fence, RangeId};
+use wire::{Blocks, Fence, RangeId};
 
 /// A group that may be appended: how many transactions it has, how many bytes, its blocks, which share their buffers, and the
 /// observations that its transactions got their numbers.
@@ -21,47 +22,54 @@ pub struct Plan {
     pub notes: Vec<TableNote>,
 }
 
-/// How many of those that wait are the next group: one more, as long as they fit and the batch allows it.
-fn group_count(waiting: &[WaitingTransaction], batch: u16) -> usize
-    requires { AreTransactions waiting.now }
-    ensures { (next : ℕ) → result ≡ grown next waiting.now 0 batch }
+/// Adds to a text of no transaction those that wait, as long as they fit and the batch allows it, and answers how many.
+fn grow(
+    text: &mut GroupText,
+    waiting: &[WaitingTransaction],
+    batch: u16,
+    encodings: &mut u64,
+) -> Result<usize, AllocError>
+    requires transactions { AreTransactions waiting.now }
+    requires empty { text.old ≡ [] }
+    requires counts { encodings.old + batch < 2 ^ 64 }
+    ensures taken { IfOk result (λ count. (next : ℕ) → count ≡ grown next waiting.now 0 batch) }
+    ensures text { IfOk result (λ count. text.new ≡ map (λ t. t.changes) (take count waiting.now)) }
+    ensures few { IfOk result (λ count. (count ≤ batch) × (count ≤ length waiting.now)) }
+    ensures bound { IfOk result (λ count. encodings.new ≤ encodings.old + count + 1) }
 {
-    let mut filling = Filling::new();
     let mut count = 0;
     for transaction in waiting {
-        if count >= batch as usize || !filling.add(&transaction.changes) {
-            return count;
+        if count >= batch as usize {
+            return Ok(count);
+        }
+        if !text.add(transaction.changes.as_slice(), encodings)? {
+            return Ok(count);
         }
         count += 1;
     }
-    count
+    Ok(count)
 }
 
-fn changes_of(alloc: Global, group: &[WaitingTransaction]) -> Result<Vec<Changes>, AllocError>
-    ensures { IfOk result (λ made. made.items ≡ map (λ t. t.changes) group.now) }
-{
-    let mut made = Vec::with_capacity(alloc, group.len())?;
-    for transaction in group {
-        made.push(transaction.changes.copy()?)?;
-    }
-    Ok(made)
-}
-
-/// The transactions as one record, numbered from `first` on.
-pub(crate) fn record_of(
+/// The group of the transactions that wait at the front of the queue and are not out, numbered from `first` on, and how many
+/// it takes: one more, as long as they fit 64 blocks and the batch allows it. Each is encoded once, and at most one more is, to
+/// see that it does not fit. An error is out of memory (22).
+pub fn form(
     alloc: Global,
     first: u64,
-    group: &[WaitingTransaction],
-) -> Result<LogRecord, AllocError>
-    ensures { IfOk result (λ made. made ≡ record_of first group.now) }
+    queue: &Queue,
+    batch: u16,
+    encodings: &mut u64,
+) -> Result<(Group, usize), AllocError>
+    requires { encodings.old < 2 ^ 63 }
+    ensures taken { IfOk result (λ x. x.1 ≡ grown first queue.now.queue 0 batch) }
+    ensures group { IfOk result (λ x. x.0 ≡ spelling (record_of first (take x.1 queue.now.queue))) }
+    ensures bound { IfOk result (λ x. encodings.new ≤ encodings.old + x.1 + 1) }
 {
-    let transactions = Transactions {
-        items: changes_of(alloc, group)?,
-    };
-    Ok(LogRecord {
-        first,
-        transactions,
-    })
+    let waiting = queue.queued();
+    let mut text = GroupText::new(alloc);
+    let count = grow(&mut text, waiting, batch, encodings)?;
+    let group = text.group(alloc, first)?;
+    Ok((group, count))
 }
 
 fn notes_of(
@@ -104,52 +112,52 @@ fn plan_of(
     range: RangeId,
     generation: Fence,
     next: u64,
-    group: &[WaitingTransaction],
+    transactions: &[WaitingTransaction],
+    group: &Group,
 ) -> Result<Plan, AllocError>
-    requires { Fits (record_of next group.now) }
-    ensures count { IfOk result (λ plan. plan.count ≡ length group.now) }
-    ensures size { IfOk result (λ plan. plan.size ≡ group_size (spelling (record_of next group.now))) }
-    ensures blocks { IfOk result (λ plan. plan.blocks ≡ spelling (record_of next group.now)) }
-    ensures notes { IfOk result (λ plan. plan.notes.items ≡ began range generation next group.now) }
+    requires numbered { next + length transactions.now < 2 ^ 64 }
+    requires spelled { group.now ≡ spelling (record_of next transactions.now) }
+    ensures count { IfOk result (λ plan. plan.count ≡ length transactions.now) }
+    ensures size { IfOk result (λ plan. plan.size ≡ group_size (spelling (record_of next transactions.now))) }
+    ensures blocks { IfOk result (λ plan. plan.blocks ≡ spelling (record_of next transactions.now)) }
+    ensures notes { IfOk result (λ plan. plan.notes.items ≡ began range generation next transactions.now) }
 {
-    let written = record_of(alloc, next, group)?;
-    let encoded = encode(alloc, &written)?;
-    let blocks = blocks_of(alloc, &encoded)?;
-    let notes = notes_of(alloc, range, generation, next, group)?;
+    let blocks = blocks_of(alloc, group)?;
+    let notes = notes_of(alloc, range, generation, next, transactions)?;
     Ok(Plan {
-        count: group.len(),
-        size: encoded.size(),
+        count: transactions.len(),
+        size: group.size(),
         blocks,
         notes,
     })
 }
 
-/// The group that is formed next of those that wait, if one is: a transaction waits, and the numbers fit 64 bits.
+/// The plan of the group of the first transactions that wait and are not out, if it has one and the numbers fit 64 bits.
 pub(crate) fn next_plan(
     alloc: Global,
-    context: &ServerContext,
+    queue: &Queue,
     range: RangeId,
     generation: Fence,
-    next: u64,
-    waiting: &[WaitingTransaction],
+    count: usize,
+    group: &Group,
 ) -> Result<Option<Plan>, AllocError>
-    requires transactions { AreTransactions waiting.now }
-    requires most { length waiting.now ≤ 1024 }
-    requires numbered { 0 < next }
-    ensures some { IfOk result (λ planned. IfSome planned (λ plan. plan.count ≡ grown next waiting.now 0 context.now.batch)) }
-    ensures none { IfOk result (λ planned. IfNone planned (is_formed next (grown next waiting.now 0 context.now.batch) ≡ false)) }
-    ensures begins { IfOk result (λ planned. IfSome planned (λ plan. IsNextGroup next waiting.now plan.count plan.size)) }
+    requires within { count ≤ length queue.now.queue }
+    requires spelled { group.now ≡ spelling (record_of queue.now.next (take count queue.now.queue)) }
+    requires blocks { length group.now ≤ 64 }
+    ensures some { IfOk result (λ planned. IfSome planned (λ plan. plan.count ≡ count)) }
+    ensures none { IfOk result (λ planned. IfNone planned (is_formed queue.now.next count ≡ false)) }
+    ensures begins { IfOk result (λ planned. IfSome planned (λ plan. IsNextGroup queue.now.next queue.now.queue plan.count plan.size)) }
     ensures blocks { IfOk result (λ planned. IfSome planned (λ plan. plan.blocks
-        ≡ spelling (record_of next (take plan.count waiting.now)))) }
+        ≡ spelling (record_of queue.now.next (take plan.count queue.now.queue)))) }
     ensures notes { IfOk result (λ planned. IfSome planned (λ plan. plan.notes.items
-        ≡ began range generation next (take plan.count waiting.now))) }
+        ≡ began range generation queue.now.next (take plan.count queue.now.queue))) }
 {
-    let count = group_count(waiting, context.batch);
+    let next = queue.next();
     if count == 0 || next.checked_add(count as u64).is_none() {
         return Ok(None);
     }
-    let (group, _rest) = waiting.split_at(count);
-    match plan_of(alloc, range, generation, next, group) {
+    let (transactions, _rest) = queue.queued().split_at(count);
+    match plan_of(alloc, range, generation, next, transactions, group) {
         Ok(plan) => Ok(Some(plan)),
         Err(full) => Err(full),
     }

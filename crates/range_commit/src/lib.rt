@@ -4,6 +4,7 @@
 //! transaction. This crate touches memory alone, and answers what is to be sent and shown; it sends nothing.
 //! What the layers above may build on, each a clause here:
 //! - `Queue` holds at most 1,024 transactions, each of which a record may hold, and what is out is one record.
+//! - `form` answers the group of those that wait and are not out, each encoded once, and one more at most.
 //! - `plan` answers exactly the group that is formed next, whatever is out, and `begin` takes it, with the next numbers.
 //! - `acknowledge` and `changes` answer what the group that is out commits and leaves, in order, and `finish` drops it.
 //! - `change_fault` answers the first reason why changes are refused, and what it lets pass a record may hold.
@@ -14,8 +15,9 @@
 mod answering;
 mod faults;
 mod forming;
+mod placing;
 mod queue;
 
 pub use faults::change_fault;
-pub use forming::Plan;
+pub use forming::{Plan, form};
 pub use queue::{MAX_WAITING, Queue};

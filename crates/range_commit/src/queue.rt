@@ -3,16 +3,16 @@ ghost use Rattle.std.specs.Prelude.{◌≡◌, ◌+◌, ◌-◌, ◌<◌, ◌≤
 ghost use Rattle.std.specs.List.{AllByRecursion};
 ghost use Rattle.memtable.specs.Cell.{IsEntry};
 ghost use Rattle.commitlog.specs.Record.{spelling, IsTransaction};
-ghost use Rattle.range_commit.specs.Queue.{is_formed, changes_out, committed_out, dones_out, size_out, IsNextGroup};
+ghost use Rattle.range_commit.specs.Queue.{is_formed, changes_out, committed_out, dones_out, size_out, AreTransactions, IsNextGroup};
 ghost use Rattle.model_partition.specs.declared.waiting.WaitingTransaction.{WaitingTransaction as Waiting};
 ghost use Rattle.model_partition.specs.Range.{refuses, waiting_out};
 ghost use Rattle.model_partition.specs.Serving.{began, grown, record_of};
 ghost use Rattle.wire.specs.declared.refusal.Refusal.TheVariants as refusals;
 
 use crate::answering::{committed_of, dones_of, refusals_of};
-use crate::forming::{Plan, next_plan, record_of};
+use crate::forming::{Plan, form, next_plan};
+use crate::placing::cells_of;
 use bytes::Bytes;
-use commitlog::cells as cells_of;
 use memtable::Cell;
 use model_partition::{ServerContext, TableNote, WaitingTransaction};
 use std::alloc::{AllocError, Global};
@@ -115,6 +115,16 @@ impl Queue {
         &self.all
     }
 
+    /// Those that wait and are not out.
+    pub(crate) fn queued(&self) -> &[WaitingTransaction]
+        ensures value { result.now ≡ self.now.queue }
+        ensures transactions { AreTransactions result.now }
+        ensures most { length result.now ≤ 1024 }
+    {
+        let (_out, queued) = self.all.as_slice().split_at(self.out_count);
+        queued
+    }
+
     /// Adds one after all that wait. That there is room for it and that a record may hold its changes is the caller's
     /// condition. Where memory runs out (22) nothing has changed.
     pub fn push(&mut self, transaction: WaitingTransaction) -> Result<(), AllocError>
@@ -156,8 +166,14 @@ impl Queue {
         ensures notes { IfOk result (λ planned. IfSome planned (λ plan. plan.notes.items
             ≡ began range generation self.now.next (take plan.count self.now.queue))) }
     {
-        let (_out, queue) = self.all.as_slice().split_at(self.out_count);
-        match next_plan(alloc, context, range, generation, self.next, queue) {
+        if self.queued().is_empty() {
+            return Ok(None);
+        }
+        let mut encodings = 0;
+        let (group, count) = form(alloc, self.next(), self, context.batch, &mut encodings)?;
+        // For the proof: a group has at most 64 blocks.
+        let _blocks = group.blocks();
+        match next_plan(alloc, self, range, generation, count, &group) {
             Ok(planned) => Ok(planned),
             Err(full) => Err(full),
         }
@@ -215,8 +231,7 @@ impl Queue {
             return Ok(Vec::new(alloc));
         }
         let (group, _queue) = self.all.as_slice().split_at(self.out_count);
-        let written = record_of(alloc, self.next - self.out_count as u64, group)?;
-        match cells_of(alloc, &written, extent, offset) {
+        match cells_of(alloc, group, self.size, extent, offset) {
             Ok(kept) => Ok(kept),
             Err(full) => Err(full),
         }
