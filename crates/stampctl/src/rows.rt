@@ -6,7 +6,7 @@ use std::alloc::Global;
 use std::collections::BTreeMap;
 use std::test::Fail;
 use wire::{ExtentId, Note, Row, Rows};
-use world_servers::rows_of;
+use world_servers::{SeenByExtent, rows_of};
 
 /// What the one cell of a table is.
 enum Kept {
@@ -16,12 +16,14 @@ enum Kept {
     Placed,
 }
 
-/// What was observed of the extent 7.
+/// What was observed of the extent 7, or of another.
 enum Observed {
     /// The group `abc`, `defg` stands at this offset.
     Acked(u32),
     /// These bytes stand at this offset.
     Seen(u32, &'static [u8]),
+    /// These bytes stand at this offset of the extent 8.
+    Elsewhere(u32, &'static [u8]),
     /// It has the group `abc`, `defg` alone.
     Content,
 }
@@ -62,6 +64,16 @@ const CASES: &[(&str, Kept, &[Observed], Option<&[u8]>)] = &[
             Observed::Seen(2, b"stu"),
         ],
         Some(b"xyz"),
+    ),
+    (
+        "what was seen of another extent is passed over",
+        Kept::Placed,
+        &[
+            Observed::Elsewhere(2, b"xyz"),
+            Observed::Seen(2, b"stu"),
+            Observed::Elsewhere(1, b"wxyz"),
+        ],
+        Some(b"stu"),
     ),
     (
         "a value that none covers has no row",
@@ -111,6 +123,12 @@ fn note_of(alloc: Global, observed: &Observed) -> Result<Note, Fail> {
             offset: *offset,
             bytes: Bytes::from_static(bytes),
         }),
+        Observed::Elsewhere(offset, bytes) => Ok(Note::Seen {
+            extent: ExtentId(8),
+            node: 1,
+            offset: *offset,
+            bytes: Bytes::from_static(bytes),
+        }),
         Observed::Content => Ok(Note::Content {
             extent,
             node: 1,
@@ -131,7 +149,9 @@ fn notes_of(alloc: Global, observed: &[Observed]) -> Result<Vec<Note>, Fail> {
 fn rows(alloc: Global, kept: &Kept, notes: &[Note]) -> Result<Rows, Fail> {
     let mut entries = BTreeMap::new(alloc);
     entries.insert(Bytes::from_static(b"k"), cell_of(kept))?;
-    Ok(rows_of(alloc, notes, &entries)?)
+    let mut seen = SeenByExtent::new(alloc);
+    seen.follow(alloc, notes)?;
+    Ok(rows_of(alloc, notes, &seen, &entries)?)
 }
 
 fn has_value(rows: &[Row], value: Option<&[u8]>) -> bool {

@@ -7,3 +7,4 @@ pub mod ManagerSimulation
 pub mod ManagerCalls
 pub mod EventSimulation
 pub mod ServerOutput
+pub mod Observed

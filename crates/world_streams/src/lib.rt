@@ -11,6 +11,7 @@ mod calls;
 mod fault;
 mod manager_actor;
 mod nodes;
+mod observations;
 mod post;
 mod setup;
 mod showing;

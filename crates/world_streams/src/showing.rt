@@ -5,6 +5,7 @@ ghost use Rattle.model_partition.specs.Servers.{noted, rows_of};
 ghost use Rattle.world_servers.specs.Servers.{ServersTakePacket, NoMore};
 ghost use Rattle.world_streams.specs.ServersStep.{ShowsRows, told_with};
 
+use crate::observations::Observations;
 use bytes::Bytes;
 use memtable::Cell;
 use model_partition::TableNote;
@@ -12,7 +13,7 @@ use range::Sent;
 use std::alloc::{AllocError, Global};
 use std::collections::BTreeMap;
 use wire::{Note, Packet, Rows, ServerNo};
-use world_servers::{Servers, rows_of};
+use world_servers::Servers;
 
 /// What a server sends and shows, and the rows of the one table that it may show as loaded.
 #[derive(Drop)]
@@ -24,16 +25,17 @@ pub(crate) struct Given {
 /// The rows of a table that is about to be shown, after these observations.
 fn rows_for(
     alloc: Global,
-    notes: &[Note],
     loading: Option<&BTreeMap<Bytes, Cell>>,
+    observed: &mut Observations,
 ) -> Result<Rows, AllocError>
-    ensures { IfOk result (λ rows. (entries : Entries) → option_map (λ table. table.now.entries) loading.entry ≡ Some entries → rows ≡ rows_of notes.now entries) }
+    ensures rows { IfOk result (λ rows. (entries : Entries) → option_map (λ table. table.now.entries) loading.entry ≡ Some entries → rows ≡ rows_of observed.old.items entries) }
+    ensures same { observed.new ≡ observed.old }
 {
     match loading {
         None => Ok(Rows {
             items: Vec::new(alloc),
         }),
-        Some(entries) => match rows_of(alloc, notes, entries) {
+        Some(entries) => match observed.rows_of(alloc, entries) {
             Ok(rows) => Ok(rows),
             Err(full) => Err(full),
         },
@@ -46,14 +48,15 @@ pub(crate) fn give(
     alloc: Global,
     server: ServerNo,
     packet: &Packet,
-    notes: &[Note],
+    observed: &mut Observations,
 ) -> Result<Given, AllocError>
     ensures ok { IfOk result (λ t. ServersTakePacket servers.old servers.new server packet.now t.sent) }
-    ensures rows { IfOk result (λ t. ShowsRows notes.now t.rows t.sent.notes) }
+    ensures rows { IfOk result (λ t. ShowsRows observed.old.items t.rows t.sent.notes) }
+    ensures same { observed.new ≡ observed.old }
     ensures err { OnErr result (servers.new ≡ servers.old) }
     ensures few { IfOk result (λ t. NoMore t.sent) }
 {
-    let rows = match rows_for(alloc, notes, servers.loading(server, &packet.body)) {
+    let rows = match rows_for(alloc, servers.loading(server, &packet.body), observed) {
         Ok(rows) => rows,
         Err(full) => return Err(full),
     };
@@ -103,7 +106,7 @@ fn told(note: TableNote, rows: Rows) -> Note
 }
 
 /// Puts what a server shows at the end, into room that is there. These are the rows of the one table that it may show.
-pub(crate) fn show(alloc: Global, list: &mut Vec<Note>, more: Vec<TableNote>, rows: Rows)
+pub(crate) fn show(alloc: Global, list: &mut Observations, more: Vec<TableNote>, rows: Rows)
     requires room { vec_len list.old + vec_len more ≤ vec_capacity list.old }
     requires rows { ShowsRows list.old.items rows more.items }
     ensures { list.new.items ≡ noted list.old.items more.items }

@@ -19,6 +19,7 @@ use crate::calls::is_call;
 use crate::fault::WorldFault;
 use crate::manager_actor::{Decision, ManagerActor};
 use crate::nodes::NodeList;
+use crate::observations::Observations;
 use crate::post::{make_room, move_in};
 use crate::setup::Setup;
 use crate::showing::{Given, give, show};
@@ -40,7 +41,7 @@ pub struct StreamLayer {
     nodes: NodeList,
     manager: ManagerActor,
     post: Vec<Packet>,
-    notes: Vec<Note>,
+    notes: Observations,
 }
 
 // Written out, so that a crate above that lets one go has no proof of what is in it.
@@ -99,7 +100,7 @@ impl StreamLayer {
                 nodes,
                 manager,
                 post: Vec::new(alloc),
-                notes: Vec::new(alloc),
+                notes: Observations::new(alloc),
             }),
             Err(fault) => Err(fault),
         }
@@ -166,7 +167,7 @@ impl StreamLayer {
             return Ok(None);
         }
         make_room(&mut self.post)?;
-        make_room(&mut self.notes)?;
+        self.notes.make_room()?;
         match take(
             &mut self.nodes,
             &mut self.manager,
@@ -176,7 +177,7 @@ impl StreamLayer {
             Ok(step) => {
                 let Step { packets, notes } = step;
                 move_in(&mut self.post, packets.into_vec());
-                move_in(&mut self.notes, notes.into_vec());
+                self.notes.move_in(notes.into_vec());
                 Ok(None)
             }
             Err(fault) => Err(fault),
@@ -218,7 +219,7 @@ impl StreamLayer {
         ensures err { OnErr result (self.new ≡ self.old) }
     {
         make_room(&mut self.post)?;
-        make_room(&mut self.notes)?;
+        self.notes.make_room()?;
         match self.manager.decide(alloc, extent) {
             Ok(decision) => {
                 let Decision { step, refusal } = decision;
@@ -227,7 +228,7 @@ impl StreamLayer {
                     notes: shown,
                 } = step;
                 move_in(&mut self.post, sent.into_vec());
-                move_in(&mut self.notes, shown.into_vec());
+                self.notes.move_in(shown.into_vec());
                 Ok(refusal)
             }
             Err(fault) => Err(fault),
@@ -352,14 +353,8 @@ impl StreamLayer {
         ensures servers_err { OnErr result (servers.new ≡ servers.old) }
     {
         make_room(&mut self.post)?;
-        make_room(&mut self.notes)?;
-        match give(
-            servers,
-            alloc,
-            server,
-            &self.post[number],
-            self.notes.as_slice(),
-        ) {
+        self.notes.make_room()?;
+        match give(servers, alloc, server, &self.post[number], &mut self.notes) {
             Ok(given) => {
                 let Given { sent, rows } = given;
                 let Sent { packets, notes } = sent;
@@ -387,7 +382,7 @@ impl StreamLayer {
         ensures servers_err { OnErr result (servers.new ≡ servers.old) }
     {
         make_room(&mut self.post)?;
-        make_room(&mut self.notes)?;
+        self.notes.make_room()?;
         match servers.give_up(alloc, server, range, pick) {
             Ok(done) => {
                 let GiveUpAnswer {

@@ -115,7 +115,7 @@ fn route(body: &MapBody) -> Result<Option<Body>, AllocError>
     }
 }
 
-fn table_call(alloc: Global, body: &TableBody) -> Result<Option<Body>, AllocError>
+fn table_call(body: &TableBody) -> Result<Option<Body>, AllocError>
     ensures { IfOk result (λ copy. copy ≡ (if is_table_call body.now then Some (bodies.Table body.now) else None)) }
 {
     match body {
@@ -158,6 +158,6 @@ pub(crate) fn request(alloc: Global, body: &Body) -> Result<Option<Body>, AllocE
         Body::Read(body) => Ok(read(body)),
         Body::Stream(body) => Ok(stream_call(body)),
         Body::Map(body) => route(body),
-        Body::Table(body) => table_call(alloc, body),
+        Body::Table(body) => table_call(body),
     }
 }

@@ -7,7 +7,7 @@ use Rattle.world_streams.proofs.stream_layer.StreamLayer.decide.Goals as goal
 pub returns-in-Ok-clause-ok : goal.returns-in-Ok-clause-ok
 returns-in-Ok-clause-ok c =
     let was : StreamLayerState = state c.self.inside.nodes c.self.inside.manager c.self.inside.post.items c.self.inside.notes.items in
-    let is : StreamLayerState = state c.self.inside.nodes c.decide.new.self c.move_in.new.list.items c.move_in-in-Ok.new.list.items in
+    let is : StreamLayerState = state c.self.inside.nodes c.decide.new.self c.move_in.new.list.items c.move_in-in-Ok.new.self.items in
     subst (λ (r : StreamLayerState). (w : StreamSystem) → StreamLayerMirrors r w → StreamLayerMirrors is (manager_decides w c.args.extent)) c.self.view_is
     (decided_one was is c.args.extent c.in-Ok.decision.step refl c.in-Ok.ensures.ok
     (c.move_in.ensures ∙ (λ i. c.make_room.ensures.same i ++ c.into_vec.ensures i))

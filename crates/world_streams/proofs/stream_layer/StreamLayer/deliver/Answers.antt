@@ -12,8 +12,8 @@ returns-then-number-len-clause-ok c =
 
 pub returns-in-Ok-clause-ok : goal.returns-in-Ok-clause-ok
 returns-in-Ok-clause-ok c =
-    subst (λ (r : StreamLayerState). (w : StreamSystem) → StreamLayerMirrors r w → StreamLayerMirrors (state c.take.new.nodes c.take.new.manager c.move_in.new.list.items c.move_in-in-Ok.new.list.items) (happens w (Deliver c.args.number))) c.self.view_is
-    (delivered_one (state c.self.inside.nodes c.self.inside.manager c.self.inside.post.items c.self.inside.notes.items) (state c.take.new.nodes c.take.new.manager c.move_in.new.list.items c.move_in-in-Ok.new.list.items)
+    subst (λ (r : StreamLayerState). (w : StreamSystem) → StreamLayerMirrors r w → StreamLayerMirrors (state c.take.new.nodes c.take.new.manager c.move_in.new.list.items c.move_in-in-Ok.new.self.items) (happens w (Deliver c.args.number))) c.self.view_is
+    (delivered_one (state c.self.inside.nodes c.self.inside.manager c.self.inside.post.items c.self.inside.notes.items) (state c.take.new.nodes c.take.new.manager c.move_in.new.list.items c.move_in-in-Ok.new.self.items)
     c.args.number c.index.result.now c.in-Ok.step
     (omega (arith, c.self.inside.post.ok, c.len.ensures, c.if-number-len.false))
     (c.index.ensures ∙ ap (λ l. slice_index_or l c.args.number c.index.result.now) c.make_room.ensures.same)

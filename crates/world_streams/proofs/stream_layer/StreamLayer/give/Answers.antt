@@ -13,4 +13,4 @@ returns-in-Ok-clause-ok c =
     (subst (λ (r : StreamLayerState). c.args.number < length r.post) (sym c.self.view_is) c.requires)
     (c.index.ensures ∙ ap (λ l. slice_index_or l c.args.number c.index.result.now) c.make_room.ensures.same)
     (subst (ServersTakePacket c.args.servers.now c.give.new.servers c.args.server c.index.result.now) (sym c.sent.view_is) c.in-Ok.ensures.ok)
-    refl refl (c.move_in.ensures ∙ ap (λ l. l ++ sent.packets) c.make_room.ensures.same) (cc (c.make_room-2.ensures.same)))
+    refl refl (c.move_in.ensures ∙ ap (λ l. l ++ sent.packets) c.make_room.ensures.same) (cc (c.make_room-2.ensures.same, c.give.ensures.same)))
