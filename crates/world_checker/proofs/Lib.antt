@@ -4,3 +4,4 @@ mod Pairs
 mod Comparing
 mod Linking
 mod ToldOf
+mod Beginning

@@ -11,6 +11,7 @@ mod compare;
 mod example;
 mod index;
 mod search;
+mod starts;
 mod telling;
 mod texts;
 mod told;

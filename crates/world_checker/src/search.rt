@@ -3,9 +3,10 @@ ghost use Rattle.std.specs.Prelude.{◌≡◌, ◌<◌, ◌≤◌, ◌↔◌, su
 ghost use Rattle.std.specs.Bool.{Decides};
 ghost use Rattle.world_checker.specs.Checking.{extent_of, IsHonest, AllMeet, MeetsFrom};
 ghost use Rattle.world_checker.specs.Links.{LeadOverMet, IsIndex};
+ghost use Rattle.world_checker.specs.Starts.{AreAllStarts};
 
-use crate::compare::is_compatible;
 use crate::index::{Sought, extent_of, links_of};
+use crate::starts::{are_compatible, starts_at, starts_of};
 use crate::telling::agreed;
 use crate::told::is_told;
 use std::alloc::{AllocError, Global};
@@ -32,8 +33,9 @@ fn link(links: &[usize], place: usize) -> usize
 
 /// Whether the observation at this place is compatible with all before it, where the links lead over such alone as it is
 /// compatible with.
-fn meets_earlier(notes: &[Note], links: &[usize], place: usize) -> bool
+fn meets_earlier(notes: &[Note], links: &[usize], starts: &[Vec<u32>], place: usize) -> bool
     requires within { place < length notes.now }
+    requires starts { AreAllStarts notes.now starts.now }
     requires linked { LeadOverMet notes.now links.now place }
     ensures { Decides result (MeetsFrom notes.now place 0) }
 {
@@ -41,6 +43,7 @@ fn meets_earlier(notes: &[Note], links: &[usize], place: usize) -> bool
     let Some(extent) = extent_of(note) else {
         return true;
     };
+    let note_starts = starts_at(starts, place);
     let mut below = link(links, place);
     while below > 0 {
         let before = below - 1;
@@ -49,7 +52,8 @@ fn meets_earlier(notes: &[Note], links: &[usize], place: usize) -> bool
             below = before;
             continue;
         }
-        if !is_compatible(earlier, note) {
+        let earlier_starts = starts_at(starts, before);
+        if !are_compatible(earlier, earlier_starts, note, note_starts) {
             return false;
         }
         below = link(links, before);
@@ -66,6 +70,8 @@ struct Index<'a> {
     shown: &'a [usize],
     /// So many of the first observations agree in what they tell of extents.
     agreed: usize,
+    /// Where the groups begin that each of the first observations shows.
+    starts: &'a [Vec<u32>],
 }
 
 /// The links to the observations that the one at this place has to be compared with.
@@ -83,12 +89,14 @@ fn links_for<'a>(index: Index<'a>, notes: &[Note], place: usize) -> &'a [usize]
 
 /// The place of the first observation that is not compatible with all before it.
 fn first_break(notes: &[Note], index: Index) -> Option<usize>
-    requires { IsIndex notes.now index.all.now index.shown.now index.agreed }
+    requires index { IsIndex notes.now index.all.now index.shown.now index.agreed }
+    requires starts { AreAllStarts notes.now index.starts.now }
     ensures none { IfNone result (AllMeet notes.now (length notes.now)) }
     ensures least { IfSome result (λ k. (k < length notes.now) × AllMeet notes.now k × (MeetsFrom notes.now k 0 → ⊥)) }
 {
     for place in 0..notes.len() {
-        if !meets_earlier(notes, links_for(index, notes, place), place) {
+        let links = links_for(index, notes, place);
+        if !meets_earlier(notes, links, index.starts, place) {
             return Some(place);
         }
     }
@@ -103,10 +111,12 @@ fn first_break_indexed(alloc: Global, notes: &[Note]) -> Result<Option<usize>, A
 {
     let all = links_of(alloc, notes, Sought::All)?;
     let shown = links_of(alloc, notes, Sought::Shown)?;
+    let starts = starts_of(alloc, notes)?;
     let index = Index {
         all: &all,
         shown: &shown,
         agreed: agreed(alloc, notes)?,
+        starts: &starts,
     };
     Ok(first_break(notes, index))
 }
@@ -126,12 +136,15 @@ pub fn check(notes: &[Note]) -> Option<usize>
         all: &[],
         shown: &[],
         agreed: 0,
+        starts: &[],
     };
     first_break(notes, index)
 }
 
-/// The same place as `check` answers, for long lists. An index leads from each observation to the earlier ones of its
-/// extent alone, and takes memory in proportion to the observations; where that memory is refused, this is `check`.
+/// The same place as `check` answers, for long lists. What was acknowledged and sealed of an extent is tested by where it
+/// stands among the others, and is compared with those alone that show bytes of the extent; what shows bytes, and what does
+/// not agree, is compared with all of its extent. The index takes memory in proportion to the observations and to the groups
+/// that they show; where that memory is refused, this is `check`.
 pub fn check_indexed(alloc: Global, notes: &[Note]) -> Option<usize>
     ensures none { (result ≡ None) ↔ IsHonest notes.now }
     ensures least { IfSome result (λ k. (k < length notes.now) × IsHonest (take k notes.now)

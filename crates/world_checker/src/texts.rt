@@ -85,7 +85,7 @@ pub fn has_length(groups: &[Group], wanted: u32) -> bool
 }
 
 /// Whether two groups have the same blocks.
-fn is_same_group(group: &[Block], other: &[Block]) -> bool
+pub fn is_same_group(group: &[Block], other: &[Block]) -> bool
     ensures { Decides result (group.now ≡ other.now) }
 {
     if group.len() != other.len() {
