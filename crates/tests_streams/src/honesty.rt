@@ -166,3 +166,60 @@ fn looks_through_many_extents(rt: HostRuntime) {
     assert!(rt; first_broken_of_many(alloc, &[]) == Ok(None));
     assert!(rt; first_broken_of_many(alloc, &[SealedAt(3)]) == Ok(Some(3998)));
 }
+
+/// So many words of two bytes, as groups of one block each.
+const WORDS: &[&[u8]] = &[b"ab"; 300];
+
+/// Observations of the extent whose first half was acknowledged, each of which breaks what was.
+const BREAKING_HALF: &[Observation] = &[
+    Acked(1, &[b"b"]),
+    Acked(298, &[b"abc"]),
+    SealedAt(299),
+    Content(&[b"ab", b"ab"]),
+    Seen(7, b"bb"),
+];
+
+fn add_half(notes: &mut Notes, alloc: Global, from: u16) -> Result<(), GroupFault> {
+    for number in 0..150 {
+        add(
+            notes,
+            alloc,
+            5,
+            &[Acked(u32::from(from) + 2 * number, &[b"ab"])],
+        )?;
+    }
+    Ok(())
+}
+
+/// The same where 150 appends were acknowledged, this was seen then, 150 more were acknowledged, and this was seen at last.
+fn first_broken_of_one(
+    alloc: Global,
+    between: &[Observation],
+    last: &[Observation],
+) -> Result<Option<usize>, GroupFault> {
+    let mut notes = Notes::new(alloc);
+    add_half(&mut notes, alloc, 0)?;
+    add(&mut notes, alloc, 5, between)?;
+    add_half(&mut notes, alloc, 300)?;
+    add(&mut notes, alloc, 5, last)?;
+    Ok(check_indexed(alloc, &notes.items))
+}
+
+#[test]
+fn looks_through_one_extent(rt: HostRuntime) {
+    let alloc = rt.alloc();
+    let sealed = [SealedAt(600), Seen(301, b"bab"), Content(WORDS)];
+    assert!(rt; first_broken_of_one(alloc, &sealed, &sealed) == Ok(None));
+    for breaking in BREAKING_HALF {
+        assert!(rt; first_broken_of_one(alloc, &[*breaking], &sealed) == Ok(Some(150)));
+    }
+}
+
+#[test]
+fn finds_the_append_that_breaks(rt: HostRuntime) {
+    let alloc = rt.alloc();
+    assert!(rt; first_broken_of_one(alloc, &[SealedAt(400)], &[]) == Ok(Some(201)));
+    assert!(rt; first_broken_of_one(alloc, &[Seen(310, b"xb")], &[]) == Ok(Some(156)));
+    assert!(rt; first_broken_of_one(alloc, &[Acked(310, &[b"ab"])], &[]) == Ok(Some(156)));
+    assert!(rt; first_broken_of_one(alloc, &[], &[Acked(310, &[b"ab"])]) == Ok(Some(300)));
+}
