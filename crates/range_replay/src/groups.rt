@@ -1,22 +1,46 @@
 //! The groups of an extent of the log, replayed.
-ghost use Rattle.std.specs.Prelude.{◌≡◌, ◌+◌, ◌<◌, ◌^◌, ◌∷◌, ℕ, List, Some, None, Err, IfOk, OnOk};
+ghost use Rattle.std.specs.Prelude.{◌≡◌, ◌+◌, ◌<◌, ◌^◌, ◌++◌, ◌∷◌, ℕ, List, Some, None, Err, IfOk, OnOk};
 ghost use Rattle.std.specs.List.{AllByRecursion};
 ghost use Rattle.block_types.specs.declared.fault.BlockFault.TheVariants as faults;
 ghost use Rattle.block_types.specs.Limits.{group_size};
+ghost use Rattle.blocks.specs.Format.{Gives};
+ghost use Rattle.commitlog.specs.Reading.{record_at};
+ghost use Rattle.commitlog.specs.Record.{Fits, spelling};
 ghost use Rattle.memtable.specs.Cell.{IsEntry};
 ghost use Rattle.memtable.specs.Entries.{Entries, put_all};
 ghost use Rattle.model_partition.specs.Loading.{replayed};
 ghost use Rattle.range_replay.specs.Reload.{group_takes};
 
 use crate::regions::take_regions;
-use block_types::{BlockFault, Group};
+use block_types::{Block, BlockFault, Group};
 use bytes::Bytes;
-use commitlog::decode;
+use commitlog::{LogReader, LogRecord};
 use memtable::Cell;
 use metadata::{KeyRange, Region, copied_regions};
-use std::alloc::Global;
+use std::alloc::{AllocError, Global};
 use streams::Position;
 use wire::ExtentId;
+
+/// Feeds the blocks to the reader, in order.
+fn feed_all(reader: &mut LogReader, blocks: &[Block]) -> Result<(), AllocError>
+    ensures { OnOk result (reader.new ≡ reader.old ++ blocks.now) }
+{
+    for block in blocks {
+        reader.feed(block)?;
+    }
+    Ok(())
+}
+
+/// The record that a group is, read block by block.
+fn record_of(alloc: Global, group: &Group) -> Result<LogRecord, BlockFault>
+    ensures found { IfOk result (λ r. Fits r × (spelling r ≡ group.now)) }
+    ensures read { Gives (λ r. r) result (record_at group.now) }
+{
+    let blocks = group.blocks();
+    let mut reader = LogReader::new(alloc);
+    feed_all(&mut reader, blocks)?;
+    reader.end(alloc)
+}
 
 /// What the regions take of the group at the position.
 fn take_group(
@@ -37,7 +61,7 @@ fn take_group(
         → group_takes keys.now at.now extent (regions.items, put_all layer changes.old.items) group.now ≡ None }
     ensures entries { OnOk result (AllByRecursion (λ e. IsEntry e.0 e.1) changes.new.items) }
 {
-    let written = decode(alloc, group)?;
+    let written = record_of(alloc, group)?;
     match take_regions(alloc, regions, keys, at, extent, &written, changes) {
         Ok(taken) => Ok(taken),
         Err(fault) => Err(fault),
