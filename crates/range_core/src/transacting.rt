@@ -3,6 +3,7 @@ ghost use Rattle.std.specs.Prelude.{◌≡◌, ◌<◌, ◌+◌, ◌^◌, [], �
 ghost use Rattle.model_partition.specs.Range.{RangeState, answers, refuses, is_serving, waiting_out};
 ghost use Rattle.model_partition.specs.Serving.{transact_fault, transact_rule, lease_ended};
 ghost use Rattle.commitlog.specs.Record.{IsTransaction};
+ghost use Rattle.range_commit.specs.Queue.{changes_fault};
 ghost use Rattle.range_core.specs.Steps.{outcome, IsShort};
 
 use crate::range_step::RangeStep;
@@ -56,6 +57,14 @@ impl RangeState {
         self.until <= context.moment
     }
 
+    /// Why no record of the range holds these changes: 37, 36, 37 or 33, the first that is met.
+    fn changes_fault(&self, changes: &Changes) -> Option<Refusal>
+        ensures value { result ≡ changes_fault self.now.said.keys changes.now }
+        ensures fits { result ≡ None → IsTransaction changes.now }
+    {
+        change_fault(changes.as_slice(), &self.content.said.keys)
+    }
+
     /// Why a transaction is refused: 38, 32, 37, 36, 37, 33 or 35, the first that is met.
     fn transact_fault(&self, context: &ServerContext, changes: &Changes) -> Option<Refusal>
         ensures value { result ≡ transact_fault context.now self.now changes.now }
@@ -68,7 +77,7 @@ impl RangeState {
         if self.lease_ended(context) {
             return Some(Refusal::LeaseEnded);
         }
-        let fault = change_fault(changes.as_slice(), &self.content.said.keys);
+        let fault = self.changes_fault(changes);
         if fault.is_some() {
             return fault;
         }
