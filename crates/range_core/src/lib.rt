@@ -6,6 +6,7 @@
 //! `get` and `give_up`. `answer` goes to `load`, to `log_done` or to the Gets, whichever waits. A step that is refused for want
 //! of memory (22) leaves the range as it was, and that is the one error that no clause limits. The readers `phase`, `position`,
 //! `next_number`, `indexes` and `regions` take no memory.
+//! The group that `form` of a range appends is that of the function `form`, which encodes each transaction once.
 #![tactic(auto)]
 
 mod acknowledging;
@@ -20,5 +21,6 @@ mod transacting;
 
 pub use answering::Waiter;
 pub use phase::Phase;
+pub use range_commit::form;
 pub use range_step::RangeStep;
 pub use state::RangeState;

@@ -57,7 +57,7 @@ impl RangeState {
         self.until <= context.moment
     }
 
-    /// What is wrong with the changes of a transaction: 37, 36, 37 or 33, the first that is met.
+    /// Why no record of the range holds these changes: 37, 36, 37 or 33, the first that is met.
     fn changes_fault(&self, changes: &Changes) -> Option<Refusal>
         ensures value { result ≡ changes_fault self.now.said.keys changes.now }
         ensures fits { result ≡ None → IsTransaction changes.now }

@@ -3,10 +3,10 @@ ghost use Rattle.std.specs.Prelude.{IfOk};
 ghost use Rattle.commitlog.specs.Record.{Fits};
 
 use crate::groups::{group_of, has_blocks};
-use block_types::{BlockFault, Group};
-use commitlog::{Filling, LogRecord, Replay, cells, decode, encode, one_spelling};
+use block_types::{Block, BlockFault, Group};
+use commitlog::{GroupText, LogReader, LogRecord, Replay, cells, decode, encode, one_spelling};
 use memtable::{Cell, Place};
-use std::alloc::Global;
+use std::alloc::{AllocError, Global};
 use std::test::Fail;
 use wire::ExtentId;
 
@@ -83,10 +83,36 @@ fn is_spelled_again(alloc: Global, texts: &[&[u8]]) -> Result<bool, BlockFault> 
     Ok(has_blocks(spelled?, texts))
 }
 
+fn fed(alloc: Global, blocks: &[Block]) -> Result<LogReader, AllocError> {
+    let mut reader = LogReader::new(alloc);
+    for block in blocks {
+        reader.feed(block)?;
+    }
+    Ok(reader)
+}
+
+fn read_by_blocks(alloc: Global, texts: &[&[u8]]) -> Result<LogRecord, BlockFault>
+    ensures { IfOk result Fits }
+{
+    let group = group_of(alloc, texts)?;
+    let reader = fed(alloc, group.blocks());
+    drop(group);
+    reader?.end(alloc)
+}
+
+/// Whether the record of these blocks, read one by one, is spelled as they are.
+fn is_read_by_blocks(alloc: Global, texts: &[&[u8]]) -> Result<bool, BlockFault> {
+    let record = read_by_blocks(alloc, texts)?;
+    let spelled = encode(alloc, &record);
+    drop(record);
+    Ok(has_blocks(spelled?, texts))
+}
+
 #[test]
 fn is_spelled_so_by_hand_and_damaged_else(rt: HostRuntime) {
     for (texts, expected) in READINGS {
         assert!(rt; is_spelled_again(rt.alloc(), *texts) == *expected);
+        assert!(rt; is_read_by_blocks(rt.alloc(), *texts) == *expected);
     }
 }
 
@@ -116,21 +142,23 @@ fn is_kept_by_its_place(rt: HostRuntime) -> Result<(), Fail> {
     Ok(())
 }
 
-fn adds(filling: &mut Filling, read: &LogRecord) -> bool
+/// Whether the first transaction is held, and was encoded once.
+fn holds_first(text: &mut GroupText, read: &LogRecord) -> Result<bool, AllocError>
     requires { Fits read.now }
 {
+    let mut encodings = 0;
     match read.transactions.items.as_slice() {
-        [first, ..] => filling.add(first),
-        [] => false,
+        [first, ..] => Ok(text.add(first.as_slice(), &mut encodings)? && encodings == 1),
+        [] => Ok(false),
     }
 }
 
 #[test]
 fn has_room_for_one(rt: HostRuntime) -> Result<(), Fail> {
     let record = read(rt.alloc(), LARGE_RECORD)?;
-    let told = adds(&mut Filling::new(), &record);
+    let told = holds_first(&mut GroupText::new(rt.alloc()), &record);
     drop(record);
-    assert!(rt; told);
+    assert!(rt; told?);
     Ok(())
 }
 

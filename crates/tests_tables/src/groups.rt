@@ -6,6 +6,7 @@ use memtable::Cell;
 use metadata::KeyRange;
 use model_partition::{TableNote, WaitingTransaction};
 use range_commit::{MAX_WAITING, Queue, change_fault};
+use range_core::form;
 use std::alloc::Global;
 use std::test::Fail;
 use wire::{ActorId, Body, ExtentId, Fence, Packet, RangeId, Refusal, ReqNo, TableBody};
@@ -215,5 +216,25 @@ fn changes_are_refused_by_the_first_test(rt: HostRuntime) -> Result<(), Fail> {
     for (count, key, length, refusal) in FAULTS {
         assert!(rt; fault(rt.alloc(), *count, *key, *length)? == *refusal);
     }
+    Ok(())
+}
+
+/// How many of three transactions the group has that is formed with this batch, and how many were encoded.
+fn formed(alloc: Global, batch: u16) -> Result<(usize, u64), Fail> {
+    let mut queue = Queue::new(alloc);
+    for ticket in 1..4 {
+        let _is_pushed = pushes(alloc, &mut queue, ticket)?;
+    }
+    let mut encodings = 0;
+    let made = form(alloc, 1, &queue, batch, &mut encodings);
+    drop(queue);
+    let (_group, count) = made?;
+    Ok((count, encodings))
+}
+
+#[test]
+fn each_is_encoded_once(rt: HostRuntime) -> Result<(), Fail> {
+    assert!(rt; formed(rt.alloc(), 2)? == (2, 2));
+    assert!(rt; formed(rt.alloc(), 64)? == (3, 3));
     Ok(())
 }
