@@ -7,4 +7,3 @@ pub mod ManagerSimulation
 pub mod ManagerCalls
 pub mod EventSimulation
 pub mod ServerOutput
-pub mod Observed
