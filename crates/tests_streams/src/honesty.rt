@@ -167,8 +167,11 @@ fn looks_through_many_extents(rt: HostRuntime) {
     assert!(rt; first_broken_of_many(alloc, &[SealedAt(3)]) == Ok(Some(3998)));
 }
 
-/// So many words of two bytes, as groups of one block each.
-const WORDS: &[&[u8]] = &[b"ab"; 300];
+/// The bytes of one append.
+const WORD: &[u8] = b"ab";
+
+/// All appends, as groups of one block each.
+const WORDS: &[&[u8]] = &[WORD; 300];
 
 /// Observations of the extent whose first half was acknowledged, each of which breaks what was.
 const BREAKING_HALF: &[Observation] = &[
