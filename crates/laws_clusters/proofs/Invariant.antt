@@ -16,10 +16,10 @@ use Rattle.model_partition.specs.Range.{RangeState}
 use Rattle.model_partition.specs.Server.{ServerState}
 use Rattle.model_partition.specs.ServerTurns.{Whole, after_all, AreMoves}
 use Rattle.model_partition.specs.ServerTurns as machine
-use Rattle.laws_loads.specs.Renaming.{renamed, decoded}
+use Rattle.model_partition.specs.Renaming.{renamed, decoded}
 use Rattle.laws_stream_machine.specs.Refinement.{Sent}
 use Rattle.laws_ranges.specs.Serves.{Side, Apart, Follows}
-use Rattle.laws_ranges.specs.Sound.{IsSound}
+use Rattle.laws_loads.specs.Sound.{IsSound}
 use Rattle.laws_ranges.proofs.TurnsAsMoves.{stand_of}
 use Rattle.laws_log_reads.specs.Reads.{HasRead}
 use Rattle.laws_clusters.specs.Fitting.{AreFitMoves, AreUnformedMoves}

@@ -19,7 +19,7 @@ use Rattle.model_partition.specs.ServerTurns.{Phase, Idle, Opening, Checking, Se
 use Rattle.laws_tables.proofs.Range.{bound, event_cases}
 use Rattle.laws_tables.proofs.Turns.{Knows, all_good}
 use Rattle.laws_tables.proofs.Others.{others-append}
-use Rattle.laws_loads.specs.Renaming.{renamed, renamed_copy, renamed_placed, renamed_event, decoded}
+use Rattle.model_partition.specs.Renaming.{renamed, renamed_copy, renamed_placed, renamed_event, decoded}
 use Rattle.laws_loads.proofs.Renaming.{made_at, mapped_length, from_place_renamed}
 use Rattle.laws_ranges.specs.Serves.{Stand, after_turns, AreTurns, begun_notes, done_notes, next_behind, IsShown, AreShown}
 use Rattle.laws_ranges.proofs.TurnsAsMoves.{stand_of, moves_of, stands_after, are_moves}

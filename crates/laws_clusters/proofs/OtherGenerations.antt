@@ -5,7 +5,7 @@ use Rattle.replica.specs.Groups.{Group}
 use Rattle.model_partition.specs.Log.{next_number}
 use Rattle.model_partition.specs.StreamMachine.{MachineState, Begins}
 use Rattle.model_partition.specs.ServerTurns.{Phase, Idle, Opening, Checking, Sealing, Confirming, Serving, Sent, Closing, Growing, Turn, Assigned, AllSealed, LastOpen, Found, Fails, IsShut, ConfirmedIs, Forms, AppendedAt, ExtendedTo, IsTurn, becomes, does, forms, all_next}
-use Rattle.laws_loads.specs.Renaming.{renamed, decoded}
+use Rattle.model_partition.specs.Renaming.{renamed, decoded}
 use Rattle.laws_ranges.specs.Serves.{Stand, after_turns, AreTurns}
 use Rattle.laws_clusters.proofs.ServedLog.{IsUp}
 

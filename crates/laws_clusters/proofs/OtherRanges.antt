@@ -19,10 +19,10 @@ use Rattle.model_partition.specs.StreamMachine as extents
 use Rattle.model_partition.specs.Log.{next_number}
 use Rattle.model_partition.specs.Range.{RangeState, RangeOutcome}
 use Rattle.model_partition.specs.ServerTurns.{after_all}
-use Rattle.laws_loads.specs.Renaming.{renamed, decoded}
+use Rattle.model_partition.specs.Renaming.{renamed, decoded}
 use Rattle.laws_stream_machine.specs.Refinement.{Sent, extents_of}
 use Rattle.laws_ranges.specs.Serves.{Stand, Side, after_turns, metadata_of, log_of, Wider, StageIs, Follows, FollowsIf, ServesBy, IsSentBy, RuleTells}
-use Rattle.laws_ranges.specs.Sound.{IsSound, IsSoundIf}
+use Rattle.laws_loads.specs.Sound.{IsSound, IsSoundIf}
 use Rattle.laws_ranges.proofs.MoreKnown.{follows_on}
 use Rattle.laws_ranges.proofs.TurnsAsMoves.{stand_of}
 use Rattle.laws_log_reads.specs.Reads.{HasRead, HasReadIf}

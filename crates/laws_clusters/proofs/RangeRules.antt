@@ -26,13 +26,13 @@ use Rattle.model_partition.specs.Range.{RangeState, RangeOutcome, dropped, is_se
 use Rattle.model_partition.specs.Serving.{transact_rule}
 use Rattle.model_partition.specs.ServerTurns.{after_all}
 use Rattle.model_partition.specs.ServerTurns as machine
-use Rattle.laws_loads.specs.Renaming.{renamed, decoded}
+use Rattle.model_partition.specs.Renaming.{renamed, decoded}
 use Rattle.laws_stream_machine.specs.Refinement.{Purpose, Sent, purpose_of, Means}
 use Rattle.laws_stream_machine.proofs.LowerLayer.{below_made, below_index, below_of_other}
 use Rattle.laws_ranges.specs.Serves.{Stand, Side, after_turns, AreShown, is_live, metadata_of, log_of, next_behind, BothListed, IsCounted, IsConfirming, FollowsIf, IsSentBy, RuleTells}
 use Rattle.laws_ranges.specs.Quiet.{IsLoading}
-use Rattle.laws_ranges.specs.Sound.{IsSoundIf}
-use Rattle.laws_ranges.specs.StaysLoading.{Stays, IsUnserved, IsConfirmation}
+use Rattle.laws_loads.specs.Sound.{IsSoundIf}
+use Rattle.laws_loads.specs.StaysLoading.{Stays, IsUnserved, IsConfirmation}
 use Rattle.laws_ranges.proofs.TurnsAsMoves.{is_counted}
 use Rattle.laws_ranges.proofs.QuietTurns.{loading_quiet}
 use Rattle.laws_ranges.proofs.UnservedRules.{unserved_loading}
@@ -50,15 +50,15 @@ use Rattle.streams.specs.Streams.{stream_of}
 use Rattle.model_partition.specs.declared.table_note.TableNote.TheVariants as tables
 use Rattle.model_partition.specs.Past.{Bytes, stored, after_line, empty_table}
 use Rattle.model_partition.specs.Story.{Showed, placed, from_place}
-use Rattle.laws_loads.specs.Renaming.{renamed_copy}
+use Rattle.model_partition.specs.Renaming.{renamed_copy}
 use Rattle.laws_ranges.proofs.AnswerRules.{answer_both}
 use Rattle.laws_ranges.proofs.ShownByRules.{serving_only, assigned_tells, transact_all_tells, give_up_all_tells, confirming_stage, confirming_at, answer_tells}
 use Rattle.laws_ranges.proofs.Confirmed.{confirmed_all}
 use Rattle.laws_ranges.proofs.Gets.{get_tells}
 use Rattle.laws_ranges.proofs.GiveUpLoading.{give_up_all_both}
 use Rattle.laws_ranges.proofs.BothStreamsAtOnce.{taken}
-use Rattle.laws_ranges.proofs.WaitingIsSound.{transact_sound}
-use Rattle.laws_ranges.proofs.WaitingStays.{transact_stays, get_stays, give_up_stays, answer_stays, stays_unserved, new_sound, get_sound, give_up_sound, serves_sound, answer_sound}
+use Rattle.laws_loads.proofs.WaitingIsSound.{transact_sound}
+use Rattle.laws_loads.proofs.WaitingStays.{transact_stays, get_stays, give_up_stays, answer_stays, stays_unserved, new_sound, get_sound, give_up_sound, serves_sound, answer_sound}
 use Rattle.laws_log_reads.proofs.AnswerRules.{answer_left}
 use Rattle.laws_log_reads.proofs.LoadedTable.{LoadedRightly, all_read, loaded_rightly}
 use Rattle.laws_log_reads.proofs.ToldIsShown.{shows_now}

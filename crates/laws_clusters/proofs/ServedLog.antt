@@ -9,7 +9,7 @@ use Rattle.model_partition.specs.ServerTurns.{Phase, Idle, Opening, Checking, Se
 use Rattle.laws_tables.proofs.Range.{newest, bound, older, event_cases}
 use Rattle.laws_tables.proofs.Extents.{Inv, followed}
 use Rattle.laws_tables.proofs.Turns.{stays, Knows, all_good}
-use Rattle.laws_loads.specs.Renaming.{renamed, renamed_placed, decoded}
+use Rattle.model_partition.specs.Renaming.{renamed, renamed_placed, decoded}
 use Rattle.laws_loads.proofs.Renaming.{made_at, made_from, answered_at, showed_at, showed_from}
 use Rattle.laws_ranges.specs.Serves.{IsFit, AreFit}
 use Rattle.laws_ranges.proofs.TurnsAsMoves.{stand_of, moves_of, stands_after}

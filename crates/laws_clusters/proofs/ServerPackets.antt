@@ -34,7 +34,7 @@ use Rattle.model_partition.specs.Server.{ServerState, ServerOutcome, set_range, 
 use Rattle.model_partition.specs.Serving.{transact_rule}
 use Rattle.laws_stream_machine.specs.Refinement.{Sent}
 use Rattle.laws_ranges.specs.Serves.{Stand, Side, log_of, FollowsIf, IsSentBy, AreAsked, RuleTells}
-use Rattle.laws_ranges.specs.Sound.{IsSoundIf}
+use Rattle.laws_loads.specs.Sound.{IsSoundIf}
 use Rattle.laws_ranges.proofs.ServedRules.{asked_of_both}
 use Rattle.laws_ranges.proofs.LogRules.{refused_plain}
 use Rattle.laws_ranges.proofs.BothStreamsAtOnce.{taken}

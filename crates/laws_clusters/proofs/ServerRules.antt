@@ -22,10 +22,10 @@ use Rattle.model_partition.specs.Range.{RangeState, RangeOutcome}
 use Rattle.model_partition.specs.Server.{ServerState}
 use Rattle.model_partition.specs.ServerTurns.{Phase, after_all}
 use Rattle.model_partition.specs.ServerTurns as machine
-use Rattle.laws_loads.specs.Renaming.{renamed, decoded}
+use Rattle.model_partition.specs.Renaming.{renamed, decoded}
 use Rattle.laws_stream_machine.specs.Refinement.{Purpose, Sent, purpose_of}
 use Rattle.laws_ranges.specs.Serves.{Side, sent_with, Adds, AreUnused, IsSentBy, AskedOfBoth, RuleTells}
-use Rattle.laws_ranges.specs.Sound.{IsSoundIf}
+use Rattle.laws_loads.specs.Sound.{IsSoundIf}
 use Rattle.laws_ranges.proofs.MachineSteps.{newest}
 use Rattle.laws_log_reads.specs.Reads.{HasReadIf}
 use Rattle.laws_servers.specs.Sending.{MaySendAll}

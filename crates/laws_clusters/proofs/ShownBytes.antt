@@ -9,7 +9,7 @@ use Rattle.model_streams.specs.StreamSystem.{StreamSystem, Move, run_moves, star
 use Rattle.model_partition.specs.Past.{Bytes}
 use Rattle.laws_streams.specs.Origins.{Begins, Shows as ShowsBytes}
 use Rattle.laws_streams.proofs.ContentAnswers.{content_answered}
-use Rattle.laws_loads.specs.TableContents.{StandsAt}
+use Rattle.model_partition.specs.TableContents.{StandsAt}
 use Rattle.laws_loads.proofs.Cells.{length_both}
 use Rattle.laws_loads.proofs.Rows.{TellsRightly, AllTellRightly}
 

@@ -18,7 +18,7 @@ use Rattle.model_partition.specs.Log.{ShowsTables, next_number, observed}
 use Rattle.model_partition.specs.Range.{RangeState}
 use Rattle.model_partition.specs.ServerTurns.{Below, after_all, AreMoves}
 use Rattle.model_partition.specs.ServerTurns as machine
-use Rattle.laws_loads.specs.Renaming.{renamed, decoded}
+use Rattle.model_partition.specs.Renaming.{renamed, decoded}
 use Rattle.laws_stream_machine.specs.Refinement.{Sent, extents_in}
 use Rattle.laws_stream_machine.proofs.SentPackets.{Ahead}
 use Rattle.laws_stream_machine.proofs.MachineCore.{get_same}

@@ -16,7 +16,7 @@ use Rattle.model_partition.specs.Server.{ServerState, started}
 use Rattle.model_partition.specs.Story.{KeepsOrder, Story}
 use Rattle.model_partition.specs.ServerTurns.{after_all}
 use Rattle.commitlog.specs.Replay.{Numbered}
-use Rattle.laws_loads.specs.Renaming.{renamed, decoded}
+use Rattle.model_partition.specs.Renaming.{renamed, decoded}
 use Rattle.laws_loads.proofs.Renaming.{renamed_keeps}
 use Rattle.laws_stream_machine.proofs.LowerLayer.{below_start}
 use Rattle.laws_ranges.specs.Serves.{metadata_of, log_of}

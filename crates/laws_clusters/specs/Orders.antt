@@ -6,7 +6,7 @@ use Rattle.replica.specs.Groups.{Group}
 use Rattle.model_partition.specs.Log.{observed}
 use Rattle.model_partition.specs.Past.{table_notes}
 use Rattle.model_partition.specs.Story.{KeepsOrder, Story}
-use Rattle.laws_loads.specs.Renaming.{renamed, decoded}
+use Rattle.model_partition.specs.Renaming.{renamed, decoded}
 
 -- the stories of a range's metadata and log keep their order, and what is observed of its tables is what the log's groups spell
 pub record ComesOfStreams (notes : List Note) : Type 0 where

@@ -19,7 +19,7 @@ use Rattle.replica.proofs.Lengths.{group_size-size}
 use Rattle.commitlog.specs.Record.{large, change_values, transaction_values}
 use Rattle.commitlog.specs.Places.{kept_cell, kept_changes, kept_transactions}
 use Rattle.model_partition.specs.Past.{Bytes, Table, after_change, after_transaction, after_line}
-use Rattle.laws_loads.specs.TableContents.{StandsAt, value_in, value_of, table_in}
+use Rattle.model_partition.specs.TableContents.{StandsAt, value_in, value_of, table_in}
 
 -- ---- texts
 

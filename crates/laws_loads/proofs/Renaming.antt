@@ -2,7 +2,7 @@
 use Rattle.std.proofs.Common.{◌≡◌, ℕ, zero, suc, ◌<◌, ◌≤◌, List, [], ◌∷◌, ◌++◌, length, map, Option, Some, None, refl, sym, ap, ◌∙◌, subst, cond, arith, nat_lt, ◌==◌, Bool, true, false}
 use Rattle.std.specs.Prelude.{Contains}
 use Rattle.model_partition.specs.Story.{Placed, StreamEvent, Made, Answered, Showed, Story, event_at, Copy, placed, from_place, Ascending, KeepsOrder}
-use Rattle.laws_loads.specs.Renaming.{renamed_copy, renamed_placed, renamed_event, renamed}
+use Rattle.model_partition.specs.Renaming.{renamed_copy, renamed_placed, renamed_event, renamed}
 
 -- ---- lists
 
@@ -28,6 +28,10 @@ module _ {X Y : Type 0} (f : X → Y) where
   pub mapped_length : (xs : List X) → length (map f xs) ≡ length xs
   mapped_length [] = refl
   mapped_length (x ∷ xs) = ap suc (mapped_length xs)
+
+pub more_length : {A : Type 0} (xs : List A) (y : A) → length (xs ++ y ∷ []) ≡ suc (length xs)
+more_length {A} [] y = refl
+more_length {A} (x ∷ xs) y = ap suc (more_length xs y)
 
 -- a list that is mapped to a front, an element and a back has those parts
 pub mapped_parts : {X Y : Type 0} (f : X → Y) (xs : List X) (front : List Y) (y : Y) (back : List Y) → map f xs ≡ front ++ y ∷ back →

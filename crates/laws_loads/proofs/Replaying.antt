@@ -24,8 +24,8 @@ use Rattle.commitlog.specs.Places.{kept, kept_transactions}
 use Rattle.commitlog.proofs.Measures.{group_size-append, size-spelling}
 use Rattle.model_partition.specs.Loading.{replayed, region_takes, holds}
 use Rattle.model_partition.specs.Past.{Bytes, Table, Transaction, after_transaction, after_line, empty_table}
-use Rattle.laws_loads.specs.Renaming.{numbered}
-use Rattle.laws_loads.specs.TableContents.{StandsAt, table_in}
+use Rattle.model_partition.specs.Renaming.{numbered}
+use Rattle.model_partition.specs.TableContents.{StandsAt, table_in}
 use Rattle.laws_loads.proofs.Cells.{Says, all_transactions, Behind, behind, stands_first, stands_second, joined_both, size_is}
 
 -- ---- lines

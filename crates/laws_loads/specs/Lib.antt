@@ -1,2 +1,2 @@
-pub mod Renaming
-pub mod TableContents
+pub mod Sound
+pub mod StaysLoading

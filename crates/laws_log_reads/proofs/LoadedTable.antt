@@ -13,8 +13,8 @@ use Rattle.model_partition.specs.Past.{Bytes, Transaction, after_line, empty_tab
 use Rattle.model_partition.specs.Range.{RangeState}
 use Rattle.model_partition.specs.Story.{Copy, Placed, placed}
 use Rattle.model_partition.specs.StreamMachine as machine
-use Rattle.laws_loads.specs.Renaming.{renamed_copy, decoded}
-use Rattle.laws_loads.specs.TableContents.{table_in}
+use Rattle.model_partition.specs.Renaming.{renamed_copy, decoded}
+use Rattle.model_partition.specs.TableContents.{table_in}
 use Rattle.laws_loads.proofs.Rows.{Ordered}
 use Rattle.laws_ranges.specs.Serves.{next_behind, LoadOf, OfSealed, OfStood}
 use Rattle.laws_log_reads.specs.Reads.{ReadExtent, all_groups, line_read, groups_in, AreStanding, AreWithin, TableIs, AllSealed, AllRead, WereSealed, LastStood, StandsOnce, Loads, HasReadAll, HasReadAt, HasRead}

@@ -12,8 +12,8 @@ use Rattle.commitlog.specs.Replay.{Numbered, taken}
 use Rattle.commitlog.specs.Replay.{replayed as replay}
 use Rattle.model_partition.specs.Loading.{replayed}
 use Rattle.model_partition.specs.Past.{Bytes, Transaction}
-use Rattle.laws_loads.specs.Renaming.{numbered, numbered_if, decoded}
-use Rattle.laws_loads.specs.TableContents.{StandsAt, table_in}
+use Rattle.model_partition.specs.Renaming.{numbered, numbered_if, decoded}
+use Rattle.model_partition.specs.TableContents.{StandsAt, table_in}
 use Rattle.laws_loads.proofs.Renaming.{mapped_both}
 use Rattle.laws_loads.proofs.Replaying.{AreRead, Has, After, extent_replayed}
 use Rattle.laws_loads.proofs.Rows.{Ordered}

@@ -24,7 +24,7 @@ use Rattle.model_partition.specs.Server.{new_range}
 use Rattle.model_partition.specs.Answering.{serving_news, give_up_all}
 use Rattle.model_partition.specs.StreamMachine as machine
 use Rattle.replica.specs.Groups.{Group}
-use Rattle.laws_ranges.proofs.WaitingIsSound.{tests}
+use Rattle.laws_loads.proofs.WaitingIsSound.{tests}
 use Rattle.laws_log_reads.specs.Reads.{HasReadAt, HasRead, HasReadIf}
 use Rattle.laws_log_reads.proofs.ReadRequests.{Keeps, by_same, some_same, gives_up_there, gives_up_by, gives_up_some}
 use Rattle.laws_log_reads.proofs.UntouchedReads.{same_left}

@@ -16,7 +16,7 @@ use Rattle.model_partition.specs.Past.{Bytes, stored, after_line, empty_table}
 use Rattle.model_partition.specs.Range.{RangeState}
 use Rattle.model_partition.specs.Story.{Copy, placed}
 use Rattle.model_partition.specs.StreamMachine as machine
-use Rattle.laws_loads.specs.Renaming.{renamed_copy, decoded}
+use Rattle.model_partition.specs.Renaming.{renamed_copy, decoded}
 use Rattle.laws_loads.proofs.Rows.{TellsRightly, AllTellRightly, IsCovered, first_rightly, AreShown, rows_say}
 use Rattle.laws_log_reads.specs.Reads.{ReadExtent, AreStanding, IsWithin, AreWithin, IsShown, AllSealed, AllRead, WereSealed, LastStood}
 use Rattle.laws_log_reads.proofs.LoadedTable.{LoadedRightly}

@@ -27,8 +27,8 @@ use Rattle.model_partition.specs.Past.{Bytes, Transaction, after_line, empty_tab
 use Rattle.model_partition.specs.Range.{RangeState}
 use Rattle.model_partition.specs.Story.{Copy}
 use Rattle.model_partition.specs.StreamMachine as machine
-use Rattle.laws_loads.specs.Renaming.{decoded}
-use Rattle.laws_loads.specs.TableContents.{StandsAt, table_in}
+use Rattle.model_partition.specs.Renaming.{decoded}
+use Rattle.model_partition.specs.TableContents.{StandsAt, table_in}
 use Rattle.laws_loads.proofs.Replaying.{AreRead}
 use Rattle.laws_loads.proofs.Rows.{Ordered}
 use Rattle.laws_stream_machine.specs.Refinement.{Purpose, Sent, Reads, purpose_of, IsAt}

@@ -13,7 +13,7 @@ use Rattle.model_partition.specs.Range.{RangeState}
 use Rattle.model_partition.specs.Answering.{answered_number, load_reply, metadata_reply, log_reply, gets_reply, answer_rule}
 use Rattle.laws_stream_machine.specs.Refinement.{Means}
 use Rattle.laws_ranges.specs.Serves.{Side, next_behind, metadata_of, log_of, IsConfirming, Follows, BothListed, IsSentBy, IsCounted, RuleGoes}
-use Rattle.laws_ranges.specs.Sound.{IsSound}
+use Rattle.laws_loads.specs.Sound.{IsSound}
 use Rattle.laws_ranges.proofs.ServedRules.{log_reply_both}
 use Rattle.laws_ranges.proofs.Confirmed.{confirmed_both}
 use Rattle.laws_ranges.proofs.LoadNews.{metadata_news_both, log_news_by}

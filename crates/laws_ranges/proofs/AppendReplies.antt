@@ -23,7 +23,8 @@ use Rattle.laws_ranges.specs.Serves.{Stand, after_turns, LastIs, is_live, number
 use Rattle.laws_ranges.specs.Quiet.{AppendsOnly, Quietly, MadeBy}
 use Rattle.laws_ranges.proofs.MachineSteps.{newest, is_within, for_same}
 use Rattle.laws_ranges.proofs.ClientAsks.{append_asked, extend_asked}
-use Rattle.laws_ranges.proofs.ToldExtents.{closed, sealed_length, sealed_end, told_sealed, told_more, more_length, more_last}
+use Rattle.laws_loads.proofs.Renaming.{more_length}
+use Rattle.laws_ranges.proofs.ToldExtents.{closed, sealed_length, sealed_end, told_sealed, told_more, more_last}
 use Rattle.laws_ranges.proofs.ClientReplies.{ByJob, reply_takes}
 use Rattle.laws_ranges.proofs.AppendJob.{GoesBy, told_here, told_after, at_phase_by, rests_by, closes_goes}
 

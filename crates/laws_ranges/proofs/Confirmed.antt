@@ -20,7 +20,7 @@ use Rattle.model_partition.specs.Range.{RangeState, RangeOutcome, request, dropp
 use Rattle.model_partition.specs.Loading.{serves, serves_from, serves_region, are_counted, open_region}
 use Rattle.model_partition.specs.StreamMachine as machine
 use Rattle.model_partition.specs.ServerTurns as turns
-use Rattle.laws_loads.specs.Renaming.{renamed, decoded}
+use Rattle.model_partition.specs.Renaming.{renamed, decoded}
 use Rattle.laws_stream_machine.specs.Refinement.{Sent, purpose_of, Means, StreamMeans}
 use Rattle.laws_stream_machine.proofs.ServerRequests.{same_request}
 use Rattle.laws_ranges.specs.Serves.{Stand, Side, AreUnformed, after_turns, is_live, next_behind, IsLoaded, AreFit, AreShown, sent_with, metadata_of, log_of, OutIs, ServesBy, ServingIs, ConfirmingIs, Apart, BothListed, IsSentBy, IsConfirming, RuleGoes, RuleTells}

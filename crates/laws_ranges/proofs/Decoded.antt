@@ -14,7 +14,7 @@ use Rattle.model_partition.specs.Serving.{record_of, began, dones}
 use Rattle.model_partition.specs.Story.{Made, Answered, Showed, Story, Copy, placed, from_place}
 use Rattle.model_partition.specs.StreamMachine as machine
 use Rattle.model_partition.specs.ServerTurns as turns
-use Rattle.laws_loads.specs.Renaming.{renamed, renamed_copy, renamed_placed, numbered_if, decoded}
+use Rattle.model_partition.specs.Renaming.{renamed, renamed_copy, renamed_placed, numbered_if, decoded}
 use Rattle.laws_ranges.specs.Serves.{Stand, after_turns, begun_notes, done_notes, next_behind}
 
 -- the transactions of a group, with their numbers

@@ -8,7 +8,6 @@ pub mod ClientReplies
 pub mod AppendReplies
 pub mod OutGroup
 pub mod QuietTurns
-pub mod WaitingIsSound
 pub mod Decoded
 pub mod LogRules
 pub mod LoadTurns
@@ -29,6 +28,5 @@ pub mod OpenedOrConfirmed
 pub mod Gets
 pub mod GiveUpLoading
 pub mod AnswerRules
-pub mod WaitingStays
 pub mod UnservedRules
 pub mod ShownByRules

@@ -26,7 +26,7 @@ use Rattle.model_partition.specs.Lines.{next_after}
 use Rattle.model_partition.specs.Log.{next_number}
 use Rattle.model_partition.specs.Past.{Transaction}
 use Rattle.commitlog.specs.Replay.{Numbered}
-use Rattle.laws_loads.specs.Renaming.{renamed, decoded}
+use Rattle.model_partition.specs.Renaming.{renamed, decoded}
 use Rattle.commitlog.specs.Places.{kept}
 use Rattle.memtable.specs.Entries.{put_all}
 use Rattle.model_partition.specs.Loading.{log_news}
@@ -35,11 +35,11 @@ use Rattle.model_partition.specs.Answering.{serving_news, log_taken, log_reply, 
 use Rattle.model_partition.specs.ServerTurns as turns
 use Rattle.laws_stream_machine.specs.Refinement.{Sent, purpose_of, Means}
 use Rattle.laws_ranges.specs.Serves.{Stand, after_turns, AreTurns, begun_notes, done_notes, group_in, AreFit, AreShown, is_live, IsTold, ServesBy, ServingIs, Listed, sent_with, IsAskedIf, Goes, ServesAfter, IsCounted, OutIs, log_of, AreAsked, ServesLog, ServesLogIf, LogRule}
-use Rattle.laws_ranges.specs.Sound.{OutFits, IsSound}
+use Rattle.laws_loads.specs.Sound.{OutFits, IsSound}
 use Rattle.laws_ranges.specs.Quiet.{AreQuiet, IsSent, AppendsOnly, FormsOnly, MadeBy, OutStands}
 use Rattle.laws_ranges.proofs.QuietTurns.{quiet_fit, quiet_shown, quiet_story, turns_after, turns_allowed, turns_fit, turns_shown}
 use Rattle.laws_ranges.proofs.Decoded.{group_of, decoded_is, began_is, dones_are, next_formed, next_answered}
-use Rattle.laws_ranges.proofs.WaitingIsSound.{IsNext, is_next, pushed_sound}
+use Rattle.laws_loads.proofs.WaitingIsSound.{IsNext, is_next, pushed_sound}
 use Rattle.laws_ranges.proofs.AppendJob.{GoesBy, append_goes}
 use Rattle.laws_ranges.proofs.AppendReplies.{reply_goes}
 use Rattle.laws_ranges.proofs.OutGroup.{reply_out, append_out, none_idle, OutAfter}

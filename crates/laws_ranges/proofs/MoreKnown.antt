@@ -13,7 +13,7 @@ use Rattle.model_partition.specs.Range.{RangeState}
 use Rattle.replica.specs.Groups.{Group}
 use Rattle.model_partition.specs.Story.{Copy}
 use Rattle.model_partition.specs.Log.{next_number}
-use Rattle.laws_loads.specs.Renaming.{renamed, decoded}
+use Rattle.model_partition.specs.Renaming.{renamed, decoded}
 use Rattle.laws_stream_machine.specs.Refinement.{Sent, Tells}
 use Rattle.laws_ranges.specs.Serves.{Stand, Side, Wider, IsTold, ServesBy, FoundIs, Readable, WasSealed, WasFound, WasShut, LoadsBy, LoadingIs, OpeningIs, ConfirmingIs, LoadOf, OfSealed, OfStood, ServingIs, UnreadIs, metadata_of, log_of, LoadsMetadata, LoadsLog, StageIs, Follows}
 use Rattle.laws_ranges.proofs.SealedCopies.{first_grown, grown_within}

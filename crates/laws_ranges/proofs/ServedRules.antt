@@ -33,7 +33,7 @@ use Rattle.replica.specs.Groups.{Group}
 use Rattle.laws_stream_machine.specs.Refinement.{Purpose, Sent, purpose_of, asked_number, Opens, Checks, Seals, Reads, Confirms, Appends, Extends, IsAsked, Means}
 use Rattle.laws_stream_machine.proofs.ServerRequests.{same_request}
 use Rattle.laws_ranges.specs.Serves.{Side, IsPlain, after_turns, metadata_of, log_of, is_alone, sent_with, IsOwn, AreAsked, ServingIs, IsCounted, ServesLog, ServesLogIf, LogRule, IsServing, StageIs, Follows, Apart, BothListed, AreUnused, IsSentBy, FollowsIf, AskedOfBoth, RuleGoes, RuleTells}
-use Rattle.laws_ranges.specs.Sound.{IsSound}
+use Rattle.laws_loads.specs.Sound.{IsSound}
 use Rattle.laws_ranges.proofs.MachineSteps.{purposes_on, newest}
 use Rattle.laws_ranges.proofs.LogRules.{transact_goes, log_reply_goes}
 

@@ -23,14 +23,14 @@ use Rattle.model_partition.specs.Answering.{answered_number, answer_rule, give_u
 use Rattle.model_partition.specs.ServerTurns as turns
 use Rattle.laws_stream_machine.specs.Refinement.{Means}
 use Rattle.laws_ranges.specs.Serves.{Side, next_behind, metadata_of, log_of, IsCounted, IsConfirming, IsServing, StageIs, Follows, BothListed, IsSentBy, RuleGoes, RuleTells}
-use Rattle.laws_ranges.specs.Sound.{IsSound}
-use Rattle.laws_ranges.specs.StaysLoading.{Stays, IsConfirmation}
+use Rattle.laws_loads.specs.Sound.{IsSound}
+use Rattle.laws_loads.specs.StaysLoading.{Stays, IsConfirmation}
 use Rattle.laws_ranges.proofs.ServedRules.{transact_tells, log_reply_tells}
 use Rattle.laws_ranges.proofs.GiveUp.{give_up_tells}
 use Rattle.laws_ranges.proofs.Gets.{gets_reply_tells, transact_by}
 use Rattle.laws_ranges.proofs.Confirmed.{confirmed_tells}
 use Rattle.laws_ranges.proofs.BothStreamsAtOnce.{taken, assigned_both}
-use Rattle.laws_ranges.proofs.WaitingStays.{answer_stays, give_up_stays}
+use Rattle.laws_loads.proofs.WaitingStays.{answer_stays, give_up_stays}
 use Rattle.laws_ranges.proofs.UnservedRules.{stays_tells, unserved_tells}
 
 -- the stage of a range that is served

@@ -8,6 +8,7 @@ use Rattle.client.specs.Client.{ClientState, last_extent, sealed_last, sealed_la
 use Rattle.model_streams.specs.StreamSystem.{StreamSystem}
 use Rattle.model_partition.specs.StreamMachine as machine
 use Rattle.replica.specs.Groups.{Group}
+use Rattle.laws_loads.proofs.Renaming.{more_length}
 use Rattle.laws_stream_machine.specs.Refinement.{Sent, IsAt, extents_in}
 use Rattle.laws_stream_machine.proofs.MachineCore.{pushed_get}
 use Rattle.laws_ranges.specs.Serves.{Stand, LastIs, is_live, IsTold}
@@ -29,10 +30,6 @@ set_at : {A : Type 0} (xs : List A) (k : ℕ) (y : A) → k < length xs → slic
 set_at {A} [] k y lt = absurd (omega (arith, lt))
 set_at {A} (x ∷ xs) zero y lt = refl
 set_at {A} (x ∷ xs) (suc k) y lt = set_at xs k y (omega (arith, lt))
-
-pub more_length : {A : Type 0} (xs : List A) (y : A) → length (xs ++ y ∷ []) ≡ suc (length xs)
-more_length {A} [] y = refl
-more_length {A} (x ∷ xs) y = ap suc (more_length xs y)
 
 more_at : {A : Type 0} (xs : List A) (y : A) → slice_get (xs ++ y ∷ []) (length xs) ≡ Some y
 more_at {A} [] y = refl

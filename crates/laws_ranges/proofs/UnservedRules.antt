@@ -15,9 +15,9 @@ use Rattle.model_partition.specs.ServerTurns as turns
 use Rattle.laws_stream_machine.specs.Refinement.{Sent}
 use Rattle.laws_ranges.specs.Serves.{Stand, Side, after_turns, AreShown, AreUnformed, metadata_of, log_of, Readable, WasSealed, WasFound, WasShut, LoadsBy, StageIs, Follows, FollowsIf, RuleGoes, RuleTells}
 use Rattle.laws_ranges.specs.Quiet.{IsLoading, AreQuiet}
-use Rattle.laws_ranges.specs.StaysLoading.{Stays, IsUnserved}
+use Rattle.laws_loads.specs.StaysLoading.{Stays, IsUnserved}
 use Rattle.laws_ranges.proofs.QuietTurns.{quiet_fit, quiet_shown, quiet_unformed, loading_quiet}
-use Rattle.laws_ranges.proofs.WaitingStays.{stays_unserved}
+use Rattle.laws_loads.proofs.WaitingStays.{stays_unserved}
 
 -- ---- a range that is not served stands in its load
 

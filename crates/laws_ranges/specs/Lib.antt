@@ -1,4 +1,2 @@
 pub mod Serves
-pub mod Sound
 pub mod Quiet
-pub mod StaysLoading

@@ -39,7 +39,7 @@ use Rattle.model_partition.specs.Serving.{record_of}
 use Rattle.model_partition.specs.Story.{Copy, placed}
 use Rattle.model_partition.specs.StreamMachine as machine
 use Rattle.model_partition.specs.ServerTurns as turns
-use Rattle.laws_loads.specs.Renaming.{renamed, renamed_copy, decoded}
+use Rattle.model_partition.specs.Renaming.{renamed, renamed_copy, decoded}
 use Rattle.laws_stream_machine.specs.Refinement.{Purpose, Sent, purpose_of, asked_number, extents_in, Opens, Checks, Seals, Reads, Confirms, Appends, Extends, Tells, IsAt, IsAsked}
 
 -- ---- turns of one incarnation

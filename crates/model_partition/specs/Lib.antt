@@ -16,3 +16,8 @@ pub mod Partition
 pub mod RecordBytes
 pub mod Replay
 pub mod Cluster
+pub mod Renaming
+pub mod TableContents
+pub mod StreamActions
+pub mod ServerRun
+pub mod ServedTables

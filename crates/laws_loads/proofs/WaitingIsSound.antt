@@ -16,9 +16,8 @@ use Rattle.model_partition.specs.declared.server_context.ServerContext.{ServerCo
 use Rattle.model_partition.specs.declared.waiting.WaitingTransaction.{WaitingTransaction}
 use Rattle.model_partition.specs.Range.{RangeState, RangeOutcome, is_serving}
 use Rattle.model_partition.specs.Serving.{record_of, fits_a_group, grown, group_count, appends, forms, is_key, value_size, lease_ended, waiting_count, is_full, transact_fault, transacts, transact_rule}
-use Rattle.laws_loads.proofs.Renaming.{mapped_length}
-use Rattle.laws_ranges.proofs.ToldExtents.{more_length}
-use Rattle.laws_ranges.specs.Sound.{AreTransactions, IsSound, IsSoundIf}
+use Rattle.laws_loads.proofs.Renaming.{mapped_length, more_length}
+use Rattle.laws_loads.specs.Sound.{AreTransactions, IsSound, IsSoundIf}
 
 pub none_there : {A : Type 0} (o : Option A) → not (is_some o) ≡ true → o ≡ None
 none_there {A} None e = refl

@@ -1,0 +1,3 @@
+pub mod RangeView
+pub mod RangeInvariant
+pub mod RunInvariant

@@ -1,0 +1,117 @@
+-- What a step of a range does with its streams: the extents that its load reads, the groups that it forms and that come to stand,
+-- and what its confirmed load shows. Said of the range before the step and of what the step leaves, beside the rules.
+use Rattle.std.specs.Prelude.{ℕ, ◌+◌, ◌-◌, Bool, true, false, not, is_some, List, [], ◌∷◌, ◌++◌, length, map, Option, Some, None, if◌then◌else◌}
+use Rattle.wire.specs.declared.actor.ReqNo.{ReqNo}
+use Rattle.wire.specs.declared.body.Body.{Body}
+use Rattle.wire.specs.declared.body.Body.TheVariants as bodies
+use Rattle.wire.specs.declared.body.StreamBody.{StreamBody}
+use Rattle.wire.specs.declared.body.StreamBody.TheVariants as streams
+use Rattle.wire.specs.declared.streams.StreamKind.{StreamKind}
+use Rattle.wire.specs.declared.streams.StreamKind.TheVariants as kinds
+use Rattle.streams.specs.declared.table.Position.{Position}
+use Rattle.metadata.specs.declared.record.Region.{Region}
+use Rattle.commitlog.specs.Record.{spelling}
+use Rattle.client.specs.declared.job.News.{News}
+use Rattle.client.specs.declared.job.News.TheVariants as news
+use Rattle.client.specs.declared.load.LoadPhase.{LoadPhase}
+use Rattle.client.specs.declared.load.LoadPhase.TheVariants as phases
+use Rattle.client.specs.Client.{ClientState, awaits, last_extent, reply_rule}
+use Rattle.client.specs.Load.{load_awaits}
+use Rattle.model_partition.specs.declared.server_context.ServerContext.{ServerContext}
+use Rattle.model_partition.specs.declared.stage.Stage.{Stage}
+use Rattle.model_partition.specs.declared.stage.Stage.TheVariants as stages
+use Rattle.model_partition.specs.Range.{OutGroup, RangeState, RangeOutcome, request, picking, if_there, is_serving}
+use Rattle.model_partition.specs.Loading.{Group, log_end}
+use Rattle.model_partition.specs.Serving.{record_of}
+use Rattle.model_partition.specs.Answering.{groups_of, is_taken}
+
+-- an extent that a load has read: its index in the stream, and the groups that were found there
+pub record ExtentRead : Type 0 where
+  pub index : ℕ
+  pub extent : ℕ
+  pub groups : List Group
+
+pub data StreamAction : Type 0 where
+  -- the load has read one more extent
+  Reads : (kind : StreamKind) (read : ExtentRead) → StreamAction
+  -- a group is formed, and its append begins
+  Forms : (kind : StreamKind) (group : Group) → StreamAction
+  -- the append ends: its group stands in this extent, at this position of the stream
+  Stands : (kind : StreamKind) (extent : ℕ) (at : Position) (group : Group) → StreamAction
+  -- the generation is confirmed: the log is shown from a position on up to an end, and the metadata up to an end of its own
+  Shows : (start log_end metadata_end : Position) → StreamAction
+
+-- ---- groups
+
+abbrev pub group_of : OutGroup → Group
+group_of out = spelling (record_of out.first out.transactions)
+
+-- the group that is out after a step, where none was before it
+abbrev pub formed : Option RangeState → List StreamAction
+formed None = []
+formed (Some r) = map (λ out. Forms kinds.Log (group_of out)) (if_there r.out)
+
+-- what a transaction leads to
+abbrev pub transact_actions : RangeState → RangeOutcome → List StreamAction
+transact_actions r o = if is_some r.out then [] else formed o.after
+
+-- the position of an offset in the last extent that a client knows
+abbrev pub last_position : ClientState → ℕ → Position
+last_position c offset = record { index = (c.base + length c.extents) - 1; offset = offset }
+
+-- the group that is out stands, and the next one is formed; the newest comes first
+abbrev pub stood : RangeState → Option OutGroup → ℕ → ℕ → RangeOutcome → List StreamAction
+stood r None extent offset o = []
+stood r (Some out) extent offset o = formed o.after ++ Stands kinds.Log extent (last_position r.log offset) (group_of out) ∷ []
+
+-- what news of the log's client leads to while the range is served
+abbrev pub serving_actions : RangeState → Option News → RangeOutcome → List StreamAction
+serving_actions r (Some (news.Appended extent offset)) o = stood r r.out extent offset o
+serving_actions r told o = []
+
+-- ---- loads
+
+-- what news of a client leads to during the load, where its answer has these groups
+abbrev pub loading_actions : StreamKind → ClientState → Stage → List Group → Option News → List StreamAction
+loading_actions kind c (stages.Reading k position) groups (Some (news.Content extent upto)) =
+    Reads kind (record { index = c.base + position; extent = extent; groups = groups }) ∷ []
+loading_actions kind c stage groups told = []
+
+-- the position that the first region begins at
+abbrev pub first_start : List Region → Position
+first_start [] = record { index = 0; offset = 0 }
+first_start (region ∷ regions) = region.start
+
+-- the end of the extents that a client knows, as it was told
+abbrev pub known_end : ClientState → Position
+known_end c = log_end c (last_extent c.extents) (record { index = c.base; offset = 0 })
+
+abbrev pub confirmed_actions : RangeState → LoadPhase → StreamBody → List StreamAction
+confirmed_actions r (phases.Confirming q) (streams.Confirmed w) = Shows (first_start r.said.regions) (known_end r.log) (known_end r.metadata) ∷ []
+confirmed_actions r phase body = []
+
+abbrev pub load_actions : RangeState → Body → List StreamAction
+load_actions r (bodies.Stream body) = confirmed_actions r r.load.phase body
+load_actions r body = []
+
+-- ---- answers
+
+abbrev pub metadata_actions : ServerContext → RangeState → Body → List StreamAction
+metadata_actions d r body = loading_actions kinds.Metadata r.metadata r.stage (groups_of body) (reply_rule (picking d r.metadata) (request d) body).news
+
+abbrev pub log_actions : ServerContext → RangeState → Body → RangeOutcome → List StreamAction
+log_actions d r body o =
+    if is_serving r.stage then serving_actions r (reply_rule (picking d r.log) (request d) body).news o
+    else loading_actions kinds.Log r.log r.stage (groups_of body) (reply_rule (picking d r.log) (request d) body).news
+
+-- an answer of this number, by the job that waits for it
+abbrev pub answered_actions : ServerContext → RangeState → ReqNo → Body → RangeOutcome → List StreamAction
+answered_actions d r w body o =
+    if load_awaits r.load.phase w then load_actions r body
+    else if awaits r.metadata.job w then metadata_actions d r body
+    else if awaits r.log.job w then (if is_taken r body then log_actions d r body o else [])
+    else []
+
+-- a range that is dropped does nothing
+abbrev pub answer_actions : ServerContext → RangeState → ReqNo → Body → RangeOutcome → List StreamAction
+answer_actions d r w body o = if is_some o.after then answered_actions d r w body o else []
