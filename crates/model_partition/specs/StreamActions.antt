@@ -82,12 +82,13 @@ abbrev pub first_start : List Region → Position
 first_start [] = record { index = 0; offset = 0 }
 first_start (region ∷ regions) = region.start
 
--- the end of the extents that a client knows, as it was told
-abbrev pub known_end : ClientState → Position
-known_end c = log_end c (last_extent c.extents) (record { index = c.base; offset = 0 })
+-- the end of what a load has read of a stream from a position on, as it was told
+abbrev pub read_end : ClientState → Position → Position
+read_end c start = log_end c (last_extent c.extents) start
 
 abbrev pub confirmed_actions : RangeState → LoadPhase → StreamBody → List StreamAction
-confirmed_actions r (phases.Confirming q) (streams.Confirmed w) = Shows (first_start r.said.regions) (known_end r.log) (known_end r.metadata) ∷ []
+confirmed_actions r (phases.Confirming q) (streams.Confirmed w) =
+    Shows (first_start r.said.regions) (read_end r.log (first_start r.said.regions)) (read_end r.metadata (record { index = r.metadata.base; offset = 0 })) ∷ []
 confirmed_actions r phase body = []
 
 abbrev pub load_actions : RangeState → Body → List StreamAction
