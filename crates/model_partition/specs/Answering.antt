@@ -25,13 +25,12 @@ use Rattle.client.specs.declared.load.LoadPhase.TheVariants as phases
 use Rattle.client.specs.Client.{Outcome, awaits, reply_rule, give_up_rule}
 use Rattle.client.specs.Load.{again, load_awaits}
 use Rattle.client.specs.Requests.{is_same}
-use Rattle.memtable.specs.declared.cell.Place.{Place}
 use Rattle.model_partition.specs.declared.waiting.WaitingGet.{WaitingGet}
 use Rattle.model_partition.specs.declared.server_context.ServerContext.{ServerContext}
 use Rattle.model_partition.specs.Range.{OutGroup, RangeState, RangeOutcome, request, used, goes, answers, dropped, picking, is_serving}
 use Rattle.model_partition.specs.Loading.{Group, are_counted, opens, serves, metadata_news, log_news}
 use Rattle.model_partition.specs.Serving.{log_done, out_size}
-use Rattle.model_partition.specs.Getting.{bytes_rule, gives_up_get}
+use Rattle.model_partition.specs.Getting.{bytes_rule, place_of, gives_up_get}
 
 -- ---- whose answer it is
 
@@ -158,21 +157,21 @@ log_taken d r body =
 abbrev pub log_reply : ServerContext → RangeState → Body → RangeOutcome
 log_reply d r body = if is_taken r body then log_taken d r body else answers d r []
 
-abbrev pub bytes_reply : ServerContext → RangeState → ReqNo → ReadBody → List (Place × List ℕ) → RangeOutcome
-bytes_reply d r w (reads.Bytes v e offset bytes) held = bytes_rule d r w held
-bytes_reply d r w body held = answers d r []
+abbrev pub bytes_reply : ServerContext → RangeState → ReqNo → ReadBody → RangeOutcome
+bytes_reply d r w (reads.Bytes v e offset bytes) = bytes_rule d r w (place_of e offset bytes) bytes
+bytes_reply d r w body = answers d r []
 
-abbrev pub gets_reply : ServerContext → RangeState → ReqNo → Body → List (Place × List ℕ) → RangeOutcome
-gets_reply d r w (bodies.Read body) held = bytes_reply d r w body held
-gets_reply d r w body held = answers d r []
+abbrev pub gets_reply : ServerContext → RangeState → ReqNo → Body → RangeOutcome
+gets_reply d r w (bodies.Read body) = bytes_reply d r w body
+gets_reply d r w body = answers d r []
 
--- The answer of this number, which some job of the range waits for. held: what the cache holds after it.
-abbrev pub answer_rule : ServerContext → RangeState → ReqNo → Body → List (Place × List ℕ) → RangeOutcome
-answer_rule d r w body held =
+-- The answer of this number, which some job of the range waits for.
+abbrev pub answer_rule : ServerContext → RangeState → ReqNo → Body → RangeOutcome
+answer_rule d r w body =
     if load_awaits r.load.phase w then load_reply d r body
     else if awaits r.metadata.job w then metadata_reply d r body
     else if awaits r.log.job w then log_reply d r body
-    else gets_reply d r w body held
+    else gets_reply d r w body
 
 -- ---- giving up
 

@@ -10,7 +10,7 @@ use Rattle.model_streams.specs.declared.event.Event.TheVariants.{Deliver, Stop, 
 use Rattle.model_streams.specs.Outcome.{Outcome}
 use Rattle.model_streams.specs.StreamSystem.{StreamSystem, ActorCell, running, down, armed, stops_in, stands_in, burnt, happens, sent_more, delivered, start}
 use Rattle.model_partition.specs.Map.{MapState, first_map, range_at, assign_fault, assign_rule, renew_fault, renew_rule, map_rule}
-use Rattle.model_partition.specs.Servers.{CacheContent, ServerCell, ServersOutcome, with_told, server_takes, server_gives_up, server_stops, server_starts, told_moment, first_servers}
+use Rattle.model_partition.specs.Servers.{ServerCell, ServersOutcome, with_told, server_takes, server_gives_up, server_stops, server_starts, told_moment, first_servers}
 
 -- the stream layer, with all packets and observations; the servers, numbered from 1; the map, which of one that has stopped is
 -- what its records make, and whether it runs; the last moment; and how many transactions a group may hold
@@ -75,14 +75,14 @@ map_starts c = if c.map_cell.up then c else record c { map_cell = running }
 
 -- ---- events
 
-abbrev pub delivered_to : Cluster → Packet → CacheContent → ActorId → Cluster
-delivered_to c p held (Server s) = servers_perform c (server_takes c.servers s p held)
-delivered_to c p held Map = map_takes c p
-delivered_to c p held to = record c { stream_layer = delivered c.stream_layer p to }
+abbrev pub delivered_to : Cluster → Packet → ActorId → Cluster
+delivered_to c p (Server s) = servers_perform c (server_takes c.servers s p)
+delivered_to c p Map = map_takes c p
+delivered_to c p to = record c { stream_layer = delivered c.stream_layer p to }
 
-abbrev pub delivers : Cluster → CacheContent → Option Packet → Cluster
-delivers c held None = c
-delivers c held (Some p) = delivered_to c p held p.to
+abbrev pub delivers : Cluster → Option Packet → Cluster
+delivers c None = c
+delivers c (Some p) = delivered_to c p p.to
 
 abbrev pub stops : Cluster → ActorId → ℕ → Bool → Cluster
 stops c (Server s) call keep = servers_perform c (server_stops c.servers s call)
@@ -94,21 +94,21 @@ restarts c (Server s) = servers_perform c (server_starts c.servers s c.now c.bat
 restarts c Map = map_starts c
 restarts c actor = record c { stream_layer = happens c.stream_layer (Restart actor) }
 
--- What an event does. held: what the cache of the range that is concerned holds after it.
-abbrev pub cluster_after : Cluster → Event → CacheContent → Cluster
-cluster_after c (Deliver number) held = delivers c held (slice_get c.stream_layer.post number)
-cluster_after c (Stop actor call keep) held = stops c actor call keep
-cluster_after c (Restart actor) held = restarts c actor
-cluster_after c (GiveUp server range pick) held = servers_perform c (server_gives_up c.servers server range pick)
-cluster_after c (Assign range server until) held = assigns c range server until
-cluster_after c (Renew range server until) held = renews c range server until
-cluster_after c (Moment now) held = shows_moment c now
-cluster_after c event held = record c { stream_layer = happens c.stream_layer event }
+-- what an event does
+abbrev pub cluster_after : Cluster → Event → Cluster
+cluster_after c (Deliver number) = delivers c (slice_get c.stream_layer.post number)
+cluster_after c (Stop actor call keep) = stops c actor call keep
+cluster_after c (Restart actor) = restarts c actor
+cluster_after c (GiveUp server range pick) = servers_perform c (server_gives_up c.servers server range pick)
+cluster_after c (Assign range server until) = assigns c range server until
+cluster_after c (Renew range server until) = renews c range server until
+cluster_after c (Moment now) = shows_moment c now
+cluster_after c event = record c { stream_layer = happens c.stream_layer event }
 
--- these events lead from one to the other, whatever the caches hold
+-- these events lead from one to the other
 abbrev pub LeadTo : List Event → Cluster → Cluster → Type 0
 LeadTo [] c d = c ≡ d
-LeadTo (event ∷ events) c d = (held : CacheContent) × LeadTo events (cluster_after c event held) d
+LeadTo (event ∷ events) c d = LeadTo events (cluster_after c event) d
 
 -- so many nodes and servers, extents that take appends below the target, and groups of at most so many transactions
 abbrev pub first_cluster : ℕ → ℕ → ℕ → ℕ → Cluster

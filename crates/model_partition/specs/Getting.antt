@@ -1,5 +1,5 @@
 -- Gets: a key is looked up, and a value that stands elsewhere is read first.
-use Rattle.std.specs.Prelude.{ℕ, suc, ◌-◌, Bool, not, ◌&&◌, ◌==◌, nat_le, List, [], ◌∷◌, ◌++◌, length, map, filter, Option, Some, None, slice_get, slice_set, Contains, if◌then◌else◌}
+use Rattle.std.specs.Prelude.{ℕ, suc, ◌-◌, Bool, false, not, ◌&&◌, ◌==◌, nat_le, List, [], ◌∷◌, ◌++◌, length, map, filter, Option, Some, None, slice_get, slice_set, if◌then◌else◌}
 use Rattle.block_types.specs.declared.record.Nodes.{Nodes}
 use Rattle.wire.specs.declared.actor.ActorId.{ActorId}
 use Rattle.wire.specs.declared.actor.ActorId.TheVariants.{Node}
@@ -20,6 +20,7 @@ use Rattle.client.specs.Client.{node_at, next_place}
 use Rattle.client.specs.Requests.{is_same}
 use Rattle.model_partition.specs.declared.waiting.PlaceRead.{PlaceRead}
 use Rattle.model_partition.specs.declared.waiting.WaitingGet.{WaitingGet}
+use Rattle.lru.specs.LruCache.{lru_cache, put_entries, promoted}
 use Rattle.metadata.specs.Keys.{within}
 use Rattle.memtable.specs.Entries.{found}
 use Rattle.memtable.specs.Layers.{found_in, or_else}
@@ -54,6 +55,33 @@ look held (Some (Placed place)) = or_needs place (held_at held place)
 -- in the newer layer, then in the older
 abbrev pub standing : RangeState → List ℕ → Option Cell
 standing r key = or_else (found r.live key) (found_in r.fixed key)
+
+-- ---- what is held, the most recently used first
+
+abbrev pub Held : Type 0
+Held = List (Place × List ℕ)
+
+-- how many values are held at most
+abbrev pub most_held : ℕ
+most_held = 1024
+
+-- a value that is held goes to the front
+abbrev pub used : Held → Option Cell → Held
+used held (Some (Placed place)) = promoted (is_place place) held
+used held cell = held
+
+abbrev pub is_asked : Place → Option Place → Bool
+is_asked place None = false
+is_asked place (Some asked) = is_place place asked
+
+-- Bytes of a place have come for a read of this place, if it is known. Where they are what was asked for they go to the front,
+-- and the last goes where so many are held.
+abbrev pub came : Held → Option Place → Place → List ℕ → Held
+came held asked place bytes = if is_asked place asked then put_entries is_place (lru_cache held most_held) place bytes else held
+
+-- where bytes stand that begin at an offset of an extent
+abbrev pub place_of : ℕ → ℕ → List ℕ → Place
+place_of extent offset bytes = record { extent = extent; offset = offset; length = length bytes }
 
 -- ---- one try
 
@@ -115,14 +143,14 @@ abbrev pub gets_after : RangeState → List WaitingGet → Tried → RangeOutcom
 gets_after r before tried =
     record { after = Some (record r { gets = before ++ tried.waiting }); count = tried.count; packets = tried.packets; notes = [] }
 
-abbrev pub gets : ServerContext → RangeState → ActorId → ReqNo → List ℕ → List (Place × List ℕ) → Option Refusal → RangeOutcome
-gets d r from q key held (Some refusal) = answers d r (refuses d from q refusal ∷ [])
-gets d r from q key held None =
-    gets_after (record r { held = held }) r.gets (try d r (record { from = from; request = q; key = key; reads = [] }))
+-- a value that serves it is used
+abbrev pub gets : ServerContext → RangeState → ActorId → ReqNo → List ℕ → Option Refusal → RangeOutcome
+gets d r from q key (Some refusal) = answers d r (refuses d from q refusal ∷ [])
+gets d r from q key None =
+    gets_after (record r { held = used r.held (standing r key) }) r.gets (try d r (record { from = from; request = q; key = key; reads = [] }))
 
--- held: what the cache holds after it
-abbrev pub get_rule : ServerContext → RangeState → ActorId → ReqNo → List ℕ → List (Place × List ℕ) → RangeOutcome
-get_rule d r from q key held = gets d r from q key held (get_fault d r key)
+abbrev pub get_rule : ServerContext → RangeState → ActorId → ReqNo → List ℕ → RangeOutcome
+get_rule d r from q key = gets d r from q key (get_fault d r key)
 
 -- ---- bytes that were read
 
@@ -143,14 +171,10 @@ read_at (g ∷ gs) w = or_place (read_in g.reads w) (read_at gs w)
 abbrev pub without : ReqNo → WaitingGet → WaitingGet
 without w g = record g { reads = filter (λ read. not (is_same read.request w)) g.reads }
 
--- What the cache may hold after these bytes of a place: some of what it held and of these. Which, it chooses.
-abbrev pub MayHold : List (Place × List ℕ) → List (Place × List ℕ) → Place → List ℕ → Type 0
-MayHold after before place bytes = (x : Place × List ℕ) → Contains after x → Contains ((place, bytes) ∷ before) x
-
--- The bytes of a read have come, and the cache now holds this: each waiting Get is tried again.
-abbrev pub bytes_rule : ServerContext → RangeState → ReqNo → List (Place × List ℕ) → RangeOutcome
-bytes_rule d r w held =
-    let now : RangeState = record r { held = held } in
+-- The bytes of a read have come: each waiting Get is tried again, with them. These tries use nothing.
+abbrev pub bytes_rule : ServerContext → RangeState → ReqNo → Place → List ℕ → RangeOutcome
+bytes_rule d r w place bytes =
+    let now : RangeState = record r { held = came r.held (read_at r.gets w) place bytes } in
     gets_after now [] (try_all d now (map (without w) r.gets))
 
 -- ---- giving up

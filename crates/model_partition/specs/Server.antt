@@ -139,42 +139,41 @@ abbrev pub transacts_in : ServerState → Packet → ℕ → List Change → Req
 transacts_in s p range changes q None = sends_one s (refuses s.context p.from q refusals.NotOwner)
 transacts_in s p range changes q (Some r) = stepped s range (transact_rule s.context r p.from q changes)
 
-abbrev pub gets_in : ServerState → Packet → ℕ → List ℕ → ReqNo → List (Place × List ℕ) → Option RangeState → ServerOutcome
-gets_in s p range key q held None = sends_one s (refuses s.context p.from q refusals.NotOwner)
-gets_in s p range key q held (Some r) = stepped s range (get_rule s.context r p.from q key held)
+abbrev pub gets_in : ServerState → Packet → ℕ → List ℕ → ReqNo → Option RangeState → ServerOutcome
+gets_in s p range key q None = sends_one s (refuses s.context p.from q refusals.NotOwner)
+gets_in s p range key q (Some r) = stepped s range (get_rule s.context r p.from q key)
 
-abbrev pub table_rule : ServerState → Packet → TableBody → List (Place × List ℕ) → ServerOutcome
-table_rule s p (tables.Transact range changes q) held = transacts_in s p range changes q (range_of s.ranges range)
-table_rule s p (tables.Get range key q) held = gets_in s p range key q held (range_of s.ranges range)
-table_rule s p body held = rests s
+abbrev pub table_rule : ServerState → Packet → TableBody → ServerOutcome
+table_rule s p (tables.Transact range changes q) = transacts_in s p range changes q (range_of s.ranges range)
+table_rule s p (tables.Get range key q) = gets_in s p range key q (range_of s.ranges range)
+table_rule s p body = rests s
 
 -- ---- answers
 
-abbrev pub answer_in : ServerState → Packet → ReqNo → List (Place × List ℕ) → ℕ → Option RangeState → ServerOutcome
-answer_in s p w held range None = rests s
-answer_in s p w held range (Some r) = stepped s range (answer_rule s.context r w p.body held)
+abbrev pub answer_in : ServerState → Packet → ReqNo → ℕ → Option RangeState → ServerOutcome
+answer_in s p w range None = rests s
+answer_in s p w range (Some r) = stepped s range (answer_rule s.context r w p.body)
 
-abbrev pub answer_of : ServerState → Packet → ReqNo → List (Place × List ℕ) → Option ℕ → ServerOutcome
-answer_of s p w held None = rests s
-answer_of s p w held (Some range) = answer_in s p w held range (range_of s.ranges range)
+abbrev pub answer_of : ServerState → Packet → ReqNo → Option ℕ → ServerOutcome
+answer_of s p w None = rests s
+answer_of s p w (Some range) = answer_in s p w range (range_of s.ranges range)
 
-abbrev pub numbered_rule : ServerState → Packet → List (Place × List ℕ) → Option ReqNo → ServerOutcome
-numbered_rule s p held None = rests s
-numbered_rule s p held (Some w) = if is_answerer p.from p.body then answer_of s p w held (awaiting s.ranges w) else rests s
+abbrev pub numbered_rule : ServerState → Packet → Option ReqNo → ServerOutcome
+numbered_rule s p None = rests s
+numbered_rule s p (Some w) = if is_answerer p.from p.body then answer_of s p w (awaiting s.ranges w) else rests s
 
-abbrev pub taken_rule : ServerState → Packet → Body → List (Place × List ℕ) → ServerOutcome
-taken_rule s p (bodies.Map body) held = map_rule s p.from body
-taken_rule s p (bodies.Table body) held = table_rule s p body held
-taken_rule s p body held = numbered_rule s p held (answered_number body)
+abbrev pub taken_rule : ServerState → Packet → Body → ServerOutcome
+taken_rule s p (bodies.Map body) = map_rule s p.from body
+taken_rule s p (bodies.Table body) = table_rule s p body
+taken_rule s p body = numbered_rule s p (answered_number body)
 
 -- whether there are numbers for the requests of any one step
 abbrev pub has_numbers : ServerContext → Bool
 has_numbers d = nat_lt (d.count + 1024) (2 ^ 64)
 
--- What the server does with a packet; without numbers for its requests, nothing. held: what the cache of the range that the
--- packet belongs to holds after it.
-abbrev pub server_rule : ServerState → Packet → Body → List (Place × List ℕ) → ServerOutcome
-server_rule s p body held = if has_numbers s.context then taken_rule s p body held else rests s
+-- what the server does with a packet; without numbers for its requests, nothing
+abbrev pub server_rule : ServerState → Packet → Body → ServerOutcome
+server_rule s p body = if has_numbers s.context then taken_rule s p body else rests s
 
 -- ---- events
 

@@ -24,10 +24,6 @@ use Rattle.metadata.specs.declared.record.IndexRange.{IndexRange}
 use Rattle.model_partition.specs.Range.{RangeState}
 use Rattle.model_partition.specs.Server.{ServerState, ServerOutcome, range_of, awaiting, server_rule, moment_rule, give_up_rule, started}
 
--- what a cache holds
-abbrev pub CacheContent : Type 0
-CacheContent = List (Place × List ℕ)
-
 -- a server: how often it was started, and its state while it runs
 pub record ServerCell : Type 0 where
   pub session : ℕ
@@ -142,9 +138,9 @@ abbrev pub cell_performs : ServerCell → ServerOutcome → CellOutcome
 cell_performs cell o = record { cell = record cell { state = Some o.after }; packets = o.packets; notes = o.notes }
 
 -- nothing comes of a packet to a server that has stopped
-abbrev pub cell_takes : ServerCell → Packet → CacheContent → Option ServerState → CellOutcome
-cell_takes cell p held None = cell_rests cell
-cell_takes cell p held (Some server) = cell_performs cell (server_rule server p p.body held)
+abbrev pub cell_takes : ServerCell → Packet → Option ServerState → CellOutcome
+cell_takes cell p None = cell_rests cell
+cell_takes cell p (Some server) = cell_performs cell (server_rule server p p.body)
 
 abbrev pub cell_given_up : ServerCell → Option ServerOutcome → CellOutcome
 cell_given_up cell None = cell_rests cell
@@ -187,8 +183,8 @@ at_server servers s rule None = record { servers = servers; packets = []; notes 
 at_server servers s rule (Some cell) =
     record { servers = slice_set servers (s - 1) (rule cell).cell; packets = (rule cell).packets; notes = (rule cell).notes }
 
-abbrev pub server_takes : List ServerCell → ℕ → Packet → CacheContent → ServersOutcome
-server_takes servers s p held = at_server servers s (λ cell. cell_takes cell p held cell.state) (entry_at servers s)
+abbrev pub server_takes : List ServerCell → ℕ → Packet → ServersOutcome
+server_takes servers s p = at_server servers s (λ cell. cell_takes cell p cell.state) (entry_at servers s)
 
 abbrev pub server_gives_up : List ServerCell → ℕ → ℕ → Nodes → ServersOutcome
 server_gives_up servers s range pick = at_server servers s (λ cell. cell_gives_up cell range pick cell.state) (entry_at servers s)
