@@ -169,6 +169,7 @@ bytes_stays d r w body = ((inr refl, refl, refl, refl), refl)
 
 pub gets_reply_stays : (d : ServerContext) (r : RangeState) (w : ReqNo) (body : Body) → Stays r (gets_reply d r w body)
 gets_reply_stays d r w (bodies.Read body) = bytes_stays d r w body
+gets_reply_stays d r w (bodies.Append body) = load_refused_stays d r body
 gets_reply_stays d r w body = ((inr refl, refl, refl, refl), refl)
 
 -- ---- all rules

@@ -107,6 +107,7 @@ abbrev pub groups_of : Body → List Group
 groups_of (bodies.Read body) = read_groups body
 groups_of body = []
 
+-- a range of an old generation is dropped
 abbrev pub load_refused : ServerContext → RangeState → AppendBody → RangeOutcome
 load_refused d r (appends.Refused w refusals.Stale) = dropped d r
 load_refused d r body = answers d r []
@@ -161,8 +162,11 @@ abbrev pub bytes_reply : ServerContext → RangeState → ReqNo → ReadBody →
 bytes_reply d r w (reads.Bytes v e offset bytes) = bytes_rule d r w (place_of e offset bytes) bytes
 bytes_reply d r w body = answers d r []
 
+-- The bytes of a value, or a refusal of their read. An old generation (3) drops the range here too, and no other refusal changes
+-- anything.
 abbrev pub gets_reply : ServerContext → RangeState → ReqNo → Body → RangeOutcome
 gets_reply d r w (bodies.Read body) = bytes_reply d r w body
+gets_reply d r w (bodies.Append body) = load_refused d r body
 gets_reply d r w body = answers d r []
 
 -- The answer of this number, which some job of the range waits for.

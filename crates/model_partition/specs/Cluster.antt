@@ -1,5 +1,5 @@
 -- Whole runs: nodes and the manager below, servers and the map above them.
-use Rattle.std.specs.Prelude.{◌≡◌, ℕ, zero, suc, Bool, List, [], ◌∷◌, map, Option, Some, None, nat_lt, ◌==◌, slice_get, if◌then◌else◌}
+use Rattle.std.specs.Prelude.{ℕ, zero, suc, Bool, List, [], ◌∷◌, map, Option, Some, None, nat_lt, ◌==◌, slice_get, if◌then◌else◌}
 use Rattle.block_types.specs.declared.record.Nodes.{Nodes}
 use Rattle.wire.specs.declared.actor.ActorId.{ActorId}
 use Rattle.wire.specs.declared.actor.ActorId.TheVariants.{Map, Server}
@@ -105,10 +105,10 @@ cluster_after c (Renew range server until) = renews c range server until
 cluster_after c (Moment now) = shows_moment c now
 cluster_after c event = record c { stream_layer = happens c.stream_layer event }
 
--- these events lead from one to the other
-abbrev pub LeadTo : List Event → Cluster → Cluster → Type 0
-LeadTo [] c d = c ≡ d
-LeadTo (event ∷ events) c d = LeadTo events (cluster_after c event) d
+-- what these events make of it, one after the other
+abbrev pub cluster_after_all : Cluster → List Event → Cluster
+cluster_after_all c [] = c
+cluster_after_all c (event ∷ events) = cluster_after_all (cluster_after c event) events
 
 -- so many nodes and servers, extents that take appends below the target, and groups of at most so many transactions
 abbrev pub first_cluster : ℕ → ℕ → ℕ → ℕ → Cluster

@@ -185,9 +185,13 @@ abbrev pub gives_up : ServerState → ℕ → Option RangeState → Option Serve
 gives_up s range None = None
 gives_up s range (Some r) = Some (if has_numbers s.context then stepped s range (give_up_all s.context r) else rests s)
 
+-- The nodes for new extents are replaced; without numbers for the requests of a step nothing is.
+abbrev pub picked : ServerState → Nodes → ServerState
+picked s pick = record s { context = record s.context { pick = if has_numbers s.context then pick else s.context.pick } }
+
 -- the nodes for new extents are replaced, and the jobs of a range give up; none where the range is unknown (30)
 abbrev pub give_up_rule : ServerState → ℕ → Nodes → Option ServerOutcome
-give_up_rule s range pick = gives_up (record s { context = record s.context { pick = pick } }) range (range_of s.ranges range)
+give_up_rule s range pick = gives_up (picked s pick) range (range_of s.ranges range)
 
 -- a start: no range, and the last moment
 abbrev pub started : ℕ → ℕ → ℕ → Nodes → ℕ → ServerState
