@@ -36,7 +36,8 @@ use Rattle.laws_log_reads.proofs.MachineSteps.{grown_wider}
 use Rattle.laws_clusters.proofs.StreamMachines.{AllKnown}
 use Rattle.laws_clusters.proofs.OtherRanges.{wider_same}
 use Rattle.laws_clusters.proofs.OneRange.{IsWord, AreFirst, word_told}
-use Rattle.laws_clusters.proofs.RequestNumbers.{PastAt, IsPast, entry_set, entry_other, entry_unmapped, past_on, past_step, past_stops, past_starts, past_moment}
+use Rattle.laws_loads.proofs.Entries.{entry_set, entry_other, entry_unmapped}
+use Rattle.laws_clusters.proofs.RequestNumbers.{PastAt, IsPast, past_on, past_step, past_stops, past_starts, past_moment}
 use Rattle.laws_clusters.proofs.Invariant.{Streams, here, m_side, l_side, Holds, HeldAs, Runs, Standing}
 use Rattle.laws_clusters.proofs.ServerRules.{held_on}
 use Rattle.laws_clusters.proofs.ObservedNotes.{Tells}

@@ -45,7 +45,7 @@ use Rattle.laws_servers.proofs.ClientPackets.{all_both, may_send_all}
 use Rattle.laws_servers.proofs.ServerSteps.{users_all}
 use Rattle.laws_servers.proofs.RangeSteps.{transact_tidy, get_tidy, answer_shows, give_up_tidy}
 use Rattle.laws_clusters.proofs.RangeSteps as going
-use Rattle.laws_clusters.proofs.RequestNumbers.{entry_set}
+use Rattle.laws_loads.proofs.Entries.{entry_set, one_range, set_twice}
 use Rattle.laws_clusters.proofs.OtherEvents.{renew_stands, told_nothing, rule_done, rests_quiet, quiet_stands, picks_stand, still_runs, cell_stands}
 use Rattle.laws_clusters.proofs.RangeRules.{Done, both, unloading, transact_done, get_done, give_up_done, answer_done, assigned_done}
 use Rattle.laws_clusters.proofs.Senders.{none_from_map}
@@ -54,24 +54,6 @@ use Rattle.laws_clusters.proofs.Invariant.{here, m_side, l_side, Holds, HeldAs, 
 use Rattle.laws_clusters.proofs.ServerRules as steps
 
 -- ---- one range
-
-other_number : (range : ℕ) → (range ≡ 1 → ⊥) → is_eq (nat_cmp range 1) ≡ false
-other_number range other =
-    ⊎_elim {C = is_eq (nat_cmp range 1) ≡ false}
-    (λ less. ap is_eq (sym (nat_cmp_is range 1 Less less)))
-    (λ le. ap is_eq (sym (nat_cmp_is range 1 Greater (omega (arith, le, other)))))
-    (cases_lt range 1)
-
--- the only range is range 1
-one_range : (r : RangeState) (range : ℕ) → (range ≡ 1) ⊎ (range_of ((1, r) ∷ []) range ≡ None)
-one_range r range =
-    ⊎_elim {C = (range ≡ 1) ⊎ (range_of ((1, r) ∷ []) range ≡ None)} (λ same. inl same)
-    (λ other. inr (ap (λ (b : Bool). if b then Some r else None) (other_number range other))) (cases_eq range 1)
-
-set_twice : {A : Type 0} (xs : List A) (n : ℕ) (a b : A) → slice_set (slice_set xs n a) n b ≡ slice_set xs n b
-set_twice [] n a b = refl
-set_twice (x ∷ xs) zero a b = refl
-set_twice (x ∷ xs) (suc n) a b = ap (λ l. x ∷ l) (set_twice xs n a b)
 
 module _ (generation : ℕ → ℕ) (plenty : (g n : ℕ) → (i : ℕ) × (n ≤ i) × (generation i ≡ g)) (nodes target : ℕ) where
   module _ (c : Cluster) (x : Standing generation nodes target c) (s : ℕ) (cell : ServerCell) (st : ServerState) (at : entry_at c.servers s ≡ Some cell) (is : cell.state ≡ Some st) where

@@ -31,7 +31,8 @@ use Rattle.laws_log_reads.specs.Reads.{HasReadIf}
 use Rattle.laws_servers.specs.Sending.{MaySendAll}
 use Rattle.laws_clusters.proofs.RangeSteps.{Next, goes_on, m_after, l_after}
 use Rattle.laws_clusters.proofs.OtherRanges.{others_hold, own_if}
-use Rattle.laws_clusters.proofs.RequestNumbers.{PastAt, IsPast, AllPast, entry_set, entry_other, past_on, past_step, unused_of, new_past, all_past_adds}
+use Rattle.laws_loads.proofs.Entries.{entry_set, entry_other}
+use Rattle.laws_clusters.proofs.RequestNumbers.{PastAt, IsPast, AllPast, past_on, past_step, unused_of, new_past, all_past_adds}
 use Rattle.laws_clusters.proofs.OneRange.{IsWord}
 use Rattle.laws_clusters.proofs.Invariant.{Streams, here, m_side, l_side, Holds, HeldAs, Runs, Standing}
 use Rattle.laws_clusters.proofs.ObservedNotes.{Tells}

@@ -4,3 +4,4 @@ pub mod Replaying
 pub mod Rows
 pub mod WaitingIsSound
 pub mod WaitingStays
+pub mod Entries

@@ -20,7 +20,7 @@ use Rattle.block_types.specs.Limits.{group_size}
 use Rattle.replica.specs.Groups.{joined, text}
 use Rattle.streams.specs.Streams.{kind_number}
 use Rattle.streams.specs.declared.table.Position.{Position}
-use Rattle.model_streams.specs.Maps.{entry_at}
+use Rattle.model_streams.specs.Maps.{changed_at, entry_at}
 use Rattle.model_partition.specs.declared.table_note.TableNote.{TableNote}
 use Rattle.model_partition.specs.StreamMachine.{base}
 use Rattle.model_partition.specs.Story.{Placed, StreamEvent, Made, Answered, Showed, Story}
@@ -94,10 +94,6 @@ is_stream a b = (a.range == b.range) && is_kind a.kind b.kind
 abbrev pub with_event : (StreamName → Story Group) → StreamName → StreamEvent Group → StreamName → Story Group
 with_event stories name event other = if is_stream other name then event ∷ stories other else stories other
 
--- the history of one range at one server
-abbrev pub with_history : (ℕ → ℕ → RangeHistory) → ℕ → ℕ → RangeHistory → ℕ → ℕ → RangeHistory
-with_history histories server range history s r = if (s == server) && (r == range) then history else histories s r
-
 abbrev pub one_more_read : RangeHistory → StreamKind → ExtentRead → RangeHistory
 one_more_read h kind read = record h { reads = λ k. if is_kind k kind then read ∷ h.reads k else h.reads k }
 
@@ -110,11 +106,11 @@ stream_named range kind = record { range = range; kind = kind }
 module _ (server range generation : ℕ) where
   -- after one action of a range, which a server serves under a generation
   abbrev pub after_action : ServerRun → StreamAction → ServerRun
-  after_action x (Reads kind read) = record x { history = with_history x.history server range (one_more_read (x.history server range) kind read) }
+  after_action x (Reads kind read) = record x { history = changed_at server range (one_more_read (x.history server range) kind read) x.history }
   after_action x (Forms kind group) =
       record x {
         story = with_event x.story (stream_named range kind) (Made generation group);
-        history = with_history x.history server range (begun_at (x.history server range) kind (length (x.story (stream_named range kind))));
+        history = changed_at server range (begun_at (x.history server range) kind (length (x.story (stream_named range kind)))) x.history;
       }
   after_action x (Stands kind extent at group) =
       record x {
@@ -199,7 +195,7 @@ pub data ServerEvent : Type 0 where
   Moment : (now : ℕ) → ServerEvent
 
 abbrev pub with_effect : ℕ → ServerRun → RangeEffect → ServerRun
-with_effect server x (Begins range) = record x { history = with_history x.history server range first_history }
+with_effect server x (Begins range) = record x { history = changed_at server range first_history x.history }
 with_effect server x (Does range generation actions) = after_actions server range generation x actions
 with_effect server x Rests = x
 

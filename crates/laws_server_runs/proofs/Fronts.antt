@@ -1,0 +1,138 @@
+-- What stood before more events came: a story keeps its order if a longer one does, and so do the other premises.
+use Rattle.std.proofs.Common.{◌≡◌, ◌⊎◌, ⊎_elim, ℕ, suc, ◌<◌, ◌≤◌, List, [], ◌∷◌, ◌++◌, length, Bool, true, false, Option, Some, None, refl, sym, ap, ◌∙◌, subst, inl, inr, arith, append_assoc, if◌then◌else◌}
+use Rattle.std.specs.Prelude.{Contains}
+use Rattle.wire.specs.declared.note.Note.{Note}
+use Rattle.wire.specs.declared.streams.StreamKind.{StreamKind}
+use Rattle.wire.specs.declared.streams.StreamKind.TheVariants as kinds
+use Rattle.model_partition.specs.declared.table_note.TableNote.{TableNote}
+use Rattle.model_partition.specs.Loading.{Group}
+use Rattle.model_partition.specs.Past.{Bytes}
+use Rattle.model_partition.specs.Story.{Placed, Copy, StreamEvent, Made, Answered, Showed, Story, event_at, KeepsOrder}
+use Rattle.model_partition.specs.StreamActions.{StreamAction, Reads, Forms, Stands, Shows}
+use Rattle.model_partition.specs.ServerRun.{PlacedBytes, is_kind}
+use Rattle.model_partition.specs.ServedTables.{AllStand, AreSeenAs, LoadsOnce}
+use Rattle.laws_tables.proofs.Range.{older, bound, event_cases}
+use Rattle.laws_server_runs.specs.RangeView.{RangeView, view_after, view_after_all, with_kind, log_of, metadata_of}
+use Rattle.laws_server_runs.specs.RangeInvariant.{InOrder, IsLonger}
+
+-- ---- one event less
+
+module _ (A : Type 0) where
+  -- with the same copies
+  order_before : (e : StreamEvent A) (earlier : Story A) → KeepsOrder (e ∷ earlier) → KeepsOrder earlier
+  order_before e earlier order = record {
+    copies = order.copies;
+    shown = λ l g start end groups h. order.shown l g start end groups (older A e earlier l (Showed g start end groups) h);
+    ascending = order.ascending;
+    not_empty = order.not_empty;
+    ends = λ l g start end groups c h i. order.ends l g start end groups c (older A e earlier l (Showed g start end groups) h) i;
+    handed = λ l g start end groups c h i.
+        let r : (g' : ℕ) × (event_at (e ∷ earlier) c.append ≡ Some (Made g' c.group)) × (g' < g) × (c.append < l) =
+        order.handed l g start end groups c (older A e earlier l (Showed g start end groups) h) i in
+        let low : l < length earlier = bound A earlier l (Showed g start end groups) h in
+        let lt : c.append < l = r.3 in
+        (r.0, ⊎_elim {C = event_at earlier c.append ≡ Some (Made r.0 c.group)}
+        (λ (q : (c.append ≡ length earlier) × (e ≡ Made r.0 c.group)). let z : c.append ≡ length earlier = q.0 in absurd (omega (arith, z, low, lt)))
+        (λ o. o) (event_cases A e earlier c.append (Made r.0 c.group) r.1), r.2, r.3);
+    answered = λ l g start end a g' k from to groups group h ha lt hk.
+        order.answered l g start end a g' k from to groups group (older A e earlier l (Showed g start end groups) h) (older A e earlier a (Made g' group) ha) lt
+        (older A e earlier k (Answered a from to) hk);
+    after = λ l a k from to c i hk lt. order.after l a k from to c i (older A e earlier k (Answered a from to) hk) lt;
+    begins = λ l m g h start end start' end' groups groups' hl hm lt.
+        let r : (rest : List (Copy A)) × (order.copies m ≡ order.copies l ++ rest)
+            × ((c : Copy A) → Contains rest c → (end ≤ c.from) × ((g' : ℕ) (group : A) → event_at (e ∷ earlier) c.append ≡ Some (Made g' group) → g ≤ g')) =
+        order.begins l m g h start end start' end' groups groups' (older A e earlier l (Showed g start end groups) hl) (older A e earlier m (Showed h start' end' groups') hm) lt in
+        (r.0, r.1, λ c i. ((r.2 c i).0, λ g' group made. (r.2 c i).1 g' group (older A e earlier c.append (Made g' group) made)));
+  }
+
+  order_front : (more story : Story A) → KeepsOrder (more ++ story) → KeepsOrder story
+  order_front [] story order = order
+  order_front (e ∷ more) story order = order_front more story (order_before e (more ++ story) order)
+
+  pub order_shorter : (texts : ℕ → Bytes) (story longer : Story A) → IsLonger texts story longer → KeepsOrder longer → KeepsOrder story
+  order_shorter texts story longer is order = order_front is.0 story (subst (λ z. KeepsOrder z) is.1 order)
+
+  once_front : (more story : Story A) → LoadsOnce (more ++ story) → LoadsOnce story
+  once_front [] story once = once
+  once_front (e ∷ more) story once =
+      once_front more story
+      (λ l m g start end start' end' groups groups' one two.
+      once l m g start end start' end' groups groups' (older A e (more ++ story) l (Showed g start end groups) one) (older A e (more ++ story) m (Showed g start' end' groups') two))
+
+  pub once_shorter : (texts : ℕ → Bytes) (story longer : Story A) → IsLonger texts story longer → LoadsOnce longer → LoadsOnce story
+  once_shorter texts story longer is once = once_front is.0 story (subst (λ z. LoadsOnce z) is.1 once)
+
+-- ---- bytes and observations
+
+module _ (texts : ℕ → Bytes) where
+  stand_front : (more old : List PlacedBytes) → AllStand texts (more ++ old) → AllStand texts old
+  stand_front [] old stand = stand
+  stand_front (p ∷ more) old stand = stand_front more old stand.1
+
+  pub stand_shorter : (old new : List PlacedBytes) → IsLonger texts old new → AllStand texts new → AllStand texts old
+  stand_shorter old new is stand = stand_front is.0 old (subst (λ z. AllStand texts z) is.1 stand)
+
+  -- those of the first list, and those of the second
+  pub record SeenBoth (first second : List TableNote) (notes : List Note) : Type 0 where
+    pub before : List Note
+    pub later : List Note
+    pub is : notes ≡ before ++ later
+    pub first_seen : AreSeenAs texts first before
+    pub second_seen : AreSeenAs texts second later
+
+  pub seen_both : (first second : List TableNote) (notes : List Note) → AreSeenAs texts (first ++ second) notes → SeenBoth first second notes
+  seen_both [] second notes seen = record { before = []; later = notes; is = refl; first_seen = tt; second_seen = seen }
+  seen_both (t ∷ first) second [] seen = absurd seen
+  seen_both (t ∷ first) second (note ∷ notes) seen =
+      let b : SeenBoth first second notes = seen_both first second notes seen.1 in
+      record { before = note ∷ b.before; later = b.later; is = ap (λ z. note ∷ z) b.is; first_seen = (seen.0, b.first_seen); second_seen = b.second_seen }
+
+  -- ---- views
+
+  longer_same : {A : Type 0} (xs : List A) → IsLonger texts xs xs
+  longer_same {A} xs = ([], refl)
+
+  longer_twice : {A : Type 0} (xs ys zs : List A) → IsLonger texts xs ys → IsLonger texts ys zs → IsLonger texts xs zs
+  longer_twice {A} xs ys zs (more, is) (others, are) = (others ++ more, are ∙ ap (λ z. others ++ z) is ∙ sym (append_assoc others more xs))
+
+  longer_kind : (stories : StreamKind → Story Group) (kind k : StreamKind) (e : StreamEvent Group) → IsLonger texts (stories k) (with_kind stories kind e k)
+  longer_kind stories kind k e = go (is_kind k kind)
+    where
+      go : (b : Bool) → IsLonger texts (stories k) (if b then e ∷ stories k else stories k)
+      go true = (e ∷ [], refl)
+      go false = ([], refl)
+
+  module _ (g : ℕ) where
+    action_longer : (v : RangeView) (action : StreamAction) (k : StreamKind) → IsLonger texts (v.story k) ((view_after g v action).story k)
+    action_longer v (Reads kind read) k = longer_same (v.story k)
+    action_longer v (Forms kind group) k = longer_kind v.story kind k (Made g group)
+    action_longer v (Stands kind extent at group) k = longer_kind v.story kind k _
+    action_longer v (Shows start log_end metadata_end) k =
+        longer_twice (v.story k) (with_kind v.story kinds.Metadata _ k) _ (longer_kind v.story kinds.Metadata k _) (longer_kind (with_kind v.story kinds.Metadata _) kinds.Log k _)
+
+    action_shown : (v : RangeView) (action : StreamAction) → IsLonger texts v.shown (view_after g v action).shown
+    action_shown v (Reads kind read) = longer_same v.shown
+    action_shown v (Forms kind group) = longer_same v.shown
+    action_shown v (Stands kind extent at group) = longer_same v.shown
+    action_shown v (Shows start log_end metadata_end) = (_, refl)
+
+    actions_longer : (v : RangeView) (actions : List StreamAction) (k : StreamKind) → IsLonger texts (v.story k) ((view_after_all g v actions).story k)
+    actions_longer v [] k = longer_same (v.story k)
+    actions_longer v (a ∷ earlier) k =
+        longer_twice (v.story k) ((view_after_all g v earlier).story k) ((view_after_all g v (a ∷ earlier)).story k) (actions_longer v earlier k) (action_longer (view_after_all g v earlier) a k)
+
+    actions_shown : (v : RangeView) (actions : List StreamAction) → IsLonger texts v.shown (view_after_all g v actions).shown
+    actions_shown v [] = longer_same v.shown
+    actions_shown v (a ∷ earlier) =
+        longer_twice v.shown (view_after_all g v earlier).shown (view_after_all g v (a ∷ earlier)).shown (actions_shown v earlier) (action_shown (view_after_all g v earlier) a)
+
+    -- what is premised of a view holds of the one before some actions
+    pub order_before_actions : (v : RangeView) (actions : List StreamAction) → InOrder texts (view_after_all g v actions) → InOrder texts v
+    order_before_actions v actions o =
+        let w : RangeView = view_after_all g v actions in
+        record {
+          log = order_shorter Group texts (log_of v) (log_of w) (actions_longer v actions kinds.Log) o.log;
+          metadata = order_shorter Group texts (metadata_of v) (metadata_of w) (actions_longer v actions kinds.Metadata) o.metadata;
+          once = once_shorter Group texts (log_of v) (log_of w) (actions_longer v actions kinds.Log) o.once;
+          shown = stand_shorter v.shown w.shown (actions_shown v actions) o.shown;
+        }
