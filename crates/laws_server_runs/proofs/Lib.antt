@@ -1,3 +1,4 @@
 pub mod Fronts
 pub mod Steps
 pub mod Cells
+pub mod Events
