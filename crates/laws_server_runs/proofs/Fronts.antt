@@ -89,10 +89,10 @@ module _ (texts : ℕ → Bytes) where
 
   -- ---- views
 
-  longer_same : {A : Type 0} (xs : List A) → IsLonger texts xs xs
+  pub longer_same : {A : Type 0} (xs : List A) → IsLonger texts xs xs
   longer_same {A} xs = ([], refl)
 
-  longer_twice : {A : Type 0} (xs ys zs : List A) → IsLonger texts xs ys → IsLonger texts ys zs → IsLonger texts xs zs
+  pub longer_twice : {A : Type 0} (xs ys zs : List A) → IsLonger texts xs ys → IsLonger texts ys zs → IsLonger texts xs zs
   longer_twice {A} xs ys zs (more, is) (others, are) = (others ++ more, are ∙ ap (λ z. others ++ z) is ∙ sym (append_assoc others more xs))
 
   longer_kind : (stories : StreamKind → Story Group) (kind k : StreamKind) (e : StreamEvent Group) → IsLonger texts (stories k) (with_kind stories kind e k)

@@ -15,7 +15,7 @@ use Rattle.model_partition.specs.declared.table_note.TableNote.{TableNote}
 use Rattle.model_partition.specs.declared.table_note.TableNote.TheVariants as tables
 use Rattle.model_partition.specs.Log.{line_shown}
 use Rattle.model_partition.specs.Past.{Bytes, stored, after_line, empty_table}
-use Rattle.model_partition.specs.Story.{Placed, StreamEvent, Made, Answered, Showed, Story, event_at}
+use Rattle.model_partition.specs.Story.{Placed, StreamEvent, Made, Answered, Showed, Story, event_at, KeepsOrder}
 use Rattle.model_partition.specs.Range.{RangeState, waiting_out, is_serving}
 use Rattle.model_partition.specs.Loading.{Group}
 use Rattle.model_partition.specs.Getting.{standing}
@@ -23,7 +23,7 @@ use Rattle.model_partition.specs.Server.{ServerState, range_of}
 use Rattle.model_partition.specs.Servers.{ServerCell}
 use Rattle.model_partition.specs.Renaming.{renamed, decoded}
 use Rattle.model_partition.specs.TableContents.{StandsAt, value_of, table_in}
-use Rattle.model_partition.specs.ServerRun.{PlacedBytes, ServerRun, ServerEvent, Takes, place_number}
+use Rattle.model_partition.specs.ServerRun.{PlacedBytes, ServerRun, ServerEvent, Takes, log_name, metadata_name, place_number}
 
 -- ---- premises
 
@@ -49,6 +49,14 @@ LoadsOnce {A} story = (l m g start end start' end' : ℕ) (groups groups' : List
 abbrev pub AllStand : (ℕ → Bytes) → List PlacedBytes → Type 0
 AllStand texts [] = Unit {0}
 AllStand texts (p ∷ placed) = StandsAt (texts p.extent) p.offset p.bytes × AllStand texts placed
+
+-- What is premised of the streams of the first range, as their servers see them: the stories of its metadata and of its log keep
+-- their order, no generation is confirmed twice, and what was shown of the log keeps its bytes.
+pub record StreamsInOrder (texts : ℕ → Bytes) (x : ServerRun) : Type 0 where
+  pub metadata : KeepsOrder (x.story metadata_name)
+  pub log : KeepsOrder (x.story log_name)
+  pub once : LoadsOnce (x.story log_name)
+  pub shown : AllStand texts x.shown
 
 -- ---- what servers show
 
