@@ -1,5 +1,5 @@
 -- What is kept of a range through the rules that show nothing: a Get, giving up, and a load up to its confirmation.
-use Rattle.std.proofs.Common.{◌≡◌, ◌⊎◌, ℕ, List, [], ◌∷◌, ◌++◌, true, false, Option, Some, None, is_some, refl, sym, ap, ◌∙◌, subst, inl, inr, arith}
+use Rattle.std.proofs.Common.{◌≡◌, ℕ, List, [], ◌∷◌, ◌++◌, Option, Some, None, refl, sym, ap, ◌∙◌, subst, inl}
 use Rattle.std.proofs.lemmas.List.{append-nil}
 use Rattle.block_types.specs.declared.record.Nodes.{Nodes}
 use Rattle.wire.specs.declared.actor.ActorId.{ActorId}
@@ -14,7 +14,6 @@ use Rattle.wire.specs.declared.refusal.Refusal.{Refusal}
 use Rattle.wire.specs.declared.streams.StreamKind.TheVariants as kinds
 use Rattle.wire.specs.declared.streams.StreamList.{StreamList}
 use Rattle.memtable.specs.declared.cell.Place.{Place}
-use Rattle.client.specs.declared.job.Job.{Job}
 use Rattle.client.specs.declared.job.Job.TheVariants as jobs
 use Rattle.client.specs.Client.{ClientState, give_up_job, give_up_rule}
 use Rattle.model_partition.specs.declared.server_context.ServerContext.{ServerContext}
@@ -23,16 +22,15 @@ use Rattle.model_partition.specs.declared.stage.Stage.TheVariants as stages
 use Rattle.model_partition.specs.declared.table_note.TableNote.{TableNote}
 use Rattle.model_partition.specs.declared.waiting.WaitingGet.{WaitingGet}
 use Rattle.model_partition.specs.Past.{Bytes}
-use Rattle.model_partition.specs.Range.{RangeState, RangeOutcome, request, used, picking, is_serving}
+use Rattle.model_partition.specs.Range.{RangeState, request, used, picking}
 use Rattle.model_partition.specs.Getting.{get_fault, gets, get_rule}
 use Rattle.model_partition.specs.Answering.{bytes_reply, gets_reply, give_up_all}
 use Rattle.model_partition.specs.Server.{new_range}
 use Rattle.model_partition.specs.ServerRun.{first_history}
-use Rattle.model_partition.specs.ServedTables.{AllStand, AreSeenAs, IsAtLine}
-use Rattle.model_partition.specs.StreamActions.{StreamAction}
+use Rattle.model_partition.specs.ServedTables.{AreSeenAs, IsAtLine}
 use Rattle.laws_loads.proofs.WaitingStays.{new_sound}
 use Rattle.laws_server_runs.specs.RangeView.{RangeView, log_of}
-use Rattle.laws_server_runs.specs.RangeInvariant.{HasReadNothing, ReadsMetadata, ReadsLog, Serves, StageIs, RangeKept, StreamsKept, AreObserved, GoesOn, Rests, KeptIf, ServesAnew, StepKept}
+use Rattle.laws_server_runs.specs.RangeInvariant.{ReadsMetadata, ReadsLog, StageIs, RangeKept, StreamsKept, AreObserved, Rests, StepKept}
 
 -- ---- the same range, but for what nothing is kept of
 
