@@ -81,14 +81,14 @@ new_kept texts v d first range generation until one =
 
 -- ---- a step that shows nothing
 
-nothing_seen : (texts : ℕ → Bytes) (notes : List TableNote) (later : List Note) → notes ≡ [] → AreSeenAs texts notes later → later ≡ []
+pub nothing_seen : (texts : ℕ → Bytes) (notes : List TableNote) (later : List Note) → notes ≡ [] → AreSeenAs texts notes later → later ≡ []
 nothing_seen texts [] [] none seen = refl
 nothing_seen texts [] (note ∷ later) none seen = absurd seen
 nothing_seen texts (told ∷ notes) later none seen = absurd cc
 
 module _ (texts : ℕ → Bytes) (v : RangeView) (r : RangeState) (kept : RangeKept texts v r) (streams : StreamsKept texts v) (d : ServerContext) where
   -- nothing is done with a stream, and the range stays at its stage
-  rests_kept : (until : ℕ) (metadata log : ClientState) (gets : List WaitingGet) (held : List (Place × List ℕ)) (count : ℕ) (packets : List Packet) →
+  pub rests_kept : (until : ℕ) (metadata log : ClientState) (gets : List WaitingGet) (held : List (Place × List ℕ)) (count : ℕ) (packets : List Packet) →
       (r.metadata.job ≡ jobs.Idle → metadata.job ≡ jobs.Idle) → (r.log.job ≡ jobs.Idle → log.job ≡ jobs.Idle) →
       StepKept texts v r []
       (record { after = Some (record r { until = until; metadata = metadata; log = log; gets = gets; held = held }); count = count; packets = packets; notes = [] })
