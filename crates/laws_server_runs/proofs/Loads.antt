@@ -1,5 +1,5 @@
 -- What is kept of a range through the rules that show nothing: a Get, giving up, and a load up to its confirmation.
-use Rattle.std.proofs.Common.{◌≡◌, ℕ, List, [], ◌∷◌, ◌++◌, Option, Some, None, refl, sym, ap, ◌∙◌, subst, inl}
+use Rattle.std.proofs.Common.{◌≡◌, ℕ, List, [], ◌∷◌, ◌++◌, Option, Some, None, refl, sym, ap, subst, inl}
 use Rattle.std.proofs.lemmas.List.{append-nil}
 use Rattle.block_types.specs.declared.record.Nodes.{Nodes}
 use Rattle.wire.specs.declared.actor.ActorId.{ActorId}
@@ -19,10 +19,11 @@ use Rattle.client.specs.Client.{ClientState, give_up_job, give_up_rule}
 use Rattle.model_partition.specs.declared.server_context.ServerContext.{ServerContext}
 use Rattle.model_partition.specs.declared.stage.Stage.{Stage}
 use Rattle.model_partition.specs.declared.stage.Stage.TheVariants as stages
-use Rattle.model_partition.specs.declared.table_note.TableNote.{TableNote}
 use Rattle.model_partition.specs.declared.waiting.WaitingGet.{WaitingGet}
 use Rattle.model_partition.specs.Past.{Bytes}
+use Rattle.model_partition.specs.Story.{Story}
 use Rattle.model_partition.specs.Range.{RangeState, request, used, picking}
+use Rattle.model_partition.specs.Loading.{Group}
 use Rattle.model_partition.specs.Getting.{get_fault, gets, get_rule}
 use Rattle.model_partition.specs.Answering.{bytes_reply, gets_reply, give_up_all}
 use Rattle.model_partition.specs.Server.{new_range}
@@ -81,10 +82,10 @@ new_kept texts v d first range generation until one =
 
 -- ---- a step that shows nothing
 
-pub nothing_seen : (texts : ℕ → Bytes) (notes : List TableNote) (later : List Note) → notes ≡ [] → AreSeenAs texts notes later → later ≡ []
-nothing_seen texts [] [] none seen = refl
-nothing_seen texts [] (note ∷ later) none seen = absurd seen
-nothing_seen texts (told ∷ notes) later none seen = absurd cc
+-- where nothing is shown the observations are as they were
+pub silent_seen : (texts : ℕ → Bytes) (story : Story Group) (before later : List Note) → AreObserved texts story before → AreSeenAs texts [] later → AreObserved texts story (before ++ later)
+silent_seen texts story before [] old told = subst (λ notes. AreObserved texts story notes) (sym (append-nil before)) old
+silent_seen texts story before (note ∷ later) old told = absurd told
 
 module _ (texts : ℕ → Bytes) (v : RangeView) (r : RangeState) (kept : RangeKept texts v r) (streams : StreamsKept texts v) (d : ServerContext) where
   -- nothing is done with a stream, and the range stays at its stage
@@ -99,9 +100,7 @@ module _ (texts : ℕ → Bytes) (v : RangeView) (r : RangeState) (kept : RangeK
         goes = Rests;
         longer = ([], refl);
         anew = λ serves. inl serves;
-        seen = λ before later old told.
-            subst (λ notes. AreObserved texts (log_of v) notes)
-            (sym (ap (λ notes. before ++ notes) (nothing_seen texts [] later refl told) ∙ append-nil before)) old;
+        seen = λ before later old told. silent_seen texts (log_of v) before later old told;
       }
 
   gets_kept : (from : ActorId) (q : ReqNo) (key : List ℕ) (fault : Option Refusal) → StepKept texts v r [] (gets d r from q key fault)

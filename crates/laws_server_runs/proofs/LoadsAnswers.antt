@@ -37,10 +37,10 @@ use Rattle.model_partition.specs.Loading.{Group, said_after, says, metadata_news
 use Rattle.model_partition.specs.Answering.{groups_of, metadata_reply, serving_news, is_taken, log_taken, log_reply}
 use Rattle.model_partition.specs.ServerRun.{one_more_read}
 use Rattle.model_partition.specs.StreamActions.{ExtentRead, StreamAction, Reads, loading_actions, metadata_actions, serving_actions, log_actions}
-use Rattle.laws_server_runs.specs.RangeView.{RangeView, view_after_all}
-use Rattle.laws_server_runs.specs.RangeInvariant.{groups_read, replayed_all, ReadsMetadata, ReadsLog, PhaseIs, StageIs, RangeKept, StreamsKept, StepKept}
+use Rattle.laws_server_runs.specs.RangeView.{RangeView}
+use Rattle.laws_server_runs.specs.RangeInvariant.{groups_read, ReadsMetadata, ReadsLog, PhaseIs, StageIs, RangeKept, StreamsKept, StepKept}
 use Rattle.laws_server_runs.proofs.Loads.{rests_kept}
-use Rattle.laws_server_runs.proofs.LoadsSteps.{Left, Loads, drops_left, goes_left, reads_log_left, reads_log_from_left, reads_metadata_left, without_actions}
+use Rattle.laws_server_runs.proofs.LoadsSteps.{Left, IsLoading, drops_left, reads_log_left, reads_log_from_left, reads_metadata_left}
 
 -- ---- what an answer makes of a client
 
@@ -212,18 +212,18 @@ module _ (texts : ℕ → Bytes) (v : RangeView) (r : RangeState) (kept : RangeK
     abbrev now : RangeState
     now = record r { log = c }
 
-    loads : r.load.phase ≡ phases.Opened → Loads texts v r streams d [] v.history refl now
-    loads opened = record { range = kept.range; generation = refl; opened = opened; sound = kept.sound }
+    is_loading : r.load.phase ≡ phases.Opened → IsLoading texts v r streams d [] v.history refl now
+    is_loading opened = record { range = kept.range; generation = refl; opened = opened; sound = kept.sound }
 
     log_same : ReadsLog v.history r → ReadsLog v.history now
     log_same s = record { said = s.said; made = s.made; fixed = s.fixed; idle = s.idle }
 
     -- the log is read from its first extent on
     log_begins : r.load.phase ≡ phases.Opened → ReadsLog v.history r → (position : Option ℕ) → NoneRead (reads_log_from d now position)
-    log_begins opened s position = reads_log_from_left texts v r streams d [] v.history refl now (loads opened) (log_same s) position
+    log_begins opened s position = reads_log_from_left texts v r streams d [] v.history refl now (is_loading opened) (log_same s) position
 
     log_next : r.load.phase ≡ phases.Opened → ReadsLog v.history r → (position : ℕ) → NoneRead (reads_log d now position)
-    log_next opened s position = reads_log_left texts v r streams d [] v.history refl now (loads opened) (log_same s) position
+    log_next opened s position = reads_log_left texts v r streams d [] v.history refl now (is_loading opened) (log_same s) position
 
     module _ (position extent : ℕ) where
       abbrev read : ExtentRead

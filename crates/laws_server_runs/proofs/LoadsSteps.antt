@@ -1,8 +1,6 @@
 -- A load goes on: what is kept through each of its steps, from the opening of the streams up to the confirmation.
-use Rattle.std.proofs.Common.{◌≡◌, ℕ, Bool, suc, List, [], ◌∷◌, ◌++◌, length, ◌&&◌, ◌==◌, nat_lt, true, false, Option, Some, None, is_some, option_to_list, refl, sym, ap, ◌∙◌, subst, inl}
+use Rattle.std.proofs.Common.{◌≡◌, ℕ, Bool, List, [], ◌++◌, length, ◌&&◌, ◌==◌, nat_lt, true, false, Option, Some, None, is_some, refl, sym, ap, ◌∙◌, subst, inl}
 use Rattle.std.specs.Prelude.{if◌then◌else◌}
-use Rattle.std.proofs.lemmas.List.{append-nil}
-use Rattle.wire.specs.declared.note.Note.{Note}
 use Rattle.wire.specs.declared.packet.Packet.{Packet}
 use Rattle.wire.specs.declared.streams.StreamExtent.{StreamExtent}
 use Rattle.wire.specs.declared.streams.StreamKind.TheVariants as kinds
@@ -18,18 +16,17 @@ use Rattle.model_partition.specs.Past.{Bytes}
 use Rattle.model_partition.specs.Range.{RangeState, RangeOutcome, request, is_serving}
 use Rattle.model_partition.specs.Loading.{said_after, confirms, reads_log, open_region, first_position, reads_log_from, checks_log, begins_log, reads_metadata, begins_metadata, opens}
 use Rattle.model_partition.specs.ServerRun.{RangeHistory}
-use Rattle.model_partition.specs.ServedTables.{AreSeenAs}
 use Rattle.model_partition.specs.StreamActions.{StreamAction}
 use Rattle.laws_loads.specs.Sound.{IsSound}
 use Rattle.laws_server_runs.specs.RangeView.{RangeView, view_after_all, log_of}
 use Rattle.laws_server_runs.specs.RangeInvariant.{groups_read, replayed_all, HasReadNothing, ReadsMetadata, ReadsLog, StageIs, RangeKept, StreamsKept, AreObserved, GoesOn, Rests, IsLonger, KeptIf, StepKept}
-use Rattle.laws_server_runs.proofs.Loads.{nothing_seen}
+use Rattle.laws_server_runs.proofs.Loads.{silent_seen}
 
 -- Actions of a load, which leave the streams as they were.
 module _ (texts : ℕ → Bytes) (v : RangeView) (r : RangeState) (streams : StreamsKept texts v) (d : ServerContext) (actions : List StreamAction) (h : RangeHistory)
     (same : view_after_all r.load.generation v actions ≡ record v { history = h }) where
-  abbrev pub now : RangeView
-  now = record v { history = h }
+  abbrev pub view : RangeView
+  view = record v { history = h }
 
   abbrev pub Left : RangeOutcome → Type 0
   Left o = StepKept texts v r (if is_some o.after then actions else []) o
@@ -43,11 +40,11 @@ module _ (texts : ℕ → Bytes) (v : RangeView) (r : RangeState) (streams : Str
         goes = Rests;
         longer = ([], refl);
         anew = tt;
-        seen = λ before later old told. subst (λ notes. AreObserved texts (log_of v) notes) (sym (ap (λ notes. before ++ notes) (nothing_seen texts [] later refl told) ∙ append-nil before)) old;
+        seen = λ before later old told. silent_seen texts (log_of v) before later old told;
       }
 
   -- the load goes on
-  pub goes_left : (next : RangeState) (count : ℕ) (packets : List Packet) → RangeKept texts now next → next.load.generation ≡ r.load.generation →
+  pub goes_left : (next : RangeState) (count : ℕ) (packets : List Packet) → RangeKept texts view next → next.load.generation ≡ r.load.generation →
       (is_serving next.stage ≡ true → is_serving r.stage ≡ true) → Left (record { after = Some next; count = count; packets = packets; notes = [] })
   goes_left next count packets kept generation served =
       record {
@@ -56,13 +53,11 @@ module _ (texts : ℕ → Bytes) (v : RangeView) (r : RangeState) (streams : Str
         goes = subst (λ w. GoesOn texts r.load.generation (log_of v) (log_of w)) (sym same) Rests;
         longer = subst (λ w. IsLonger texts v.answered w.answered) (sym same) ([], refl);
         anew = λ serves. inl (served serves);
-        seen = λ before later old told.
-            subst (λ w. AreObserved texts (log_of w) (before ++ later)) (sym same)
-            (subst (λ notes. AreObserved texts (log_of v) notes) (sym (ap (λ notes. before ++ notes) (nothing_seen texts [] later refl told) ∙ append-nil before)) old);
+        seen = λ before later old told. subst (λ w. AreObserved texts (log_of w) (before ++ later)) (sym same) (silent_seen texts (log_of v) before later old told);
       }
 
   -- a state of the load, as of this range
-  pub record Loads (s : RangeState) : Type 0 where
+  pub record IsLoading (s : RangeState) : Type 0 where
     pub range : s.load.range ≡ 1
     pub generation : s.load.generation ≡ r.load.generation
     pub opened : s.load.phase ≡ phases.Opened
@@ -71,28 +66,28 @@ module _ (texts : ℕ → Bytes) (v : RangeView) (r : RangeState) (streams : Str
   -- ---- the log
 
   -- a request of the log's client is out
-  log_asks : (s : RangeState) → Loads s → (c : ClientState) → ReadsLog h s → (position : ℕ) →
-      RangeKept texts now (record s { stage = stages.Reading kinds.Log position; log = c }) × RangeKept texts now (record s { stage = stages.Checking kinds.Log; log = c })
+  log_asks : (s : RangeState) → IsLoading s → (c : ClientState) → ReadsLog h s → (position : ℕ) →
+      RangeKept texts view (record s { stage = stages.Reading kinds.Log position; log = c }) × RangeKept texts view (record s { stage = stages.Checking kinds.Log; log = c })
   log_asks s b c reads position =
       (record { range = b.range; phase = b.opened; sound = b.sound; stage = record { said = reads.said; made = reads.made; fixed = reads.fixed; idle = reads.idle } }, record { range = b.range; phase = b.opened; sound = b.sound; stage = record { said = reads.said; made = reads.made; fixed = reads.fixed; idle = reads.idle } })
 
-  confirms_left : (s : RangeState) → Loads s → ReadsLog h s → Left (confirms d s)
+  confirms_left : (s : RangeState) → IsLoading s → ReadsLog h s → Left (confirms d s)
   confirms_left s b reads =
       goes_left (record s { stage = stages.Confirming; load = record s.load { phase = phases.Confirming (request d) } }) _ _
       (record { range = b.range; phase = (request d, refl); sound = b.sound; stage = record { said = reads.said; made = reads.made; fixed = reads.fixed; idle = reads.idle } })
       b.generation (λ z. absurd cc)
 
-  pub reads_log_left : (s : RangeState) → Loads s → ReadsLog h s → (position : ℕ) → Left (reads_log d s position)
+  pub reads_log_left : (s : RangeState) → IsLoading s → ReadsLog h s → (position : ℕ) → Left (reads_log d s position)
   reads_log_left s b reads position =
       if_elim Left (nat_lt position (length s.log.extents)) _ _
       (λ t. goes_left _ _ _ (log_asks s b _ reads position).0 b.generation (λ z. absurd cc))
       (λ f. confirms_left s b reads)
 
-  pub reads_log_from_left : (s : RangeState) → Loads s → ReadsLog h s → (position : Option ℕ) → Left (reads_log_from d s position)
+  pub reads_log_from_left : (s : RangeState) → IsLoading s → ReadsLog h s → (position : Option ℕ) → Left (reads_log_from d s position)
   reads_log_from_left s b reads None = drops_left _ _
   reads_log_from_left s b reads (Some position) = reads_log_left s b reads position
 
-  checks_log_left : (s : RangeState) → Loads s → ReadsLog h s → (x : Option StreamExtent) → Left (checks_log d s x)
+  checks_log_left : (s : RangeState) → IsLoading s → ReadsLog h s → (x : Option StreamExtent) → Left (checks_log d s x)
   checks_log_left s b reads None = reads_log_from_left s b reads (first_position s s.regions)
   checks_log_left s b reads (Some x) =
       if_elim Left (is_some x.length) _ _
@@ -101,7 +96,7 @@ module _ (texts : ℕ → Bytes) (v : RangeView) (r : RangeState) (streams : Str
 
   -- ---- the metadata
 
-  begins_log_left : (s : RangeState) → Loads s → ReadsMetadata h s → s.metadata.job ≡ jobs.Idle → Left (begins_log d s)
+  begins_log_left : (s : RangeState) → IsLoading s → ReadsMetadata h s → s.metadata.job ≡ jobs.Idle → Left (begins_log d s)
   begins_log_left s b reads idle =
       if_elim Left (is_some (open_region s.said.regions) && (is_some (first_position s s.said.regions) && (length s.said.indexes == 0))) _ _
       (λ t. checks_log_left (record s { regions = s.said.regions }) (record { range = b.range; generation = b.generation; opened = b.opened; sound = b.sound })
@@ -112,18 +107,18 @@ module _ (texts : ℕ → Bytes) (v : RangeView) (r : RangeState) (streams : Str
       made = ap (λ read. replayed_all s.said.keys read (s.said.regions, [])) reads.log ∙ ap (λ live. Some (s.said.regions, live)) (sym reads.live)
 
   -- a request of the metadata's client is out
-  metadata_asks : (s : RangeState) → Loads s → (c : ClientState) → ReadsMetadata h s → (position : ℕ) →
-      RangeKept texts now (record s { stage = stages.Reading kinds.Metadata position; metadata = c }) × RangeKept texts now (record s { stage = stages.Checking kinds.Metadata; metadata = c })
+  metadata_asks : (s : RangeState) → IsLoading s → (c : ClientState) → ReadsMetadata h s → (position : ℕ) →
+      RangeKept texts view (record s { stage = stages.Reading kinds.Metadata position; metadata = c }) × RangeKept texts view (record s { stage = stages.Checking kinds.Metadata; metadata = c })
   metadata_asks s b c reads position =
       (record { range = b.range; phase = b.opened; sound = b.sound; stage = record { said = reads.said; log = reads.log; live = reads.live; fixed = reads.fixed; idle = reads.idle } }, record { range = b.range; phase = b.opened; sound = b.sound; stage = record { said = reads.said; log = reads.log; live = reads.live; fixed = reads.fixed; idle = reads.idle } })
 
-  pub reads_metadata_left : (s : RangeState) → Loads s → ReadsMetadata h s → s.metadata.job ≡ jobs.Idle → (position : ℕ) → Left (reads_metadata d s position)
+  pub reads_metadata_left : (s : RangeState) → IsLoading s → ReadsMetadata h s → s.metadata.job ≡ jobs.Idle → (position : ℕ) → Left (reads_metadata d s position)
   reads_metadata_left s b reads idle position =
       if_elim Left (nat_lt position (length s.metadata.extents)) _ _
       (λ t. goes_left _ _ _ (metadata_asks s b _ reads position).0 b.generation (λ z. absurd cc))
       (λ f. begins_log_left s b reads idle)
 
-  begins_metadata_left : (s : RangeState) → Loads s → ReadsMetadata h s → s.metadata.job ≡ jobs.Idle → (x : Option StreamExtent) → Left (begins_metadata d s x)
+  begins_metadata_left : (s : RangeState) → IsLoading s → ReadsMetadata h s → s.metadata.job ≡ jobs.Idle → (x : Option StreamExtent) → Left (begins_metadata d s x)
   begins_metadata_left s b reads idle None = begins_log_left s b reads idle
   begins_metadata_left s b reads idle (Some x) =
       if_elim Left (is_some x.length) _ _
@@ -131,7 +126,7 @@ module _ (texts : ℕ → Bytes) (v : RangeView) (r : RangeState) (streams : Str
       (λ f. goes_left _ _ _ (metadata_asks s b _ reads 0).1 b.generation (λ z. absurd cc))
 
   -- the streams are opened, and nothing is read yet
-  pub opens_left : Loads (record r { load = record r.load { phase = phases.Opened } }) → HasReadNothing h r → (lists : StreamLists) → Left (opens d r lists)
+  pub opens_left : IsLoading (record r { load = record r.load { phase = phases.Opened } }) → HasReadNothing h r → (lists : StreamLists) → Left (opens d r lists)
   opens_left b nothing lists =
       begins_metadata_left
       (record r {
