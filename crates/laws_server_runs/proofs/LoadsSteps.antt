@@ -66,10 +66,11 @@ module _ (texts : ℕ → Bytes) (v : RangeView) (r : RangeState) (streams : Str
   -- ---- the log
 
   -- a request of the log's client is out
-  log_asks : (s : RangeState) → IsLoading s → (c : ClientState) → ReadsLog h s → (position : ℕ) →
-      RangeKept texts view (record s { stage = stages.Reading kinds.Log position; log = c }) × RangeKept texts view (record s { stage = stages.Checking kinds.Log; log = c })
-  log_asks s b c reads position =
-      (record { range = b.range; phase = b.opened; sound = b.sound; stage = record { said = reads.said; made = reads.made; fixed = reads.fixed; idle = reads.idle } }, record { range = b.range; phase = b.opened; sound = b.sound; stage = record { said = reads.said; made = reads.made; fixed = reads.fixed; idle = reads.idle } })
+  log_reads : (s : RangeState) → IsLoading s → (c : ClientState) → ReadsLog h s → (position : ℕ) → RangeKept texts view (record s { stage = stages.Reading kinds.Log position; log = c })
+  log_reads s b c reads position = record { range = b.range; phase = b.opened; sound = b.sound; stage = record { said = reads.said; made = reads.made; fixed = reads.fixed; idle = reads.idle } }
+
+  log_checks : (s : RangeState) → IsLoading s → (c : ClientState) → ReadsLog h s → RangeKept texts view (record s { stage = stages.Checking kinds.Log; log = c })
+  log_checks s b c reads = record { range = b.range; phase = b.opened; sound = b.sound; stage = record { said = reads.said; made = reads.made; fixed = reads.fixed; idle = reads.idle } }
 
   confirms_left : (s : RangeState) → IsLoading s → ReadsLog h s → Left (confirms d s)
   confirms_left s b reads =
@@ -80,7 +81,7 @@ module _ (texts : ℕ → Bytes) (v : RangeView) (r : RangeState) (streams : Str
   pub reads_log_left : (s : RangeState) → IsLoading s → ReadsLog h s → (position : ℕ) → Left (reads_log d s position)
   reads_log_left s b reads position =
       if_elim Left (nat_lt position (length s.log.extents)) _ _
-      (λ t. goes_left _ _ _ (log_asks s b _ reads position).0 b.generation (λ z. absurd cc))
+      (λ t. goes_left _ _ _ (log_reads s b _ reads position) b.generation (λ z. absurd cc))
       (λ f. confirms_left s b reads)
 
   pub reads_log_from_left : (s : RangeState) → IsLoading s → ReadsLog h s → (position : Option ℕ) → Left (reads_log_from d s position)
@@ -92,7 +93,7 @@ module _ (texts : ℕ → Bytes) (v : RangeView) (r : RangeState) (streams : Str
   checks_log_left s b reads (Some x) =
       if_elim Left (is_some x.length) _ _
       (λ t. reads_log_from_left s b reads (first_position s s.regions))
-      (λ f. goes_left _ _ _ (log_asks s b _ reads 0).1 b.generation (λ z. absurd cc))
+      (λ f. goes_left _ _ _ (log_checks s b _ reads) b.generation (λ z. absurd cc))
 
   -- ---- the metadata
 
@@ -107,15 +108,16 @@ module _ (texts : ℕ → Bytes) (v : RangeView) (r : RangeState) (streams : Str
       made = ap (λ read. replayed_all s.said.keys read (s.said.regions, [])) reads.log ∙ ap (λ live. Some (s.said.regions, live)) (sym reads.live)
 
   -- a request of the metadata's client is out
-  metadata_asks : (s : RangeState) → IsLoading s → (c : ClientState) → ReadsMetadata h s → (position : ℕ) →
-      RangeKept texts view (record s { stage = stages.Reading kinds.Metadata position; metadata = c }) × RangeKept texts view (record s { stage = stages.Checking kinds.Metadata; metadata = c })
-  metadata_asks s b c reads position =
-      (record { range = b.range; phase = b.opened; sound = b.sound; stage = record { said = reads.said; log = reads.log; live = reads.live; fixed = reads.fixed; idle = reads.idle } }, record { range = b.range; phase = b.opened; sound = b.sound; stage = record { said = reads.said; log = reads.log; live = reads.live; fixed = reads.fixed; idle = reads.idle } })
+  metadata_reads : (s : RangeState) → IsLoading s → (c : ClientState) → ReadsMetadata h s → (position : ℕ) → RangeKept texts view (record s { stage = stages.Reading kinds.Metadata position; metadata = c })
+  metadata_reads s b c reads position = record { range = b.range; phase = b.opened; sound = b.sound; stage = record { said = reads.said; log = reads.log; live = reads.live; fixed = reads.fixed; idle = reads.idle } }
+
+  metadata_checks : (s : RangeState) → IsLoading s → (c : ClientState) → ReadsMetadata h s → RangeKept texts view (record s { stage = stages.Checking kinds.Metadata; metadata = c })
+  metadata_checks s b c reads = record { range = b.range; phase = b.opened; sound = b.sound; stage = record { said = reads.said; log = reads.log; live = reads.live; fixed = reads.fixed; idle = reads.idle } }
 
   pub reads_metadata_left : (s : RangeState) → IsLoading s → ReadsMetadata h s → s.metadata.job ≡ jobs.Idle → (position : ℕ) → Left (reads_metadata d s position)
   reads_metadata_left s b reads idle position =
       if_elim Left (nat_lt position (length s.metadata.extents)) _ _
-      (λ t. goes_left _ _ _ (metadata_asks s b _ reads position).0 b.generation (λ z. absurd cc))
+      (λ t. goes_left _ _ _ (metadata_reads s b _ reads position) b.generation (λ z. absurd cc))
       (λ f. begins_log_left s b reads idle)
 
   begins_metadata_left : (s : RangeState) → IsLoading s → ReadsMetadata h s → s.metadata.job ≡ jobs.Idle → (x : Option StreamExtent) → Left (begins_metadata d s x)
@@ -123,7 +125,7 @@ module _ (texts : ℕ → Bytes) (v : RangeView) (r : RangeState) (streams : Str
   begins_metadata_left s b reads idle (Some x) =
       if_elim Left (is_some x.length) _ _
       (λ t. reads_metadata_left s b reads idle 0)
-      (λ f. goes_left _ _ _ (metadata_asks s b _ reads 0).1 b.generation (λ z. absurd cc))
+      (λ f. goes_left _ _ _ (metadata_checks s b _ reads) b.generation (λ z. absurd cc))
 
   -- the streams are opened, and nothing is read yet
   pub opens_left : IsLoading (record r { load = record r.load { phase = phases.Opened } }) → HasReadNothing h r → (lists : StreamLists) → Left (opens d r lists)
