@@ -1,3 +1,4 @@
 pub mod Loads
 pub mod LoadsSteps
 pub mod LoadsAnswers
+pub mod LoadsAnswered
