@@ -1,5 +1,5 @@
 -- What an answer leaves of what is kept, by the job that waits for it.
-use Rattle.std.proofs.Common.{◌≡◌, ℕ, Bool, List, [], true, false, Option, Some, None, is_some, refl}
+use Rattle.std.proofs.Common.{◌≡◌, ℕ, Bool, List, [], true, false, is_some, refl}
 use Rattle.std.specs.Prelude.{if◌then◌else◌}
 use Rattle.wire.specs.declared.actor.ReqNo.{ReqNo}
 use Rattle.wire.specs.declared.body.Body.{Body}
