@@ -3,3 +3,7 @@ pub mod Steps
 pub mod Cells
 pub mod Events
 pub mod Theorem
+pub mod Loads
+pub mod LoadsSteps
+pub mod LoadsAnswers
+pub mod LoadsAnswered

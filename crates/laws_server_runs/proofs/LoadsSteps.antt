@@ -1,0 +1,160 @@
+-- A load goes on: what is kept through each of its steps, from the opening of the streams up to the confirmation.
+use Rattle.std.proofs.Common.{◌≡◌, ℕ, Bool, List, [], ◌++◌, length, ◌&&◌, ◌==◌, nat_lt, true, false, Option, Some, None, is_some, refl, sym, ap, ◌∙◌, subst, inl}
+use Rattle.std.specs.Prelude.{if◌then◌else◌}
+use Rattle.wire.specs.declared.packet.Packet.{Packet}
+use Rattle.wire.specs.declared.streams.StreamExtent.{StreamExtent}
+use Rattle.wire.specs.declared.streams.StreamKind.TheVariants as kinds
+use Rattle.wire.specs.declared.streams.StreamLists.{StreamLists}
+use Rattle.client.specs.declared.job.Job.TheVariants as jobs
+use Rattle.client.specs.declared.load.LoadPhase.TheVariants as phases
+use Rattle.client.specs.Client.{ClientState, new_client, last_extent}
+use Rattle.metadata.specs.Fold.{first_metadata}
+use Rattle.model_streams.proofs.Tests.{if_elim}
+use Rattle.model_partition.specs.declared.server_context.ServerContext.{ServerContext}
+use Rattle.model_partition.specs.declared.stage.Stage.TheVariants as stages
+use Rattle.model_partition.specs.Past.{Bytes}
+use Rattle.model_partition.specs.Range.{RangeState, RangeOutcome, request, is_serving}
+use Rattle.model_partition.specs.Loading.{said_after, confirms, reads_log, open_region, first_position, reads_log_from, checks_log, begins_log, reads_metadata, begins_metadata, opens}
+use Rattle.model_partition.specs.ServerRun.{RangeHistory}
+use Rattle.model_partition.specs.StreamActions.{StreamAction}
+use Rattle.laws_loads.specs.Sound.{IsSound}
+use Rattle.laws_server_runs.specs.RangeView.{RangeView, view_after_all, log_of}
+use Rattle.laws_server_runs.specs.RangeInvariant.{groups_read, replayed_all, HasReadNothing, ReadsMetadata, ReadsLog, StageIs, RangeKept, StreamsKept, AreObserved, GoesOn, Rests, IsLonger, KeptIf, StepKept}
+use Rattle.laws_server_runs.proofs.Loads.{silent_seen}
+
+-- Actions of a load, which leave the streams as they were.
+module _ (texts : ℕ → Bytes) (v : RangeView) (r : RangeState) (streams : StreamsKept texts v) (d : ServerContext) (actions : List StreamAction) (h : RangeHistory)
+    (same : view_after_all r.load.generation v actions ≡ record v { history = h }) where
+  abbrev pub view : RangeView
+  view = record v { history = h }
+
+  abbrev pub Left : RangeOutcome → Type 0
+  Left o = StepKept texts v r (if is_some o.after then actions else []) o
+
+  -- the range is dropped
+  pub drops_left : (count : ℕ) (packets : List Packet) → Left (record { after = None; count = count; packets = packets; notes = [] })
+  drops_left count packets =
+      record {
+        kept = tt;
+        streams = streams;
+        goes = Rests;
+        longer = ([], refl);
+        anew = tt;
+        seen = λ before later old told. silent_seen texts (log_of v) before later old told;
+      }
+
+  -- the load goes on
+  pub goes_left : (next : RangeState) (count : ℕ) (packets : List Packet) → RangeKept texts view next → next.load.generation ≡ r.load.generation →
+      (is_serving next.stage ≡ true → is_serving r.stage ≡ true) → Left (record { after = Some next; count = count; packets = packets; notes = [] })
+  goes_left next count packets kept generation served =
+      record {
+        kept = subst (λ w. KeptIf texts w r.load.generation (Some next)) (sym same) (kept, generation);
+        streams = subst (λ w. StreamsKept texts w) (sym same) (record { served = streams.served; spelled = streams.spelled; unmade = streams.unmade });
+        goes = subst (λ w. GoesOn texts r.load.generation (log_of v) (log_of w)) (sym same) Rests;
+        longer = subst (λ w. IsLonger texts v.answered w.answered) (sym same) ([], refl);
+        anew = λ serves. inl (served serves);
+        seen = λ before later old told. subst (λ w. AreObserved texts (log_of w) (before ++ later)) (sym same) (silent_seen texts (log_of v) before later old told);
+      }
+
+  -- a state of the load, as of this range
+  pub record IsLoading (s : RangeState) : Type 0 where
+    pub range : s.load.range ≡ 1
+    pub generation : s.load.generation ≡ r.load.generation
+    pub opened : s.load.phase ≡ phases.Opened
+    pub sound : IsSound s
+
+  -- ---- the log
+
+  -- a request of the log's client is out
+  log_reads : (s : RangeState) → IsLoading s → (c : ClientState) → ReadsLog h s → (position : ℕ) → RangeKept texts view (record s { stage = stages.Reading kinds.Log position; log = c })
+  log_reads s b c reads position = record { range = b.range; phase = b.opened; sound = b.sound; stage = record { said = reads.said; made = reads.made; fixed = reads.fixed; idle = reads.idle } }
+
+  log_checks : (s : RangeState) → IsLoading s → (c : ClientState) → ReadsLog h s → RangeKept texts view (record s { stage = stages.Checking kinds.Log; log = c })
+  log_checks s b c reads = record { range = b.range; phase = b.opened; sound = b.sound; stage = record { said = reads.said; made = reads.made; fixed = reads.fixed; idle = reads.idle } }
+
+  confirms_left : (s : RangeState) → IsLoading s → ReadsLog h s → Left (confirms d s)
+  confirms_left s b reads =
+      goes_left (record s { stage = stages.Confirming; load = record s.load { phase = phases.Confirming (request d) } }) _ _
+      (record { range = b.range; phase = (request d, refl); sound = b.sound; stage = record { said = reads.said; made = reads.made; fixed = reads.fixed; idle = reads.idle } })
+      b.generation (λ z. absurd cc)
+
+  pub reads_log_left : (s : RangeState) → IsLoading s → ReadsLog h s → (position : ℕ) → Left (reads_log d s position)
+  reads_log_left s b reads position =
+      if_elim Left (nat_lt position (length s.log.extents)) _ _
+      (λ t. goes_left _ _ _ (log_reads s b _ reads position) b.generation (λ z. absurd cc))
+      (λ f. confirms_left s b reads)
+
+  pub reads_log_from_left : (s : RangeState) → IsLoading s → ReadsLog h s → (position : Option ℕ) → Left (reads_log_from d s position)
+  reads_log_from_left s b reads None = drops_left _ _
+  reads_log_from_left s b reads (Some position) = reads_log_left s b reads position
+
+  checks_log_left : (s : RangeState) → IsLoading s → ReadsLog h s → (x : Option StreamExtent) → Left (checks_log d s x)
+  checks_log_left s b reads None = reads_log_from_left s b reads (first_position s s.regions)
+  checks_log_left s b reads (Some x) =
+      if_elim Left (is_some x.length) _ _
+      (λ t. reads_log_from_left s b reads (first_position s s.regions))
+      (λ f. goes_left _ _ _ (log_checks s b _ reads) b.generation (λ z. absurd cc))
+
+  -- ---- the metadata
+
+  begins_log_left : (s : RangeState) → IsLoading s → ReadsMetadata h s → s.metadata.job ≡ jobs.Idle → Left (begins_log d s)
+  begins_log_left s b reads idle =
+      if_elim Left (is_some (open_region s.said.regions) && (is_some (first_position s s.said.regions) && (length s.said.indexes == 0))) _ _
+      (λ t. checks_log_left (record s { regions = s.said.regions }) (record { range = b.range; generation = b.generation; opened = b.opened; sound = b.sound })
+      (record { said = reads.said; made = made; fixed = reads.fixed; idle = idle }) (last_extent s.log.extents))
+      (λ f. drops_left _ _)
+    where
+      made : replayed_all s.said.keys (h.reads kinds.Log) (s.said.regions, []) ≡ Some (s.said.regions, s.live)
+      made = ap (λ read. replayed_all s.said.keys read (s.said.regions, [])) reads.log ∙ ap (λ live. Some (s.said.regions, live)) (sym reads.live)
+
+  -- a request of the metadata's client is out
+  metadata_reads : (s : RangeState) → IsLoading s → (c : ClientState) → ReadsMetadata h s → (position : ℕ) → RangeKept texts view (record s { stage = stages.Reading kinds.Metadata position; metadata = c })
+  metadata_reads s b c reads position = record { range = b.range; phase = b.opened; sound = b.sound; stage = record { said = reads.said; log = reads.log; live = reads.live; fixed = reads.fixed; idle = reads.idle } }
+
+  metadata_checks : (s : RangeState) → IsLoading s → (c : ClientState) → ReadsMetadata h s → RangeKept texts view (record s { stage = stages.Checking kinds.Metadata; metadata = c })
+  metadata_checks s b c reads = record { range = b.range; phase = b.opened; sound = b.sound; stage = record { said = reads.said; log = reads.log; live = reads.live; fixed = reads.fixed; idle = reads.idle } }
+
+  pub reads_metadata_left : (s : RangeState) → IsLoading s → ReadsMetadata h s → s.metadata.job ≡ jobs.Idle → (position : ℕ) → Left (reads_metadata d s position)
+  reads_metadata_left s b reads idle position =
+      if_elim Left (nat_lt position (length s.metadata.extents)) _ _
+      (λ t. goes_left _ _ _ (metadata_reads s b _ reads position) b.generation (λ z. absurd cc))
+      (λ f. begins_log_left s b reads idle)
+
+  begins_metadata_left : (s : RangeState) → IsLoading s → ReadsMetadata h s → s.metadata.job ≡ jobs.Idle → (x : Option StreamExtent) → Left (begins_metadata d s x)
+  begins_metadata_left s b reads idle None = begins_log_left s b reads idle
+  begins_metadata_left s b reads idle (Some x) =
+      if_elim Left (is_some x.length) _ _
+      (λ t. reads_metadata_left s b reads idle 0)
+      (λ f. goes_left _ _ _ (metadata_checks s b _ reads) b.generation (λ z. absurd cc))
+
+  -- the streams are opened, and nothing is read yet
+  pub opens_left : IsLoading (record r { load = record r.load { phase = phases.Opened } }) → HasReadNothing h r → (lists : StreamLists) → Left (opens d r lists)
+  opens_left b nothing lists =
+      begins_metadata_left
+      (record r {
+        load = record r.load { phase = phases.Opened };
+        metadata = new_client d.server (record { range = r.load.range; kind = kinds.Metadata }) r.load.generation lists.metadata d.pick;
+        log = new_client d.server (record { range = r.load.range; kind = kinds.Log }) r.load.generation lists.log d.pick;
+        row_data = lists.row_data;
+        blob_data = lists.blob_data;
+        said = first_metadata;
+      })
+      (record { range = b.range; generation = b.generation; opened = b.opened; sound = b.sound })
+      (record { said = ap (λ read. said_after first_metadata (groups_read read)) nothing.metadata; log = nothing.log; live = nothing.live; fixed = nothing.fixed; idle = refl })
+      refl (last_extent lists.metadata.extents)
+
+-- a step without actions
+pub without_actions : (texts : ℕ → Bytes) (v : RangeView) (r : RangeState) (o : RangeOutcome) → StepKept texts v r (if is_some o.after then [] else []) o → StepKept texts v r [] o
+without_actions texts v r o step = subst (λ actions. StepKept texts v r actions o) (none (is_some o.after) []) step
+  where
+    none : (t : Bool) (actions : List StreamAction) → (if t then actions else actions) ≡ actions
+    none true actions = refl
+    none false actions = refl
+
+module _ (texts : ℕ → Bytes) (v : RangeView) (r : RangeState) (kept : RangeKept texts v r) (streams : StreamsKept texts v) (d : ServerContext) where
+  -- the streams of the range are opened
+  pub opens_kept : r.stage ≡ stages.Opening → (lists : StreamLists) → StepKept texts v r [] (opens d r lists)
+  opens_kept opening lists =
+      without_actions texts v r (opens d r lists)
+      (opens_left texts v r streams d [] v.history refl (record { range = kept.range; generation = refl; opened = refl; sound = kept.sound })
+      (subst (λ stage. StageIs texts v r stage) opening kept.stage) lists)
