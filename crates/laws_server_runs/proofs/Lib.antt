@@ -1,0 +1,2 @@
+pub mod LoadedLine
+pub mod Order
