@@ -1,2 +1,4 @@
+pub mod ConfirmedLoad
 pub mod LoadedLine
+pub mod ObservedLoad
 pub mod Order
