@@ -1,4 +1,5 @@
 pub mod ConfirmedLoad
+pub mod Confirms
 pub mod LoadedLine
 pub mod ObservedLoad
 pub mod Order
