@@ -1,6 +1,6 @@
 -- The answers to the opening and the confirmation of a range keep what is kept of it; where its generation is confirmed, it is served
 -- from then on with the table of the line that its load shows.
-use Rattle.std.proofs.Common.{◌≡◌, ◌⊎◌, inl, inr, ℕ, suc, ◌+◌, ◌<◌, max, Bool, true, false, nat_lt, List, [], ◌∷◌, ◌++◌, length, map, Option, Some, None, is_some, refl, sym, ap, ◌∙◌, subst, cond, arith, append-nil}
+use Rattle.std.proofs.Common.{◌≡◌, inl, inr, ℕ, suc, ◌<◌, max, Bool, true, nat_lt, List, [], ◌∷◌, ◌++◌, length, map, Option, Some, None, is_some, refl, sym, ap, ◌∙◌, subst, arith, append-nil}
 use Rattle.std.specs.Prelude.{if◌then◌else◌}
 use Rattle.std.proofs.lemmas.Bool.{ltb-true}
 use Rattle.wire.specs.declared.actor.ReqNo.{ReqNo}
@@ -37,7 +37,6 @@ use Rattle.model_partition.specs.Range.{RangeState, RangeOutcome, answers, dropp
 use Rattle.model_partition.specs.Renaming.{renamed, renamed_placed, decoded}
 use Rattle.model_partition.specs.ServedTables.{AreSeenAs, IsAtLine, line_to, end_to}
 use Rattle.model_partition.specs.ServerRun.{place_number}
-use Rattle.model_partition.specs.Story.{Placed, Showed, Story}
 use Rattle.model_partition.specs.StreamActions.{StreamAction, confirmed_actions, load_actions, read_end}
 use Rattle.model_partition.specs.TableContents.{value_of}
 use Rattle.laws_loads.proofs.Replaying.{After}
@@ -88,7 +87,7 @@ module _ (texts : ℕ → Bytes) (v : RangeView) (r : RangeState) (kept : RangeK
     next_is : region.next ≡ suc (length line)
     next_is = ap (λ (z : Region). z.next) (sym same) ∙ made.has.next
 
-    begins_there : region.start ≡ start_of v r
+    begins_there : region.start ≡ start_of r
     begins_there = ap (λ (z : Region). z.start) (sym same) ∙ made.has.start ∙ sym (start_is texts v r h streams order)
 
     shown_is : line_shown (map (renamed_placed decoded) (shown_groups v r)) ≡ line
@@ -106,11 +105,11 @@ module _ (texts : ℕ → Bytes) (v : RangeView) (r : RangeState) (kept : RangeK
         ∙ ap (λ (l : List Transaction). suc (length l)) shown_is
 
     abbrev end : ℕ
-    end = place_number (read_end r.log (start_of v r))
+    end = place_number (read_end r.log (start_of r))
 
     end_now : end_to (log_load v r ∷ log_of v) r.load.generation ≡ end
     end_now =
-        ap (λ (b : Bool). if b then max (place_number (start_of v r)) end else end_to (log_of v) r.load.generation) (eq_test Group r.load.generation)
+        ap (λ (b : Bool). if b then max (place_number (start_of r)) end else end_to (log_of v) r.load.generation) (eq_test Group r.load.generation)
         ∙ ap (λ n. max n end) (place_is texts v r h streams order) ∙ from_first end
       where
         from_first : (n : ℕ) → max 0 n ≡ n
@@ -131,7 +130,7 @@ module _ (texts : ℕ → Bytes) (v : RangeView) (r : RangeState) (kept : RangeK
 
     serves_now : Serves texts (view_shown v r) served
     serves_now = record {
-      shown = (length (log_of v), place_number (start_of v r), end, shown_groups v r, load_stands texts v r h streams order);
+      shown = (length (log_of v), place_number (start_of r), end, shown_groups v r, load_stands texts v r h streams order);
       groups = λ a group at. absurd (none_made texts v r h streams order a group at);
       out = λ o e. absurd cc;
       next = next_is ∙ sym next_now;
@@ -164,10 +163,10 @@ module _ (texts : ℕ → Bytes) (v : RangeView) (r : RangeState) (kept : RangeK
         let note_is : note ≡ Loaded 1 r.load.generation rows (suc (length (line_shown (map (renamed_placed decoded) (shown_groups v r))))) =
         s.0.1 ∙ (λ i. Loaded (kept.range i) r.load.generation rows (number i)) in
         subst (λ (n : Note). AreObserved texts (log_load v r ∷ log_of v) (before ++ n ∷ [])) (sym note_is)
-        (load_observed texts (log_of v) r.load.generation (place_number (start_of v r)) end (shown_groups v r) rows before
+        (load_observed texts (log_of v) r.load.generation (place_number (start_of r)) end (shown_groups v r) rows before
         (λ key. s.0.2 key ∙ made.has.says key ∙ ap (λ (l : List Transaction). after_line l empty_table key) (sym shown_is)) o)
 
-    region_kept : StepKept texts v r (shows v r ∷ []) (serves_region d r region)
+    region_kept : StepKept texts v r (shows r ∷ []) (serves_region d r region)
     region_kept = record {
       kept = (kept_now, refl);
       streams = streams_now;
@@ -188,15 +187,15 @@ module _ (texts : ℕ → Bytes) (v : RangeView) (r : RangeState) (kept : RangeK
   no_action : (o : RangeOutcome) → StepKept texts v r [] o → LoadStep o []
   no_action o s order = if_elim (λ (actions : List StreamAction). StepKept texts v r actions o) (is_some o.after) [] [] (λ t. s) (λ f. s)
 
-  confirmation_kept : ReadsLog v.history r → LoadStep (serves d r) (shows v r ∷ [])
+  confirmation_kept : ReadsLog v.history r → LoadStep (serves d r) (shows r ∷ [])
   confirmation_kept h =
-      if_elim (λ (o : RangeOutcome). LoadStep o (shows v r ∷ [])) (are_counted r.log) (serves_from d r (open_region r.regions)) (dropped d r)
+      if_elim (λ (o : RangeOutcome). LoadStep o (shows r ∷ [])) (are_counted r.log) (serves_from d r (open_region r.regions)) (dropped d r)
       (λ t. from (open_region r.regions) refl) (λ f order. gone)
     where
-      from : (region : Option Region) → open_region r.regions ≡ region → LoadStep (serves_from d r region) (shows v r ∷ [])
+      from : (region : Option Region) → open_region r.regions ≡ region → LoadStep (serves_from d r region) (shows r ∷ [])
       from None e = λ order. gone
       from (Some region) e =
-          if_elim (λ (o : RangeOutcome). LoadStep o (shows v r ∷ [])) (nat_lt 0 region.next) (serves_region d r region) (dropped d r)
+          if_elim (λ (o : RangeOutcome). LoadStep o (shows r ∷ [])) (nat_lt 0 region.next) (serves_region d r region) (dropped d r)
           (λ t order. region_kept h order region e (ltb-true 0 region.next t)) (λ f order. gone)
 
   refused_kept : (body : AppendBody) → StepKept texts v r [] (load_refused d r body)

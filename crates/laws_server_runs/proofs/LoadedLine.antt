@@ -1,11 +1,10 @@
 -- What a load has made of all extents that it read of a log: one region without end, whose next number is the one after the line,
 -- and a layer that is the table of the line.
-use Rattle.std.proofs.Common.{◌≡◌, ℕ, suc, ◌+◌, List, [], ◌∷◌, ◌++◌, length, map, Option, Some, None, is_some, Bool, true, false, nat_lt, refl, sym, ap, ◌∙◌, subst, cond, arith}
+use Rattle.std.proofs.Common.{◌≡◌, ℕ, ◌+◌, List, [], ◌∷◌, ◌++◌, map, Option, Some, None, is_some, Bool, false, nat_lt, refl, sym, ap, ◌∙◌, subst, arith}
 use Rattle.std.specs.Prelude.{if◌then◌else◌}
 use Rattle.std.proofs.lemmas.Bool.Decides.{nat_tests}
 use Rattle.blocks.specs.Format.{◌>>=◌}
 use Rattle.block_types.specs.Limits.{group_size}
-use Rattle.replica.specs.Groups.{text}
 use Rattle.memtable.specs.Entries.{Entries}
 use Rattle.metadata.specs.declared.record.Region.{Region}
 use Rattle.metadata.specs.Fold.{all_keys, first_metadata}
@@ -22,7 +21,7 @@ use Rattle.model_partition.specs.StreamMachine.{base}
 use Rattle.model_partition.specs.ServerRun.{PlacedBytes, placed_from, placed_reads, placed_behind, bytes_read}
 use Rattle.model_partition.specs.ServedTables.{AllStand}
 use Rattle.laws_loads.proofs.Renaming.{mapped_both}
-use Rattle.laws_loads.proofs.Replaying.{AreRead, Has, After, extent_replayed}
+use Rattle.laws_loads.proofs.Replaying.{AreRead, After, extent_replayed}
 use Rattle.laws_server_runs.specs.RangeInvariant.{groups_read, replayed_all}
 use Rattle.laws_server_runs.proofs.Order.{groups_shown}
 
@@ -89,6 +88,14 @@ found_both {A} {B} (Some y) f z e = (y, refl, e)
 
 -- ---- the table
 
+-- the only region is without end
+pub the_region : (region : Region) → region.end ≡ None → open_region (region ∷ []) ≡ Some region
+the_region region none = go region.end none
+  where
+    go : (o : Option ℕ) → o ≡ None → (if is_some o then None else Some region) ≡ Some region
+    go None e = refl
+    go (Some end) e = absurd cc
+
 module _ (texts : ℕ → Bytes) where
   -- what all extents leave
   pub extents_replayed : (reads : List ExtentRead) (rs : List LogRecord) → AreRead (groups_read reads) rs → AllStand texts (bytes_read reads) →
@@ -111,11 +118,3 @@ module _ (texts : ℕ → Bytes) where
       subst (λ (l : List Region). replayed all_keys x.extent (record { index = x.index; offset = 0 }) (l, y.1) x.groups ≡ Some z) a.only f.2 in
       subst (λ l. After texts l z) (line_more x older p.1 p.3)
       (extent_replayed texts x.extent (record { index = x.index; offset = 0 }) x.groups p.1 (line_read older) a.region y.1 z p.3 stand.0 a.has one)
-
-  -- the only region is without end
-  pub the_region : (region : Region) → region.end ≡ None → open_region (region ∷ []) ≡ Some region
-  the_region region none = go region.end none
-    where
-      go : (o : Option ℕ) → o ≡ None → (if is_some o then None else Some region) ≡ Some region
-      go None e = refl
-      go (Some end) e = absurd cc

@@ -1,5 +1,5 @@
 -- What is observed of a load: its rows are those of its number, and what was observed before stays.
-use Rattle.std.proofs.Common.{◌≡◌, ◌⊎◌, inl, inr, ℕ, suc, ◌<◌, Bool, true, false, List, [], ◌∷◌, ◌++◌, length, map, Some, refl, sym, ap, ◌∙◌, subst, arith, ◌==◌}
+use Rattle.std.proofs.Common.{◌≡◌, ◌⊎◌, inl, inr, ℕ, suc, ◌<◌, Bool, true, false, List, [], ◌∷◌, ◌++◌, length, map, Some, refl, sym, ap, ◌∙◌, arith, ◌==◌}
 use Rattle.std.specs.Prelude.{if◌then◌else◌}
 use Rattle.std.proofs.lemmas.Bool.Decides.{nat_tests}
 use Rattle.wire.specs.declared.note.Note.{Note}
@@ -10,7 +10,7 @@ use Rattle.model_partition.specs.Loading.{Group}
 use Rattle.model_partition.specs.Log.{line_shown, notes, observed, ShowsTables}
 use Rattle.model_partition.specs.Past.{Bytes, Transaction, stored, after_line, empty_table}
 use Rattle.model_partition.specs.Renaming.{renamed, renamed_placed, decoded}
-use Rattle.model_partition.specs.Story.{Placed, StreamEvent, Made, Answered, Showed, Story, event_at}
+use Rattle.model_partition.specs.Story.{Placed, Made, Answered, Showed, Story, event_at}
 use Rattle.laws_tables.proofs.Range.{bound, event_cases}
 use Rattle.laws_server_runs.specs.RangeInvariant.{AreObserved}
 

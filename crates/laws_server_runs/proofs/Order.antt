@@ -1,5 +1,5 @@
 -- What the order of a stream says of the groups that its loads show, and that a range is loaded before it forms groups.
-use Rattle.std.proofs.Common.{◌≡◌, ◌⊎◌, ⊎_elim, ℕ, zero, suc, ◌<◌, List, [], ◌∷◌, length, map, Some, true, false, nat_lt, refl, sym, ap, ◌∙◌, subst, cond, arith}
+use Rattle.std.proofs.Common.{◌≡◌, ⊎_elim, ℕ, zero, suc, List, [], ◌∷◌, map, Some, nat_lt, refl, sym, ap, ◌∙◌, subst, arith}
 use Rattle.std.specs.Prelude.{Contains}
 use Rattle.model_streams.proofs.Tests.{if_elim}
 use Rattle.commitlog.specs.declared.log_record.LogRecord.{LogRecord}
