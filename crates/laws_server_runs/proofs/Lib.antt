@@ -7,3 +7,8 @@ pub mod Loads
 pub mod LoadsSteps
 pub mod LoadsAnswers
 pub mod LoadsAnswered
+pub mod ConfirmedLoad
+pub mod Confirms
+pub mod LoadedLine
+pub mod ObservedLoad
+pub mod Order
