@@ -1,5 +1,5 @@
 -- What a range that is served does with transactions and with answers to its log keeps all that is kept.
-use Rattle.std.proofs.Common.{◌≡◌, ℕ, suc, ◌+◌, ◌^◌, ◌&&◌, Bool, true, false, not, nat_lt, List, [], ◌∷◌, ◌++◌, length, map, flat_map, Option, Some, None, is_some, option_to_list, if◌then◌else◌, refl, sym, ap, ◌∙◌, subst, inl, arith}
+use Rattle.std.proofs.Common.{◌≡◌, ℕ, ◌+◌, ◌^◌, ◌&&◌, Bool, true, false, not, nat_lt, List, [], ◌∷◌, ◌++◌, length, map, Option, Some, None, is_some, option_to_list, if◌then◌else◌, refl, sym, ◌∙◌, subst, inl, arith}
 use Rattle.block_types.specs.declared.record.Nodes.{Nodes}
 use Rattle.wire.specs.declared.actor.ActorId.{ActorId}
 use Rattle.wire.specs.declared.actor.ReqNo.{ReqNo}
@@ -35,7 +35,7 @@ use Rattle.model_partition.specs.Answering.{groups_of, is_taken, serving_news, l
 use Rattle.model_partition.specs.StreamActions.{StreamAction, Forms, Stands, group_of, formed, transact_actions, last_position, stood, serving_actions, loading_actions, log_actions}
 use Rattle.laws_loads.specs.Sound.{IsSound, OutFits}
 use Rattle.laws_loads.proofs.WaitingIsSound.{is_next, pushed_sound, taken_served}
-use Rattle.laws_server_runs.specs.RangeView.{RangeView, view_after_all, log_of}
+use Rattle.laws_server_runs.specs.RangeView.{RangeView}
 use Rattle.laws_server_runs.specs.RangeInvariant.{Serves, RangeKept, StreamsKept, StepKept}
 use Rattle.laws_server_runs.proofs.ServedNotes.{serves_of, kept_served, serves_with, calm_kept, then_kept}
 use Rattle.laws_server_runs.proofs.ServedForms.{forms_kept}

@@ -1,5 +1,5 @@
 -- A range that is served forms a group.
-use Rattle.std.proofs.Common.{◌≡◌, ◌⊎◌, ⊎_elim, ℕ, suc, ◌+◌, ◌<◌, ◌^◌, ◌&&◌, true, false, not, nat_lt, List, [], ◌∷◌, ◌++◌, length, map, take, drop, Option, Some, None, is_some, option_to_list, refl, sym, ap, ◌∙◌, subst, inl, inr, arith}
+use Rattle.std.proofs.Common.{◌≡◌, ◌⊎◌, ⊎_elim, ℕ, ◌+◌, ◌^◌, ◌&&◌, true, false, not, nat_lt, List, [], ◌++◌, length, map, take, drop, Option, Some, None, is_some, refl, sym, ap, ◌∙◌, subst, inl, inr, arith}
 use Rattle.wire.specs.declared.note.Note.{Note}
 use Rattle.wire.specs.declared.streams.StreamKind.TheVariants as kinds
 use Rattle.client.specs.Client.{ClientState, append_rule}
@@ -12,15 +12,14 @@ use Rattle.model_streams.proofs.Tests.{if_elim}
 use Rattle.model_partition.specs.declared.server_context.ServerContext.{ServerContext}
 use Rattle.model_partition.specs.Past.{Bytes, Transaction}
 use Rattle.model_partition.specs.Lines.{next_after}
-use Rattle.model_partition.specs.Log.{begins_of, next_number, Allowed}
-use Rattle.model_partition.specs.Story.{StreamEvent, Made, Answered, Showed, Story, event_at}
+use Rattle.model_partition.specs.Log.{begins_of, Allowed}
+use Rattle.model_partition.specs.Story.{StreamEvent, Made, event_at}
 use Rattle.model_partition.specs.Range.{OutGroup, RangeState, RangeOutcome, request, goes, given, picking, waiting_out, if_there, is_serving}
 use Rattle.model_partition.specs.Serving.{record_of, began, group_count, appends, forms}
 use Rattle.model_partition.specs.Loading.{Group}
 use Rattle.model_partition.specs.Renaming.{renamed, renamed_placed, numbered, numbered_if, decoded}
-use Rattle.model_partition.specs.StreamActions.{StreamAction, Forms, group_of, formed}
+use Rattle.model_partition.specs.StreamActions.{Forms, group_of, formed}
 use Rattle.model_partition.specs.ServedTables.{AreSeenAs, IsAtLine}
-use Rattle.laws_loads.specs.Sound.{IsSound}
 use Rattle.laws_loads.proofs.Renaming.{mapped_length, made_from, answered_at, showed_at}
 use Rattle.laws_loads.proofs.WaitingIsSound.{IsNext, is_next, appends_sound}
 use Rattle.laws_tables.proofs.Range.{newest, event_cases}

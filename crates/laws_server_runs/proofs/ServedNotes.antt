@@ -1,18 +1,17 @@
 -- What is seen of a range that is served, and steps one after the other.
-use Rattle.std.proofs.Common.{◌≡◌, ◌⊎◌, ℕ, suc, ◌==◌, true, false, List, [], ◌∷◌, ◌++◌, map, Option, Some, None, if◌then◌else◌, refl, sym, ap, ◌∙◌, subst, inl, arith, append_assoc, append-nil}
+use Rattle.std.proofs.Common.{◌≡◌, ℕ, suc, ◌==◌, true, List, [], ◌∷◌, ◌++◌, map, Option, Some, None, if◌then◌else◌, refl, sym, ap, ◌∙◌, subst, inl, arith, append_assoc, append-nil}
 use Rattle.std.proofs.lemmas.Bool.Decides.{nat_tests}
 use Rattle.wire.specs.declared.note.Note.{Note}
 use Rattle.wire.specs.declared.note.Note.TheVariants.{Began, Done}
 use Rattle.wire.specs.declared.packet.Packet.{Packet}
 use Rattle.client.specs.Client.{ClientState}
-use Rattle.commitlog.specs.Replay.{Numbered}
 use Rattle.model_partition.specs.declared.stage.Stage.{Stage}
 use Rattle.model_partition.specs.declared.stage.Stage.TheVariants as stages
 use Rattle.model_partition.specs.declared.table_note.TableNote.{TableNote}
 use Rattle.model_partition.specs.declared.waiting.WaitingTransaction.{WaitingTransaction}
 use Rattle.model_partition.specs.Past.{Bytes, Transaction}
 use Rattle.model_partition.specs.Log.{begins_of, dones_of, dones_at, observed}
-use Rattle.model_partition.specs.Story.{StreamEvent, Made, Answered, Story, event_at}
+use Rattle.model_partition.specs.Story.{Made, Answered, Story, event_at}
 use Rattle.model_partition.specs.Range.{RangeState, RangeOutcome, is_serving}
 use Rattle.model_partition.specs.Serving.{began, dones, after_these}
 use Rattle.model_partition.specs.Loading.{Group}
@@ -23,7 +22,7 @@ use Rattle.laws_loads.specs.Sound.{IsSound}
 use Rattle.laws_loads.proofs.Renaming.{made_at}
 use Rattle.laws_tables.proofs.Range.{made_shown, answered_shown}
 use Rattle.laws_server_runs.specs.RangeView.{RangeView, view_after, view_after_all, log_of}
-use Rattle.laws_server_runs.specs.RangeInvariant.{Serves, PhaseIs, StageIs, RangeKept, StreamsKept, AreObserved, IsUnder, GoesOn, Rests, Adds, IsLonger, KeptIf, ServesAnew, StepKept}
+use Rattle.laws_server_runs.specs.RangeInvariant.{Serves, PhaseIs, StageIs, RangeKept, StreamsKept, AreObserved, GoesOn, Rests, Adds, KeptIf, ServesAnew, StepKept}
 
 -- a number is itself
 pub same_here : (g : ℕ) → {A : Type 0} (a b : A) → (if g == g then a else b) ≡ a
@@ -78,7 +77,7 @@ module _ (texts : ℕ → Bytes) where
     is.0,
     λ l g' start end groups at. is.1 l g' start end groups (answered_shown Transaction append from to (renamed decoded story) l g' start end groups at),
     ap (λ l. l ++ dones_of g (decoded group).first (decoded group).items) is.2
-    ∙ ap (λ e. observed is.0 (renamed decoded story) ++ dones_at e) (sym (made_at decoded story append g group made)),
+        ∙ ap (λ e. observed is.0 (renamed decoded story) ++ dones_at e) (sym (made_at decoded story append g group made)),
   )
 
   -- ---- a range that is served

@@ -1,34 +1,31 @@
 -- The group that is out comes to stand in the log, and is applied.
-use Rattle.std.proofs.Common.{◌≡◌, ◌⊎◌, ⊎_elim, ℕ, suc, ◌+◌, ◌-◌, ◌<◌, true, false, List, [], ◌∷◌, ◌++◌, length, map, Option, Some, None, is_some, if◌then◌else◌, refl, sym, ap, ◌∙◌, subst, inl, inr, arith}
+use Rattle.std.proofs.Common.{◌≡◌, ◌⊎◌, ⊎_elim, ℕ, ◌+◌, ◌-◌, true, List, [], ◌∷◌, ◌++◌, length, map, Option, Some, None, is_some, if◌then◌else◌, refl, sym, ap, ◌∙◌, subst, inl, arith}
 use Rattle.std.specs.List.{flat_map}
 use Rattle.std.proofs.lemmas.List.{length-append}
 use Rattle.block_types.specs.Limits.{group_size}
 use Rattle.wire.specs.declared.note.Note.{Note}
 use Rattle.wire.specs.declared.streams.StreamKind.TheVariants as kinds
-use Rattle.wire.specs.declared.transaction.Change.{Change}
 use Rattle.streams.specs.declared.table.Position.{Position}
 use Rattle.client.specs.Client.{ClientState}
 use Rattle.memtable.specs.declared.cell.Cell.{Cell}
 use Rattle.memtable.specs.Entries.{Entries, found, put_all}
 use Rattle.memtable.specs.Layers.{found_in, or_else}
-use Rattle.commitlog.specs.declared.log_record.LogRecord.{LogRecord}
 use Rattle.commitlog.specs.Places.{kept}
 use Rattle.commitlog.specs.Record as record_specs
 use Rattle.commitlog.specs.Replay.{Numbered}
 use Rattle.commitlog.proofs.Laws.{record_again}
 use Rattle.replica.specs.Groups.{joined}
 use Rattle.model_partition.specs.Past.{Bytes, Table, Transaction, after_line, empty_table}
-use Rattle.model_partition.specs.Log.{dones_of, Allowed}
-use Rattle.model_partition.specs.Story.{StreamEvent, Made, Answered, Story, event_at}
+use Rattle.model_partition.specs.Log.{dones_of}
+use Rattle.model_partition.specs.Story.{StreamEvent, Made, Answered, event_at}
 use Rattle.model_partition.specs.StreamMachine.{base}
 use Rattle.model_partition.specs.Range.{OutGroup, RangeState, RangeOutcome, waiting_out, is_serving}
 use Rattle.model_partition.specs.Serving.{record_of, dones, out_size}
 use Rattle.model_partition.specs.Loading.{Group}
-use Rattle.model_partition.specs.Getting.{standing}
 use Rattle.model_partition.specs.Renaming.{renamed, numbered, numbered_if, decoded}
 use Rattle.model_partition.specs.TableContents.{value_of}
 use Rattle.model_partition.specs.StreamActions.{Stands, group_of, last_position}
-use Rattle.model_partition.specs.ServerRun.{PlacedBytes, place_number}
+use Rattle.model_partition.specs.ServerRun.{place_number}
 use Rattle.model_partition.specs.ServedTables.{AllStand, AreSeenAs, IsAtLine, items_under, is_under, line_to, end_to}
 use Rattle.laws_loads.specs.Sound.{IsSound, OutFits}
 use Rattle.laws_loads.proofs.Cells.{Says, all_transactions}
