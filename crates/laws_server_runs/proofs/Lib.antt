@@ -12,3 +12,8 @@ pub mod Confirms
 pub mod LoadedLine
 pub mod ObservedLoad
 pub mod Order
+pub mod Others
+pub mod ServedNotes
+pub mod ServedForms
+pub mod ServedStands
+pub mod Served
