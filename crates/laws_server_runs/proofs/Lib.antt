@@ -2,7 +2,6 @@ pub mod Fronts
 pub mod Steps
 pub mod Cells
 pub mod Events
-pub mod Theorem
 pub mod Loads
 pub mod LoadsSteps
 pub mod LoadsAnswers
@@ -17,3 +16,5 @@ pub mod ServedNotes
 pub mod ServedForms
 pub mod ServedStands
 pub mod Served
+pub mod Rules
+pub mod Theorem

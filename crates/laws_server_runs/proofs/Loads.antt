@@ -4,6 +4,8 @@ use Rattle.std.proofs.lemmas.List.{append-nil}
 use Rattle.block_types.specs.declared.record.Nodes.{Nodes}
 use Rattle.wire.specs.declared.actor.ActorId.{ActorId}
 use Rattle.wire.specs.declared.actor.ReqNo.{ReqNo}
+use Rattle.wire.specs.declared.body.AppendBody.{AppendBody}
+use Rattle.wire.specs.declared.body.AppendBody.TheVariants as appends
 use Rattle.wire.specs.declared.body.Body.{Body}
 use Rattle.wire.specs.declared.body.Body.TheVariants as bodies
 use Rattle.wire.specs.declared.body.ReadBody.{ReadBody}
@@ -11,6 +13,7 @@ use Rattle.wire.specs.declared.body.ReadBody.TheVariants as reads
 use Rattle.wire.specs.declared.note.Note.{Note}
 use Rattle.wire.specs.declared.packet.Packet.{Packet}
 use Rattle.wire.specs.declared.refusal.Refusal.{Refusal}
+use Rattle.wire.specs.declared.refusal.Refusal.TheVariants as refusals
 use Rattle.wire.specs.declared.streams.StreamKind.TheVariants as kinds
 use Rattle.wire.specs.declared.streams.StreamList.{StreamList}
 use Rattle.memtable.specs.declared.cell.Place.{Place}
@@ -22,10 +25,10 @@ use Rattle.model_partition.specs.declared.stage.Stage.TheVariants as stages
 use Rattle.model_partition.specs.declared.waiting.WaitingGet.{WaitingGet}
 use Rattle.model_partition.specs.Past.{Bytes}
 use Rattle.model_partition.specs.Story.{Story}
-use Rattle.model_partition.specs.Range.{RangeState, request, used, picking}
+use Rattle.model_partition.specs.Range.{RangeState, request, used, picking, dropped}
 use Rattle.model_partition.specs.Loading.{Group}
 use Rattle.model_partition.specs.Getting.{get_fault, gets, get_rule}
-use Rattle.model_partition.specs.Answering.{bytes_reply, gets_reply, give_up_all}
+use Rattle.model_partition.specs.Answering.{load_refused, bytes_reply, gets_reply, give_up_all}
 use Rattle.model_partition.specs.Server.{new_range}
 use Rattle.model_partition.specs.ServerRun.{first_history}
 use Rattle.model_partition.specs.ServedTables.{AreSeenAs, IsAtLine}
@@ -115,9 +118,25 @@ module _ (texts : ℕ → Bytes) (v : RangeView) (r : RangeState) (kept : RangeK
   bytes_kept w (reads.Bytes n e offset bytes) = rests_kept r.until r.metadata r.log _ _ _ _ (λ e. e) (λ e. e)
   bytes_kept w body = rests_kept r.until r.metadata r.log r.gets r.held _ _ (λ e. e) (λ e. e)
 
+  -- a range of an old generation is dropped
+  dropped_kept : StepKept texts v r [] (dropped d r)
+  dropped_kept = record {
+    kept = tt;
+    streams = streams;
+    goes = Rests;
+    longer = ([], refl);
+    anew = tt;
+    seen = λ before later old told. silent_seen texts (log_of v) before later old told;
+  }
+
+  refused_kept : (body : AppendBody) → StepKept texts v r [] (load_refused d r body)
+  refused_kept (appends.Refused n refusals.Stale) = dropped_kept
+  refused_kept body = rests_kept r.until r.metadata r.log r.gets r.held _ _ (λ e. e) (λ e. e)
+
   -- an answer to a Get's read
   pub gets_reply_kept : (w : ReqNo) (body : Body) → StepKept texts v r [] (gets_reply d r w body)
   gets_reply_kept w (bodies.Read body) = bytes_kept w body
+  gets_reply_kept w (bodies.Append body) = refused_kept body
   gets_reply_kept w body = rests_kept r.until r.metadata r.log r.gets r.held _ _ (λ e. e) (λ e. e)
 
   -- a client that waits for nothing gives nothing up

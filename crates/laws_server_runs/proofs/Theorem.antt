@@ -28,7 +28,8 @@ use Rattle.laws_server_runs.specs.RangeInvariant.{InOrder, IsLonger, AreObserved
 use Rattle.laws_server_runs.specs.RunInvariant.{view_at, HoldsFirst, RunKept}
 use Rattle.laws_server_runs.proofs.Fronts.{order_shorter, once_shorter, stand_shorter, longer_same, longer_twice}
 use Rattle.laws_server_runs.proofs.Steps.{kept_at}
-use Rattle.laws_server_runs.proofs.Events.{Rules, event_kept}
+use Rattle.laws_server_runs.proofs.Events.{event_kept}
+use Rattle.laws_server_runs.proofs.Rules.{all_rules}
 
 module _ (texts : ℕ → Bytes) where
   -- ---- stories go on
@@ -126,13 +127,13 @@ module _ (texts : ℕ → Bytes) where
 
   -- ---- whatever comes
 
-  module _ (rules : Rules texts) (batch servers : ℕ) where
+  module _ (batch servers : ℕ) where
     pub all_kept : (events : List ServerEvent) → AreFirst events → StreamsInOrder texts (run_of batch servers events) → RunKept texts (run_of batch servers events)
     all_kept [] first order = first_kept batch servers
     all_kept (event ∷ earlier) first order =
         let x : ServerRun = run_of batch servers earlier in
         let k : RunKept texts x = all_kept earlier first.1 (before x (after_event x event) (event_longer x event) order) in
-        event_kept texts rules x k event first.0 (of_view (after_event x event) order)
+        event_kept texts (all_rules texts) x k event first.0 (of_view (after_event x event) order)
 
     -- what is loaded replays
     pub run_replays : (events : List ServerEvent) (h : List Note) → AreFirst events → StreamsInOrder texts (run_of batch servers events) →
