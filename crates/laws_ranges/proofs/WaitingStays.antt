@@ -157,20 +157,21 @@ load_reply_stays d r v body t = inl ((inr refl, refl, refl, refl), refl)
 
 -- ---- Gets
 
-gets_stays : (d : ServerContext) (r : RangeState) (from : ActorId) (q : ReqNo) (key : List ℕ) (held : List (Place × List ℕ)) (fault : Option Refusal) → Stays r (gets d r from q key held fault)
-gets_stays d r from q key held (Some refusal) = ((inr refl, refl, refl, refl), refl)
-gets_stays d r from q key held None = ((inr refl, refl, refl, refl), refl)
+gets_stays : (d : ServerContext) (r : RangeState) (from : ActorId) (q : ReqNo) (key : List ℕ) (fault : Option Refusal) → Stays r (gets d r from q key fault)
+gets_stays d r from q key (Some refusal) = ((inr refl, refl, refl, refl), refl)
+gets_stays d r from q key None = ((inr refl, refl, refl, refl), refl)
 
-pub get_stays : (d : ServerContext) (r : RangeState) (from : ActorId) (q : ReqNo) (key : List ℕ) (held : List (Place × List ℕ)) → Stays r (get_rule d r from q key held)
-get_stays d r from q key held = gets_stays d r from q key held (get_fault d r key)
+pub get_stays : (d : ServerContext) (r : RangeState) (from : ActorId) (q : ReqNo) (key : List ℕ) → Stays r (get_rule d r from q key)
+get_stays d r from q key = gets_stays d r from q key (get_fault d r key)
 
-bytes_stays : (d : ServerContext) (r : RangeState) (w : ReqNo) (body : ReadBody) (held : List (Place × List ℕ)) → Stays r (bytes_reply d r w body held)
-bytes_stays d r w (reads.Bytes v e offset bytes) held = ((inr refl, refl, refl, refl), refl)
-bytes_stays d r w body held = ((inr refl, refl, refl, refl), refl)
+bytes_stays : (d : ServerContext) (r : RangeState) (w : ReqNo) (body : ReadBody) → Stays r (bytes_reply d r w body)
+bytes_stays d r w (reads.Bytes v e offset bytes) = ((inr refl, refl, refl, refl), refl)
+bytes_stays d r w body = ((inr refl, refl, refl, refl), refl)
 
-pub gets_reply_stays : (d : ServerContext) (r : RangeState) (w : ReqNo) (body : Body) (held : List (Place × List ℕ)) → Stays r (gets_reply d r w body held)
-gets_reply_stays d r w (bodies.Read body) held = bytes_stays d r w body held
-gets_reply_stays d r w body held = ((inr refl, refl, refl, refl), refl)
+pub gets_reply_stays : (d : ServerContext) (r : RangeState) (w : ReqNo) (body : Body) → Stays r (gets_reply d r w body)
+gets_reply_stays d r w (bodies.Read body) = bytes_stays d r w body
+gets_reply_stays d r w (bodies.Append body) = load_refused_stays d r body
+gets_reply_stays d r w body = ((inr refl, refl, refl, refl), refl)
 
 -- ---- all rules
 
@@ -179,12 +180,12 @@ pub give_up_stays : (d : ServerContext) (r : RangeState) → Stays r (give_up_al
 give_up_stays d r = ((inr refl, refl, refl, refl), refl)
 
 -- an answer to a range that is not served leaves it so, or confirms its generation
-pub answer_stays : (d : ServerContext) (r : RangeState) (v : ReqNo) (body : Body) (held : List (Place × List ℕ)) → is_serving r.stage ≡ false →
-    Stays r (answer_rule d r v body held) ⊎ IsConfirmation d r v body (answer_rule d r v body held)
-answer_stays d r v body held unserved =
+pub answer_stays : (d : ServerContext) (r : RangeState) (v : ReqNo) (body : Body) → is_serving r.stage ≡ false →
+    Stays r (answer_rule d r v body) ⊎ IsConfirmation d r v body (answer_rule d r v body)
+answer_stays d r v body unserved =
     if_elim (λ o. Stays r o ⊎ IsConfirmation d r v body o) (load_awaits r.load.phase v) _ _ (λ t. load_reply_stays d r v body t)
     (λ f. inl (if_elim (Stays r) (awaits r.metadata.job v) _ _ (λ t. metadata_reply_stays d r body)
-    (λ f. if_elim (Stays r) (awaits r.log.job v) _ _ (λ t. log_reply_stays d r body unserved) (λ f. gets_reply_stays d r v body held))))
+    (λ f. if_elim (Stays r) (awaits r.log.job v) _ _ (λ t. log_reply_stays d r body unserved) (λ f. gets_reply_stays d r v body))))
 
 -- a transaction at a range that is not served is refused
 pub transact_stays : (d : ServerContext) (r : RangeState) (from : ActorId) (v : ReqNo) (changes : List Change) → is_serving r.stage ≡ false → Stays r (transact_rule d r from v changes)
@@ -221,8 +222,8 @@ sound_after o r h e = subst (λ z. IsSoundIf z) e h
 pub new_sound : (d : ServerContext) (range generation until : ℕ) → IsSound (new_range d range generation until)
 new_sound d range generation until = record { queue_fits = tt; out_fits = tt; counted = omega arith; numbered = omega arith }
 
-pub get_sound : (d : ServerContext) (r : RangeState) (from : ActorId) (q : ReqNo) (key : List ℕ) (held : List (Place × List ℕ)) → IsSound r → IsSoundIf (get_rule d r from q key held).after
-get_sound d r from q key held h = stays_sound r (get_rule d r from q key held) h (get_stays d r from q key held)
+pub get_sound : (d : ServerContext) (r : RangeState) (from : ActorId) (q : ReqNo) (key : List ℕ) → IsSound r → IsSoundIf (get_rule d r from q key).after
+get_sound d r from q key h = stays_sound r (get_rule d r from q key) h (get_stays d r from q key)
 
 pub give_up_sound : (d : ServerContext) (r : RangeState) → IsSound r → IsSoundIf (give_up_all d r).after
 give_up_sound d r h = h
@@ -270,9 +271,9 @@ load_reply_sound d r v body t h =
     ⊎_elim {C = IsSoundIf (load_reply d r body).after} (λ s. stays_sound r (load_reply d r body) h s) (λ c. subst (λ o. IsSoundIf o.after) (sym c.outcome) (serves_sound d r)) (load_reply_stays d r v body t)
 
 -- an answer
-pub answer_sound : (d : ServerContext) (r : RangeState) (v : ReqNo) (body : Body) (held : List (Place × List ℕ)) → IsSound r → IsSoundIf (answer_rule d r v body held).after
-answer_sound d r v body held h =
+pub answer_sound : (d : ServerContext) (r : RangeState) (v : ReqNo) (body : Body) → IsSound r → IsSoundIf (answer_rule d r v body).after
+answer_sound d r v body h =
     if_elim (λ (o : RangeOutcome). IsSoundIf o.after) (load_awaits r.load.phase v) _ _ (λ t. load_reply_sound d r v body t h)
     (λ f. if_elim (λ (o : RangeOutcome). IsSoundIf o.after) (awaits r.metadata.job v) _ _ (λ t. stays_sound r (metadata_reply d r body) h (metadata_reply_stays d r body))
     (λ f. if_elim (λ (o : RangeOutcome). IsSoundIf o.after) (awaits r.log.job v) _ _ (λ t. log_reply_sound d r body h)
-    (λ f. stays_sound r (gets_reply d r v body held) h (gets_reply_stays d r v body held))))
+    (λ f. stays_sound r (gets_reply d r v body) h (gets_reply_stays d r v body))))
