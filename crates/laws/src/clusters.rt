@@ -8,17 +8,17 @@ ghost use Rattle.model_streams.specs.Maps.{entry_at};
 ghost use Rattle.model_streams.specs.StreamSystem.{start};
 ghost use Rattle.model_streams.specs.declared.event.Event.{Event};
 ghost use Rattle.model_partition.specs.Past.{Replays};
-ghost use Rattle.model_partition.specs.Servers.{ArePlain, CacheContent, ServerCell, ShowsLoad, server_gives_up, server_loads, server_takes};
-ghost use Rattle.model_partition.specs.Cluster.{Cluster, LeadTo, first_cluster, cluster_after};
+ghost use Rattle.model_partition.specs.Servers.{ArePlain, ServerCell, ShowsLoad, server_gives_up, server_loads, server_takes};
+ghost use Rattle.model_partition.specs.Cluster.{Cluster, first_cluster, cluster_after, cluster_after_all};
 ghost use Rattle.laws_clusters.specs.Orders.{ComesOfStreams};
 ghost use Rattle.laws_servers.specs.Sending.{ByMoves, MaySendAll};
 
 /// A server sends nothing but what servers may ask of nodes and of the manager, and what no node takes. Of loaded tables it
 /// shows at most one, of the memory table that the range has when the answer comes that confirms its generation.
 pub fn servers_take_steps()
-    ensures sent { (servers : List ServerCell) (s : ℕ) (p : Packet) (held : CacheContent) → MaySendAll (server_takes servers s p held).packets }
-    ensures shown { (servers : List ServerCell) (s : ℕ) (p : Packet) (held : CacheContent) →
-        ShowsLoad (server_loads (entry_at servers s) p.body) (server_takes servers s p held).notes }
+    ensures sent { (servers : List ServerCell) (s : ℕ) (p : Packet) → MaySendAll (server_takes servers s p).packets }
+    ensures shown { (servers : List ServerCell) (s : ℕ) (p : Packet) →
+        ShowsLoad (server_loads (entry_at servers s) p.body) (server_takes servers s p).notes }
     ensures sent_again { (servers : List ServerCell) (s range : ℕ) (pick : Nodes) → MaySendAll (server_gives_up servers s range pick).packets }
     ensures shown_again { (servers : List ServerCell) (s range : ℕ) (pick : Nodes) → ArePlain (server_gives_up servers s range pick).notes }
 {}
@@ -26,19 +26,19 @@ pub fn servers_take_steps()
 /// Whatever servers and the map do, each event is some moves of the stream layer. So in every run with servers all that is
 /// shown of an extent agrees, and what is acknowledged is kept where it was acknowledged.
 pub fn runs_are_moves()
-    ensures event { (c : Cluster) (event : Event) (held : CacheContent) → ByMoves c.stream_layer (cluster_after c event held).stream_layer }
-    ensures agree { (nodes servers target batch : ℕ) (events : List Event) (c : Cluster) →
-        LeadTo events (first_cluster nodes servers target batch) c → Agree c.stream_layer.notes }
-    ensures kept { (nodes servers target batch : ℕ) (events : List Event) (c : Cluster) →
-        LeadTo events (first_cluster nodes servers target batch) c → Kept c.stream_layer.notes }
+    ensures event { (c : Cluster) (event : Event) → ByMoves c.stream_layer (cluster_after c event).stream_layer }
+    ensures agree { (nodes servers target batch : ℕ) (events : List Event) →
+        Agree (cluster_after_all (first_cluster nodes servers target batch) events).stream_layer.notes }
+    ensures kept { (nodes servers target batch : ℕ) (events : List Event) →
+        Kept (cluster_after_all (first_cluster nodes servers target batch) events).stream_layer.notes }
 {}
 
 /// Whatever is asked, delivered, lost or repeated, whoever stops, comes back or gives up, and whoever is assigned the range: each
 /// table that is shown is that of a line of transactions that has every one that was acknowledged under a lower generation, in
 /// order, each once; and it comes of streams that keep their order.
 pub fn runs_replay()
-    ensures replays { (nodes servers target batch : ℕ) (events : List Event) (c : Cluster) →
-        LeadTo events (first_cluster nodes servers target batch) c → Replays c.stream_layer.notes }
-    ensures ordered { (nodes servers target batch : ℕ) (events : List Event) (c : Cluster) →
-        LeadTo events (first_cluster nodes servers target batch) c → ComesOfStreams c.stream_layer.notes }
+    ensures replays { (nodes servers target batch : ℕ) (events : List Event) →
+        Replays (cluster_after_all (first_cluster nodes servers target batch) events).stream_layer.notes }
+    ensures ordered { (nodes servers target batch : ℕ) (events : List Event) →
+        ComesOfStreams (cluster_after_all (first_cluster nodes servers target batch) events).stream_layer.notes }
 {}

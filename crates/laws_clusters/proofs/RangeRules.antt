@@ -177,11 +177,11 @@ module _ (generation : ℕ → ℕ) (nodes target : ℕ) (c : Cluster) (x : Stan
           (transact_all_tells generation 1 w i both m l d by r h.follows h.sound from v changes)
           (λ e. transact_stays d r from v changes e) (transact_sound d r from v changes h.sound) (transact_left 1 w i l.stand.state d r from v changes h.read)
 
-      pub get_done : (from : ActorId) (q : ReqNo) (key : List ℕ) (held : List (Place × List ℕ)) → Done (get_rule d r from q key held)
-      get_done from q key held =
-          stays_done (get_rule d r from q key held)
-          (get_tells generation 1 w i both m l d by r h.follows from q key held)
-          (λ e. get_stays d r from q key held) (get_sound d r from q key held h.sound) (get_left 1 w i l.stand.state d r from q key held h.read)
+      pub get_done : (from : ActorId) (q : ReqNo) (key : List ℕ) → Done (get_rule d r from q key)
+      get_done from q key =
+          stays_done (get_rule d r from q key)
+          (get_tells generation 1 w i both m l d by r h.follows from q key)
+          (λ e. get_stays d r from q key) (get_sound d r from q key h.sound) (get_left 1 w i l.stand.state d r from q key h.read)
 
       pub give_up_done : Done (give_up_all d r)
       give_up_done =
@@ -190,8 +190,7 @@ module _ (generation : ℕ → ℕ) (nodes target : ℕ) (c : Cluster) (x : Stan
 
       -- ---- answers
 
-      module _ (from : ActorId) (server : ℕ) (body : Body) (there : Contains w.post (packet from (Server server) body)) (gives : is_answerer from body ≡ true) (v : ReqNo) (number : answered_number body ≡ Some v)
-          (held : List (Place × List ℕ)) where
+      module _ (from : ActorId) (server : ℕ) (body : Body) (there : Contains w.post (packet from (Server server) body)) (gives : is_answerer from body ≡ true) (v : ReqNo) (number : answered_number body ≡ Some v) where
         one : Means generation (metadata_of 1) w m.stand.state m.sent body
         one = x.streams.beside.metadata.mean from server body there gives
 
@@ -210,16 +209,16 @@ module _ (generation : ℕ → ℕ) (nodes target : ℕ) (c : Cluster) (x : Stan
         behind : (b : IsConfirming generation 1 w i m l r) (region : Region) → open_region r.regions ≡ Some region → region.next ≡ next_behind b.log.read
         behind b region open_is = (loaded_rightly 1 w i l.stand.state r (stage_of b) h.read b.log.read once b.log.of).number region open_is
 
-        left : HasReadIf 1 w i l.stand.state (answer_rule d r v body held).after
+        left : HasReadIf 1 w i l.stand.state (answer_rule d r v body).after
         left =
             answer_left generation 1 w i both m l d r h.read h.follows (metadata_empty generation x.streams.m x.streams.m_are x.streams.unformed i)
-            (log_spelled generation x.streams.l x.streams.l_are x.streams.fit 1 w i) v body held number (one, two)
+            (log_spelled generation x.streams.l x.streams.l_are x.streams.fit 1 w i) v body number (one, two)
             (shows_now nodes target x.moves generation 1 i l.stand.state x.streams.l_sent x.streams.beside.log.follows from server body there)
 
-        rule_tells : RuleTells generation 1 w i m l d (answer_rule d r v body held)
+        rule_tells : RuleTells generation 1 w i m l d (answer_rule d r v body)
         rule_tells =
-            answer_tells generation 1 w i both m l d by r h.follows v body held h.sound counted behind number one two
-            (λ e stays. answer_both generation 1 w i both m l d by r h.follows h.sound behind v body held number one two counted)
+            answer_tells generation 1 w i both m l d by r h.follows v body h.sound counted behind number one two
+            (λ e stays. answer_both generation 1 w i both m l d by r h.follows h.sound behind v body number one two counted)
 
         -- ---- the confirmation
 
@@ -266,7 +265,7 @@ module _ (generation : ℕ → ℕ) (nodes target : ℕ) (c : Cluster) (x : Stan
                   let live_is : r.live ≡ shown.entries = cc in
                   loaded_note shown.indexes (is ∙ ap (λ e. tables.Loaded 1 (generation i) e shown.indexes (next_behind b.log.read) ∷ []) (sym live_is)) only
 
-        confirmed_done : (k : IsConfirmation d r v body (answer_rule d r v body held)) → is_serving r.stage ≡ false → Done (answer_rule d r v body held)
+        confirmed_done : (k : IsConfirmation d r v body (answer_rule d r v body)) → is_serving r.stage ≡ false → Done (answer_rule d r v body)
         confirmed_done k unserved =
             let b : IsConfirming generation 1 w i m l r = confirming_at generation 1 w i both m l d by r h.follows k.q k.phase in
             let same : phases.Confirming b.q ≡ phases.Confirming k.q = sym b.phase ∙ k.phase in
@@ -282,12 +281,12 @@ module _ (generation : ℕ → ℕ) (nodes target : ℕ) (c : Cluster) (x : Stan
             (⊎_elim {C = Done (serves d r)} (λ only. load_done b all.0 sound read only)
             (λ gone. unserved_done (serves d r) all.0 (subst (λ z. IsUnserved z) (sym gone) tt) sound read) all.1)
 
-        pub answer_done : Done (answer_rule d r v body held)
+        pub answer_done : Done (answer_rule d r v body)
         answer_done =
-            by_stage (Done (answer_rule d r v body held)) (λ stage. served_done (answer_rule d r v body held) rule_tells stage (answer_sound d r v body held h.sound) left)
-            (λ e. ⊎_elim {C = Done (answer_rule d r v body held)}
-            (λ stays. unserved_done (answer_rule d r v body held) rule_tells (stays_unserved r (answer_rule d r v body held) e stays) (answer_sound d r v body held h.sound) left)
-            (λ k. confirmed_done k e) (answer_stays d r v body held e))
+            by_stage (Done (answer_rule d r v body)) (λ stage. served_done (answer_rule d r v body) rule_tells stage (answer_sound d r v body h.sound) left)
+            (λ e. ⊎_elim {C = Done (answer_rule d r v body)}
+            (λ stays. unserved_done (answer_rule d r v body) rule_tells (stays_unserved r (answer_rule d r v body) e stays) (answer_sound d r v body h.sound) left)
+            (λ k. confirmed_done k e) (answer_stays d r v body e))
 
     -- ---- a range is taken
 

@@ -26,11 +26,11 @@ use Rattle.model_streams.specs.Maps.{entry_at}
 use Rattle.model_streams.specs.Outcome.{packet}
 use Rattle.model_streams.specs.StreamSystem.{StreamSystem}
 use Rattle.model_partition.specs.Answering.{answered_number, is_answerer, range_awaits, answer_rule, give_up_all}
-use Rattle.model_partition.specs.Servers.{CacheContent, ServerCell, cell_takes, cell_rests, cell_performs, cell_gives_up, cell_given_up, at_server, server_takes, server_gives_up, with_told}
+use Rattle.model_partition.specs.Servers.{ServerCell, cell_takes, cell_rests, cell_performs, cell_gives_up, cell_given_up, at_server, server_takes, server_gives_up, with_told}
 use Rattle.model_partition.specs.Cluster.{Cluster, servers_perform}
 use Rattle.model_partition.specs.Getting.{get_rule}
 use Rattle.model_partition.specs.Range.{RangeState, RangeOutcome, request, used, refuses, waiting_out}
-use Rattle.model_partition.specs.Server.{ServerState, ServerOutcome, set_range, range_of, awaiting, rests, sends_one, stepped, new_range, users_of, is_newer, assign_rule, told_by_map, map_rule, transacts_in, gets_in, table_rule, answer_in, answer_of, numbered_rule, taken_rule, has_numbers, server_rule, gives_up, give_up_rule}
+use Rattle.model_partition.specs.Server.{ServerState, ServerOutcome, set_range, range_of, awaiting, rests, sends_one, stepped, new_range, users_of, is_newer, assign_rule, told_by_map, map_rule, transacts_in, gets_in, table_rule, answer_in, answer_of, numbered_rule, taken_rule, has_numbers, server_rule, gives_up, picked, give_up_rule}
 use Rattle.model_partition.specs.Serving.{transact_rule}
 use Rattle.laws_stream_machine.specs.Refinement.{Sent}
 use Rattle.laws_ranges.specs.Serves.{Stand, Side, log_of, FollowsIf, IsSentBy, AreAsked, RuleTells}
@@ -172,22 +172,22 @@ module _ (generation : ℕ → ℕ) (plenty : (g n : ℕ) → (i : ℕ) × (n �
           (step_good (transact_rule st.context r p.from q changes) (transact_done generation nodes target c x i st.context by r h p.from q changes) (transact_tidy st.context r p.from q changes).0))
           (λ none. subst (λ z. Good (transacts_in st p range changes q z)) (sym none) (refuse_held p.from q)) (one_range r range))
 
-      get_good : (p : Packet) (range : ℕ) (key : List ℕ) (q : ReqNo) (held : List (Place × List ℕ)) → Good (gets_in st p range key q held (range_of st.ranges range))
-      get_good p range key q held =
-          subst (λ z. Good (gets_in st p range key q held (range_of z range))) (sym only)
-          (⊎_elim {C = Good (gets_in st p range key q held (range_of ((1, r) ∷ []) range))}
-          (λ same. subst (λ z. Good (gets_in st p z key q held (range_of ((1, r) ∷ []) z))) (sym same)
-          (step_good (get_rule st.context r p.from q key held) (get_done generation nodes target c x i st.context by r h p.from q key held) (get_tidy st.context r p.from q key held).0))
-          (λ none. subst (λ z. Good (gets_in st p range key q held z)) (sym none) (refuse_held p.from q)) (one_range r range))
+      get_good : (p : Packet) (range : ℕ) (key : List ℕ) (q : ReqNo) → Good (gets_in st p range key q (range_of st.ranges range))
+      get_good p range key q =
+          subst (λ z. Good (gets_in st p range key q (range_of z range))) (sym only)
+          (⊎_elim {C = Good (gets_in st p range key q (range_of ((1, r) ∷ []) range))}
+          (λ same. subst (λ z. Good (gets_in st p z key q (range_of ((1, r) ∷ []) z))) (sym same)
+          (step_good (get_rule st.context r p.from q key) (get_done generation nodes target c x i st.context by r h p.from q key) (get_tidy st.context r p.from q key).0))
+          (λ none. subst (λ z. Good (gets_in st p range key q z)) (sym none) (refuse_held p.from q)) (one_range r range))
 
-      answer_good : (p : Packet) → Contains w.post (packet p.from (Server s) p.body) → is_answerer p.from p.body ≡ true → (v : ReqNo) → answered_number p.body ≡ Some v → (held : List (Place × List ℕ)) →
-          Good (answer_of st p v held (awaiting st.ranges v))
-      answer_good p there gives v number held = subst (λ z. Good (answer_of st p v held (awaiting z v))) (sym only) (go (range_awaits r v))
+      answer_good : (p : Packet) → Contains w.post (packet p.from (Server s) p.body) → is_answerer p.from p.body ≡ true → (v : ReqNo) → answered_number p.body ≡ Some v →
+          Good (answer_of st p v (awaiting st.ranges v))
+      answer_good p there gives v number = subst (λ z. Good (answer_of st p v (awaiting z v))) (sym only) (go (range_awaits r v))
         where
-          go : (b : Bool) → Good (answer_of st p v held (if b then Some 1 else None))
+          go : (b : Bool) → Good (answer_of st p v (if b then Some 1 else None))
           go true =
-              subst (λ z. Good (answer_in st p v held 1 (range_of z 1))) (sym only)
-              (step_good (answer_rule st.context r v p.body held) (answer_done generation nodes target c x i st.context by r h p.from s p.body there gives v number held) (answer_shows st.context r v p.body held).0)
+              subst (λ z. Good (answer_in st p v 1 (range_of z 1))) (sym only)
+              (step_good (answer_rule st.context r v p.body) (answer_done generation nodes target c x i st.context by r h p.from s p.body there gives v number) (answer_shows st.context r v p.body).0)
           go false = rests_good
 
       give_up_good : (o : ServerOutcome) (range : ℕ) → gives_up st range (range_of st.ranges range) ≡ Some o → Good o
@@ -215,28 +215,28 @@ module _ (generation : ℕ → ℕ) (plenty : (g n : ℕ) → (i : ℕ) × (n �
         go ((k, r) ∷ []) e h = held r (e ∙ ap (λ z. (z, r) ∷ []) h.0) h.1 h.2 h.3
         go (a ∷ (b ∷ more)) e h = absurd h
 
-    table_good : (p : Packet) (body : TableBody) (held : List (Place × List ℕ)) → Good (table_rule st p body held)
-    table_good p (tables.Transact range changes q) held =
-        by_ranges (Good (table_rule st p (tables.Transact range changes q) held))
+    table_good : (p : Packet) (body : TableBody) → Good (table_rule st p body)
+    table_good p (tables.Transact range changes q) =
+        by_ranges (Good (table_rule st p (tables.Transact range changes q)))
         (λ none. subst (λ z. Good (transacts_in st p range changes q (range_of z range))) (sym none) (refuse_bare none p.from q)) (λ r only i mine h. transact_good r only i mine h p range changes q)
-    table_good p (tables.Get range key q) held =
-        by_ranges (Good (table_rule st p (tables.Get range key q) held))
-        (λ none. subst (λ z. Good (gets_in st p range key q held (range_of z range))) (sym none) (refuse_bare none p.from q)) (λ r only i mine h. get_good r only i mine h p range key q held)
-    table_good p body held = rests_good
+    table_good p (tables.Get range key q) =
+        by_ranges (Good (table_rule st p (tables.Get range key q)))
+        (λ none. subst (λ z. Good (gets_in st p range key q (range_of z range))) (sym none) (refuse_bare none p.from q)) (λ r only i mine h. get_good r only i mine h p range key q)
+    table_good p body = rests_good
 
     map_good : (g until : ℕ) → Good (assign_rule st 1 g until (range_of st.ranges 1))
     map_good g until =
         by_ranges (Good (assign_rule st 1 g until (range_of st.ranges 1))) (λ none. assign_good (range_of st.ranges 1) g until [] (λ v. refl) none)
         (λ r only i mine h. assign_good (range_of st.ranges 1) g until ((1, r) ∷ []) (λ v. refl) only)
 
-    numbered_good : (p : Packet) → Contains w.post (packet p.from (Server s) p.body) → (held : List (Place × List ℕ)) (o : Option ReqNo) → answered_number p.body ≡ o → Good (numbered_rule st p held o)
-    numbered_good p there held None e = rests_good
-    numbered_good p there held (Some v) e = go (is_answerer p.from p.body) refl
+    numbered_good : (p : Packet) → Contains w.post (packet p.from (Server s) p.body) → (o : Option ReqNo) → answered_number p.body ≡ o → Good (numbered_rule st p o)
+    numbered_good p there None e = rests_good
+    numbered_good p there (Some v) e = go (is_answerer p.from p.body) refl
       where
-        go : (b : Bool) → is_answerer p.from p.body ≡ b → Good (if b then answer_of st p v held (awaiting st.ranges v) else rests st)
+        go : (b : Bool) → is_answerer p.from p.body ≡ b → Good (if b then answer_of st p v (awaiting st.ranges v) else rests st)
         go true gives =
-            by_ranges (Good (answer_of st p v held (awaiting st.ranges v))) (λ none. subst (λ z. Good (answer_of st p v held (awaiting z v))) (sym none) rests_good)
-            (λ r only i mine h. answer_good r only i mine h p there gives v e held)
+            by_ranges (Good (answer_of st p v (awaiting st.ranges v))) (λ none. subst (λ z. Good (answer_of st p v (awaiting z v))) (sym none) rests_good)
+            (λ r only i mine h. answer_good r only i mine h p there gives v e)
         go false gives = rests_good
 
     -- what the map tells of leases is of range 1
@@ -259,26 +259,26 @@ module _ (generation : ℕ → ℕ) (plenty : (g n : ℕ) → (i : ℕ) × (n �
         go (Server t) from_it = rests_good
         go (actors.User u) from_it = rests_good
 
-    taken_body : (p : Packet) → Contains c.stream_layer.post p → p.to ≡ Server s → (held : List (Place × List ℕ)) (b : Body) → p.body ≡ b → Good (taken_rule st p b held)
-    taken_body p there to held b e = go b e
+    taken_body : (p : Packet) → Contains c.stream_layer.post p → p.to ≡ Server s → (b : Body) → p.body ≡ b → Good (taken_rule st p b)
+    taken_body p there to b e = go b e
       where
         in_post : Contains w.post (packet p.from (Server s) p.body)
         in_post = subst (λ z. Contains w.post (packet p.from z p.body)) to (subst (λ (z : StreamSystem). Contains z.post p) (sym x.leads) there)
 
-        go : (b : Body) → p.body ≡ b → Good (taken_rule st p b held)
+        go : (b : Body) → p.body ≡ b → Good (taken_rule st p b)
         go (bodies.Map body) e = from_map_good p body e there
-        go (bodies.Table body) e = table_good p body held
-        go (bodies.Append body) e = numbered_good p in_post held (answered_number (bodies.Append body)) (ap answered_number e)
-        go (bodies.Check body) e = numbered_good p in_post held (answered_number (bodies.Check body)) (ap answered_number e)
-        go (bodies.Seal body) e = numbered_good p in_post held (answered_number (bodies.Seal body)) (ap answered_number e)
-        go (bodies.Read body) e = numbered_good p in_post held (answered_number (bodies.Read body)) (ap answered_number e)
-        go (bodies.Stream body) e = numbered_good p in_post held (answered_number (bodies.Stream body)) (ap answered_number e)
+        go (bodies.Table body) e = table_good p body
+        go (bodies.Append body) e = numbered_good p in_post (answered_number (bodies.Append body)) (ap answered_number e)
+        go (bodies.Check body) e = numbered_good p in_post (answered_number (bodies.Check body)) (ap answered_number e)
+        go (bodies.Seal body) e = numbered_good p in_post (answered_number (bodies.Seal body)) (ap answered_number e)
+        go (bodies.Read body) e = numbered_good p in_post (answered_number (bodies.Read body)) (ap answered_number e)
+        go (bodies.Stream body) e = numbered_good p in_post (answered_number (bodies.Stream body)) (ap answered_number e)
 
-    rule_good : (p : Packet) → Contains c.stream_layer.post p → p.to ≡ Server s → (held : List (Place × List ℕ)) → Good (server_rule st p p.body held)
-    rule_good p there to held = go (has_numbers st.context)
+    rule_good : (p : Packet) → Contains c.stream_layer.post p → p.to ≡ Server s → Good (server_rule st p p.body)
+    rule_good p there to = go (has_numbers st.context)
       where
-        go : (b : Bool) → Good (if b then taken_rule st p p.body held else rests st)
-        go true = taken_body p there to held p.body refl
+        go : (b : Bool) → Good (if b then taken_rule st p p.body else rests st)
+        go true = taken_body p there to p.body refl
         go false = rests_good
 
     give_up_rule_good : (range : ℕ) (o : ServerOutcome) → gives_up st range (range_of st.ranges range) ≡ Some o → Good o
@@ -294,16 +294,16 @@ module _ (generation : ℕ → ℕ) (plenty : (g n : ℕ) → (i : ℕ) × (n �
       (cell_stands generation nodes target c s (λ z. z) (λ z n k past. past) (λ z st found up. still_runs c.servers s z st found up) x)
 
   -- a server takes a packet
-  pub takes_stands : (c : Cluster) → Standing generation nodes target c → (s : ℕ) (p : Packet) (held : CacheContent) → Contains c.stream_layer.post p → p.to ≡ Server s → Standing generation nodes target (servers_perform c (server_takes c.servers s p held))
-  takes_stands c x s p held there to = go (entry_at c.servers s) refl
+  pub takes_stands : (c : Cluster) → Standing generation nodes target c → (s : ℕ) (p : Packet) → Contains c.stream_layer.post p → p.to ≡ Server s → Standing generation nodes target (servers_perform c (server_takes c.servers s p))
+  takes_stands c x s p there to = go (entry_at c.servers s) refl
     where
       by_state : (cell : ServerCell) → entry_at c.servers s ≡ Some cell → (o : Option ServerState) → cell.state ≡ o →
           Standing generation nodes target
-          (servers_perform c (record { servers = slice_set c.servers (s - 1) (cell_takes cell p held o).cell; packets = (cell_takes cell p held o).packets; notes = (cell_takes cell p held o).notes }))
+          (servers_perform c (record { servers = slice_set c.servers (s - 1) (cell_takes cell p o).cell; packets = (cell_takes cell p o).packets; notes = (cell_takes cell p o).notes }))
       by_state cell at None is = stopped c x s cell at
-      by_state cell at (Some st) is = rule_good c x s cell st at is p there to held
+      by_state cell at (Some st) is = rule_good c x s cell st at is p there to
 
-      go : (o : Option ServerCell) → entry_at c.servers s ≡ o → Standing generation nodes target (servers_perform c (at_server c.servers s (λ cell. cell_takes cell p held cell.state) o))
+      go : (o : Option ServerCell) → entry_at c.servers s ≡ o → Standing generation nodes target (servers_perform c (at_server c.servers s (λ cell. cell_takes cell p cell.state) o))
       go None at = subst (λ (z : StreamSystem). Standing generation nodes target (record c { stream_layer = z })) (sym (told_nothing c.stream_layer)) x
       go (Some cell) at = by_state cell at cell.state refl
 
@@ -311,13 +311,13 @@ module _ (generation : ℕ → ℕ) (plenty : (g n : ℕ) → (i : ℕ) × (n �
   pub gives_up_stands : (c : Cluster) → Standing generation nodes target c → (s range : ℕ) (pick : Nodes) → Standing generation nodes target (servers_perform c (server_gives_up c.servers s range pick))
   gives_up_stands c x s range pick = go (entry_at c.servers s) refl
     where
-      picked : (cell : ServerCell) (st : ServerState) → entry_at c.servers s ≡ Some cell → cell.state ≡ Some st → (o : ServerOutcome) →
-          gives_up (record st { context = record st.context { pick = pick } }) range (range_of st.ranges range) ≡ Some o → Standing generation nodes target (rule_done c s cell o)
-      picked cell st at is o e =
-          let now : ServerState = record st { context = record st.context { pick = pick } } in
+      given_up : (cell : ServerCell) (st : ServerState) → entry_at c.servers s ≡ Some cell → cell.state ≡ Some st → (o : ServerOutcome) →
+          gives_up (picked st pick) range (range_of st.ranges range) ≡ Some o → Standing generation nodes target (rule_done c s cell o)
+      given_up cell st at is o e =
+          let now : ServerState = picked st pick in
           let next : ServerCell = record cell { state = Some now } in
           let d : Cluster = record c { servers = slice_set c.servers (s - 1) next } in
-          let y : Standing generation nodes target d = picks_stand generation nodes target c s cell st at is pick x in
+          let y : Standing generation nodes target d = picks_stand generation nodes target c s cell st at is (if has_numbers st.context then pick else st.context.pick) x in
           let given : Standing generation nodes target (rule_done d s next o) = give_up_rule_good d y s next now (entry_set c.servers s cell next at) refl range o e in
           subst (λ z. Standing generation nodes target (record c { stream_layer = with_told c.stream_layer o.packets o.notes; servers = z })) (set_twice c.servers (s - 1) next (cell_performs cell o).cell) given
 
@@ -325,7 +325,7 @@ module _ (generation : ℕ → ℕ) (plenty : (g n : ℕ) → (i : ℕ) × (n �
           Standing generation nodes target
           (servers_perform c (record { servers = slice_set c.servers (s - 1) (cell_given_up cell o).cell; packets = (cell_given_up cell o).packets; notes = (cell_given_up cell o).notes }))
       by_rule cell st at is None e = stopped c x s cell at
-      by_rule cell st at is (Some o) e = picked cell st at is o e
+      by_rule cell st at is (Some o) e = given_up cell st at is o e
 
       by_state : (cell : ServerCell) → entry_at c.servers s ≡ Some cell → (o : Option ServerState) → cell.state ≡ o →
           Standing generation nodes target

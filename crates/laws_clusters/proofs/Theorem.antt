@@ -8,8 +8,8 @@ use Rattle.model_streams.specs.declared.event.Event.{Event}
 use Rattle.model_streams.specs.declared.event.Event.TheVariants.{Submit, Deliver, Stop, Restart, Decide, GiveUp, Assign, Renew, Moment}
 use Rattle.model_streams.specs.Maps.{entry_at}
 use Rattle.model_streams.specs.StreamSystem.{delivered, delivered_if}
-use Rattle.model_partition.specs.Servers.{CacheContent, ServerCell, first_pick, first_server, first_servers}
-use Rattle.model_partition.specs.Cluster.{Cluster, delivered_to, delivers, stops, restarts, cluster_after, LeadTo, first_cluster}
+use Rattle.model_partition.specs.Servers.{ServerCell, first_pick, first_server, first_servers}
+use Rattle.model_partition.specs.Cluster.{Cluster, delivered_to, delivers, stops, restarts, cluster_after, cluster_after_all, first_cluster}
 use Rattle.model_partition.specs.Log.{IsServed}
 use Rattle.model_partition.specs.Past.{Replays, Transaction}
 use Rattle.model_partition.specs.Server.{ServerState, started}
@@ -102,16 +102,16 @@ module _ (nodes target : ℕ) where
 
   -- ---- events
 
-  delivers_stand : (c : Cluster) → Stands c → (number : ℕ) (held : CacheContent) (o : Option Packet) → slice_get c.stream_layer.post number ≡ o → Stands (delivers c held o)
-  delivers_stand c x number held None at = x
-  delivers_stand c x number held (Some p) at = go p.to refl
+  delivers_stand : (c : Cluster) → Stands c → (number : ℕ) (o : Option Packet) → slice_get c.stream_layer.post number ≡ o → Stands (delivers c o)
+  delivers_stand c x number None at = x
+  delivers_stand c x number (Some p) at = go p.to refl
     where
       layer : (to : ActorId) → p.to ≡ to → Stands (record c { stream_layer = delivered c.stream_layer p to })
       layer to is =
           subst (λ z. Stands (record c { stream_layer = z })) (ap (delivered_if c.stream_layer) at ∙ ap (delivered c.stream_layer p) is) (happens_stands generation_at nodes target c x (Deliver number))
 
-      go : (to : ActorId) → p.to ≡ to → Stands (delivered_to c p held to)
-      go (Server s) is = takes_stands generation_at plenty nodes target c x s p held (contains_get c.stream_layer.post number p at) is
+      go : (to : ActorId) → p.to ≡ to → Stands (delivered_to c p to)
+      go (Server s) is = takes_stands generation_at plenty nodes target c x s p (contains_get c.stream_layer.post number p at) is
       go (Node n) is = layer (Node n) is
       go Manager is = layer Manager is
       go Map is = map_takes_stand generation_at nodes target c p x
@@ -132,20 +132,20 @@ module _ (nodes target : ℕ) where
   restarts_all c x (User u) = happens_stands generation_at nodes target c x (Restart (User u))
 
   -- whatever comes
-  comes_stands : (c : Cluster) (event : Event) (held : CacheContent) → Stands c → Stands (cluster_after c event held)
-  comes_stands c (Submit user to body) held x = happens_stands generation_at nodes target c x (Submit user to body)
-  comes_stands c (Deliver number) held x = delivers_stand c x number held (slice_get c.stream_layer.post number) refl
-  comes_stands c (Stop actor call keep) held x = stops_all c x actor call keep
-  comes_stands c (Restart actor) held x = restarts_all c x actor
-  comes_stands c (Decide e) held x = happens_stands generation_at nodes target c x (Decide e)
-  comes_stands c (GiveUp server range pick) held x = gives_up_stands generation_at plenty nodes target c x server range pick
-  comes_stands c (Assign range server until) held x = assigns_stand generation_at nodes target c range server until x
-  comes_stands c (Renew range server until) held x = renews_stand generation_at nodes target c range server until x
-  comes_stands c (Moment now) held x = moment_stands generation_at nodes target c now x
+  comes_stands : (c : Cluster) (event : Event) → Stands c → Stands (cluster_after c event)
+  comes_stands c (Submit user to body) x = happens_stands generation_at nodes target c x (Submit user to body)
+  comes_stands c (Deliver number) x = delivers_stand c x number (slice_get c.stream_layer.post number) refl
+  comes_stands c (Stop actor call keep) x = stops_all c x actor call keep
+  comes_stands c (Restart actor) x = restarts_all c x actor
+  comes_stands c (Decide e) x = happens_stands generation_at nodes target c x (Decide e)
+  comes_stands c (GiveUp server range pick) x = gives_up_stands generation_at plenty nodes target c x server range pick
+  comes_stands c (Assign range server until) x = assigns_stand generation_at nodes target c range server until x
+  comes_stands c (Renew range server until) x = renews_stand generation_at nodes target c range server until x
+  comes_stands c (Moment now) x = moment_stands generation_at nodes target c now x
 
-  led_stands : (events : List Event) (c d : Cluster) → LeadTo events c d → Stands c → Stands d
-  led_stands [] c d led x = subst Stands led x
-  led_stands (event ∷ events) c d led x = led_stands events (cluster_after c event led.0) d led.1 (comes_stands c event led.0 x)
+  led_stands : (events : List Event) (c : Cluster) → Stands c → Stands (cluster_after_all c events)
+  led_stands [] c x = x
+  led_stands (event ∷ events) c x = led_stands events (cluster_after c event) (comes_stands c event x)
 
   -- ---- what is shown
 
@@ -170,11 +170,13 @@ module _ (nodes target : ℕ) where
       with_others c.stream_layer.notes (subst Replays (sym x.tells) (replays x.rows story x.shows served order))
 
 -- whatever happens, what a run with servers shows replays
-pub led_replays : (nodes servers target batch : ℕ) (events : List Event) (c : Cluster) → LeadTo events (first_cluster nodes servers target batch) c → Replays c.stream_layer.notes
-led_replays nodes servers target batch events c led =
-    stands_replays nodes target c (led_stands nodes target events (first_cluster nodes servers target batch) c led (first_stands nodes target servers batch))
+pub led_replays : (nodes servers target batch : ℕ) (events : List Event) → Replays (cluster_after_all (first_cluster nodes servers target batch) events).stream_layer.notes
+led_replays nodes servers target batch events =
+    let first : Cluster = first_cluster nodes servers target batch in
+    stands_replays nodes target (cluster_after_all first events) (led_stands nodes target events first (first_stands nodes target servers batch))
 
 -- and comes of streams that keep their order
-pub led_ordered : (nodes servers target batch : ℕ) (events : List Event) (c : Cluster) → LeadTo events (first_cluster nodes servers target batch) c → ComesOfStreams c.stream_layer.notes
-led_ordered nodes servers target batch events c led =
-    stands_ordered nodes target c (led_stands nodes target events (first_cluster nodes servers target batch) c led (first_stands nodes target servers batch))
+pub led_ordered : (nodes servers target batch : ℕ) (events : List Event) → ComesOfStreams (cluster_after_all (first_cluster nodes servers target batch) events).stream_layer.notes
+led_ordered nodes servers target batch events =
+    let first : Cluster = first_cluster nodes servers target batch in
+    stands_ordered nodes target (cluster_after_all first events) (led_stands nodes target events first (first_stands nodes target servers batch))

@@ -25,6 +25,7 @@ use Rattle.model_partition.specs.declared.stage.Stage.{Stage}
 use Rattle.model_partition.specs.declared.stage.Stage.TheVariants as stages
 use Rattle.model_partition.specs.Range.{RangeState, RangeOutcome, request, answers, dropped, picking, is_serving}
 use Rattle.model_partition.specs.Loading.{open_region, opens, are_counted, serves_region, serves_from, serves, log_news}
+use Rattle.model_partition.specs.Getting.{place_of}
 use Rattle.model_partition.specs.Answering.{answered_number, stream_number, groups_of, load_refused, load_told, load_reply, metadata_reply, serving_news, is_taken, log_taken, log_reply, bytes_reply, gets_reply, answer_rule}
 use Rattle.laws_stream_machine.specs.Refinement.{Opens, purpose_of, Means, StreamMeans}
 use Rattle.laws_stream_machine.proofs.ServerRequests.{same_request}
@@ -141,28 +142,29 @@ module _ (generation : ℕ → ℕ) (range : ℕ) (w : StreamSystem) (i : ℕ) (
 
     -- ---- any answer
 
-    gets_reply_left : (v : ReqNo) (body : Body) (held : List (Place × List ℕ)) → Leaves (gets_reply d r v body held)
-    gets_reply_left v (bodies.Read body) held = bytes_by body
+    gets_reply_left : (v : ReqNo) (body : Body) → Leaves (gets_reply d r v body)
+    gets_reply_left v (bodies.Read body) = bytes_by body
       where
-        bytes_by : (body : ReadBody) → Leaves (bytes_reply d r v body held)
-        bytes_by (reads.Bytes u e offset bytes) = bytes_left range w i l.stand.state d r v held h
+        bytes_by : (body : ReadBody) → Leaves (bytes_reply d r v body)
+        bytes_by (reads.Bytes u e offset bytes) = bytes_left range w i l.stand.state d r v (place_of e offset bytes) bytes h
         bytes_by body = h
-    gets_reply_left v body held = h
+    gets_reply_left v (bodies.Append body) = refused_left body
+    gets_reply_left v body = h
 
     -- what an answer leaves of what was read
-    pub answer_left : IsEmpty i m.stand.state → IsSpelled range w i l.stand.state → (v : ReqNo) (body : Body) (held : List (Place × List ℕ)) → answered_number body ≡ Some v → Meant body →
-        Shows range w i l.stand.state l.sent body → Leaves (answer_rule d r v body held)
-    answer_left empty spelled v body held number means shows = first (load_awaits r.load.phase v) refl
+    pub answer_left : IsEmpty i m.stand.state → IsSpelled range w i l.stand.state → (v : ReqNo) (body : Body) → answered_number body ≡ Some v → Meant body →
+        Shows range w i l.stand.state l.sent body → Leaves (answer_rule d r v body)
+    answer_left empty spelled v body number means shows = first (load_awaits r.load.phase v) refl
       where
-        third : (t : Bool) → Leaves (if t then log_reply d r body else gets_reply d r v body held)
+        third : (t : Bool) → Leaves (if t then log_reply d r body else gets_reply d r v body)
         third true = log_reply_left spelled body shows means.1
-        third false = gets_reply_left v body held
+        third false = gets_reply_left v body
 
-        second : (t : Bool) → Leaves (if t then metadata_reply d r body else (if awaits r.log.job v then log_reply d r body else gets_reply d r v body held))
+        second : (t : Bool) → Leaves (if t then metadata_reply d r body else (if awaits r.log.job v then log_reply d r body else gets_reply d r v body))
         second true = metadata_reply_left generation range w i both m l d r h body empty f means.0
         second false = third (awaits r.log.job v)
 
         first : (t : Bool) → load_awaits r.load.phase v ≡ t →
-            Leaves (if t then load_reply d r body else (if awaits r.metadata.job v then metadata_reply d r body else (if awaits r.log.job v then log_reply d r body else gets_reply d r v body held)))
+            Leaves (if t then load_reply d r body else (if awaits r.metadata.job v then metadata_reply d r body else (if awaits r.log.job v then log_reply d r body else gets_reply d r v body)))
         first true e = load_reply_left v e body number means
         first false e = second (awaits r.metadata.job v)

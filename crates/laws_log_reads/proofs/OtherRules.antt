@@ -48,15 +48,15 @@ module _ (range : ℕ) (w : StreamSystem) (i : ℕ) (s : machine.MachineState Gr
       same_left range w i s r (record r { held = held; gets = waiting })
       (record { said = refl; fixed = refl; live = refl; regions = refl; log = record { extents = refl; checked = refl; base = refl }; by = λ position b. b; some = λ b. b }) refl h
 
-  pub get_left : (d : ServerContext) (r : RangeState) (from : ActorId) (q : ReqNo) (key : List ℕ) (held : List (Place × List ℕ)) → HasRead range w i s r → Leaves (get_rule d r from q key held)
-  get_left d r from q key held h = go (get_fault d r key)
+  pub get_left : (d : ServerContext) (r : RangeState) (from : ActorId) (q : ReqNo) (key : List ℕ) → HasRead range w i s r → Leaves (get_rule d r from q key)
+  get_left d r from q key h = go (get_fault d r key)
     where
-      go : (o : Option Refusal) → Leaves (gets d r from q key held o)
+      go : (o : Option Refusal) → Leaves (gets d r from q key o)
       go (Some refusal) = h
-      go None = got r held _ h
+      go None = got r _ _ h
 
-  pub bytes_left : (d : ServerContext) (r : RangeState) (q : ReqNo) (held : List (Place × List ℕ)) → HasRead range w i s r → Leaves (bytes_rule d r q held)
-  bytes_left d r q held h = got r held _ h
+  pub bytes_left : (d : ServerContext) (r : RangeState) (q : ReqNo) (place : Place) (bytes : List ℕ) → HasRead range w i s r → Leaves (bytes_rule d r q place bytes)
+  bytes_left d r q place bytes h = got r _ _ h
 
   -- ---- transactions
 

@@ -39,21 +39,21 @@ module _ (generation : ℕ → ℕ) (range : ℕ) (w : StreamSystem) (i : ℕ) (
       log_news_by generation range w i both m l d by r f body (λ served. log_reply_both generation range w i both m l d by r f served sound counted body means) v waits means
 
   -- the answer of a number, which means what it says to both streams
-  pub answer_both : IsSound r → IsBehind → (v : ReqNo) (body : Body) (held : List (Place × List ℕ)) → answered_number body ≡ Some v → Means generation (metadata_of range) w m.stand.state m.sent body →
-      Means generation (log_of range) w l.stand.state l.sent body → IsCounted i l.stand → RuleGoes generation range w i m l d (answer_rule d r v body held)
-  answer_both sound behind v body held number one two counted = load_first (load_awaits r.load.phase v) refl
+  pub answer_both : IsSound r → IsBehind → (v : ReqNo) (body : Body) → answered_number body ≡ Some v → Means generation (metadata_of range) w m.stand.state m.sent body →
+      Means generation (log_of range) w l.stand.state l.sent body → IsCounted i l.stand → RuleGoes generation range w i m l d (answer_rule d r v body)
+  answer_both sound behind v body number one two counted = load_first (load_awaits r.load.phase v) refl
     where
-      log_third : (t : Bool) → awaits r.log.job v ≡ t → RuleGoes generation range w i m l d (if t then log_reply d r body else gets_reply d r v body held)
+      log_third : (t : Bool) → awaits r.log.job v ≡ t → RuleGoes generation range w i m l d (if t then log_reply d r body else gets_reply d r v body)
       log_third true e = log_news_both sound counted v e body two
-      log_third false e = (gets_reply_tells generation range w i both m l d by r f v body held).goes
+      log_third false e = (gets_reply_tells generation range w i both m l d by r f v body).goes
 
       metadata_second : (t : Bool) → awaits r.metadata.job v ≡ t →
-          RuleGoes generation range w i m l d (if t then metadata_reply d r body else if awaits r.log.job v then log_reply d r body else gets_reply d r v body held)
+          RuleGoes generation range w i m l d (if t then metadata_reply d r body else if awaits r.log.job v then log_reply d r body else gets_reply d r v body)
       metadata_second true e = metadata_news_both generation range w i both m l d by r f body v e one
       metadata_second false e = log_third (awaits r.log.job v) refl
 
       load_first : (t : Bool) → load_awaits r.load.phase v ≡ t →
           RuleGoes generation range w i m l d
-          (if t then load_reply d r body else if awaits r.metadata.job v then metadata_reply d r body else if awaits r.log.job v then log_reply d r body else gets_reply d r v body held)
+          (if t then load_reply d r body else if awaits r.metadata.job v then metadata_reply d r body else if awaits r.log.job v then log_reply d r body else gets_reply d r v body)
       load_first true e = load_reply_both behind v e body number one two
       load_first false e = metadata_second (awaits r.metadata.job v) refl

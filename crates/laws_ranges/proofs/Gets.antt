@@ -3,6 +3,8 @@ use Rattle.std.proofs.Common.{◌≡◌, ℕ, ◌≤◌, List, [], ◌∷◌, �
 use Rattle.block_types.specs.declared.record.Nodes.{Nodes}
 use Rattle.wire.specs.declared.actor.ActorId.{ActorId}
 use Rattle.wire.specs.declared.actor.ReqNo.{ReqNo}
+use Rattle.wire.specs.declared.body.AppendBody.{AppendBody}
+use Rattle.wire.specs.declared.body.AppendBody.TheVariants as appends
 use Rattle.wire.specs.declared.body.ReadBody.{ReadBody}
 use Rattle.wire.specs.declared.body.ReadBody.TheVariants as reads
 use Rattle.wire.specs.declared.body.Body.{Body}
@@ -19,12 +21,13 @@ use Rattle.model_partition.specs.declared.stage.Stage.TheVariants as stages
 use Rattle.model_partition.specs.declared.waiting.WaitingGet.{WaitingGet}
 use Rattle.model_partition.specs.Range.{RangeState, refuses, answers, is_serving}
 use Rattle.model_partition.specs.Serving.{transact_fault, transacts, transact_rule, lease_ended}
-use Rattle.model_partition.specs.Getting.{Lookup, Is, Needs, Tried, asks_place, answered, try, try_all, get_fault, gets, get_rule, bytes_rule, places_of, look, standing, without}
-use Rattle.model_partition.specs.Answering.{bytes_reply, gets_reply}
+use Rattle.model_partition.specs.Getting.{Lookup, Is, Needs, Tried, asks_place, answered, try, try_all, get_fault, gets, get_rule, bytes_rule, came, place_of, places_of, look, read_at, standing, used, without}
+use Rattle.model_partition.specs.Answering.{bytes_reply, gets_reply, load_refused}
 use Rattle.laws_stream_machine.specs.Refinement.{Sent}
 use Rattle.laws_ranges.specs.Serves.{Stand, Side, log_of, AreAsked, Follows, BothListed, IsSentBy, RuleTells}
 use Rattle.laws_ranges.proofs.LogRules.{asked_both}
 use Rattle.laws_ranges.proofs.BothStreams.{still_tells, follows_same}
+use Rattle.laws_ranges.proofs.Confirmed.{dropped_tells}
 
 -- ---- what is tried
 
@@ -66,38 +69,44 @@ module _ (generation : ℕ → ℕ) (range : ℕ) (w : StreamSystem) (i : ℕ) (
   refused : (from : ActorId) (v : ReqNo) (why : Refusal) → RuleTells generation range w i m l d (answers d r (refuses d from v why ∷ []))
   refused from v why = still_tells generation range w i both m l d by (Some r) d.count (refuses d from v why ∷ []) f (omega arith) (inl (λ n s z. tt), tt)
 
-  gets_tells : (from : ActorId) (v : ReqNo) (key : List ℕ) (held : List (Place × List ℕ)) (fault : Option Refusal) → RuleTells generation range w i m l d (gets d r from v key held fault)
-  gets_tells from v key held (Some why) = refused from v why
-  gets_tells from v key held None =
+  gets_tells : (from : ActorId) (v : ReqNo) (key : List ℕ) (fault : Option Refusal) → RuleTells generation range w i m l d (gets d r from v key fault)
+  gets_tells from v key (Some why) = refused from v why
+  gets_tells from v key None =
       let g : WaitingGet = record { from = from; request = v; key = key; reads = [] } in
       let t : Tried = try d r g in
       let is : IsTry generation range w i (log_of range) l.stand l.sent d t = one_try generation range w i (log_of range) l.stand l.sent d r g in
-      still_tells generation range w i both m l d by (Some (record r { gets = r.gets ++ t.waiting; held = held })) t.count t.packets
-      (follows_same generation range w i m l r r.until (r.gets ++ t.waiting) held f) is.0 is.1
+      still_tells generation range w i both m l d by (Some (record r { gets = r.gets ++ t.waiting; held = used r.held (standing r key) })) t.count t.packets
+      (follows_same generation range w i m l r r.until (r.gets ++ t.waiting) (used r.held (standing r key)) f) is.0 is.1
 
   -- a Get
-  pub get_tells : (from : ActorId) (v : ReqNo) (key : List ℕ) (held : List (Place × List ℕ)) → RuleTells generation range w i m l d (get_rule d r from v key held)
-  get_tells from v key held = gets_tells from v key held (get_fault d r key)
+  pub get_tells : (from : ActorId) (v : ReqNo) (key : List ℕ) → RuleTells generation range w i m l d (get_rule d r from v key)
+  get_tells from v key = gets_tells from v key (get_fault d r key)
 
   -- the bytes of a value
-  bytes_tells : (v : ReqNo) (held : List (Place × List ℕ)) → RuleTells generation range w i m l d (bytes_rule d r v held)
-  bytes_tells v held =
-      let now : RangeState = record r { held = held } in
+  bytes_tells : (v : ReqNo) (place : Place) (bytes : List ℕ) → RuleTells generation range w i m l d (bytes_rule d r v place bytes)
+  bytes_tells v place bytes =
+      let now : RangeState = record r { held = came r.held (read_at r.gets v) place bytes } in
       let t : Tried = try_all d now (map (without v) r.gets) in
       let is : IsTry generation range w i (log_of range) l.stand l.sent d t = all_try generation range w i (log_of range) l.stand l.sent d now (map (without v) r.gets) in
-      still_tells generation range w i both m l d by (Some (record r { gets = t.waiting; held = held })) t.count t.packets
-      (follows_same generation range w i m l r r.until t.waiting held f) is.0 is.1
+      still_tells generation range w i both m l d by (Some (record r { gets = t.waiting; held = now.held })) t.count t.packets
+      (follows_same generation range w i m l r r.until t.waiting now.held f) is.0 is.1
 
   rested : RuleTells generation range w i m l d (answers d r [])
   rested = still_tells generation range w i both m l d by (Some r) d.count [] f (omega arith) tt
 
-  read_tells : (v : ReqNo) (body : ReadBody) (held : List (Place × List ℕ)) → RuleTells generation range w i m l d (bytes_reply d r v body held)
-  read_tells v (reads.Bytes u e offset bytes) held = bytes_tells v held
-  read_tells v body held = rested
+  read_tells : (v : ReqNo) (body : ReadBody) → RuleTells generation range w i m l d (bytes_reply d r v body)
+  read_tells v (reads.Bytes u e offset bytes) = bytes_tells v (place_of e offset bytes) bytes
+  read_tells v body = rested
 
-  pub gets_reply_tells : (v : ReqNo) (body : Body) (held : List (Place × List ℕ)) → RuleTells generation range w i m l d (gets_reply d r v body held)
-  gets_reply_tells v (bodies.Read body) held = read_tells v body held
-  gets_reply_tells v body held = rested
+  -- the refusal of a read
+  refused_tells : (body : AppendBody) → RuleTells generation range w i m l d (load_refused d r body)
+  refused_tells (appends.Refused u refusals.Stale) = dropped_tells generation range w i both m l d by r
+  refused_tells body = rested
+
+  pub gets_reply_tells : (v : ReqNo) (body : Body) → RuleTells generation range w i m l d (gets_reply d r v body)
+  gets_reply_tells v (bodies.Read body) = read_tells v body
+  gets_reply_tells v (bodies.Append body) = refused_tells body
+  gets_reply_tells v body = rested
 
   -- ---- transactions
 

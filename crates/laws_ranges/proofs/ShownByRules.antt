@@ -89,14 +89,14 @@ module _ (generation : ℕ → ℕ) (range : ℕ) (w : StreamSystem) (i : ℕ) (
 
     -- ---- answers
 
-    module _ (v : ReqNo) (body : Body) (held : List (Place × List ℕ)) where
-      served_tells : r.stage ≡ stages.Serving → IsSound r → IsCounted i l.stand → Means generation (log_of range) w l.stand.state l.sent body → RuleTells generation range w i m l d (answer_rule d r v body held)
+    module _ (v : ReqNo) (body : Body) where
+      served_tells : r.stage ≡ stages.Serving → IsSound r → IsCounted i l.stand → Means generation (log_of range) w l.stand.state l.sent body → RuleTells generation range w i m l d (answer_rule d r v body)
       served_tells stage sound counted means =
           if_elim (RuleTells generation range w i m l d) (load_awaits r.load.phase v) _ _ (λ t. absurd (no_load t))
           (λ k. if_elim (RuleTells generation range w i m l d) (awaits r.metadata.job v) _ _ (λ t. absurd (no_metadata t))
           (λ k. if_elim (RuleTells generation range w i m l d) (awaits r.log.job v) _ _
           (λ t. log_reply_tells generation range w i both m l d by r f stage sound counted body means)
-          (λ k. gets_reply_tells generation range w i both m l d by r f v body held)))
+          (λ k. gets_reply_tells generation range w i both m l d by r f v body)))
         where
           b : IsServing generation range w i m l r
           b = subst (λ z. StageIs generation range w i m l r z) stage f.stage
@@ -112,7 +112,7 @@ module _ (generation : ℕ → ℕ) (range : ℕ) (w : StreamSystem) (i : ℕ) (
       IsBehind = (b : IsConfirming generation range w i m l r) (region : Region) → open_region r.regions ≡ Some region → region.next ≡ next_behind b.log.read
 
       confirmation_tells : IsBehind → answered_number body ≡ Some v → Means generation (metadata_of range) w m.stand.state m.sent body → Means generation (log_of range) w l.stand.state l.sent body →
-          IsConfirmation d r v body (answer_rule d r v body held) → RuleTells generation range w i m l d (answer_rule d r v body held)
+          IsConfirmation d r v body (answer_rule d r v body) → RuleTells generation range w i m l d (answer_rule d r v body)
       confirmation_tells behind number one two c =
           let b : IsConfirming generation range w i m l r = confirming_at c.q c.phase in
           let same : phases.Confirming b.q ≡ phases.Confirming c.q = sym b.phase ∙ c.phase in
@@ -126,9 +126,9 @@ module _ (generation : ℕ → ℕ) (range : ℕ) (w : StreamSystem) (i : ℕ) (
 
       -- an answer, as both streams mean it
       pub answer_tells : IsSound r → IsCounted i l.stand → IsBehind → answered_number body ≡ Some v → Means generation (metadata_of range) w m.stand.state m.sent body → Means generation (log_of range) w l.stand.state l.sent body →
-          (is_serving r.stage ≡ false → Stays r (answer_rule d r v body held) → RuleGoes generation range w i m l d (answer_rule d r v body held)) → RuleTells generation range w i m l d (answer_rule d r v body held)
+          (is_serving r.stage ≡ false → Stays r (answer_rule d r v body) → RuleGoes generation range w i m l d (answer_rule d r v body)) → RuleTells generation range w i m l d (answer_rule d r v body)
       answer_tells sound counted behind number one two goes =
           by_stage (λ stage. served_tells stage sound counted two)
-          (λ e. ⊎_elim {C = RuleTells generation range w i m l d (answer_rule d r v body held)}
-          (λ s. stays_tells generation range w i m l d r (answer_rule d r v body held) (goes e s) e s)
-          (λ c. confirmation_tells behind number one two c) (answer_stays d r v body held e))
+          (λ e. ⊎_elim {C = RuleTells generation range w i m l d (answer_rule d r v body)}
+          (λ s. stays_tells generation range w i m l d r (answer_rule d r v body) (goes e s) e s)
+          (λ c. confirmation_tells behind number one two c) (answer_stays d r v body e))

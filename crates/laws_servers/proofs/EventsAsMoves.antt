@@ -21,8 +21,8 @@ use Rattle.model_partition.specs.declared.range_entry.RangeEntry.{RangeEntry}
 use Rattle.model_partition.specs.Map.{MapState, range_at, range_of_key, assign_fault, assign_rule, renew_fault, renew_rule, route_rule, told as map_told, map_rule}
 use Rattle.model_partition.specs.declared.table_note.TableNote.{TableNote}
 use Rattle.model_partition.specs.declared.table_note.TableNote.TheVariants.{Began, Done, Loaded}
-use Rattle.model_partition.specs.Servers.{CacheContent, ServersOutcome, told, noted, with_told, server_takes, server_gives_up, server_stops, server_starts}
-use Rattle.model_partition.specs.Cluster.{Cluster, map_performs, map_performs_if, map_takes, delivered_to, delivers, stops, restarts, cluster_after, assigns, renews, shows_moment, LeadTo}
+use Rattle.model_partition.specs.Servers.{ServersOutcome, told, noted, with_told, server_takes, server_gives_up, server_stops, server_starts}
+use Rattle.model_partition.specs.Cluster.{Cluster, map_performs, map_performs_if, map_takes, delivered_to, delivers, stops, restarts, cluster_after, assigns, renews, shows_moment, cluster_after_all}
 use Rattle.laws_streams.proofs.Invariant.{agree_in_moves, kept_in_moves}
 use Rattle.laws_streams.proofs.RisingFences.{run_more}
 use Rattle.laws_servers.specs.Sending.{MaySend, MaySendAll, ByMoves}
@@ -119,18 +119,18 @@ map_takes_by c p = if_elim (λ (d : Cluster). ByMoves c.stream_layer d.stream_la
 
 -- ---- events
 
-goes_by : (c : Cluster) (held : CacheContent) (number : ℕ) (p : Packet) (to : ActorId) → happens c.stream_layer (Deliver number) ≡ delivered c.stream_layer p to → ByMoves c.stream_layer (delivered_to c p held to).stream_layer
-goes_by c held number p (Node n) is = subst (ByMoves c.stream_layer) is (one c.stream_layer (Happens (Deliver number)))
-goes_by c held number p Manager is = subst (ByMoves c.stream_layer) is (one c.stream_layer (Happens (Deliver number)))
-goes_by c held number p Map is = map_takes_by c p
-goes_by c held number p (Server s) is =
-    let o : ServersOutcome = server_takes c.servers s p held in
-    told_by c.stream_layer o.packets o.notes (server_takes_shows c.servers s p held).0
-goes_by c held number p (User u) is = none c.stream_layer
+goes_by : (c : Cluster) (number : ℕ) (p : Packet) (to : ActorId) → happens c.stream_layer (Deliver number) ≡ delivered c.stream_layer p to → ByMoves c.stream_layer (delivered_to c p to).stream_layer
+goes_by c number p (Node n) is = subst (ByMoves c.stream_layer) is (one c.stream_layer (Happens (Deliver number)))
+goes_by c number p Manager is = subst (ByMoves c.stream_layer) is (one c.stream_layer (Happens (Deliver number)))
+goes_by c number p Map is = map_takes_by c p
+goes_by c number p (Server s) is =
+    let o : ServersOutcome = server_takes c.servers s p in
+    told_by c.stream_layer o.packets o.notes (server_takes_shows c.servers s p).0
+goes_by c number p (User u) is = none c.stream_layer
 
-delivers_by : (c : Cluster) (held : CacheContent) (number : ℕ) (found : Option Packet) → slice_get c.stream_layer.post number ≡ found → ByMoves c.stream_layer (delivers c held found).stream_layer
-delivers_by c held number None is = none c.stream_layer
-delivers_by c held number (Some p) is = goes_by c held number p p.to (ap (delivered_if c.stream_layer) is)
+delivers_by : (c : Cluster) (number : ℕ) (found : Option Packet) → slice_get c.stream_layer.post number ≡ found → ByMoves c.stream_layer (delivers c found).stream_layer
+delivers_by c number None is = none c.stream_layer
+delivers_by c number (Some p) is = goes_by c number p p.to (ap (delivered_if c.stream_layer) is)
 
 stops_by : (c : Cluster) (actor : ActorId) (call : ℕ) (keep : Bool) → ByMoves c.stream_layer (stops c actor call keep).stream_layer
 stops_by c (Node n) call keep = one c.stream_layer (Happens (Stop (Node n) call keep))
@@ -161,25 +161,25 @@ renews_by c range server until =
 moment_by : (c : Cluster) (now : ℕ) → ByMoves c.stream_layer (shows_moment c now).stream_layer
 moment_by c now = if_elim (λ (d : Cluster). ByMoves c.stream_layer d.stream_layer) (nat_lt now c.now) _ _ (λ t. none c.stream_layer) (λ f. none c.stream_layer)
 
-pub comes_by : (c : Cluster) (event : Event) (held : CacheContent) → ByMoves c.stream_layer (cluster_after c event held).stream_layer
-comes_by c (Submit user to body) held = one c.stream_layer (Happens (Submit user to body))
-comes_by c (Deliver number) held = delivers_by c held number (slice_get c.stream_layer.post number) refl
-comes_by c (Stop actor call keep) held = stops_by c actor call keep
-comes_by c (Restart actor) held = restarts_by c actor
-comes_by c (Decide e) held = one c.stream_layer (Happens (Decide e))
-comes_by c (GiveUp server range pick) held =
+pub comes_by : (c : Cluster) (event : Event) → ByMoves c.stream_layer (cluster_after c event).stream_layer
+comes_by c (Submit user to body) = one c.stream_layer (Happens (Submit user to body))
+comes_by c (Deliver number) = delivers_by c number (slice_get c.stream_layer.post number) refl
+comes_by c (Stop actor call keep) = stops_by c actor call keep
+comes_by c (Restart actor) = restarts_by c actor
+comes_by c (Decide e) = one c.stream_layer (Happens (Decide e))
+comes_by c (GiveUp server range pick) =
     let o : ServersOutcome = server_gives_up c.servers server range pick in
     told_by c.stream_layer o.packets o.notes (server_gives_up_tidy c.servers server range pick).0
-comes_by c (Assign range server until) held = assigns_by c range server until
-comes_by c (Renew range server until) held = renews_by c range server until
-comes_by c (Moment now) held = moment_by c now
+comes_by c (Assign range server until) = assigns_by c range server until
+comes_by c (Renew range server until) = renews_by c range server until
+comes_by c (Moment now) = moment_by c now
 
 -- ---- whole runs
 
-pub led_by : (events : List Event) (c d : Cluster) → LeadTo events c d → ByMoves c.stream_layer d.stream_layer
-led_by [] c d h = subst (λ (x : Cluster). ByMoves c.stream_layer x.stream_layer) h (none c.stream_layer)
-led_by (event ∷ events) c d h =
-    both c.stream_layer (cluster_after c event h.0).stream_layer d.stream_layer (comes_by c event h.0) (led_by events (cluster_after c event h.0) d h.1)
+pub led_by : (events : List Event) (c : Cluster) → ByMoves c.stream_layer (cluster_after_all c events).stream_layer
+led_by [] c = none c.stream_layer
+led_by (event ∷ events) c =
+    both c.stream_layer (cluster_after c event).stream_layer (cluster_after_all c (event ∷ events)).stream_layer (comes_by c event) (led_by events (cluster_after c event))
 
 pub moves_agree : (nodes target : ℕ) (w : StreamSystem) → ByMoves (start nodes target) w → Agree w.notes
 moves_agree nodes target w h = subst (λ (v : StreamSystem). Agree v.notes) h.is (agree_in_moves nodes target h.moves)

@@ -43,7 +43,7 @@ use Rattle.model_partition.specs.declared.waiting.WaitingTransaction.{WaitingTra
 use Rattle.model_partition.specs.Range.{OutGroup, RangeState, RangeOutcome, request, used, refuses, waiting_out, refused_users, dropped, given, picking, is_serving}
 use Rattle.model_partition.specs.Serving.{record_of, group_count, began, appends as appends_next, forms, transact_fault, lease_ended, transacts, transact_rule, dones, committed, out_size, after_these, applies, log_done}
 use Rattle.model_partition.specs.Loading.{Group, said_after, replayed, read_by, read_of, reads_log, first_position, reads_log_from, checks_log, begins_log, reads_metadata, begins_metadata, opens, says, metadata_news, replays, log_read, log_news, open_region, serves_from, serves, are_counted}
-use Rattle.model_partition.specs.Getting.{Lookup, Is, Needs, Tried, asks_place, answered, try, try_all, get_fault, gets, get_rule, bytes_rule, gives_up_read, gives_up_get, asks_again, moved_on, places_of, look, standing, without}
+use Rattle.model_partition.specs.Getting.{Lookup, Is, Needs, Tried, asks_place, answered, try, try_all, get_fault, gets, get_rule, bytes_rule, came, place_of, gives_up_read, gives_up_get, asks_again, moved_on, places_of, look, read_at, standing, without}
 use Rattle.model_partition.specs.Answering.{load_refused, load_told, load_reply, metadata_reply, serving_news, is_taken, log_taken, log_reply, bytes_reply, gets_reply, answer_rule, give_up_all, groups_of}
 use Rattle.model_partition.specs.Servers.{ArePlain, ShowsLoad}
 use Rattle.laws_servers.specs.Sending.{AllFromServers}
@@ -148,15 +148,15 @@ try_all_sends : (d : ServerContext) (r : RangeState) (gs : List WaitingGet) → 
 try_all_sends d r [] = tt
 try_all_sends d r (g ∷ gs) = all_both (try d r g).packets _ (try_sends d r g) (try_all_sends (record d { count = (try d r g).count }) r gs)
 
-gets_tidy : (d : ServerContext) (r : RangeState) (from : ActorId) (q : ReqNo) (key : List ℕ) (held : List (Place × List ℕ)) (fault : Option Refusal) → IsTidy (gets d r from q key held fault)
-gets_tidy d r from q key held (Some refusal) = (((d.server, refl, inr refl), tt), tt)
-gets_tidy d r from q key held None = (try_sends d r (record { from = from; request = q; key = key; reads = [] }), tt)
+gets_tidy : (d : ServerContext) (r : RangeState) (from : ActorId) (q : ReqNo) (key : List ℕ) (fault : Option Refusal) → IsTidy (gets d r from q key fault)
+gets_tidy d r from q key (Some refusal) = (((d.server, refl, inr refl), tt), tt)
+gets_tidy d r from q key None = (try_sends d r (record { from = from; request = q; key = key; reads = [] }), tt)
 
-pub get_tidy : (d : ServerContext) (r : RangeState) (from : ActorId) (q : ReqNo) (key : List ℕ) (held : List (Place × List ℕ)) → IsTidy (get_rule d r from q key held)
-get_tidy d r from q key held = gets_tidy d r from q key held (get_fault d r key)
+pub get_tidy : (d : ServerContext) (r : RangeState) (from : ActorId) (q : ReqNo) (key : List ℕ) → IsTidy (get_rule d r from q key)
+get_tidy d r from q key = gets_tidy d r from q key (get_fault d r key)
 
-bytes_tidy : (d : ServerContext) (r : RangeState) (w : ReqNo) (held : List (Place × List ℕ)) → IsTidy (bytes_rule d r w held)
-bytes_tidy d r w held = (try_all_sends d (record r { held = held }) (map (without w) r.gets), tt)
+bytes_tidy : (d : ServerContext) (r : RangeState) (w : ReqNo) (place : Place) (bytes : List ℕ) → IsTidy (bytes_rule d r w place bytes)
+bytes_tidy d r w place bytes = (try_all_sends d (record r { held = came r.held (read_at r.gets w) place bytes }) (map (without w) r.gets), tt)
 
 -- ---- the load
 
@@ -313,23 +313,24 @@ log_taken_tidy d r body =
 log_reply_tidy : (d : ServerContext) (r : RangeState) (body : Body) → IsTidy (log_reply d r body)
 log_reply_tidy d r body = if_elim IsTidy (is_taken r body) _ _ (λ t. log_taken_tidy d r body) (λ f. (tt, tt))
 
-bytes_reply_tidy : (d : ServerContext) (r : RangeState) (w : ReqNo) (body : ReadBody) (held : List (Place × List ℕ)) → IsTidy (bytes_reply d r w body held)
-bytes_reply_tidy d r w (reads.Bytes v e offset bytes) held = bytes_tidy d r w held
-bytes_reply_tidy d r w body held = (tt, tt)
+bytes_reply_tidy : (d : ServerContext) (r : RangeState) (w : ReqNo) (body : ReadBody) → IsTidy (bytes_reply d r w body)
+bytes_reply_tidy d r w (reads.Bytes v e offset bytes) = bytes_tidy d r w (place_of e offset bytes) bytes
+bytes_reply_tidy d r w body = (tt, tt)
 
-gets_reply_tidy : (d : ServerContext) (r : RangeState) (w : ReqNo) (body : Body) (held : List (Place × List ℕ)) → IsTidy (gets_reply d r w body held)
-gets_reply_tidy d r w (bodies.Read body) held = bytes_reply_tidy d r w body held
-gets_reply_tidy d r w body held = (tt, tt)
+gets_reply_tidy : (d : ServerContext) (r : RangeState) (w : ReqNo) (body : Body) → IsTidy (gets_reply d r w body)
+gets_reply_tidy d r w (bodies.Read body) = bytes_reply_tidy d r w body
+gets_reply_tidy d r w (bodies.Append body) = load_refused_tidy d r body
+gets_reply_tidy d r w body = (tt, tt)
 
-pub answer_shows : (d : ServerContext) (r : RangeState) (w : ReqNo) (body : Body) (held : List (Place × List ℕ)) → ShowsFrom (live_with r body) (answer_rule d r w body held)
-answer_shows d r w body held =
+pub answer_shows : (d : ServerContext) (r : RangeState) (w : ReqNo) (body : Body) → ShowsFrom (live_with r body) (answer_rule d r w body)
+answer_shows d r w body =
     if_elim (ShowsFrom (live_with r body)) (load_awaits r.load.phase w) _ _
     (λ t. load_reply_shows d r body)
     (λ f. if_elim (ShowsFrom (live_with r body)) (awaits r.metadata.job w) _ _
     (λ t. tidy_shows (live_with r body) (metadata_reply d r body) (metadata_reply_tidy d r body))
     (λ g. if_elim (ShowsFrom (live_with r body)) (awaits r.log.job w) _ _
     (λ t. tidy_shows (live_with r body) (log_reply d r body) (log_reply_tidy d r body))
-    (λ h. tidy_shows (live_with r body) (gets_reply d r w body held) (gets_reply_tidy d r w body held))))
+    (λ h. tidy_shows (live_with r body) (gets_reply d r w body) (gets_reply_tidy d r w body))))
 
 -- ---- giving up
 

@@ -21,8 +21,8 @@ use Rattle.model_streams.specs.Maps.{entry_at}
 use Rattle.model_partition.specs.declared.server_context.ServerContext.{ServerContext}
 use Rattle.model_partition.specs.Range.{RangeState}
 use Rattle.model_partition.specs.Answering.{answered_number, is_answerer, answer_rule, give_up_all}
-use Rattle.model_partition.specs.Server.{ServerState, ServerOutcome, range_of, awaiting, users_of, is_newer, assign_rule, renew_rule, told_by_map, map_rule, transacts_in, gets_in, table_rule, answer_in, answer_of, numbered_rule, taken_rule, has_numbers, server_rule, gives_up}
-use Rattle.model_partition.specs.Servers.{CacheContent, ArePlain, ShowsLoad, ServerCell, ServersOutcome, live_of, live_at, loads, cell_loads, server_loads, cell_takes, cell_given_up, cell_gives_up, cell_stops, cell_starts, at_server, server_takes, server_gives_up, server_stops, server_starts}
+use Rattle.model_partition.specs.Server.{ServerState, ServerOutcome, range_of, awaiting, users_of, is_newer, assign_rule, renew_rule, told_by_map, map_rule, transacts_in, gets_in, table_rule, answer_in, answer_of, numbered_rule, taken_rule, has_numbers, server_rule, gives_up, picked}
+use Rattle.model_partition.specs.Servers.{ArePlain, ShowsLoad, ServerCell, ServersOutcome, live_of, live_at, loads, cell_loads, server_loads, cell_takes, cell_given_up, cell_gives_up, cell_stops, cell_starts, at_server, server_takes, server_gives_up, server_stops, server_starts}
 use Rattle.laws_servers.specs.Sending.{MaySendAll, AllFromServers}
 use Rattle.laws_servers.proofs.ClientPackets.{all_both, may_send_all}
 use Rattle.laws_servers.proofs.RangeSteps.{ShowsFrom, live_with, refused_all, transact_tidy, get_tidy, answer_shows, give_up_tidy}
@@ -69,14 +69,14 @@ transacts_tidy : (s : ServerState) (p : Packet) (range : ℕ) (changes : List Ch
 transacts_tidy s p range changes q None = (((s.context.server, refl, inr refl), tt), tt)
 transacts_tidy s p range changes q (Some r) = transact_tidy s.context r p.from q changes
 
-gets_tidy : (s : ServerState) (p : Packet) (range : ℕ) (key : List ℕ) (q : ReqNo) (held : CacheContent) (known : Option RangeState) → AreTidy (gets_in s p range key q held known)
-gets_tidy s p range key q held None = (((s.context.server, refl, inr refl), tt), tt)
-gets_tidy s p range key q held (Some r) = get_tidy s.context r p.from q key held
+gets_tidy : (s : ServerState) (p : Packet) (range : ℕ) (key : List ℕ) (q : ReqNo) (known : Option RangeState) → AreTidy (gets_in s p range key q known)
+gets_tidy s p range key q None = (((s.context.server, refl, inr refl), tt), tt)
+gets_tidy s p range key q (Some r) = get_tidy s.context r p.from q key
 
-table_tidy : (s : ServerState) (p : Packet) (body : TableBody) (held : CacheContent) → AreTidy (table_rule s p body held)
-table_tidy s p (tables.Transact range changes q) held = transacts_tidy s p range changes q (range_of s.ranges range)
-table_tidy s p (tables.Get range key q) held = gets_tidy s p range key q held (range_of s.ranges range)
-table_tidy s p body held = (tt, tt)
+table_tidy : (s : ServerState) (p : Packet) (body : TableBody) → AreTidy (table_rule s p body)
+table_tidy s p (tables.Transact range changes q) = transacts_tidy s p range changes q (range_of s.ranges range)
+table_tidy s p (tables.Get range key q) = gets_tidy s p range key q (range_of s.ranges range)
+table_tidy s p body = (tt, tt)
 
 -- ---- answers
 
@@ -92,36 +92,36 @@ live_loads : (s : ServerState) (body : Body) (w : ReqNo) (range : ℕ) (r : Rang
 live_loads s (bodies.Stream body) w range r number waits known = live_is s body w range r number waits known
 live_loads s body w range r number waits known = refl
 
-answer_in_shows : (s : ServerState) (p : Packet) (w : ReqNo) (held : CacheContent) (range : ℕ) (known : Option RangeState) → answered_number p.body ≡ Some w → awaiting s.ranges w ≡ Some range →
-    range_of s.ranges range ≡ known → Shows (loads s p.body) (answer_in s p w held range known)
-answer_in_shows s p w held range None number waits known = (tt, inl tt)
-answer_in_shows s p w held range (Some r) number waits known =
-    subst (λ (loading : Option Entries). ShowsFrom loading (answer_rule s.context r w p.body held)) (live_loads s p.body w range r number waits known)
-    (answer_shows s.context r w p.body held)
+answer_in_shows : (s : ServerState) (p : Packet) (w : ReqNo) (range : ℕ) (known : Option RangeState) → answered_number p.body ≡ Some w → awaiting s.ranges w ≡ Some range →
+    range_of s.ranges range ≡ known → Shows (loads s p.body) (answer_in s p w range known)
+answer_in_shows s p w range None number waits known = (tt, inl tt)
+answer_in_shows s p w range (Some r) number waits known =
+    subst (λ (loading : Option Entries). ShowsFrom loading (answer_rule s.context r w p.body)) (live_loads s p.body w range r number waits known)
+    (answer_shows s.context r w p.body)
 
-answer_of_shows : (s : ServerState) (p : Packet) (w : ReqNo) (held : CacheContent) (range : Option ℕ) → answered_number p.body ≡ Some w → awaiting s.ranges w ≡ range →
-    Shows (loads s p.body) (answer_of s p w held range)
-answer_of_shows s p w held None number waits = (tt, inl tt)
-answer_of_shows s p w held (Some range) number waits = answer_in_shows s p w held range (range_of s.ranges range) number waits refl
+answer_of_shows : (s : ServerState) (p : Packet) (w : ReqNo) (range : Option ℕ) → answered_number p.body ≡ Some w → awaiting s.ranges w ≡ range →
+    Shows (loads s p.body) (answer_of s p w range)
+answer_of_shows s p w None number waits = (tt, inl tt)
+answer_of_shows s p w (Some range) number waits = answer_in_shows s p w range (range_of s.ranges range) number waits refl
 
-numbered_shows : (s : ServerState) (p : Packet) (held : CacheContent) (number : Option ReqNo) → answered_number p.body ≡ number → Shows (loads s p.body) (numbered_rule s p held number)
-numbered_shows s p held None is = (tt, inl tt)
-numbered_shows s p held (Some w) is =
+numbered_shows : (s : ServerState) (p : Packet) (number : Option ReqNo) → answered_number p.body ≡ number → Shows (loads s p.body) (numbered_rule s p number)
+numbered_shows s p None is = (tt, inl tt)
+numbered_shows s p (Some w) is =
     if_elim (Shows (loads s p.body)) (is_answerer p.from p.body) _ _
-    (λ t. answer_of_shows s p w held (awaiting s.ranges w) is refl)
+    (λ t. answer_of_shows s p w (awaiting s.ranges w) is refl)
     (λ f. (tt, inl tt))
 
-answered_shows : (s : ServerState) (p : Packet) (held : CacheContent) (body : Body) → p.body ≡ body → Shows (loads s body) (numbered_rule s p held (answered_number body))
-answered_shows s p held body is =
-    subst (λ (b : Body). Shows (loads s b) (numbered_rule s p held (answered_number b))) is (numbered_shows s p held (answered_number p.body) refl)
+answered_shows : (s : ServerState) (p : Packet) (body : Body) → p.body ≡ body → Shows (loads s body) (numbered_rule s p (answered_number body))
+answered_shows s p body is =
+    subst (λ (b : Body). Shows (loads s b) (numbered_rule s p (answered_number b))) is (numbered_shows s p (answered_number p.body) refl)
 
-taken_shows : (s : ServerState) (p : Packet) (body : Body) (held : CacheContent) → p.body ≡ body → Shows (loads s body) (taken_rule s p body held)
-taken_shows s p (bodies.Map body) held is = plainly None (map_rule s p.from body) (map_tidy s p.from body)
-taken_shows s p (bodies.Table body) held is = plainly None (table_rule s p body held) (table_tidy s p body held)
-taken_shows s p body held is = answered_shows s p held body is
+taken_shows : (s : ServerState) (p : Packet) (body : Body) → p.body ≡ body → Shows (loads s body) (taken_rule s p body)
+taken_shows s p (bodies.Map body) is = plainly None (map_rule s p.from body) (map_tidy s p.from body)
+taken_shows s p (bodies.Table body) is = plainly None (table_rule s p body) (table_tidy s p body)
+taken_shows s p body is = answered_shows s p body is
 
-pub server_shows : (s : ServerState) (p : Packet) (held : CacheContent) → Shows (loads s p.body) (server_rule s p p.body held)
-server_shows s p held = if_elim (Shows (loads s p.body)) (has_numbers s.context) _ _ (λ t. taken_shows s p p.body held refl) (λ f. (tt, inl tt))
+pub server_shows : (s : ServerState) (p : Packet) → Shows (loads s p.body) (server_rule s p p.body)
+server_shows s p = if_elim (Shows (loads s p.body)) (has_numbers s.context) _ _ (λ t. taken_shows s p p.body refl) (λ f. (tt, inl tt))
 
 -- ---- servers over their starts and stops
 
@@ -133,19 +133,19 @@ AllTidy o = MaySendAll o.packets × ArePlain o.notes
 abbrev pub AllShow : Option Entries → ServersOutcome → Type 0
 AllShow loading o = MaySendAll o.packets × ShowsLoad loading o.notes
 
-cell_shows : (cell : ServerCell) (p : Packet) (held : CacheContent) (state : Option ServerState) →
-    MaySendAll (cell_takes cell p held state).packets × ShowsLoad (cell_loads state p.body) (cell_takes cell p held state).notes
-cell_shows cell p held None = (tt, inl tt)
-cell_shows cell p held (Some s) = let h = server_shows s p held in (may_send_all (server_rule s p p.body held).packets h.0, h.1)
+cell_shows : (cell : ServerCell) (p : Packet) (state : Option ServerState) →
+    MaySendAll (cell_takes cell p state).packets × ShowsLoad (cell_loads state p.body) (cell_takes cell p state).notes
+cell_shows cell p None = (tt, inl tt)
+cell_shows cell p (Some s) = let h = server_shows s p in (may_send_all (server_rule s p p.body).packets h.0, h.1)
 
-takes_shows : (servers : List ServerCell) (n : ℕ) (p : Packet) (held : CacheContent) (cell : Option ServerCell) →
-    AllShow (server_loads cell p.body) (at_server servers n (λ x. cell_takes x p held x.state) cell)
-takes_shows servers n p held None = (tt, inl tt)
-takes_shows servers n p held (Some cell) = cell_shows cell p held cell.state
+takes_shows : (servers : List ServerCell) (n : ℕ) (p : Packet) (cell : Option ServerCell) →
+    AllShow (server_loads cell p.body) (at_server servers n (λ x. cell_takes x p x.state) cell)
+takes_shows servers n p None = (tt, inl tt)
+takes_shows servers n p (Some cell) = cell_shows cell p cell.state
 
-pub server_takes_shows : (servers : List ServerCell) (n : ℕ) (p : Packet) (held : CacheContent) →
-    AllShow (server_loads (entry_at servers n) p.body) (server_takes servers n p held)
-server_takes_shows servers n p held = takes_shows servers n p held (entry_at servers n)
+pub server_takes_shows : (servers : List ServerCell) (n : ℕ) (p : Packet) →
+    AllShow (server_loads (entry_at servers n) p.body) (server_takes servers n p)
+server_takes_shows servers n p = takes_shows servers n p (entry_at servers n)
 
 gives_up_tidy : (s : ServerState) (range : ℕ) (known : Option RangeState) (cell : ServerCell) →
     MaySendAll (cell_given_up cell (gives_up s range known)).packets × ArePlain (cell_given_up cell (gives_up s range known)).notes
@@ -157,7 +157,7 @@ gives_up_tidy s range (Some r) cell =
 cell_gives_up_tidy : (cell : ServerCell) (range : ℕ) (pick : Nodes) (state : Option ServerState) →
     MaySendAll (cell_gives_up cell range pick state).packets × ArePlain (cell_gives_up cell range pick state).notes
 cell_gives_up_tidy cell range pick None = (tt, tt)
-cell_gives_up_tidy cell range pick (Some s) = gives_up_tidy (record s { context = record s.context { pick = pick } }) range (range_of s.ranges range) cell
+cell_gives_up_tidy cell range pick (Some s) = gives_up_tidy (picked s pick) range (range_of s.ranges range) cell
 
 given_up_tidy : (servers : List ServerCell) (n range : ℕ) (pick : Nodes) (cell : Option ServerCell) →
     AllTidy (at_server servers n (λ x. cell_gives_up x range pick x.state) cell)

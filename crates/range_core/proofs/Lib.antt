@@ -1,4 +1,3 @@
 pub mod LogAnswers
 pub mod Counts
 pub mod GivingUp
-pub mod Cache

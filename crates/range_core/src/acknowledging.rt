@@ -157,7 +157,6 @@ impl RangeState {
         requires current { is_stale packet.now.body ≡ false }
         requires quiet { (is_some self.old.out && is_end_of self.old.log.job packet.now.body) ≡ false }
         ensures ok { IfOk result (λ t. log_taken context.now self.old packet.now.body ≡ outcome t self.new) }
-        ensures held { OnOk result (self.new.held ≡ self.old.held) }
         ensures err { OnErr result (self.new ≡ self.old) }
         ensures short { IfOk result IsShort }
     {
@@ -238,7 +237,6 @@ impl RangeState {
         requires appended { IsAppended self.old.log.job packet.now.body extent offset }
         requires stands { may_stand self.old self.old.out offset ≡ true }
         ensures ok { IfOk result (λ t. log_done context.now (taking context.now self.old packet.now.body) self.old.out extent offset ≡ outcome t self.new) }
-        ensures held { OnOk result (self.new.held ≡ self.old.held) }
         ensures err { OnErr result (self.new ≡ self.old) }
         ensures short { IfOk result IsShort }
     {
@@ -264,7 +262,6 @@ impl RangeState {
         requires taken { is_taken self.old packet.now.body ≡ true }
         requires awaited { IsAwaited self.old.log.job packet.now.body }
         ensures ok { IfOk result (λ t. log_taken context.now self.old packet.now.body ≡ outcome t self.new) }
-        ensures held { OnOk result (self.new.held ≡ self.old.held) }
         ensures err { OnErr result (self.new ≡ self.old) }
         ensures short { IfOk result IsShort }
     {

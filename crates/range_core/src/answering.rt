@@ -1,10 +1,9 @@
 //! Answers that a range waits for.
-ghost use Rattle.std.specs.Prelude.{◌≡◌, ◌<◌, ◌≤◌, ◌+◌, ◌^◌, [], Some, true, false, length, vec_len, vec_capacity, IfOk, OnOk, OnErr};
+ghost use Rattle.std.specs.Prelude.{◌≡◌, ◌<◌, ◌≤◌, ◌+◌, ◌^◌, [], Some, true, false, length, vec_len, vec_capacity, IfOk, OnErr};
 ghost use Rattle.model_partition.specs.Range.{is_serving, refused_users};
 ghost use Rattle.model_partition.specs.Answering.{answer_rule, answered_number, log_reply, range_awaits};
 ghost use Rattle.range_load.specs.Awaited.{is_awaited};
 ghost use Rattle.range_load.specs.Steps as steps;
-ghost use Rattle.range_core.specs.Cache.{HoldsOnly, Takes, is_for_gets};
 ghost use Rattle.range_core.specs.Replies.{IsAwaited};
 ghost use Rattle.range_core.specs.Steps.{outcome, IsShort};
 ghost use Rattle.range_core.specs.Waiters.{waiter_rule};
@@ -85,7 +84,6 @@ impl RangeState {
         requires packets { (prepared.packets.items ≡ []) × (vec_len prepared.packets < vec_capacity prepared.packets) }
         requires notes { (prepared.notes.items ≡ []) × (vec_len prepared.notes < vec_capacity prepared.notes) }
         ensures rule { steps.outcome context.now self.old progress ≡ outcome result self.new }
-        ensures held { self.new.held ≡ self.old.held }
         ensures short { IsShort result }
     {
         let Prepared {
@@ -137,7 +135,6 @@ impl RangeState {
         requires load { waiter ≡ waiters.Load → is_awaited self.old.load.phase packet.now.body ≡ true }
         requires loading { waiter ≡ waiters.Log → is_serving self.old.stage ≡ false }
         ensures ok { IfOk result (λ t. waiter_rule waiter context.now self.old packet.now.body ≡ outcome t self.new) }
-        ensures held { OnOk result (self.new.held ≡ self.old.held) }
         ensures err { OnErr result (self.new ≡ self.old) }
         ensures short { IfOk result IsShort }
     {
@@ -158,7 +155,6 @@ impl RangeState {
         requires numbers { context.now.count + 1024 < 2 ^ 64 }
         requires awaited { IsAwaited self.old.log.job packet.now.body }
         ensures ok { IfOk result (λ t. log_reply context.now self.old packet.now.body ≡ outcome t self.new) }
-        ensures held { OnOk result (self.new.held ≡ self.old.held) }
         ensures err { OnErr result (self.new ≡ self.old) }
         ensures short { IfOk result IsShort }
     {
@@ -182,9 +178,7 @@ impl RangeState {
     }
 
     /// The answer of this number, a packet: what the load, the metadata's client, the log's client or the Gets do with it, whichever waits
-    /// for it first. That it bears the number is the caller's condition. The cache of the Gets then holds nothing but what
-    /// it held and the bytes that the answer brings, and these where a read of the number asked for their very place. For want of
-    /// memory (22) nothing has changed.
+    /// for it first. That it bears the number is the caller's condition. For want of memory (22) nothing has changed.
     #[tactic(auto, using(crate::proofs::LogAnswers::awaited, crate::proofs::LogAnswers::load_awaited))]
     pub fn answer(
         &mut self,
@@ -195,9 +189,7 @@ impl RangeState {
     ) -> Result<RangeStep, AllocError>
         requires numbers { context.now.count + 1024 < 2 ^ 64 }
         requires answer { answered_number packet.now.body ≡ Some request.now }
-        ensures ok { IfOk result (λ t. answer_rule context.now self.old request.now packet.now.body self.new.held ≡ outcome t self.new) }
-        ensures held { OnOk result (HoldsOnly self.new.held self.old.held packet.now.body) }
-        ensures taken { OnOk result (is_for_gets self.old request.now ≡ true → Takes self.old self.new.held request.now packet.now.body) }
+        ensures ok { IfOk result (λ t. answer_rule context.now self.old request.now packet.now.body ≡ outcome t self.new) }
         ensures err { OnErr result (self.new ≡ self.old) }
         ensures short { IfOk result IsShort }
     {

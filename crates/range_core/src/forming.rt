@@ -106,7 +106,6 @@ impl RangeState {
         requires formed { IfSome next (λ x. is_formed self.old.next x.count ≡ true) }
         requires few { IfSome next (λ x. length x.notes.items ≤ 1024) }
         ensures rule { forms context.now self.old ≡ goes context.now self.new (option_to_list result.packet) result.notes.items }
-        ensures held { self.new.held ≡ self.old.held }
         ensures few { length result.notes.items ≤ 1024 }
     {
         match next {

@@ -1,9 +1,7 @@
 //! A Get comes, or the bytes of a value.
-ghost use Rattle.std.specs.Prelude.{◌≡◌, ◌<◌, ◌+◌, ◌^◌, ℕ, List, length, Contains, None, IfOk, OnOk, OnErr};
-ghost use Rattle.memtable.specs.declared.cell.Place.{Place as ValuePlace};
-ghost use Rattle.model_partition.specs.Getting.{get_fault, get_rule, held_at};
-ghost use Rattle.model_partition.specs.Answering.{gets_reply};
-ghost use Rattle.range_core.specs.Cache.{HoldsOnly, Takes};
+ghost use Rattle.std.specs.Prelude.{◌≡◌, ◌<◌, ◌+◌, ◌^◌, length, None, IfOk, OnErr};
+ghost use Rattle.model_partition.specs.Getting.{get_fault, get_rule};
+ghost use Rattle.model_partition.specs.Answering.{gets_reply, load_refused};
 ghost use Rattle.range_core.specs.Steps.{outcome, IsShort};
 
 use crate::range_step::RangeStep;
@@ -14,7 +12,7 @@ use memtable::MAX_KEY;
 use model_partition::ServerContext;
 use range_reads::{Asking, MAX_GETS};
 use std::alloc::{AllocError, Global};
-use wire::{ActorId, Body, ReadBody, Refusal, ReqNo};
+use wire::{ActorId, AppendBody, Body, ReadBody, Refusal, ReqNo};
 
 impl RangeState {
     /// Why a Get is refused: 38, 32, 36, 33 or 35, the first that is met.
@@ -42,8 +40,8 @@ impl RangeState {
 
     /// A Get of a user is answered from the memory table, or waits for the bytes of a value that stands elsewhere. It is refused
     /// 38 while the range is loaded, 32 once its lease has ended, 36 where the key has no byte or more than 256, 33 where it is
-    /// not of the range, and 35 where 256 wait, the first of these that is met; nothing changes then. Its cache holds what it held.
-    /// Where memory runs out (22) nothing has changed.
+    /// not of the range, and 35 where 256 wait, the first of these that is met; nothing changes then. A value that
+    /// it finds in the cache is then the one most recently used. Where memory runs out (22) nothing has changed.
     pub fn get(
         &mut self,
         alloc: Global,
@@ -53,9 +51,7 @@ impl RangeState {
         key: &Bytes,
     ) -> Result<RangeStep, AllocError>
         requires numbers { context.now.count + 1024 < 2 ^ 64 }
-        ensures ok { IfOk result (λ t. get_rule context.now self.old from request.now key.now self.new.held ≡ outcome t self.new) }
-        ensures held { OnOk result ((x : ValuePlace × List ℕ) → Contains self.new.held x → Contains self.old.held x) }
-        ensures same { OnOk result ((p : ValuePlace) → held_at self.new.held p ≡ held_at self.old.held p) }
+        ensures ok { IfOk result (λ t. get_rule context.now self.old from request.now key.now ≡ outcome t self.new) }
         ensures err { OnErr result (self.new ≡ self.old) }
         ensures short { IfOk result IsShort }
     {
@@ -78,8 +74,33 @@ impl RangeState {
         }
     }
 
-    /// The bytes of a value have come: each Get that waits is tried again. No other answer is for a Get.
-    #[tactic(auto, using(crate::proofs::Cache::kept))]
+    /// The read of a value is refused: the range is dropped where its generation is an old one (3), and those who wait are told
+    /// so (30). Nothing comes of another refusal. An error is out of memory (22).
+    fn read_refused(
+        &self,
+        alloc: Global,
+        context: &ServerContext,
+        body: &AppendBody,
+    ) -> Result<RangeStep, AllocError>
+        requires numbers { context.now.count + 1024 < 2 ^ 64 }
+        ensures ok { IfOk result (λ t. load_refused context.now self.now body.now ≡ outcome t self.now) }
+        ensures short { IfOk result IsShort }
+    {
+        match body {
+            AppendBody::Refused {
+                refusal: Refusal::Stale,
+                ..
+            } => {
+                let farewell = self.refusals(alloc, context)?;
+                Ok(RangeStep::drops(alloc, context.count + 1, farewell))
+            }
+            _ => Ok(RangeStep::sends(alloc, context.count, Vec::new(alloc))),
+        }
+    }
+
+    /// The bytes of a value have come: each Get that waits is tried again, and the bytes are held, the most recently used, where
+    /// they are what was asked for. Or the read of a value is refused. No other answer is for a Get. Where memory runs out (22)
+    /// nothing has changed.
     pub(crate) fn gets_reply(
         &mut self,
         alloc: Global,
@@ -88,9 +109,7 @@ impl RangeState {
         body: &Body,
     ) -> Result<RangeStep, AllocError>
         requires numbers { context.now.count + 1024 < 2 ^ 64 }
-        ensures ok { IfOk result (λ t. gets_reply context.now self.old request.now body.now self.new.held ≡ outcome t self.new) }
-        ensures held { OnOk result (HoldsOnly self.new.held self.old.held body.now) }
-        ensures taken { OnOk result (Takes self.old self.new.held request.now body.now) }
+        ensures ok { IfOk result (λ t. gets_reply context.now self.old request.now body.now ≡ outcome t self.new) }
         ensures err { OnErr result (self.new ≡ self.old) }
         ensures short { IfOk result IsShort }
     {
@@ -120,6 +139,7 @@ impl RangeState {
                     Err(full) => Err(full),
                 }
             }
+            Body::Append(refused) => self.read_refused(alloc, context, refused),
             _ => Ok(RangeStep::sends(alloc, context.count, Vec::new(alloc))),
         }
     }

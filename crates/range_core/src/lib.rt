@@ -2,7 +2,7 @@
 //! the Gets that it answers (after Calder et al., SOSP 2011, section 5).
 //!
 //! This crate touches memory only. Each step is a rule of the table of a server (model_partition/specs: Loading, Serving, Getting
-//! and Answering) on the range, exactly, but for what its cache holds: `assign`, `renew`, `load`, `transact`, `form`, `log_done`,
+//! and Answering) on the range, exactly, what its cache holds included: `assign`, `renew`, `load`, `transact`, `form`, `log_done`,
 //! `get` and `give_up`. `answer` goes to `load`, to `log_done` or to the Gets, whichever waits. A step that is refused for want
 //! of memory (22) leaves the range as it was, and that is the one error that no clause limits. The readers `phase`, `position`,
 //! `next_number`, `indexes` and `regions` take no memory.

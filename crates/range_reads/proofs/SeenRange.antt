@@ -1,15 +1,20 @@
 -- What Gets see is the range.
-use Rattle.std.proofs.Common.{◌≡◌, List, [], ◌++◌, map, Some, sym, ap, ◌∙◌}
+use Rattle.std.proofs.Common.{◌≡◌, Option, None, refl, ℕ, List, [], ◌++◌, map, Some, sym, ap, ◌∙◌}
 use Rattle.std.specs.Prelude.{option_to_list}
 use Rattle.wire.specs.declared.actor.ReqNo.{ReqNo}
 use Rattle.wire.specs.declared.packet.Packet.{Packet}
 use Rattle.model_partition.specs.declared.server_context.ServerContext.{ServerContext}
 use Rattle.model_partition.specs.declared.waiting.WaitingGet.{WaitingGet}
-use Rattle.model_partition.specs.Getting.{Tried, try, try_all, without, gets_after, bytes_rule}
-use Rattle.model_partition.specs.Range.{RangeState}
+use Rattle.model_partition.specs.Getting.{Tried, try, try_all, without, gets_after, standing, used}
+use Rattle.model_partition.specs.Range.{RangeState, RangeOutcome}
 use Rattle.range_reads.specs.declared.asking.Asking.{Asking}
 use Rattle.range_reads.specs.declared.trying.OneTry.{OneTry}
+use Rattle.range_reads.specs.Caching.{placed, used_at}
 use Rattle.range_reads.specs.ValueCache.{Values}
+use Rattle.memtable.specs.declared.cell.Cell.{Cell}
+use Rattle.memtable.specs.declared.cell.Cell.TheVariants.{Deleted, Inline, Placed}
+use Rattle.memtable.specs.Layers.{found_in, or_else, cell_at}
+use Rattle.memtable.specs.Entries.{found}
 use Rattle.range_reads.specs.Lookups.{LookupsState, Sees, IsOf, seen, tried_of}
 
 pub is_seen : (r : RangeState) (a : Asking) (held : Values) → Sees r a → seen a held r ≡ record r { held = held }
@@ -34,11 +39,23 @@ get_taken d r a s g one held gets packets sees own tried gets_are packets_are =
     ap (gets_after (record r { held = held }) r.gets) is
     ∙ (λ i. record { after = Some (record r { gets = all i; held = held }); count = one.count; packets = sym packets_are i; notes = [] })
 
+abbrev pub bytes_with : ServerContext → RangeState → ReqNo → Values → RangeOutcome
+bytes_with d r w held = gets_after (record r { held = held }) [] (try_all d (record r { held = held }) (map (without w) r.gets))
+
 pub bytes_taken : (d : ServerContext) (r : RangeState) (a : Asking) (s : LookupsState) (w : ReqNo) (gets : List WaitingGet) (held after : Values) (t : Tried) → Sees r a → IsOf r s → gets ≡ s.gets → after ≡ held
-    → try_all d (seen a held r) (map (without w) gets) ≡ t → bytes_rule d r w after ≡ record { after = Some (record r { gets = t.waiting; held = after }); count = t.count; packets = t.packets; notes = [] }
+    → try_all d (seen a held r) (map (without w) gets) ≡ t → bytes_with d r w after ≡ record { after = Some (record r { gets = t.waiting; held = after }); count = t.count; packets = t.packets; notes = [] }
 bytes_taken d r a s w gets held after t sees own gets_are after_is tried =
     let is : try_all d (record r { held = after }) (map (without w) r.gets) ≡ t =
     ap (λ (h : Values). try_all d (record r { held = h }) (map (without w) r.gets)) after_is
     ∙ ap (λ (x : RangeState). try_all d x (map (without w) r.gets)) (sym (is_seen r a held sees))
     ∙ ap (λ (l : List WaitingGet). try_all d (seen a held r) (map (without w) l)) (sym own.gets ∙ sym gets_are) ∙ tried in
     ap (gets_after (record r { held = after }) []) is
+
+pub stands : (r : RangeState) (a : Asking) (key : List ℕ) → Sees r a → cell_at a.table.now key ≡ standing r key
+stands r a key s = λ i. or_else (found (s.live i) key) (found_in (s.fixed i) key)
+
+pub is_used : (held : Values) (cell : Option Cell) → used_at held (placed cell) ≡ used held cell
+is_used held None = refl
+is_used held (Some Deleted) = refl
+is_used held (Some (Inline value)) = refl
+is_used held (Some (Placed place)) = refl

@@ -1,5 +1,5 @@
 -- What is held once a value has come.
-use Rattle.std.proofs.Common.{◌≡◌, ℕ, zero, suc, ◌-◌, ◌≤◌, Bool, true, false, List, [], ◌∷◌, length, take, Option, Some, None, Contains, ◌⊎◌, inl, inr, IfSome, refl, sym, ap, subst, ◌∙◌, arith}
+use Rattle.std.proofs.Common.{◌≡◌, ℕ, zero, suc, ◌-◌, ◌≤◌, Bool, true, false, List, [], ◌∷◌, length, take, Option, Some, None, refl, sym, ap, subst, ◌∙◌, arith}
 use Rattle.std.specs.Prelude.{◌==◌, ◌&&◌, is_some, slice_get, if◌then◌else◌}
 use Rattle.std.specs.Cmp.{IsEquivalence}
 use Rattle.std.specs.List.{AllByRecursion, IsDistinct}
@@ -8,24 +8,22 @@ use Rattle.std.specs.Option.{option_map_or}
 use Rattle.std.proofs.lemmas.Bool.{eqb-true, eqb-false, eq-eqb, ne_eqb, and_parts}
 use Rattle.std.proofs.lemmas.Map.{lookup-remove_entry}
 use Rattle.memtable.specs.declared.cell.Place.{Place}
-use Rattle.lru.specs.LruCache.{lru_cache, promoted, put_entries, last_entry}
-use Rattle.lru.proofs.CallerLemmas.{Contains-lookup_entry, Contains-put_entries, IsPut, lookup-put_entries}
-use Rattle.lru.proofs.Splits.{Contains-head, Contains-tail}
-use Rattle.model_partition.specs.Getting.{is_place, held_at}
+use Rattle.lru.specs.LruCache.{lru_cache, put_entries, last_entry}
+use Rattle.lru.proofs.CallerLemmas.{Contains-lookup_entry, lookup-put_entries}
+use Rattle.model_partition.specs.Getting.{is_place, held_at, came, most_held}
 use Rattle.range_reads.specs.declared.value_cache.Fresh.{Fresh}
-use Rattle.range_reads.specs.declared.value_cache.TheConstants.{MAX_HELD}
 use Rattle.range_reads.specs.ValueCache.{Values, with_fresh, is_of, goes_for}
 
 pub held_lookup : (held : Values) (place : Place) → lookup (is_place place) held ≡ held_at held place
 held_lookup [] place = refl
 held_lookup (x ∷ held) place = ap (λ (o : Option (List ℕ)). if is_place place x.0 then Some x.1 else o) (held_lookup held place)
 
-pub put_same : (before held : Values) (cap : ℕ) (key place : Place) (bytes : List ℕ) → before ≡ held → cap ≡ MAX_HELD → key ≡ place
-    → put_entries is_place (lru_cache before cap) key bytes ≡ put_entries is_place (lru_cache held MAX_HELD) place bytes
+pub put_same : (before held : Values) (cap : ℕ) (key place : Place) (bytes : List ℕ) → before ≡ held → cap ≡ most_held → key ≡ place
+    → put_entries is_place (lru_cache before cap) key bytes ≡ put_entries is_place (lru_cache held most_held) place bytes
 put_same before held cap key place bytes held_is cap_is key_is =
     ap (λ (es : Values). put_entries is_place (lru_cache es cap) key bytes) held_is
     ∙ ap (λ (n : ℕ). put_entries is_place (lru_cache held n) key bytes) cap_is
-    ∙ ap (λ (k : Place). put_entries is_place (lru_cache held MAX_HELD) k bytes) key_is
+    ∙ ap (λ (k : Place). put_entries is_place (lru_cache held most_held) k bytes) key_is
 
 -- ---- places
 
@@ -124,7 +122,7 @@ pub fresh_there : (held : Values) (fresh : Fresh) (place : Place) → is_place p
 fresh_there held fresh place is =
     let after : Values = with_fresh held (Some fresh) in
     ap (λ (p : Place). held_at (with_fresh held (Some fresh)) p) (place_same place fresh.place is)
-    ∙ sym (held_lookup (with_fresh held (Some fresh)) fresh.place) ∙ lookup-put_entries is_place (lru_cache held MAX_HELD) fresh.place fresh.bytes place_laws
+    ∙ sym (held_lookup (with_fresh held (Some fresh)) fresh.place) ∙ lookup-put_entries is_place (lru_cache held most_held) fresh.place fresh.bytes place_laws
 
 entry_value : (test : Place → Bool) (held : Values) (o : Option (Place × List ℕ)) → lookup_entry test held ≡ o → is_some (lookup test held) ≡ is_some o
 entry_value test [] o is = ap is_some is
@@ -138,7 +136,7 @@ abbrev left_of : Values → Place → Place → Option (List ℕ)
 left_of held fresh place = if goes_for held fresh place then None else held_at held place
 
 abbrev put_after : Values → Fresh → Option (Place × List ℕ) → Values
-put_after held fresh o = option_map_or (λ e. (e.0, fresh.bytes) ∷ remove_entry (is_place fresh.place) held) o ((fresh.place, fresh.bytes) ∷ take (MAX_HELD - 1) held)
+put_after held fresh o = option_map_or (λ e. (e.0, fresh.bytes) ∷ remove_entry (is_place fresh.place) held) o ((fresh.place, fresh.bytes) ∷ take (most_held - 1) held)
 
 other_way : (a b : Place) → is_place a b ≡ false → is_place b a ≡ false
 other_way a b is = sym (place_laws.symm a b) ∙ is
@@ -147,7 +145,7 @@ one_key : (k : Place) (x y : Place) → is_place k x ≡ true → is_place k y �
 one_key k x y is = ap (λ (p : Place). is_place p y) (place_same k x is)
 
 stays : (held : Values) (fresh : Fresh) (place : Place) (o : Option (Place × List ℕ)) → lookup_entry (is_place fresh.place) held ≡ o → is_place place fresh.place ≡ false
-    → IsDistinct is_place (keys_of held) → length held ≤ MAX_HELD → held_at (put_after held fresh o) place ≡ left_of held fresh.place place
+    → IsDistinct is_place (keys_of held) → length held ≤ most_held → held_at (put_after held fresh o) place ≡ left_of held fresh.place place
 stays held fresh place (Some e) found other apart le =
     let key : fresh.place ≡ e.0 = place_same fresh.place e.0 (Contains-lookup_entry (is_place fresh.place) held e found).1 in
     let first : is_place place e.0 ≡ false = subst (λ (k : Place). is_place place k ≡ false) key other in
@@ -156,67 +154,27 @@ stays held fresh place (Some e) found other apart le =
     sym (held_lookup (remove_entry (is_place fresh.place) held) place)
     ∙ lookup-remove_entry place_laws (is_place fresh.place) (one_key fresh.place) place held apart
     ∙ rw (other_way place fresh.place other) (held_lookup held place) in
-    rw (first, there) (left ∙ not_full (length held == MAX_HELD) (is_of place (last_entry held)) (held_at held place))
+    rw (first, there) (left ∙ not_full (length held == most_held) (is_of place (last_entry held)) (held_at held place))
 stays held fresh place None found other apart le =
     let absent : is_some (held_at held fresh.place) ≡ false = ap is_some (sym (held_lookup held fresh.place)) ∙ entry_value (is_place fresh.place) held None found in
-    rw (other, absent) (cut (MAX_HELD - 1) held place apart le)
+    rw (other, absent) (cut (most_held - 1) held place apart le)
 
-pub with_other : (held : Values) (fresh : Fresh) (place : Place) → is_place place fresh.place ≡ false → IsDistinct is_place (keys_of held) → length held ≤ MAX_HELD
+pub with_other : (held : Values) (fresh : Fresh) (place : Place) → is_place place fresh.place ≡ false → IsDistinct is_place (keys_of held) → length held ≤ most_held
     → held_at (with_fresh held (Some fresh)) place ≡ left_of held fresh.place place
 with_other held fresh place other apart le = stays held fresh place (lookup_entry (is_place fresh.place) held) refl other apart le
 
--- ---- what is held was there, or has come
+-- ---- what is held after bytes have come
 
-put_or_same : (held : Values) (place : Place) (bytes : List ℕ) (x : Place × List ℕ) → IsPut is_place (lru_cache held MAX_HELD) place bytes x → (place, bytes) ≡ x
-put_or_same held place bytes x (value, inl key) = sym (λ i. (key i, value i))
-put_or_same held place bytes x (value, inr there) =
-    let key : place ≡ x.0 = place_same place x.0 there.2 in
-    λ i. (key i, sym value i)
-
-from_either : (held : Values) (place : Place) (bytes : List ℕ) (x : Place × List ℕ) → Contains held x ⊎ IsPut is_place (lru_cache held MAX_HELD) place bytes x → Contains ((place, bytes) ∷ held) x
-from_either held place bytes x (inl old) = Contains-tail (place, bytes) held x old
-from_either held place bytes x (inr put) = subst (Contains ((place, bytes) ∷ held)) (put_or_same held place bytes x put) (Contains-head (place, bytes) held)
-
-pub from_these : (held : Values) (fresh : Option Fresh) (place : Place) (bytes : List ℕ) (x : Place × List ℕ) → IfSome fresh (λ came. came ≡ record { place = place; bytes = bytes })
-    → Contains (with_fresh held fresh) x → Contains ((place, bytes) ∷ held) x
-from_these held None place bytes x is there = Contains-tail (place, bytes) held x there
-from_these held (Some came) place bytes x is there =
-    from_either held place bytes x (Contains-put_entries is_place (lru_cache held MAX_HELD) place bytes x (subst (λ (f : Fresh). Contains (with_fresh held (Some f)) x) is there))
-
-pub is_held : (held : Values) (fresh : Option Fresh) (place : Place) (bytes : List ℕ) → fresh ≡ Some (record { place = place; bytes = bytes }) → held_at (with_fresh held fresh) place ≡ Some bytes
-is_held held fresh place bytes is =
-    ap (λ (f : Option Fresh). held_at (with_fresh held f) place) is ∙ fresh_there held (record { place = place; bytes = bytes }) place (place_itself place)
-
--- ---- a value that is used
-
-entry_at : (test : Place → Bool) (held : Values) (e : Place × List ℕ) → lookup_entry test held ≡ Some e → lookup test held ≡ Some e.1
-entry_at test [] e is = cc
-entry_at test (x ∷ held) e is =
-    elim (test x.0) as (λ b. test x.0 ≡ b → lookup test (x ∷ held) ≡ Some e.1) [
-      | true ↦ λ here.
-          let found = rw here at is in
-          let same : x ≡ e = cc in
-          rw here (ap (λ (y : Place × List ℕ). Some y.1) same)
-      | false ↦ λ there. rw there (entry_at test held e (rw there at is))
+-- what was asked for is held, and nothing else
+pub exactly : (held : Values) (fresh : Option Fresh) (asked : Option Place) (place : Place) (bytes : List ℕ)
+    → (asked ≡ Some place → fresh ≡ Some (record { place = place; bytes = bytes })) → ((asked ≡ Some place → ⊥) → fresh ≡ None)
+    → with_fresh held fresh ≡ came held asked place bytes
+exactly held fresh None place bytes there other = ap (with_fresh held) (other (λ e. cc))
+exactly held fresh (Some asked) place bytes there other =
+    elim (is_place place asked) as (λ b. is_place place asked ≡ b → with_fresh held fresh ≡ came held (Some asked) place bytes) [
+      | true ↦ λ is. rw is (ap (with_fresh held) (there (ap Some (sym (place_same place asked is)))))
+      | false ↦ λ is. rw is (ap (with_fresh held) (other (λ e.
+          let same : asked ≡ place = cc in
+          let yes : is_place place asked ≡ true = subst (λ (p : Place). is_place place p ≡ true) (sym same) (place_itself place) in
+          cc)))
     ] refl
-
-abbrev to_front : Values → Place → Option (Place × List ℕ) → Values
-to_front held place o = option_map_or (λ e. e ∷ remove_entry (is_place place) held) o held
-
-front_same : (held : Values) (place p : Place) (o : Option (Place × List ℕ)) → lookup_entry (is_place place) held ≡ o → IsDistinct is_place (keys_of held) → held_at (to_front held place o) p ≡ held_at held p
-front_same held place p None found apart = refl
-front_same held place p (Some e) found apart =
-    let key : place ≡ e.0 = place_same place e.0 (Contains-lookup_entry (is_place place) held e found).1 in
-    elim (is_place p e.0) as (λ b. is_place p e.0 ≡ b → held_at (e ∷ remove_entry (is_place place) held) p ≡ held_at held p) [
-      | true ↦ λ is.
-          let same : place ≡ p = key ∙ sym (place_same p e.0 is) in
-          rw is (sym (sym (held_lookup held p) ∙ ap (λ (q : Place). lookup (is_place q) held) (sym same) ∙ entry_at (is_place place) held e found))
-      | false ↦ λ other.
-          let apart_from : is_place place p ≡ false = subst (λ (q : Place). is_place q p ≡ false) (sym key) (other_way p e.0 other) in
-          rw other (sym (held_lookup (remove_entry (is_place place) held) p)
-          ∙ lookup-remove_entry place_laws (is_place place) (one_key place) p held apart
-          ∙ rw apart_from (held_lookup held p))
-    ] refl
-
-pub promoted_same : (held : Values) (place p : Place) → IsDistinct is_place (keys_of held) → held_at (promoted (is_place place) held) p ≡ held_at held p
-promoted_same held place p apart = front_same held place p (lookup_entry (is_place place) held) refl apart

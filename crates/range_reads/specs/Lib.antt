@@ -2,3 +2,4 @@ pub mod ValueCache
 pub mod Looking
 pub mod Moving
 pub mod Lookups
+pub mod Caching

@@ -1,6 +1,5 @@
 -- The Gets of a range, and what they see of it.
-use Rattle.std.specs.Prelude.{ℕ, ◌≡◌, List, length, option_to_list}
-use Rattle.memtable.specs.declared.cell.Place.{Place}
+use Rattle.std.specs.Prelude.{◌≡◌, List, option_to_list}
 use Rattle.model_partition.specs.declared.waiting.WaitingGet.{WaitingGet}
 use Rattle.model_partition.specs.Getting.{Tried}
 use Rattle.model_partition.specs.Range.{RangeState}
@@ -42,7 +41,3 @@ seen a held r =
 
 abbrev pub tried_of : OneTry → Tried
 tried_of one = record { waiting = option_to_list one.waiting; count = one.count; packets = option_to_list one.packet }
-
--- where bytes stand that begin at an offset of an extent
-abbrev pub place_of : ℕ → ℕ → List ℕ → Place
-place_of extent offset bytes = record { extent = extent; offset = offset; length = length bytes }

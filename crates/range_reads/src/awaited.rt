@@ -1,10 +1,9 @@
 //! Which reads the Gets wait for, and what those who wait are told.
-ghost use Rattle.std.specs.Prelude.{◌≡◌, None, Some, map, IfOk, IfSome};
+ghost use Rattle.std.specs.Prelude.{◌≡◌, None, Some, map, IfOk};
 ghost use Rattle.std.specs.List.{list_any};
 ghost use Rattle.client.specs.Requests.{is_same as are_same};
-ghost use Rattle.range_reads.specs.Lookups.{place_of};
 ghost use Rattle.model_partition.specs.Answering.{get_awaits};
-ghost use Rattle.model_partition.specs.Getting.{read_at, read_in as place_in};
+ghost use Rattle.model_partition.specs.Getting.{place_of, read_at, read_in as place_in};
 ghost use Rattle.model_partition.specs.Range.{refuses as refuses_of};
 ghost use Rattle.wire.specs.declared.refusal.Refusal.TheVariants as refusals;
 
@@ -50,7 +49,6 @@ pub(crate) fn fresh_of(
 ) -> Result<Option<Fresh>, AllocError>
     ensures there { IfOk result (λ fresh. read_at gets.now number.now ≡ Some (place_of extent offset bytes.now)
         → fresh ≡ Some (record { place = place_of extent offset bytes.now; bytes = bytes.now })) }
-    ensures some { IfOk result (λ fresh. IfSome fresh (λ came. came ≡ record { place = place_of extent offset bytes.now; bytes = bytes.now })) }
     ensures other { IfOk result (λ fresh. (read_at gets.now number.now ≡ Some (place_of extent offset bytes.now) → ⊥) → fresh ≡ None) }
 {
     match place_asked(gets, number) {

@@ -3,10 +3,11 @@
 //! The values that were read are held, `MAX_HELD` at most, and the one least recently used goes for a new one. This crate touches
 //! memory alone, and answers what is to be sent; it sends nothing.
 //! What the layers above may build on, each a clause here:
-//! - `get` answers a Get at once, or keeps it and asks for the value that it needs.
+//! - `get` answers a Get at once, or keeps it and asks for the value that it needs. A value that it finds is then the one most
+//!   recently used.
 //! - `bytes` takes what was read, tries each Get again, and holds the bytes only where a read that waits asked for just these.
 //! - `give_up` sends the last read of each Get to the next place.
-//! - No value is held but what stood in such an answer (`held` of `get` and `bytes`).
+//! - What is held after each, and in which order, is a function of what was held and of what came (`ok` of `get` and `bytes`).
 //!
 //! Running out of memory is the one error that no clause limits.
 #![tactic(auto)]

@@ -1,11 +1,11 @@
 //! The Gets that wait, and the values that are held for them.
-ghost use Rattle.std.specs.Prelude.{◌≡◌, ◌+◌, ◌<◌, ◌≤◌, ◌^◌, ℕ, List, [], None, Some, Contains, length, map, flat_map, option_to_list, IfOk, OnErr, OnOk};
+ghost use Rattle.std.specs.Prelude.{◌≡◌, ◌+◌, ◌<◌, ◌≤◌, ◌^◌, [], None, Some, length, map, flat_map, option_copied, option_to_list, IfOk, OnErr, OnOk};
 ghost use Rattle.std.specs.List.{list_any};
-ghost use Rattle.memtable.specs.declared.cell.Place.{Place as ValuePlace};
+ghost use Rattle.range_reads.specs.Caching.{placed, used_at};
 ghost use Rattle.range_reads.specs.ValueCache.{with_fresh};
-ghost use Rattle.range_reads.specs.Lookups.{place_of, Sees, IsOf};
+ghost use Rattle.range_reads.specs.Lookups.{Sees, IsOf};
 ghost use Rattle.model_partition.specs.Answering.{get_awaits};
-ghost use Rattle.model_partition.specs.Getting.{bytes_rule, gets as gets_of, gives_up_get, held_at, read_at, MayHold};
+ghost use Rattle.model_partition.specs.Getting.{bytes_rule, gets as gets_of, gives_up_get, place_of};
 ghost use Rattle.model_partition.specs.Range.{RangeState, refuses as refuses_of};
 ghost use Rattle.wire.specs.declared.refusal.Refusal.TheVariants as refusals;
 
@@ -57,7 +57,9 @@ impl Model for Lookups {
     ghost invariant = { λ l. length l.gets.items ≤ 256 };
 }
 
-fn place_in_cell(cell: Option<&Cell>) -> Option<Place> {
+fn place_in_cell(cell: Option<&Cell>) -> Option<Place>
+    ensures { result ≡ placed (option_copied cell.entry) }
+{
     match cell {
         Some(Cell::Placed(place)) => Some(*place),
         _ => None,
@@ -73,8 +75,7 @@ fn packets_of(alloc: Global, packet: Option<Packet>) -> Result<Vec<Packet>, Allo
 }
 
 fn promote_some(held: &mut ValueCache, place: &Option<Place>)
-    ensures held { (x : ValuePlace × List ℕ) → Contains held.new x → Contains held.old x }
-    ensures same { (p : ValuePlace) → held_at held.new p ≡ held_at held.old p }
+    ensures { held.new ≡ used_at held.old place.now }
 {
     if let Some(place) = place {
         held.promote(place);
@@ -132,10 +133,8 @@ impl Lookups {
         requires room { length self.old.gets < 256 }
         requires numbers { asking.now.context.now.count + 1024 < 2 ^ 64 }
         ensures ok { IfOk result (λ tried. (r : RangeState) → Sees r asking.now → IsOf r self.old
-            → gets_of asking.now.context.now r from number key self.new.held None
+            → gets_of asking.now.context.now r from number key None
             ≡ record { after = Some (record r { gets = self.new.gets; held = self.new.held }); count = tried.count; packets = tried.packets.items; notes = [] }) }
-        ensures held { OnOk result ((x : ValuePlace × List ℕ) → Contains self.new.held x → Contains self.old.held x) }
-        ensures same { OnOk result ((p : ValuePlace) → held_at self.new.held p ≡ held_at self.old.held p) }
         ensures bound { IfOk result (λ tried. length tried.packets.items ≤ 256) }
         ensures err { OnErr result (self.new ≡ self.old) }
     {
@@ -173,13 +172,8 @@ impl Lookups {
     ) -> Result<Tried, AllocError>
         requires { asking.now.context.now.count + 1024 < 2 ^ 64 }
         ensures ok { IfOk result (λ tried. (r : RangeState) → Sees r asking.now → IsOf r self.old
-            → bytes_rule asking.now.context.now r number.now self.new.held
+            → bytes_rule asking.now.context.now r number.now (place_of extent offset bytes.now) bytes.now
             ≡ record { after = Some (record r { gets = self.new.gets; held = self.new.held }); count = tried.count; packets = tried.packets.items; notes = [] }) }
-        ensures held { OnOk result (MayHold self.new.held self.old.held (place_of extent offset bytes.now) bytes.now) }
-        ensures taken { OnOk result (read_at self.old.gets number.now ≡ Some (place_of extent offset bytes.now)
-            → held_at self.new.held (place_of extent offset bytes.now) ≡ Some bytes.now) }
-        ensures other { OnOk result ((read_at self.old.gets number.now ≡ Some (place_of extent offset bytes.now) → ⊥)
-            → self.new.held ≡ self.old.held) }
         ensures bound { IfOk result (λ tried. length tried.packets.items ≤ 256) }
         ensures err { OnErr result (self.new ≡ self.old) }
     {

@@ -2,10 +2,9 @@
 ghost use Rattle.std.specs.Prelude.{◌≡◌, ◌≤◌, [], Some, length, option_copied, IfOk, OnOk, OnErr};
 ghost use Rattle.std.specs.List.{IsDistinct};
 ghost use Rattle.std.specs.Map.{keys_of};
-ghost use Rattle.memtable.specs.declared.cell.Place.{Place as ValuePlace};
 ghost use Rattle.range_reads.specs.ValueCache.{goes_for, with_fresh};
 ghost use Rattle.lru.specs.LruCache.{promoted};
-ghost use Rattle.model_partition.specs.Getting.{held_at, is_place};
+ghost use Rattle.model_partition.specs.Getting.{held_at, is_place, most_held};
 
 use bytes::Bytes;
 use lru::LruCache;
@@ -67,13 +66,13 @@ pub(crate) struct ValueCache {
 impl Model for ValueCache {
     ghost use Rattle.std.specs.Prelude.{◌≡◌};
     ghost use Rattle.range_reads.specs.ValueCache.{Values};
-    ghost use Rattle.range_reads.specs.declared.value_cache.TheConstants.{MAX_HELD};
+    ghost use Rattle.model_partition.specs.Getting.{most_held};
 
     ghost Value = { Values };
 
     ghost view = { λ h. h.cache.entries };
 
-    ghost invariant = { λ h. h.cache.cap ≡ MAX_HELD };
+    ghost invariant = { λ h. h.cache.cap ≡ most_held };
 }
 
 impl ValueCache {
@@ -96,7 +95,7 @@ impl ValueCache {
     fn goes_for(&self, fresh: &Place, place: &Place) -> bool
         ensures value { result ≡ goes_for self.now fresh.now place.now }
         ensures distinct { IsDistinct is_place (keys_of self.now) }
-        ensures bound { length self.now ≤ MAX_HELD }
+        ensures bound { length self.now ≤ most_held }
     {
         if self.cache.len() != MAX_HELD || self.value(fresh).is_some() {
             return false;
@@ -149,11 +148,8 @@ impl ValueCache {
 
     /// The value at a place becomes the most recently used, if it is held.
     pub(crate) fn promote(&mut self, place: &Place)
-        ensures order { self.new ≡ promoted (is_place place.now) self.old }
-        ensures same { (p : ValuePlace) → held_at self.new p ≡ held_at self.old p }
+        ensures { self.new ≡ promoted (is_place place.now) self.old }
     {
-        // For the proof: `len` says that no place is held twice.
-        let _count = self.cache.len();
         // Whether it is held is of no use here.
         let _held = self.cache.promote(&key_of(place));
     }

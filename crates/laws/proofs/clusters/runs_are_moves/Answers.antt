@@ -1,4 +1,4 @@
-use Rattle.model_partition.specs.Cluster.{first_cluster}
+use Rattle.model_partition.specs.Cluster.{cluster_after_all, first_cluster}
 use Rattle.laws_servers.proofs.EventsAsMoves.{comes_by, led_by, moves_agree, moves_keep}
 use Rattle.laws.proofs.clusters.runs_are_moves.Goals as goal
 
@@ -6,7 +6,7 @@ pub returns-clause-event : goal.returns-clause-event
 returns-clause-event c = comes_by
 
 pub returns-clause-agree : goal.returns-clause-agree
-returns-clause-agree c = λ nodes servers target batch events d led. moves_agree nodes target d.stream_layer (led_by events (first_cluster nodes servers target batch) d led)
+returns-clause-agree c = λ nodes servers target batch events. moves_agree nodes target (cluster_after_all (first_cluster nodes servers target batch) events).stream_layer (led_by events (first_cluster nodes servers target batch))
 
 pub returns-clause-kept : goal.returns-clause-kept
-returns-clause-kept c = λ nodes servers target batch events d led. moves_keep nodes target d.stream_layer (led_by events (first_cluster nodes servers target batch) d led)
+returns-clause-kept c = λ nodes servers target batch events. moves_keep nodes target (cluster_after_all (first_cluster nodes servers target batch) events).stream_layer (led_by events (first_cluster nodes servers target batch))

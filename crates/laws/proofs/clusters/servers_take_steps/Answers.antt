@@ -2,10 +2,10 @@ use Rattle.laws_servers.proofs.ServerSteps.{server_takes_shows, server_gives_up_
 use Rattle.laws.proofs.clusters.servers_take_steps.Goals as goal
 
 pub returns-clause-sent : goal.returns-clause-sent
-returns-clause-sent c = λ servers s p held. (server_takes_shows servers s p held).0
+returns-clause-sent c = λ servers s p. (server_takes_shows servers s p).0
 
 pub returns-clause-shown : goal.returns-clause-shown
-returns-clause-shown c = λ servers s p held. (server_takes_shows servers s p held).1
+returns-clause-shown c = λ servers s p. (server_takes_shows servers s p).1
 
 pub returns-clause-sent_again : goal.returns-clause-sent_again
 returns-clause-sent_again c = λ servers s range pick. (server_gives_up_tidy servers s range pick).0
