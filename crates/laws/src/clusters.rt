@@ -3,11 +3,10 @@
 ghost use Rattle.std.specs.Prelude.{ℕ, List};
 ghost use Rattle.block_types.specs.declared.record.Nodes.{Nodes};
 ghost use Rattle.wire.specs.declared.packet.Packet.{Packet};
-ghost use Rattle.model_streams.specs.Honest.{Agree, Kept};
 ghost use Rattle.model_streams.specs.Maps.{entry_at};
 ghost use Rattle.model_streams.specs.StreamSystem.{start};
 ghost use Rattle.model_streams.specs.declared.event.Event.{Event};
-ghost use Rattle.model_partition.specs.Past.{Replays};
+ghost use Rattle.model_partition.specs.Honest.{Honest};
 ghost use Rattle.model_partition.specs.Servers.{ArePlain, ServerCell, ShowsLoad, server_gives_up, server_loads, server_takes};
 ghost use Rattle.model_partition.specs.Cluster.{Cluster, first_cluster, cluster_after, cluster_after_all};
 ghost use Rattle.laws_clusters.specs.Orders.{ComesOfStreams};
@@ -23,22 +22,18 @@ pub fn servers_take_steps()
     ensures shown_again { (servers : List ServerCell) (s range : ℕ) (pick : Nodes) → ArePlain (server_gives_up servers s range pick).notes }
 {}
 
-/// Whatever servers and the map do, each event is some moves of the stream layer. So in every run with servers all that is
-/// shown of an extent agrees, and what is acknowledged is kept where it was acknowledged.
+/// Whatever servers and the map do, each event is some moves of the stream layer.
 pub fn runs_are_moves()
-    ensures event { (c : Cluster) (event : Event) → ByMoves c.stream_layer (cluster_after c event).stream_layer }
-    ensures agree { (nodes servers target batch : ℕ) (events : List Event) →
-        Agree (cluster_after_all (first_cluster nodes servers target batch) events).stream_layer.notes }
-    ensures kept { (nodes servers target batch : ℕ) (events : List Event) →
-        Kept (cluster_after_all (first_cluster nodes servers target batch) events).stream_layer.notes }
+    ensures { (c : Cluster) (event : Event) → ByMoves c.stream_layer (cluster_after c event).stream_layer }
 {}
 
-/// Whatever is asked, delivered, lost or repeated, whoever stops, comes back or gives up, and whoever is assigned the range: each
+/// Whatever is asked, delivered, lost or repeated, whoever stops, comes back or gives up, and whoever is assigned the range: what is
+/// observed is honest. All that is shown of an extent agrees, what is acknowledged is kept where it was acknowledged, and each
 /// table that is shown is that of a line of transactions that has every one that was acknowledged under a lower generation, in
-/// order, each once; and it comes of streams that keep their order.
-pub fn runs_replay()
-    ensures replays { (nodes servers target batch : ℕ) (events : List Event) →
-        Replays (cluster_after_all (first_cluster nodes servers target batch) events).stream_layer.notes }
+/// order, each once. What is shown of tables comes of streams that keep their order.
+pub fn runs_are_honest()
+    ensures honest { (nodes servers target batch : ℕ) (events : List Event) →
+        Honest (cluster_after_all (first_cluster nodes servers target batch) events).stream_layer.notes }
     ensures ordered { (nodes servers target batch : ℕ) (events : List Event) →
         ComesOfStreams (cluster_after_all (first_cluster nodes servers target batch) events).stream_layer.notes }
 {}

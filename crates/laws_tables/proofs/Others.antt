@@ -233,7 +233,7 @@ with_others h p = record {
   number = λ r g rows next c. p.number r g rows next (contains_there (Loaded r g rows next) h refl c);
   in_order = λ r g r' g' rows rows' next next' c c' lt k.
       p.in_order r g r' g' rows rows' next next' (contains_there (Loaded r g rows next) h refl c) (contains_there (Loaded r' g' rows' next') h refl c') lt
-      (subst (λ z. Contains z r) (kin_same h r') k);
+      (⊎_elim {C = Contains (kin (table_notes h) r') r ⊎ Contains (kin (table_notes h) r) r'} (λ up. inl (subst (λ z. Contains z r) (kin_same h r') up)) (λ down. inr (subst (λ z. Contains z r') (kin_same h r) down)) k);
   once = λ before after r g rows rows' next next' e c.
       p.once (table_notes before) (table_notes after) r g rows rows' next next' (apart h before after (Loaded r g rows next) refl e)
       (contains_there (Loaded r g rows' next') after refl c);

@@ -21,3 +21,4 @@ pub mod TableContents
 pub mod StreamActions
 pub mod ServerRun
 pub mod ServedTables
+pub mod Honest

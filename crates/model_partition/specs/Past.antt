@@ -157,7 +157,8 @@ Begins a (From_pair c p d q line) =
 -- ---- what is owed to those who see the observations
 
 -- A loaded table is that of a complete past of its range and generation, and its next number the one after that past's line.
--- The pasts of a family begin one another in order of their generations, and nothing is loaded twice under one.
+-- Of two loads of one range, or of a range and an ancestor, the past of the lower generation begins that of the higher, and
+-- nothing is loaded twice under one.
 pub record Replays (h : List Note) : Type 0 where
   -- the past of each range and generation that was loaded
   pub past : ℕ → ℕ → Past
@@ -169,7 +170,7 @@ pub record Replays (h : List Note) : Type 0 where
   pub number : (r g : ℕ) (rows : List Row) (next : ℕ) → Contains h (Loaded r g rows next) → next ≡ suc (length (line_of (past r g)))
   pub in_order : (r g r' g' : ℕ) (rows rows' : List Row) (next next' : ℕ) →
       Contains h (Loaded r g rows next) → Contains h (Loaded r' g' rows' next') →
-      g < g' → Contains (kin h r') r → Begins (past r g) (past r' g')
+      g < g' → Contains (kin h r') r ⊎ Contains (kin h r) r' → Begins (past r g) (past r' g')
   pub once : (before after : List Note) (r g : ℕ) (rows rows' : List Row) (next next' : ℕ) →
       h ≡ before ++ Loaded r g rows next ∷ after → Contains after (Loaded r g rows' next') → ⊥
 
