@@ -1,5 +1,5 @@
 -- What a search among ends that rise comes to, and how many of them it reads.
-use Rattle.std.proofs.Common.{◌≡◌, ℕ, ◌==◌, zero, suc, ◌+◌, ◌-◌, ◌/◌, ◌^◌, pow-suc, ◌<◌, ◌≤◌, true, false, nat_le, List, [], ◌∷◌, length, get_or, take, refl, sym, ap, ◌∙◌, inl, inr, arith, if◌then◌else◌}
+use Rattle.std.proofs.Common.{◌≡◌, ℕ, ◌==◌, zero, suc, ◌+◌, ◌/◌, ◌^◌, pow-suc, ◌<◌, ◌≤◌, true, false, nat_le, List, [], ◌∷◌, length, get_or, take, refl, sym, ap, ◌∙◌, inl, inr, arith}
 use Rattle.std.proofs.lemmas.Bool.{cases_lt}
 use Rattle.std.proofs.lemmas.Bool.Decides.{nat_tests}
 use Rattle.std.specs.List.{filter}

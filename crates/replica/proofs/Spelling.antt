@@ -4,15 +4,15 @@ use Rattle.std.specs.List.{AllByRecursion}
 use Rattle.std.proofs.lemmas.Bool.{cases_lt}
 use Rattle.std.proofs.lemmas.Bool.Decides.{nat_tests}
 use Rattle.std.proofs.lemmas.List.{take-append-drop, take_all, take_more, drop-append-le, length-take-le}
-use Rattle.std.proofs.Math.Seq.{take-append_seam, drop-append_seam, drop-append-add}
+use Rattle.std.proofs.Math.Seq.{take-append_seam, drop-append_seam}
 use Rattle.block_types.specs.Limits.{IsBlock, IsGroup, group_size}
 use Rattle.replica.specs.Groups.{Group, joined, text, size, text_length}
-use Rattle.replica.specs.Placed.{IsPlaced, IsBefore}
+use Rattle.replica.specs.Placed.{IsBefore}
 use Rattle.replica.specs.Room.{Room, HasRoom, TakesRoom, block_count}
 use Rattle.replica.specs.Spelled.{blocks_of, groups_of, lasts_from, block_sizes, sizes_of, IsSpelled}
 use Rattle.replica.proofs.Lengths.{text-append, text_length-push}
 use Rattle.replica.proofs.Buffering.{joined-push}
-use Rattle.replica.proofs.Placing.{front_within, length-cons, pushed, pushed-rise, cut, All-push}
+use Rattle.replica.proofs.Placing.{front_within, length-cons, pushed, cut, All-push}
 
 -- blocks cut by their own sizes
 pub blocks_of-self : (g : Group) (rest : List ℕ) → blocks_of (block_sizes g) (joined g ++ rest) ≡ g

@@ -23,6 +23,7 @@ mod phase;
 mod placed;
 mod replica;
 mod sealed;
+mod tail;
 
 pub use ends::Ends;
 pub use fault::{FillFault, PastEnd, PutFault, Stale};
