@@ -3,8 +3,8 @@ ghost use Rattle.std.specs.Prelude.{◌≡◌, ◌+◌, ◌-◌, ◌<◌, ◌≤
 ghost use Rattle.replica.specs.Buffers.{AllFull};
 ghost use Rattle.replica.specs.Groups.{joined};
 
+use crate::last_bytes::{BUFFER, LastBytes};
 use crate::parts::{copy_part, write_part};
-use crate::tail::{BUFFER, Tail};
 use bytes::Bytes;
 use std::alloc::{AllocError, Global};
 use std::marker::Model;
@@ -17,7 +17,7 @@ pub(crate) struct Buffers {
     /// What a cut has left of a buffer that was full; else there is nothing in it.
     part: Bytes,
     /// What came after them; what is full of it is moved to the full ones once it has to grow.
-    last: Tail,
+    last: LastBytes,
 }
 
 impl Model for Buffers {
@@ -126,7 +126,7 @@ impl Buffers {
         Buffers {
             full: Vec::new(alloc),
             part: Bytes::new(),
-            last: Tail::new(alloc),
+            last: LastBytes::new(alloc),
         }
     }
 

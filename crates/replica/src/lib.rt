@@ -17,13 +17,13 @@ mod ends;
 mod fault;
 mod frozen;
 mod kept;
+mod last_bytes;
 mod open;
 mod parts;
 mod phase;
 mod placed;
 mod replica;
 mod sealed;
-mod tail;
 
 pub use ends::Ends;
 pub use fault::{FillFault, PastEnd, PutFault, Stale};

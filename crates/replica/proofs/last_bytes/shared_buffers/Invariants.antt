@@ -1,7 +1,7 @@
 use Rattle.std.proofs.Common.{◌≡◌, ◌*◌, take, vec_len, vec_capacity}
 use Rattle.replica.specs.Buffers.{AllFull}
 use Rattle.replica.specs.Groups.{joined}
-use Rattle.replica.proofs.tail.shared_buffers.Given as goal
+use Rattle.replica.proofs.last_bytes.shared_buffers.Given as goal
 
 abbrev pub invariant-loop-index : goal.invariant-loop-index
 invariant-loop-index l = record {

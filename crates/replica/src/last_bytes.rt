@@ -1,4 +1,4 @@
-//! The last bytes of a text in buffers, which grow at their end.
+//! The last bytes of a text in buffers, which grow at their end until they are frozen.
 ghost use Rattle.std.specs.Prelude.{◌≡◌, ◌+◌, ◌*◌, ◌/◌, ◌<◌, ◌≤◌, ◌++◌, [], take, length, vec_len, vec_capacity, IfOk, OnOk, OnErr};
 ghost use Rattle.replica.specs.Buffers.{AllFull};
 ghost use Rattle.replica.specs.Groups.{joined};
@@ -14,13 +14,13 @@ pub(crate) const BUFFER: usize = 65_536;
 /// Bytes that grow at their end, with no byte written before it is added. Its value is the bytes, and for how many more there
 /// is memory.
 #[derive(Drop)]
-pub(crate) struct Tail {
+pub(crate) struct LastBytes {
     held: Vec<u8>,
     /// For how many more bytes `held` has memory.
     room: usize,
 }
 
-impl Model for Tail {
+impl Model for LastBytes {
     ghost use Rattle.std.specs.Prelude.{◌+◌, ◌≤◌, vec_len, vec_capacity};
     ghost use Rattle.replica.specs.Buffers.{Text};
 
@@ -59,42 +59,42 @@ fn share_full(full: &mut Vec<Bytes>, bytes: &Bytes) -> Result<usize, AllocError>
     Ok(bytes.len() / BUFFER * BUFFER)
 }
 
-/// Moves the whole buffers that held bytes begin with to the full ones, and the bytes behind them to a tail that has none.
-/// Without memory all of them go to the tail.
-fn freeze_held(full: &mut Vec<Bytes>, tail: &mut Tail, held: Vec<u8>) -> Result<(), AllocError>
-    requires none { tail.old.bytes ≡ [] }
-    requires room { length held.items ≤ tail.old.spare }
-    ensures same { joined full.new.items ++ tail.new.bytes ≡ joined full.old.items ++ held.items }
+/// Moves the whole buffers that held bytes begin with to the full ones, and the bytes behind them to last ones that are none
+/// yet. Without memory all of them go there.
+fn freeze_held(full: &mut Vec<Bytes>, last: &mut LastBytes, held: Vec<u8>) -> Result<(), AllocError>
+    requires none { last.old.bytes ≡ [] }
+    requires room { length held.items ≤ last.old.spare }
+    ensures same { joined full.new.items ++ last.new.bytes ≡ joined full.old.items ++ held.items }
     ensures all { AllFull 65536 full.old.items → AllFull 65536 full.new.items }
-    ensures spare { tail.new.spare + length tail.new.bytes ≡ tail.old.spare }
-    ensures front { length tail.new.bytes ≤ length held.items }
-    ensures rest { OnOk result (length tail.new.bytes < 65536) }
+    ensures spare { last.new.spare + length last.new.bytes ≡ last.old.spare }
+    ensures fewer { length last.new.bytes ≤ length held.items }
+    ensures rest { OnOk result (length last.new.bytes < 65536) }
 {
     match Bytes::from_vec(held) {
         Ok(bytes) => match share_full(full, &bytes) {
             Ok(end) => {
-                tail.push(&bytes.as_slice()[end..]);
+                last.push(&bytes.as_slice()[end..]);
                 Ok(())
             }
             Err(error) => {
-                tail.push(bytes.as_slice());
+                last.push(bytes.as_slice());
                 Err(error)
             }
         },
         Err(AllocFailed { value }) => {
-            tail.push(value.as_slice());
+            last.push(value.as_slice());
             Err(AllocError)
         }
     }
 }
 
-impl Tail {
+impl LastBytes {
     /// No bytes; takes no memory.
-    pub(crate) fn new(alloc: Global) -> Tail
+    pub(crate) fn new(alloc: Global) -> LastBytes
         ensures bytes { result.bytes ≡ [] }
         ensures spare { result.spare ≡ 0 }
     {
-        Tail {
+        LastBytes {
             held: Vec::new(alloc),
             room: 0,
         }
@@ -170,11 +170,11 @@ impl Tail {
         };
         // What has been held fits too, so that without memory it can be put back.
         let room = wanted.max(self.held.len() + self.room);
-        let next = Tail {
+        let next = LastBytes {
             held: Vec::with_capacity(*self.held.allocator(), room)?,
             room,
         };
-        let Tail { held, room: _ } = mem::replace(self, next);
+        let LastBytes { held, room: _ } = mem::replace(self, next);
         freeze_held(full, self, held)
     }
 }

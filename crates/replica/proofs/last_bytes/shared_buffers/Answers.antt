@@ -2,7 +2,7 @@ use Rattle.std.proofs.Common.{◌≡◌, ◌*◌, ◌+◌, ◌-◌, ◌≤◌, l
 use Rattle.std.proofs.lemmas.List.{length-take-le}
 use Rattle.replica.specs.Buffers.{AllFull}
 use Rattle.replica.proofs.Buffering.{all-push, shared_on}
-use Rattle.replica.proofs.tail.shared_buffers.Goals as goal
+use Rattle.replica.proofs.last_bytes.shared_buffers.Goals as goal
 
 pub loop-index-preserved : goal.loop-index-preserved
 loop-index-preserved c =

@@ -2,7 +2,7 @@ use Rattle.std.proofs.Common.{◌/◌, ◌*◌, ◌++◌, take, ap, sym, subst, 
 use Rattle.replica.specs.Buffers.{AllFull}
 use Rattle.replica.specs.Groups.{joined}
 use Rattle.replica.proofs.Buffering.{all-append, joined-append}
-use Rattle.replica.proofs.tail.share_full.Goals as goal
+use Rattle.replica.proofs.last_bytes.share_full.Goals as goal
 
 pub returns-clause-front : goal.returns-clause-front
 returns-clause-front c =
