@@ -6,7 +6,7 @@
 //! What the layers above may build on, each a clause here:
 //! - `encode` appends the one spelling of a record, or changes nothing.
 //! - `decode` answers a record and its size exactly where the first bytes are the spelling of that record, and `Damaged`
-//!   only where no front of the bytes is a spelling.
+//!   only where no front of the bytes is a spelling. So does `decode_shared`, whose record shares the bytes that were read.
 //! - No spelling begins another (`one_spelling`), in version 1 and in version 2 alike.
 //! - `reader` and `writer` read and write the numbers and byte strings of every other format. Their laws stand in
 //!   proofs/Formats.antt, for the formats of the crates above.
@@ -16,6 +16,7 @@
 
 pub mod reader;
 mod reading;
+mod shared;
 pub mod writer;
 mod writing;
 
@@ -23,5 +24,5 @@ pub use block_types::{
     Block, BlockFault, Group, GroupFault, Groups, MAX_BLOCK, MAX_BLOCKS, MAX_GROUP, MAX_NODE,
     MAX_TARGET, MIN_TARGET, Memory, Nodes, Record, Version,
 };
-pub use reading::{decode, decode_as, one_spelling};
+pub use reading::{decode, decode_as, decode_shared, one_spelling};
 pub use writing::{encode, encode_as};

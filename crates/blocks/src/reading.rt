@@ -1,13 +1,17 @@
 //! Reading a record from bytes. Each reader is the function on lists of specs/Reading.antt that its clause cites.
-ghost use Rattle.std.specs.Prelude.{◌≡◌, ◌<◌, ◌^◌, ◌++◌, ℕ, List, length, IfOk, MatchResult};
+//!
+//! A reader of what may hold payload takes the buffer `text` too, which its bytes are the end of: what it answers shares
+//! that buffer.
+ghost use Rattle.std.specs.Prelude.{◌≡◌, ◌<◌, ◌≤◌, ◌^◌, ◌++◌, ℕ, List, length, drop, IfOk, MatchResult};
 ghost use Rattle.std.specs.List.{AllByRecursion};
 ghost use Rattle.block_types.specs.Limits.{IsBlock, groups_size};
-ghost use Rattle.blocks.specs.Format.{Gives, after, many_at};
+ghost use Rattle.blocks.specs.Format.{Gives, IsEndOf, after, many_at};
 ghost use Rattle.block_types.specs.declared.record.Version.TheVariants.{V1};
 ghost use Rattle.blocks.specs.Record.{check, spelling, Fits, Begins};
 ghost use Rattle.blocks.specs.Reading.{block_at, group_at, nodes_at, groups_at, make_record_at, append_record_at, fence_record_at, freeze_record_at, seal_record_at, fill_record_at, fields_at, body_at, record_at};
 
 use crate::reader::{bytes_of, ended, u8_at, u32_at, u64_at};
+use crate::shared::shared_of;
 use block_types::{
     Block, BlockFault, Group, Groups, MAX_BLOCK, MAX_BLOCKS, MAX_TARGET, MIN_TARGET, Nodes, Record,
     Version,
@@ -34,32 +38,41 @@ fn after_check<'a>(version: Version, block: &[u8], bytes: &'a [u8]) -> Result<&'
 }
 
 #[tactic(auto, unfolding(crate::specs::Reading::block_at))]
-fn block_of(alloc: Global, version: Version, bytes: &[u8]) -> Result<(Block, &[u8]), BlockFault>
+fn block_of<'a>(
+    version: Version,
+    text: &Bytes,
+    bytes: &'a [u8],
+) -> Result<(Block, &'a [u8]), BlockFault>
+    requires { IsEndOf bytes.now text.now }
     ensures read { Gives (λ x. (x.0, x.1.now)) result (block_at version bytes.now) }
     ensures fits { IfOk result (λ x. IsBlock x.0) }
+    ensures end { IfOk result (λ x. IsEndOf x.1.now text.now) }
 {
     let (len, rest) = u32_at(bytes)?;
     if !(1..=MAX_BLOCK).contains(&len) {
         return Err(BlockFault::Damaged);
     }
-    let (text, rest) = bytes_of(len as usize, rest)?;
-    let rest = after_check(version, text, rest)?;
-    Ok((Block::copied(alloc, text)?, rest))
+    let (block, rest) = shared_of(len as usize, text, rest)?;
+    let rest = after_check(version, block.as_slice(), rest)?;
+    Ok((Block::of(block), rest))
 }
 
-fn blocks_of(
+fn blocks_of<'a>(
     alloc: Global,
     version: Version,
     count: u8,
-    bytes: &[u8],
-) -> Result<(Vec<Block>, &[u8]), BlockFault>
+    text: &Bytes,
+    bytes: &'a [u8],
+) -> Result<(Vec<Block>, &'a [u8]), BlockFault>
+    requires { IsEndOf bytes.now text.now }
     ensures read { Gives (λ x. (x.0.items, x.1.now)) result (many_at (block_at version) count bytes.now) }
     ensures fits { IfOk result (λ x. (length x.0.items ≡ count) × AllByRecursion IsBlock x.0.items) }
+    ensures end { IfOk result (λ x. IsEndOf x.1.now text.now) }
 {
     let mut read = Vec::new(alloc);
     let mut rest = bytes;
     for _ in 0..count {
-        let (block, after) = block_of(alloc, version, rest)?;
+        let (block, after) = block_of(version, text, rest)?;
         read.push(block)?;
         rest = after;
     }
@@ -67,14 +80,21 @@ fn blocks_of(
 }
 
 #[tactic(auto, unfolding(crate::specs::Reading::group_at))]
-fn group_of(alloc: Global, version: Version, bytes: &[u8]) -> Result<(Group, &[u8]), BlockFault>
-    ensures { Gives (λ x. (x.0, x.1.now)) result (group_at version bytes.now) }
+fn group_of<'a>(
+    alloc: Global,
+    version: Version,
+    text: &Bytes,
+    bytes: &'a [u8],
+) -> Result<(Group, &'a [u8]), BlockFault>
+    requires { IsEndOf bytes.now text.now }
+    ensures read { Gives (λ x. (x.0, x.1.now)) result (group_at version bytes.now) }
+    ensures end { IfOk result (λ x. IsEndOf x.1.now text.now) }
 {
     let (count, rest) = u8_at(bytes)?;
     if !(1..=MAX_BLOCKS).contains(&count) {
         return Err(BlockFault::Damaged);
     }
-    let (blocks, rest) = blocks_of(alloc, version, count, rest)?;
+    let (blocks, rest) = blocks_of(alloc, version, count, text, rest)?;
     Ok((Group::of(blocks)?, rest))
 }
 
@@ -123,12 +143,18 @@ fn make_of(fields: &[u8]) -> Result<Record, BlockFault>
 }
 
 #[tactic(auto, unfolding(crate::specs::Reading::append_record_at, crate::specs::Reading::append_at))]
-fn append_of(alloc: Global, version: Version, fields: &[u8]) -> Result<Record, BlockFault>
+fn append_of(
+    alloc: Global,
+    version: Version,
+    text: &Bytes,
+    fields: &[u8],
+) -> Result<Record, BlockFault>
+    requires { IsEndOf fields.now text.now }
     ensures { Gives (λ r. r) result (append_record_at version fields.now) }
 {
     let (extent, rest) = u64_at(fields)?;
     let (offset, rest) = u32_at(rest)?;
-    let (group, rest) = group_of(alloc, version, rest)?;
+    let (group, rest) = group_of(alloc, version, text, rest)?;
     ended(
         Record::Append {
             extent,
@@ -139,12 +165,14 @@ fn append_of(alloc: Global, version: Version, fields: &[u8]) -> Result<Record, B
     )
 }
 
-fn all_groups_of(
+fn all_groups_of<'a>(
     alloc: Global,
     version: Version,
     count: u32,
-    bytes: &[u8],
-) -> Result<(Vec<Group>, u64, &[u8]), BlockFault>
+    text: &Bytes,
+    bytes: &'a [u8],
+) -> Result<(Vec<Group>, u64, &'a [u8]), BlockFault>
+    requires { IsEndOf bytes.now text.now }
     ensures read { Gives (λ x. (x.0.items, x.2.now)) result (many_at (group_at version) count bytes.now) }
     ensures size { IfOk result (λ x. x.1 ≡ groups_size x.0.items) }
     ensures bound { IfOk result (λ x. x.1 < 2 ^ 60) }
@@ -153,7 +181,7 @@ fn all_groups_of(
     let mut size = 0u64;
     let mut rest = bytes;
     for _ in 0..count {
-        let (group, after) = group_of(alloc, version, rest)?;
+        let (group, after) = group_of(alloc, version, text, rest)?;
         size += group.size() as u64;
         groups.push(group)?;
         rest = after;
@@ -162,11 +190,13 @@ fn all_groups_of(
 }
 
 #[tactic(auto, unfolding(crate::specs::Reading::groups_at))]
-fn groups_of(
+fn groups_of<'a>(
     alloc: Global,
     version: Version,
-    bytes: &[u8],
-) -> Result<(Groups, u64, &[u8]), BlockFault>
+    text: &Bytes,
+    bytes: &'a [u8],
+) -> Result<(Groups, u64, &'a [u8]), BlockFault>
+    requires { IsEndOf bytes.now text.now }
     ensures read { Gives (λ x. (x.0, x.2.now)) result (groups_at version bytes.now) }
     ensures size { IfOk result (λ x. x.1 ≡ groups_size x.0) }
     ensures bound { IfOk result (λ x. x.1 < 2 ^ 60) }
@@ -175,7 +205,7 @@ fn groups_of(
     if count < 1 {
         return Err(BlockFault::Damaged);
     }
-    let (groups, size, rest) = all_groups_of(alloc, version, count, rest)?;
+    let (groups, size, rest) = all_groups_of(alloc, version, count, text, rest)?;
     Ok((Groups { items: groups }, size, rest))
 }
 
@@ -206,13 +236,19 @@ fn seal_of(fields: &[u8]) -> Result<Record, BlockFault>
 }
 
 #[tactic(auto, unfolding(crate::specs::Reading::fill_record_at, crate::specs::Reading::fill_at))]
-fn fill_of(alloc: Global, version: Version, fields: &[u8]) -> Result<Record, BlockFault>
+fn fill_of(
+    alloc: Global,
+    version: Version,
+    text: &Bytes,
+    fields: &[u8],
+) -> Result<Record, BlockFault>
+    requires { IsEndOf fields.now text.now }
     ensures { Gives (λ r. r) result (fill_record_at version fields.now) }
 {
     let (extent, rest) = u64_at(fields)?;
     let (from, rest) = u32_at(rest)?;
     let (length, rest) = u32_at(rest)?;
-    let (groups, size, rest) = groups_of(alloc, version, rest)?;
+    let (groups, size, rest) = groups_of(alloc, version, text, rest)?;
     if from as u64 + size != length as u64 {
         return Err(BlockFault::Damaged);
     }
@@ -225,46 +261,81 @@ fn fill_of(alloc: Global, version: Version, fields: &[u8]) -> Result<Record, Blo
     ended(read, rest)
 }
 
+/// The record of kind 7.
+fn manage_of(text: &Bytes, fields: &[u8]) -> Result<Record, BlockFault>
+    requires { IsEndOf fields.now text.now }
+    ensures { Gives (λ r. r) result (Some (Record.Manage fields.now)) }
+{
+    let (text, _) = shared_of(fields.len(), text, fields)?;
+    Ok(Record::Manage { text })
+}
+
 #[tactic(auto, unfolding(crate::specs::Reading::fields_at))]
-fn fields_of(alloc: Global, version: Version, kind: u8, fields: &[u8]) -> Result<Record, BlockFault>
+fn fields_of(
+    alloc: Global,
+    version: Version,
+    kind: u8,
+    text: &Bytes,
+    fields: &[u8],
+) -> Result<Record, BlockFault>
+    requires { IsEndOf fields.now text.now }
     ensures { Gives (λ r. r) result (fields_at version kind fields.now) }
 {
     match kind {
         1 => make_of(fields),
-        2 => append_of(alloc, version, fields),
+        2 => append_of(alloc, version, text, fields),
         3 => fence_of(fields),
         4 => freeze_of(fields),
         5 => seal_of(fields),
-        6 => fill_of(alloc, version, fields),
-        7 => Ok(Record::Manage {
-            text: Bytes::copy_from_slice(alloc, fields)?,
-        }),
+        6 => fill_of(alloc, version, text, fields),
+        7 => manage_of(text, fields),
         _ => Err(BlockFault::Damaged),
     }
 }
 
 #[tactic(auto, unfolding(crate::specs::Reading::body_at))]
-fn body_of(alloc: Global, version: Version, bytes: &[u8]) -> Result<Record, BlockFault>
-    ensures { Gives (λ r. r) result (body_at version bytes.now) }
+fn body_of(alloc: Global, version: Version, text: &Bytes) -> Result<Record, BlockFault>
+    ensures { Gives (λ r. r) result (body_at version text.now) }
 {
-    match bytes {
+    match text.as_slice() {
         [] => Err(BlockFault::Damaged),
-        [kind, fields @ ..] => fields_of(alloc, version, *kind, fields),
+        [kind, fields @ ..] => fields_of(alloc, version, *kind, text, fields),
     }
 }
 
 #[tactic(auto, unfolding(crate::specs::Reading::record_at))]
-fn record_of(alloc: Global, version: Version, bytes: &[u8]) -> Result<(Record, usize), BlockFault>
+fn copied_record_of(
+    alloc: Global,
+    version: Version,
+    bytes: &[u8],
+) -> Result<(Record, usize), BlockFault>
     ensures { Gives (λ x. x) result (record_at version bytes.now) }
 {
     let (len, rest) = u32_at(bytes)?;
-    let (text, _) = bytes_of(len as usize, rest)?;
-    let record = body_of(alloc, version, text)?;
+    let (body, _) = bytes_of(len as usize, rest)?;
+    let text = Bytes::copy_from_slice(alloc, body)?;
+    let record = body_of(alloc, version, &text)?;
+    Ok((record, 4 + len as usize))
+}
+
+#[tactic(auto, unfolding(crate::specs::Reading::record_at))]
+fn shared_record_of(
+    alloc: Global,
+    version: Version,
+    text: &Bytes,
+    bytes: &[u8],
+) -> Result<(Record, usize), BlockFault>
+    requires { IsEndOf bytes.now text.now }
+    ensures { Gives (λ x. x) result (record_at version bytes.now) }
+{
+    let (len, rest) = u32_at(bytes)?;
+    let (body, _) = shared_of(len as usize, text, rest)?;
+    let record = body_of(alloc, version, &body)?;
     Ok((record, 4 + len as usize))
 }
 
 /// The record whose spelling in the version begins the bytes, and the size of that spelling; bytes after it do not
-/// matter. It copies the payloads.
+/// matter. It copies the payloads, into one buffer that the record's blocks share.
 ///
 /// It is refused `Damaged` (21) only where no front of the bytes is a spelling: cut short, a field out of range, a body
 /// with bytes left over, in version 2 a digest that is not the block's. `Memory` (22) says nothing of the bytes.
@@ -279,7 +350,41 @@ pub fn decode_as(
     ensures only { (r : Record) (n : ℕ) → Begins version bytes.now r n
         → MatchResult result (λ x. x ≡ (r, n)) (λ e. e ≡ BlockFault.Memory) }
 {
-    record_of(alloc, version, bytes)
+    copied_record_of(alloc, version, bytes)
+}
+
+/// As `decode_as` of the end of a buffer, which the record's blocks share.
+fn decode_end(
+    alloc: Global,
+    version: Version,
+    text: &Bytes,
+    bytes: &[u8],
+) -> Result<(Record, usize), BlockFault>
+    requires { IsEndOf bytes.now text.now }
+    ensures found { IfOk result (λ x. Begins version bytes.now x.0 x.1) }
+    ensures only { (r : Record) (n : ℕ) → Begins version bytes.now r n
+        → MatchResult result (λ x. x ≡ (r, n)) (λ e. e ≡ BlockFault.Memory) }
+{
+    shared_record_of(alloc, version, text, bytes)
+}
+
+/// As `decode_as` of the bytes from `from` on, which counts bytes from 0. It copies no payload: the record's blocks, or its
+/// text, share the bytes that were given, and keep all of them in memory for as long as one of these lives. It is refused
+/// as `decode_as` is.
+pub fn decode_shared(
+    alloc: Global,
+    version: Version,
+    bytes: &Bytes,
+    from: usize,
+) -> Result<(Record, usize), BlockFault>
+    requires { from ≤ length bytes.now }
+    ensures found { IfOk result (λ x. Begins version (drop from bytes.now) x.0 x.1) }
+
+    // Where a record begins there it is found, unless memory ran out.
+    ensures only { (r : Record) (n : ℕ) → Begins version (drop from bytes.now) r n
+        → MatchResult result (λ x. x ≡ (r, n)) (λ e. e ≡ BlockFault.Memory) }
+{
+    decode_end(alloc, version, bytes, &bytes.as_slice()[from..])
 }
 
 /// As `decode_as` in version 1.

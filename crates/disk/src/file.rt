@@ -148,7 +148,8 @@ impl<D: Disk> RecordFile<D> {
         }
     }
 
-    /// As `open`, with the records of the file.
+    /// As `open`, with the records of the file. They share its bytes as they were read, and keep all of these in memory for as
+    /// long as a block or a text of one lives.
     pub fn open_with_records(
         alloc: Global,
         disk: D,
@@ -188,13 +189,14 @@ impl<D: Disk> RecordFile<D> {
         }
     }
 
-    /// All its records, read again. An error is out of memory (22): `Damaged` (21) does not come.
+    /// All its records, read again, which share the bytes that were read as those of `open_with_records` do. An error is out
+    /// of memory (22): `Damaged` (21) does not come.
     pub fn records(&self, alloc: Global) -> Result<Vec<Record>, BlockFault>
         ensures ok { IfOk result (λ rs. rs.items ≡ self.now.records) }
         ensures damaged { IsErrOf result BlockFault.Damaged → ⊥ }
     {
         let bytes = self.disk.read(alloc)?;
-        let (_, records, _) = read_file(alloc, &bytes)?;
+        let (_, records, _) = read_file(alloc, bytes)?;
         Ok(records)
     }
 

@@ -26,7 +26,7 @@ pub(crate) fn find<D: Disk>(
 {
     disk.sync()?;
     let bytes = disk.read(alloc)?;
-    let (version, records, end) = read_file(alloc, &bytes)?;
+    let (version, records, end) = read_file(alloc, bytes)?;
     Ok((version, end, records))
 }
 

@@ -9,3 +9,4 @@ pub mod RecordBytes
 pub mod Manager
 pub mod Replay
 pub mod StreamSystem
+pub mod StoppedActor

@@ -1,7 +1,7 @@
 -- A text in buffers, of which each but the last ones is full.
-use Rattle.std.proofs.Common.{◌≡◌, ℕ, zero, suc, ◌+◌, ◌-◌, ◌*◌, ◌/◌, ◌%◌, ◌<◌, ◌≤◌, List, [], ◌∷◌, ◌++◌, length, take, drop, get_or, refl, sym, ap, ◌∙◌, subst, inl, inr, arith, append_assoc, append-nil, length-append, length-drop}
+use Rattle.std.proofs.Common.{◌≡◌, ℕ, zero, suc, ◌+◌, ◌-◌, ◌*◌, ◌/◌, ◌%◌, ◌<◌, ◌≤◌, List, [], ◌∷◌, ◌++◌, length, take, drop, get_or, refl, sym, ap, ◌∙◌, arith, append_assoc, append-nil, length-append, length-drop}
 use Rattle.std.proofs.lemmas.List.{drop-append-le, take-append-le, take_all, take-append-drop, take-take, get_or-take, length-take-le}
-use Rattle.std.proofs.Math.Seq.{drop-append-add, take-append-add, take-append_seam}
+use Rattle.std.proofs.Math.Seq.{take-add, drop-append-add, take-append-add, take-append_seam}
 use Rattle.replica.specs.Buffers.{AllFull}
 use Rattle.replica.specs.Groups.{joined}
 use Rattle.replica.proofs.Copying.{piece, written, take_two}
@@ -95,10 +95,15 @@ cut_to bs count b all h is =
     taken [] (suc i) h = absurd (omega (arith, h))
     taken (x ∷ xs) (suc i) h = ap (λ n. suc n) (taken xs i (omega (arith, h)))
 
--- what is moved from the last bytes to the full buffers
-pub moved : (bs more : List (List ℕ)) (last rest b : List ℕ) → more ≡ bs ++ b ∷ [] → b ≡ take 65536 last → rest ≡ drop 65536 last → joined more ++ rest ≡ joined bs ++ last
-moved bs more last rest b is b_is rest_is =
-    ap (λ x. joined x ++ rest) is ∙ ap (λ x. x ++ rest) (joined-push bs b) ∙ append_assoc (joined bs) b rest ∙ ap (λ x. joined bs ++ (x ++ rest)) b_is ∙ ap (λ x. joined bs ++ (take 65536 last ++ x)) rest_is ∙ ap (λ x. joined bs ++ x) (take-append-drop 65536 last)
+pub all-append : (size : ℕ) (xs ys : List (List ℕ)) → AllFull size xs → AllFull size ys → AllFull size (xs ++ ys)
+all-append size [] ys all more = more
+all-append size (x ∷ xs) ys all more = (all.0, all-append size xs ys all.1 more)
+
+-- one more of the whole buffers that bytes begin with
+pub shared_on : (bs more : List (List ℕ)) (b bytes : List ℕ) (i : ℕ) → more ≡ bs ++ b ∷ [] → b ≡ take 65536 (drop (i * 65536) bytes) → joined bs ≡ take (i * 65536) bytes → joined more ≡ take ((i + 1) * 65536) bytes
+shared_on bs more b bytes i is b_is before =
+    let sum : (i + 1) * 65536 ≡ i * 65536 + 65536 = omega arith in
+    ap joined is ∙ joined-push bs b ∙ ap (λ x. x ++ b) before ∙ ap (λ x. take (i * 65536) bytes ++ x) b_is ∙ sym (ap (λ n. take n bytes) sum ∙ take-add (i * 65536) 65536 bytes)
 
 -- one more of the buffers is copied, and one more is written
 pub copied_on : (out more : List ℕ) (m n f g : ℕ) (b : List ℕ) (bs : List (List ℕ)) (rest whole : List ℕ) →

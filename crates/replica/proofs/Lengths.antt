@@ -24,6 +24,3 @@ group_size-size g = fold_size 0 g ∙ zero_more (size g)
   where
     zero_more : (n : ℕ) → 0 + n ≡ n
     zero_more n = omega arith
-
-pub pushed_length : (xs ys : List Group) (x : Group) (len n : ℕ) → ys ≡ xs ++ x ∷ [] → len ≡ text_length xs → n ≡ group_size x → len + n ≡ text_length ys
-pushed_length xs ys x len n is e f = rw is (omega (arith, e, f, group_size-size x, text_length-push xs x))

@@ -1,17 +1,15 @@
 -- Where groups end.
-use Rattle.std.proofs.Common.{◌≡◌, ◌⊎◌, ℕ, ◌==◌, zero, suc, ◌+◌, ◌-◌, ◌<◌, ◌≤◌, true, false, nat_le, List, [], ◌∷◌, ◌++◌, length, take, drop, get_or, Some, None, refl, sym, ap, ◌∙◌, subst, inl, inr, arith, length-append, length-drop}
+use Rattle.std.proofs.Common.{◌≡◌, ◌⊎◌, ℕ, ◌==◌, zero, suc, ◌+◌, ◌-◌, ◌<◌, ◌≤◌, true, false, nat_le, List, [], ◌∷◌, ◌++◌, length, take, get_or, Some, None, refl, sym, ap, ◌∙◌, subst, inl, inr, arith, length-append}
 use Rattle.std.proofs.lemmas.Bool.{cases_lt}
 use Rattle.std.proofs.lemmas.Bool.Decides.{nat_tests}
 use Rattle.std.specs.List.{AllByRecursion}
-use Rattle.std.proofs.lemmas.List.{take-append-drop, take_all}
-use Rattle.std.proofs.Math.Seq.{drop-append-add}
 use Rattle.block_types.specs.Limits.{IsGroup, group_size}
 use Rattle.replica.specs.Groups.{Group, joined, text, size, text_length}
 use Rattle.replica.specs.Ends.{RiseAbove}
 use Rattle.replica.specs.Placed.{ends_from, NoneEmpty, IsPlaced, IsBefore}
-use Rattle.replica.specs.Reading.{bytes_at, groups_to}
+use Rattle.replica.specs.Reading.{groups_to}
 use Rattle.replica.proofs.Searching.{ended, ended-yes, ended-no, ended-none, ended-within}
-use Rattle.replica.proofs.Lengths.{text-append, text_length-push, group_size-size}
+use Rattle.replica.proofs.Lengths.{text_length-push, group_size-size}
 
 pub ends-length : (s : ℕ) (gs : List Group) → length (ends_from s gs) ≡ length gs
 ends-length s [] = refl
@@ -106,16 +104,6 @@ pub has_size : (g : Group) → IsGroup g → 0 < size g
 has_size [] h = absurd (omega (arith, h.0))
 has_size (b ∷ g) h = some_size b g h.2.0.0
 
--- the text from a place on
-text_from : (gs : List Group) (i offset : ℕ) → text_length (take i gs) ≤ offset → drop offset (text gs) ≡ drop (offset - text_length (take i gs)) (text (drop i gs))
-text_from gs i offset h =
-    let whole : text gs ≡ text (take i gs) ++ text (drop i gs) = ap text (sym (take-append-drop i gs)) ∙ text-append (take i gs) (drop i gs) in
-    let sum : text_length (take i gs) + (offset - text_length (take i gs)) ≡ offset = omega arith in
-    ap (drop offset) whole ∙ ap (λ n. drop n (text (take i gs) ++ text (drop i gs))) (sym sum) ∙ drop-append-add (text (take i gs)) (text (drop i gs)) (offset - text_length (take i gs))
-
-pub bytes_from : (gs : List Group) (i offset length : ℕ) → text_length (take i gs) ≤ offset → bytes_at offset length gs ≡ take length (drop (offset - text_length (take i gs)) (text (drop i gs)))
-bytes_from gs i offset length h = ap (take length) (text_from gs i offset h)
-
 -- a boundary, and a place that is none
 shown : (g : Group) (gs found : List Group) (n : ℕ) → 0 < size g → n ≡ size g + text_length found → groups_to (text_length found) gs ≡ Some found → groups_to n (g ∷ gs) ≡ Some (g ∷ found)
 shown g gs found n some is more =
@@ -195,16 +183,6 @@ starts gs es l (suc i) last x is h one last_is x_is =
 
 pub start_within : (gs : List Group) (es : List ℕ) (l i last : ℕ) → IsPlaced gs es l → i ≤ length gs → 1 ≤ i → last ≡ i - 1 → last < length es
 start_within gs es l i last is h one last_is = omega (arith, last_is, h, one, ap length is.ends, ends-length 0 gs)
-
-all_of : (gs : List Group) (i : ℕ) → take (length gs - i) (drop i gs) ≡ drop i gs
-all_of gs i = take_all (length gs - i) (drop i gs) (simp length-drop (omega arith))
-
--- what is copied from a place on
-pub from_place : (gs held : List Group) (i offset count start : ℕ) → held ≡ gs → text_length (take i gs) ≤ offset → start ≡ text_length (take i gs) →
-    take count (drop (offset - start) (text (take (length held - i) (drop i held)))) ≡ bytes_at offset count gs
-from_place gs held i offset count start same before is =
-    let rest : take (length held - i) (drop i held) ≡ drop i gs = all_of held i ∙ ap (drop i) same in
-    ap (λ l. take count (drop (offset - start) (text l))) rest ∙ ap (λ k. take count (drop (offset - k) (text (drop i gs)))) is ∙ sym (bytes_from gs i offset count before)
 
 -- with one more group at the end each is a group
 pub All-push : {A : Type 0} (P : A → Type 0) (xs : List A) (x : A) → AllByRecursion P xs → P x → AllByRecursion P (xs ++ x ∷ [])

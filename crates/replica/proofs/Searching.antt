@@ -1,5 +1,5 @@
 -- What a search among ends that rise comes to, and how many of them it reads.
-use Rattle.std.proofs.Common.{◌≡◌, ℕ, ◌==◌, zero, suc, ◌+◌, ◌-◌, ◌/◌, ◌^◌, pow-suc, ◌<◌, ◌≤◌, true, false, nat_le, List, [], ◌∷◌, length, get_or, take, refl, sym, ap, ◌∙◌, inl, inr, arith, if◌then◌else◌}
+use Rattle.std.proofs.Common.{◌≡◌, ℕ, ◌==◌, zero, suc, ◌+◌, ◌/◌, ◌^◌, pow-suc, ◌<◌, ◌≤◌, true, false, nat_le, List, [], ◌∷◌, length, get_or, take, refl, sym, ap, ◌∙◌, inl, inr, arith}
 use Rattle.std.proofs.lemmas.Bool.{cases_lt}
 use Rattle.std.proofs.lemmas.Bool.Decides.{nat_tests}
 use Rattle.std.specs.List.{filter}
@@ -78,26 +78,10 @@ halvings-same (suc a) (suc b) n h k =
       | inr none ↦ let is : n ≡ 0 = omega (arith, none) in rw is refl
     ]
 
-pub binary_digits-none : binary_digits 0 ≡ 0
-unfolding binary_digits
-binary_digits-none = refl
-
 pub binary_digits-half : (n : ℕ) → 0 < n → binary_digits n ≡ 1 + binary_digits (n / 2)
 unfolding binary_digits
 binary_digits-half zero h = absurd (omega (arith, h))
 binary_digits-half (suc n) h = halvings-one n (suc n) h ∙ ap (λ x. 1 + x) (halvings-same n (suc n / 2) (suc n / 2) (omega arith) (omega arith))
-
-halvings-within : (most n : ℕ) → halvings most n ≤ most
-halvings-within zero n = omega arith
-halvings-within (suc most) n =
-    elim (cases_lt 0 n) [
-      | inl some ↦ omega (arith, halvings-one most n some, halvings-within most (n / 2))
-      | inr none ↦ let is : n ≡ 0 = omega (arith, none) in rw is (omega arith)
-    ]
-
-pub binary_digits-within : (n : ℕ) → binary_digits n ≤ n
-unfolding binary_digits
-binary_digits-within n = halvings-within n n
 
 halvings-rise : (most a b : ℕ) → a ≤ b → halvings most a ≤ halvings most b
 halvings-rise zero a b h = omega arith

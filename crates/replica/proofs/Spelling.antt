@@ -3,16 +3,16 @@ use Rattle.std.proofs.Common.{◌≡◌, ℕ, zero, suc, ◌+◌, ◌-◌, ◌<�
 use Rattle.std.specs.List.{AllByRecursion}
 use Rattle.std.proofs.lemmas.Bool.{cases_lt}
 use Rattle.std.proofs.lemmas.Bool.Decides.{nat_tests}
-use Rattle.std.proofs.lemmas.List.{take-append-drop, take_all, take_more, drop-append-le, length-take-le}
-use Rattle.std.proofs.Math.Seq.{take-append_seam, drop-append_seam, drop-append-add}
+use Rattle.std.proofs.lemmas.List.{take-append-drop, take_all, take_more}
+use Rattle.std.proofs.Math.Seq.{take-append_seam, drop-append_seam}
 use Rattle.block_types.specs.Limits.{IsBlock, IsGroup, group_size}
 use Rattle.replica.specs.Groups.{Group, joined, text, size, text_length}
-use Rattle.replica.specs.Placed.{IsPlaced, IsBefore}
-use Rattle.replica.specs.Room.{Room, HasRoom, TakesRoom, block_count}
+use Rattle.replica.specs.Placed.{IsBefore}
+use Rattle.replica.specs.Room.{block_count}
 use Rattle.replica.specs.Spelled.{blocks_of, groups_of, lasts_from, block_sizes, sizes_of, IsSpelled}
 use Rattle.replica.proofs.Lengths.{text-append, text_length-push}
 use Rattle.replica.proofs.Buffering.{joined-push}
-use Rattle.replica.proofs.Placing.{front_within, length-cons, pushed, pushed-rise, cut, All-push}
+use Rattle.replica.proofs.Placing.{front_within, length-cons, pushed, cut, All-push}
 
 -- blocks cut by their own sizes
 pub blocks_of-self : (g : Group) (rest : List ℕ) → blocks_of (block_sizes g) (joined g ++ rest) ≡ g
@@ -144,6 +144,10 @@ pub lasts-length : (n : ℕ) (gs : List Group) → length (lasts_from n gs) ≡ 
 lasts-length n [] = refl
 lasts-length n (g ∷ gs) = ap (λ k. suc k) (lasts-length (n + length g) gs)
 
+-- as many as there are groups
+pub groups_counted : (gs shown : List Group) (es ls ss bs : List ℕ) (l : ℕ) → IsSpelled shown es ls ss bs l → shown ≡ gs → length ls ≡ length gs
+groups_counted gs shown es ls ss bs l is shown_is = ap length is.counted ∙ lasts-length 0 shown ∙ ap length shown_is
+
 pub last_at : (gs : List Group) (es ls ss bs : List ℕ) (l i last x : ℕ) → IsSpelled gs es ls ss bs l → i ≤ length gs → 1 ≤ i → last ≡ i - 1 → x ≡ get_or ls last x → x ≡ block_count (take i gs)
 last_at gs es ls ss bs l zero last x is h one last_is x_is = absurd (omega (arith, one))
 last_at gs es ls ss bs l (suc i) last x is h one last_is x_is =
@@ -186,19 +190,6 @@ pub cut_group : (gs : List Group) (ss bs sizes : List ℕ) (i at first last : �
 cut_group gs ss bs sizes i at first last h ss_is bs_is first_is last_is at_is sizes_is =
     ap (λ x. blocks_of x (drop at bs)) (sizes_is ∙ its_sizes gs ss i first last h ss_is first_is last_is) ∙ ap (blocks_of (block_sizes (get_or gs i []))) (its_bytes gs bs i at h bs_is at_is) ∙ blocks_of-self (get_or gs i []) (text (drop (suc i) gs))
 
--- one group more of those from one to another
-pub between_more : (gs items more : List Group) (from i : ℕ) (g : Group) → from ≤ i → i < length gs → items ≡ drop from (take i gs) → g ≡ get_or gs i [] → more ≡ items ++ g ∷ [] → more ≡ drop from (take (i + 1) gs)
-between_more gs items more from i g h within is g_is more_is =
-    let long : from ≤ length (take i gs) = omega (arith, h, length-take-le i gs (omega (arith, within))) in
-    more_is ∙ ap (λ x. x ++ g ∷ []) is ∙ ap (λ x. drop from (take i gs) ++ x ∷ []) g_is ∙ sym (drop-append-le from (take i gs) (get_or gs i [] ∷ []) long) ∙ ap (drop from) (sym (take_more gs i [] within))
-
--- room for groups is room for the first of them, and then for the others
-pub room_first : (room : Room) (g : Group) (gs : List Group) → HasRoom room (g ∷ gs) → HasRoom room (g ∷ [])
-room_first room g gs has = record { text = omega (arith, has.text, length-cons g gs, length-cons g []); blocks = omega (arith, has.blocks); groups = omega (arith, has.groups) }
-
-pub room_rest : (before after : Room) (g : Group) (gs : List Group) → HasRoom before (g ∷ gs) → TakesRoom before after g → HasRoom after gs
-room_rest before after g gs has takes = record { text = omega (arith, has.text, takes.text, length-cons g gs); blocks = omega (arith, has.blocks, takes.blocks); groups = omega (arith, has.groups, takes.groups) }
-
 -- one block more
 pub joined-more : (blocks : Group) (i : ℕ) (b : List ℕ) → i < length blocks → b ≡ get_or blocks i b → joined (take (i + 1) blocks) ≡ joined (take i blocks) ++ b
 joined-more blocks i b h is = ap joined (take_more blocks i b h) ∙ joined-push (take i blocks) (get_or blocks i b) ∙ ap (λ x. joined (take i blocks) ++ x) (sym is)
@@ -226,6 +217,29 @@ pub counts_within : (gs : List Group) (i : ℕ) → block_count (take i gs) ≤ 
 counts_within gs zero = omega arith
 counts_within [] (suc i) = omega arith
 counts_within (g ∷ gs) (suc i) = omega (arith, counts_within gs i)
+
+-- where a group is: which of the sizes its blocks have, and that they cut it from the bytes from its start on
+pub record HasGroup (group : Group) (sizes bytes : List ℕ) (first last : ℕ) : Type 0 where
+  pub order : first ≤ last
+  pub within : last ≤ length sizes
+  pub few : length (take (last - first) (drop first sizes)) ≤ 64
+  pub blocks : blocks_of (take (last - first) (drop first sizes)) bytes ≡ group
+  pub is : IsGroup group
+
+pub group_place : (gs shown : List Group) (es ls ss bs held : List ℕ) (l i at first last : ℕ) → IsSpelled shown es ls ss bs l → shown ≡ gs → held ≡ ss → i < length gs → last ≡ get_or ls i last → first ≡ block_count (take i gs) → at ≡ text_length (take i gs) →
+    HasGroup (get_or gs i []) held (drop at bs) first last
+group_place gs shown es ls ss bs held l i at first last spelled shown_is held_is h last_is first_is at_is =
+    let is : IsSpelled gs es ls ss bs l = subst (λ x. IsSpelled x es ls ss bs l) shown_is spelled in
+    let measured : held ≡ sizes_of gs = held_is ∙ is.measured in
+    let end : last ≡ block_count (take (i + 1) gs) = last_at gs es ls ss bs l (i + 1) i last is (omega (arith, h)) (omega arith) (omega arith) last_is in
+    let group : IsGroup (get_or gs i []) = its_group gs i is.all h in
+    record {
+      order = omega (arith, end, first_is, count-more gs i (get_or gs i []) h (same gs i h));
+      within = omega (arith, end, ap length measured, length-sizes_of gs, counts_within gs (i + 1));
+      few = omega (arith, ap length (its_sizes gs held i first last h measured first_is end), length-block_sizes (get_or gs i []), group.1);
+      blocks = cut_group gs held bs (take (last - first) (drop first held)) i at first last h measured is.spelled first_is end at_is refl;
+      is = group;
+    }
 
 is_below : (a b : ℕ) → a < b → nat_lt a b ≡ true
 is_below a b h = grind (arith, nat_tests)

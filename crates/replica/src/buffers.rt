@@ -3,13 +3,11 @@ ghost use Rattle.std.specs.Prelude.{◌≡◌, ◌+◌, ◌-◌, ◌<◌, ◌≤
 ghost use Rattle.replica.specs.Buffers.{AllFull};
 ghost use Rattle.replica.specs.Groups.{joined};
 
+use crate::last_bytes::{BUFFER, LastBytes};
 use crate::parts::{copy_part, write_part};
-use bytes::{Bytes, BytesMut};
+use bytes::Bytes;
 use std::alloc::{AllocError, Global};
 use std::marker::Model;
-
-/// How many bytes a full buffer has.
-const BUFFER: usize = 65_536;
 
 /// Bytes in full buffers, and the last ones in a buffer that grows. Its value is the bytes, and for how many more there is
 /// memory.
@@ -19,7 +17,7 @@ pub(crate) struct Buffers {
     /// What a cut has left of a buffer that was full; else there is nothing in it.
     part: Bytes,
     /// What came after them; what is full of it is moved to the full ones once it has to grow.
-    last: BytesMut,
+    last: LastBytes,
 }
 
 impl Model for Buffers {
@@ -29,7 +27,7 @@ impl Model for Buffers {
 
     ghost Value = { Text };
 
-    ghost view = { λ b. record { bytes = joined b.full.items ++ (b.part ++ b.last.items); spare = b.last.spare } };
+    ghost view = { λ b. record { bytes = joined b.full.items ++ (b.part ++ b.last.bytes); spare = b.last.spare } };
 
     ghost invariant = { λ b. AllFull 65536 b.full.items };
 }
@@ -101,20 +99,6 @@ fn write_buffers(
     write_part(out, at, second, from.saturating_sub(first.len()))
 }
 
-/// Moves what is full of the last bytes to the full buffers. Without memory some may have been moved.
-fn freeze_full(full: &mut Vec<Bytes>, last: &mut BytesMut) -> Result<(), AllocError>
-    ensures same { joined full.new.items ++ last.new.items ≡ joined full.old.items ++ last.old.items }
-    ensures all { AllFull 65536 full.old.items → AllFull 65536 full.new.items }
-    ensures spare { last.new.spare ≡ last.old.spare }
-{
-    while last.len() >= BUFFER {
-        full.reserve(1)?;
-        let frozen = last.freeze_to(BUFFER)?;
-        full.push_reserved(frozen);
-    }
-    Ok(())
-}
-
 /// Keeps what is full of the first bytes, so many, which the full buffers have, and hands out the others of them.
 fn cut_full(full: &mut Vec<Bytes>, count: usize) -> Bytes
     requires within { count / 65536 < length full.old.items }
@@ -142,7 +126,7 @@ impl Buffers {
         Buffers {
             full: Vec::new(alloc),
             part: Bytes::new(),
-            last: BytesMut::new(alloc),
+            last: LastBytes::new(alloc),
         }
     }
 
@@ -150,7 +134,7 @@ impl Buffers {
     pub(crate) fn spare(&self) -> usize
         ensures { result ≡ self.now.spare }
     {
-        self.last.capacity() - self.last.len()
+        self.last.spare()
     }
 
     /// Makes room for so many more bytes. Without memory nothing has changed but room.
@@ -163,10 +147,11 @@ impl Buffers {
         if count <= self.spare() {
             return Ok(());
         }
-        if self.part.is_empty() {
-            freeze_full(&mut self.full, &mut self.last)?;
+        if self.part.is_empty() && self.last.len() >= BUFFER {
+            self.last.freeze(&mut self.full, count)
+        } else {
+            self.last.grow(count)
         }
-        self.last.reserve(count)
     }
 
     /// Adds bytes at the end, into room that was made.
@@ -175,7 +160,7 @@ impl Buffers {
         ensures bytes { self.new.bytes ≡ self.old.bytes ++ bytes.now }
         ensures room { self.new.spare + length bytes.now ≡ self.old.spare }
     {
-        self.last.extend_reserved(bytes);
+        self.last.push(bytes);
     }
 
     /// Copies bytes from one on, at most so many.
@@ -242,7 +227,7 @@ impl Buffers {
     {
         if count / BUFFER < self.full.len() {
             self.part = cut_full(&mut self.full, count);
-            self.last.clear();
+            self.last.truncate(0);
         } else {
             let rest = count - self.full.len() * BUFFER;
             let behind = rest.saturating_sub(self.part.len());

@@ -17,6 +17,7 @@ mod ends;
 mod fault;
 mod frozen;
 mod kept;
+mod last_bytes;
 mod open;
 mod parts;
 mod phase;

@@ -9,9 +9,13 @@
 #[cfg(test)]
 mod cases;
 #[cfg(test)]
+mod ends;
+#[cfg(test)]
 mod groups;
 #[cfg(test)]
 mod honesty;
+#[cfg(test)]
+mod long_texts;
 #[cfg(test)]
 mod named_streams;
 #[cfg(test)]

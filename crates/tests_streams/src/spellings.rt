@@ -6,7 +6,8 @@ use crate::groups::group_of;
 use block_types::{Block, BlockFault, Group, GroupFault, Groups, Nodes, Record, Version};
 use blocks::reader::{bytes_of, ended, u8_at, u16_at, u32_at, u64_at};
 use blocks::writer::{put_bytes, put_u8, put_u16, put_u32, put_u64};
-use blocks::{decode, decode_as, encode, encode_as};
+use blocks::{decode, decode_as, decode_shared, encode, encode_as};
+use bytes::Bytes;
 use std::alloc::{AllocError, Global};
 use std::test::Fail;
 
@@ -165,6 +166,27 @@ fn read_append(
 fn an_append_is_written_and_read_so(rt: HostRuntime) {
     assert!(rt; append_is_spelled(rt.alloc()) == Ok(true));
     assert!(rt; read_append(rt.alloc(), &APPEND) == Ok((Some((1, 0, 5, 2)), 31)));
+}
+
+/// Whether bytes in one buffer, after a byte that is none of theirs, are one record, which is spelled as they are once the
+/// buffer is let go.
+fn is_shared(alloc: Global, version: Version, bytes: &[u8]) -> Result<bool, BlockFault> {
+    let mut text = vec![in alloc; 1u8]?;
+    text.extend_from_slice(bytes)?;
+    let buffer = Bytes::from_vec(text)?;
+    if buffer.len() < 1 {
+        return Ok(false);
+    }
+    let (record, size) = decode_shared(alloc, version, &buffer, 1)?;
+    drop(buffer);
+    Ok(is_spelled_as(alloc, version, record, bytes) && size == bytes.len())
+}
+
+#[test]
+fn each_kind_is_read_from_a_shared_buffer(rt: HostRuntime) {
+    for (version, bytes) in SPELLINGS {
+        assert!(rt; is_shared(rt.alloc(), *version, bytes) == Ok(true));
+    }
 }
 
 fn is_damaged(alloc: Global, version: Version, bytes: &[u8]) -> bool {

@@ -14,4 +14,5 @@ loop-preserved c =
       read = goes_on (block_at c.args.version) c.loop.read.items c.args.count c.loop.counter c.loop.rest.now c.in_ok-block.block c.in_ok-block.after.now (many_at (block_at c.args.version) c.args.count c.args.bytes.now) c.loop-test.true c.in_ok-block.ensures.read i.read;
       count = omega (arith, i.count, length_push c.loop.read.items c.in_ok-block.block);
       fit = All-push IsBlock c.loop.read.items c.in_ok-block.block i.fit c.in_ok-block.ensures.fits;
+      end = c.in_ok-block.ensures.end;
     })

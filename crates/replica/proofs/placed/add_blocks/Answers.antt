@@ -1,5 +1,5 @@
-use Rattle.std.proofs.Common.{◌≡◌, ◌<◌, ◌≤◌, ◌+◌, ◌++◌, ◌∷◌, [], length, take, ap, sym, ◌∙◌, arith, append_assoc, length-append}
-use Rattle.replica.specs.Groups.{joined, size}
+use Rattle.std.proofs.Common.{◌≡◌, ◌+◌, ◌++◌, ◌∷◌, [], length, take, ap, sym, ◌∙◌, arith, append_assoc, length-append}
+use Rattle.replica.specs.Groups.{joined}
 use Rattle.replica.specs.Spelled.{block_sizes}
 use Rattle.replica.proofs.Spelling.{joined-more, sizes-more, first_blocks}
 use Rattle.replica.proofs.placed.add_blocks.Goals as goal

@@ -1,6 +1,4 @@
-use Rattle.std.proofs.Common.{◌≡◌, ◌<◌, ◌≤◌, ◌+◌, length, take, ap, arith}
-use Rattle.replica.specs.Groups.{size, text_length}
-use Rattle.replica.specs.Room.{block_count}
+use Rattle.std.proofs.Common.{◌≡◌, ◌+◌, length, ap, arith}
 use Rattle.replica.proofs.Lengths.{group_size-size}
 use Rattle.replica.proofs.Placing.{front_within}
 use Rattle.replica.proofs.Spelling.{text-more, count-more, blocks_within}

@@ -19,4 +19,4 @@ returns c =
     let fits : from % 65536 + most ≤ 65536 = omega (arith, c.if-most-start.false) in
     let span : from % 65536 + most - from % 65536 ≡ most = omega arith in
     c.in_ok-slice.ensures.ok ∙ ap (λ n. take n (drop (from % 65536) c.index-buffer.result.now)) span ∙
-    within_one full (c.self.inside.part ++ c.self.inside.last.items) c.args.self.now.bytes c.index-buffer.result.now from most c.self.invariant within c.index-buffer.ensures fits (ap (λ (v : Text). v.bytes) c.self.view_is)
+    within_one full (c.self.inside.part ++ c.self.inside.last.bytes) c.args.self.now.bytes c.index-buffer.result.now from most c.self.invariant within c.index-buffer.ensures fits (ap (λ (v : Text). v.bytes) c.self.view_is)

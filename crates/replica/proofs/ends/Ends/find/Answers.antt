@@ -1,6 +1,6 @@
-use Rattle.std.proofs.Common.{◌≡◌, ◌+◌, ◌<◌, ◌≤◌, ◌-◌, ◌/◌, ◌^◌, length, get_or, ap, subst, sym, ◌∙◌, arith}
-use Rattle.replica.specs.Ends.{EndList, RiseAbove, binary_digits}
-use Rattle.replica.proofs.Searching.{ended, ended-more, ended-fewer, ended-within, binary_digits-short, one_probe}
+use Rattle.std.proofs.Common.{◌≡◌, ◌+◌, ◌<◌, ◌≤◌, ◌-◌, ◌/◌, length, get_or, ap, arith}
+use Rattle.replica.specs.Ends.{binary_digits}
+use Rattle.replica.proofs.Searching.{ended-more, ended-fewer, ended-within, binary_digits-short, one_probe}
 use Rattle.replica.proofs.ends.Ends.find.Goals as goal
 
 pub loop-low-init : goal.loop-low-init

@@ -1,4 +1,4 @@
-use Rattle.std.proofs.Common.{subst, sym, take}
+use Rattle.std.proofs.Common.{subst, sym}
 use Rattle.replica.specs.Ends.{RiseAbove}
 use Rattle.replica.proofs.Searching.{rise-take}
 use Rattle.replica.proofs.ends.Ends.truncate.Goals as goal

@@ -1,4 +1,4 @@
-use Rattle.std.proofs.Common.{◌≡◌, ◌≤◌, take, ap, sym, ◌∙◌, subst, arith}
+use Rattle.std.proofs.Common.{take, ap, sym, ◌∙◌, subst, arith}
 use Rattle.replica.specs.Groups.{text_length}
 use Rattle.replica.specs.Placed.{Placed, found_or}
 use Rattle.replica.specs.Spelled.{IsSpelled}

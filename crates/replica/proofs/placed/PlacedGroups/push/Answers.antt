@@ -1,9 +1,8 @@
-use Rattle.std.proofs.Common.{◌≡◌, ◌++◌, ◌∷◌, [], length, refl, ap, ◌∙◌, subst, arith, length-append}
-use Rattle.block_types.specs.Limits.{group_size}
-use Rattle.replica.specs.Groups.{joined, text_length}
+use Rattle.std.proofs.Common.{◌++◌, ◌∷◌, [], length, refl, ap, ◌∙◌, subst, arith, length-append}
+use Rattle.replica.specs.Groups.{joined}
 use Rattle.replica.specs.Placed.{Placed}
 use Rattle.replica.specs.Spelled.{IsSpelled, block_sizes}
-use Rattle.replica.proofs.Lengths.{group_size-size, text_length-push}
+use Rattle.replica.proofs.Lengths.{group_size-size}
 use Rattle.replica.proofs.Placing.{pushed-rise}
 use Rattle.replica.proofs.Spelling.{one_more, settled, spelled_groups, blocks_within, count_within, length-block_sizes, length-sizes_of}
 use Rattle.replica.proofs.placed.PlacedGroups.push.Goals as goal

@@ -1,6 +1,6 @@
-use Rattle.std.proofs.Common.{◌≡◌, ◌+◌, ◌≤◌, length, take, drop, ap, sym, ◌∙◌, subst, arith}
+use Rattle.std.proofs.Common.{◌+◌, ◌≤◌, length, take, drop, ap, sym, ◌∙◌, subst, arith}
 use Rattle.std.proofs.lemmas.Bool.{leb-true}
-use Rattle.replica.specs.Groups.{text, text_length}
+use Rattle.replica.specs.Groups.{text}
 use Rattle.replica.specs.Placed.{Placed}
 use Rattle.replica.specs.Reading.{bytes_at}
 use Rattle.replica.specs.Spelled.{IsSpelled}

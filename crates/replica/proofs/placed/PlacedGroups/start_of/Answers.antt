@@ -1,4 +1,4 @@
-use Rattle.std.proofs.Common.{◌≡◌, subst, arith}
+use Rattle.std.proofs.Common.{subst}
 use Rattle.replica.specs.Placed.{Placed}
 use Rattle.replica.specs.Spelled.{IsSpelled}
 use Rattle.replica.proofs.Placing.{starts, start_within}
