@@ -1,21 +1,19 @@
 -- Servers that change nothing of what their ranges do with streams: one that stops, starts, or begins a load, and all at a moment.
-use Rattle.std.proofs.Common.{◌≡◌, ◌⊎◌, ⊎_elim, ℕ, suc, ◌-◌, List, [], ◌∷◌, ◌++◌, map, Bool, true, false, ◌&&◌, ◌==◌, Option, Some, None, option_map, slice_set, refl, sym, ap, ◌∙◌, subst, inl, inr, arith, append-nil, if◌then◌else◌}
+use Rattle.std.proofs.Common.{◌≡◌, ◌⊎◌, ℕ, ◌-◌, List, [], ◌∷◌, map, true, false, ◌&&◌, ◌==◌, Option, Some, None, option_map, slice_set, refl, sym, ap, ◌∙◌, subst, inl, inr, arith, append-nil, if◌then◌else◌}
 use Rattle.std.proofs.lemmas.Bool.Decides.{nat_tests}
 use Rattle.std.proofs.lemmas.Bool.{cases_eq}
-use Rattle.wire.specs.declared.note.Note.{Note}
 use Rattle.wire.specs.declared.packet.Packet.{Packet}
 use Rattle.model_streams.specs.Maps.{changed_at, entry_at}
 use Rattle.model_partition.specs.declared.server_context.ServerContext.{ServerContext}
-use Rattle.model_partition.specs.declared.table_note.TableNote.{TableNote}
 use Rattle.model_partition.specs.Past.{Bytes}
-use Rattle.model_partition.specs.Range.{RangeState, RangeOutcome, is_serving}
+use Rattle.model_partition.specs.Range.{RangeState, is_serving}
 use Rattle.model_partition.specs.Server.{ServerState, new_range, range_of, moment_rule}
-use Rattle.model_partition.specs.Servers.{ServerCell, ServersOutcome, told_moment}
-use Rattle.model_partition.specs.ServerRun.{RangeHistory, ServerRun, first_history, with_outcome, log_name}
+use Rattle.model_partition.specs.Servers.{ServerCell, told_moment}
+use Rattle.model_partition.specs.ServerRun.{ServerRun, first_history, with_outcome}
 use Rattle.model_partition.specs.ServedTables.{AreSeenAs, ServesAt}
 use Rattle.laws_loads.proofs.Entries.{entry_set, entry_other, entry_unmapped}
 use Rattle.laws_server_runs.specs.RangeView.{RangeView}
-use Rattle.laws_server_runs.specs.RangeInvariant.{RangeKept, StreamsKept, AreObserved}
+use Rattle.laws_server_runs.specs.RangeInvariant.{RangeKept}
 use Rattle.laws_server_runs.specs.RunInvariant.{view_at, HoldsFirst, RunKept}
 use Rattle.laws_server_runs.proofs.Steps.{held_is, streams_at}
 
@@ -54,12 +52,12 @@ module _ (texts : ℕ → Bytes) (x : ServerRun) (k : RunKept texts x) where
         (q.ranges ≡ []) ⊎ ((b : ServerCell) × (st : ServerState) × (entry_at x.servers t ≡ Some b) × (b.state ≡ Some st) × (q.ranges ≡ st.ranges))
     one_like t c q there up = elim (cases_eq t s) [
       | inl same ↦
-        (let found : Some d ≡ Some c = sym (entry_set x.servers s cell d at) ∙ subst (λ n. entry_at (slice_set x.servers (s - 1) d) n ≡ Some c) same there in
-        let is : d ≡ c = cc in
-        elim (like q (ap (λ (z : ServerCell). z.state) is ∙ up)) [
-          | inl none ↦ inl none
-          | inr old ↦ inr (cell, old.0, subst (λ n. entry_at x.servers n ≡ Some cell) (sym same) at, old.1, old.2)
-        ])
+          (let found : Some d ≡ Some c = sym (entry_set x.servers s cell d at) ∙ subst (λ n. entry_at (slice_set x.servers (s - 1) d) n ≡ Some c) same there in
+          let is : d ≡ c = cc in
+          elim (like q (ap (λ (z : ServerCell). z.state) is ∙ up)) [
+            | inl none ↦ inl none
+            | inr old ↦ inr (cell, old.0, subst (λ n. entry_at x.servers n ≡ Some cell) (sym same) at, old.1, old.2)
+          ])
       | inr apart ↦ inr (c, q, sym (entry_other x.servers s cell d at t apart) ∙ there, up, refl)
     ]
 
@@ -122,12 +120,12 @@ module _ (texts : ℕ → Bytes) (x : ServerRun) (k : RunKept texts x) where
     ranges : (t : ℕ) (c : ServerCell) (q : ServerState) → entry_at begun_run.servers t ≡ Some c → c.state ≡ Some q → HoldsFirst texts (view_at begun_run t) q.ranges
     ranges t c q there up = elim (cases_eq t s) [
       | inl same ↦
-        (let e : after ≡ q = at_here c q (subst (λ n. entry_at begun_run.servers n ≡ Some c) same there) up in
-        let mine : RangeKept texts (view_at begun_run s) (new_range d 1 generation until) = new (view_at begun_run s) cleared in
-        subst (λ n. HoldsFirst texts (view_at begun_run n) q.ranges) (sym same)
-        (subst (λ l. HoldsFirst texts (view_at begun_run s) l) (sym only ∙ ap (λ (z : ServerState). z.ranges) e) (refl, mine)))
+          (let e : after ≡ q = at_here c q (subst (λ n. entry_at begun_run.servers n ≡ Some c) same there) up in
+          let mine : RangeKept texts (view_at begun_run s) (new_range d 1 generation until) = new (view_at begun_run s) cleared in
+          subst (λ n. HoldsFirst texts (view_at begun_run n) q.ranges) (sym same)
+          (subst (λ l. HoldsFirst texts (view_at begun_run s) l) (sym only ∙ ap (λ (z : ServerState). z.ranges) e) (refl, mine)))
       | inr apart ↦
-        subst (λ v. HoldsFirst texts v q.ranges) (sym (others t apart)) (k.ranges t c q (sym (entry_other x.servers s cell next_cell at t apart) ∙ there) up)
+          subst (λ v. HoldsFirst texts v q.ranges) (sym (others t apart)) (k.ranges t c q (sym (entry_other x.servers s cell next_cell at t apart) ∙ there) up)
     ]
 
     -- it does not serve yet

@@ -1,5 +1,5 @@
 -- Whatever comes to servers, what is kept of them stays so.
-use Rattle.std.proofs.Common.{◌≡◌, ◌⊎◌, ⊎_elim, ℕ, suc, ◌-◌, ◌<◌, ◌^◌, max, List, [], ◌∷◌, ◌++◌, length, map, Bool, true, false, not, ◌&&◌, ◌==◌, Option, Some, None, is_some, option_map, slice_set, slice_get, nat_lt, refl, sym, ap, ◌∙◌, subst, inl, inr, arith, append-nil, if◌then◌else◌}
+use Rattle.std.proofs.Common.{◌≡◌, ◌⊎◌, ⊎_elim, ℕ, suc, ◌-◌, ◌^◌, max, List, [], ◌∷◌, ◌++◌, Bool, true, false, ◌==◌, Option, Some, None, slice_set, nat_lt, refl, sym, ap, ◌∙◌, subst, inl, inr, append-nil, if◌then◌else◌}
 use Rattle.std.specs.BTreeMap.{insert_entry}
 use Rattle.std.specs.Ordering.{nat_cmp}
 use Rattle.block_types.specs.declared.record.Nodes.{Nodes}
@@ -18,21 +18,19 @@ use Rattle.wire.specs.declared.refusal.Refusal.TheVariants as refusals
 use Rattle.wire.specs.declared.transaction.Change.{Change}
 use Rattle.client.specs.Load.{open_packet}
 use Rattle.model_streams.specs.Maps.{entry_at}
-use Rattle.model_streams.proofs.Tests.{if_elim}
 use Rattle.model_partition.specs.declared.server_context.ServerContext.{ServerContext}
-use Rattle.model_partition.specs.declared.table_note.TableNote.{TableNote}
 use Rattle.model_partition.specs.Past.{Bytes}
 use Rattle.model_partition.specs.Range.{RangeState, RangeOutcome, request, used, refuses, is_serving}
 use Rattle.model_partition.specs.Serving.{transact_rule}
 use Rattle.model_partition.specs.Getting.{get_rule}
 use Rattle.model_partition.specs.Answering.{range_awaits, answered_number, is_answerer, answer_rule, give_up_all}
 use Rattle.model_partition.specs.Server.{ServerState, ServerOutcome, range_of, set_range, awaiting, rests, sends_one, stepped, new_range, is_newer, users_of, assign_rule, renew_rule, told_by_map, map_rule, transacts_in, gets_in, table_rule, answer_in, answer_of, numbered_rule, taken_rule, has_numbers, server_rule, gives_up, picked, give_up_rule, started}
-use Rattle.model_partition.specs.Servers.{ServerCell, CellOutcome, ServersOutcome, cell_rests, cell_performs, cell_takes, cell_given_up, cell_gives_up, cell_stops, cell_starts, at_server, server_takes, server_gives_up, server_stops, server_starts, first_pick}
+use Rattle.model_partition.specs.Servers.{ServerCell, cell_rests, cell_performs, cell_takes, cell_given_up, cell_gives_up, cell_stops, cell_starts, at_server, first_pick}
 use Rattle.model_partition.specs.StreamActions.{StreamAction, transact_actions, answer_actions}
 use Rattle.model_partition.specs.ServerRun.{ServerRun, RangeEffect, Begins, Does, Rests as RestsSo, ServerEvent, Takes, GivesUp, Stops, Starts, Moment, first_history, after_event, with_effect, with_outcome, told_effect, map_effect, transact_effect, table_effect, answer_effect, awaited_effect, numbered_effect, packet_effect, server_effect, cell_effect}
 use Rattle.model_partition.specs.ServedTables.{AreSeenAs, IsOfFirst, IsFirst, ServesAt}
 use Rattle.laws_loads.proofs.Entries.{one_range}
-use Rattle.laws_server_runs.specs.RangeView.{RangeView, view_after_all, log_of, metadata_of}
+use Rattle.laws_server_runs.specs.RangeView.{RangeView, view_after_all, log_of}
 use Rattle.laws_server_runs.specs.RangeInvariant.{RangeKept, StreamsKept, InOrder, AreObserved, Rests, StepKept}
 use Rattle.laws_server_runs.specs.RunInvariant.{view_at, HoldsFirst, RunKept}
 use Rattle.laws_server_runs.proofs.Steps.{IsAlone, OthersKept, stepped_kept, actions_here, streams_at}

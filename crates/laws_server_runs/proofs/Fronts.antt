@@ -1,5 +1,5 @@
 -- What stood before more events came: a story keeps its order if a longer one does, and so do the other premises.
-use Rattle.std.proofs.Common.{◌≡◌, ◌⊎◌, ⊎_elim, ℕ, suc, ◌<◌, ◌≤◌, List, [], ◌∷◌, ◌++◌, length, Bool, true, false, Option, Some, None, refl, sym, ap, ◌∙◌, subst, inl, inr, arith, append_assoc, if◌then◌else◌}
+use Rattle.std.proofs.Common.{◌≡◌, ⊎_elim, ℕ, ◌<◌, ◌≤◌, List, [], ◌∷◌, ◌++◌, length, Bool, true, false, Some, refl, sym, ap, ◌∙◌, subst, arith, append_assoc, if◌then◌else◌}
 use Rattle.std.specs.Prelude.{Contains}
 use Rattle.wire.specs.declared.note.Note.{Note}
 use Rattle.wire.specs.declared.streams.StreamKind.{StreamKind}
@@ -7,7 +7,7 @@ use Rattle.wire.specs.declared.streams.StreamKind.TheVariants as kinds
 use Rattle.model_partition.specs.declared.table_note.TableNote.{TableNote}
 use Rattle.model_partition.specs.Loading.{Group}
 use Rattle.model_partition.specs.Past.{Bytes}
-use Rattle.model_partition.specs.Story.{Placed, Copy, StreamEvent, Made, Answered, Showed, Story, event_at, KeepsOrder}
+use Rattle.model_partition.specs.Story.{Copy, StreamEvent, Made, Answered, Showed, Story, event_at, KeepsOrder}
 use Rattle.model_partition.specs.StreamActions.{StreamAction, Reads, Forms, Stands, Shows}
 use Rattle.model_partition.specs.ServerRun.{PlacedBytes, is_kind}
 use Rattle.model_partition.specs.ServedTables.{AllStand, AreSeenAs, LoadsOnce}
@@ -30,17 +30,21 @@ module _ (A : Type 0) where
         let r : (g' : ℕ) × (event_at (e ∷ earlier) c.append ≡ Some (Made g' c.group)) × (g' < g) × (c.append < l) =
         order.handed l g start end groups c (older A e earlier l (Showed g start end groups) h) i in
         let low : l < length earlier = bound A earlier l (Showed g start end groups) h in
-        let lt : c.append < l = r.3 in
-        (r.0, ⊎_elim {C = event_at earlier c.append ≡ Some (Made r.0 c.group)}
-        (λ (q : (c.append ≡ length earlier) × (e ≡ Made r.0 c.group)). let z : c.append ≡ length earlier = q.0 in absurd (omega (arith, z, low, lt)))
-        (λ o. o) (event_cases A e earlier c.append (Made r.0 c.group) r.1), r.2, r.3);
+        let lt : c.append < l = r.3 in (
+          r.0,
+          ⊎_elim {C = event_at earlier c.append ≡ Some (Made r.0 c.group)}
+              (λ (q : (c.append ≡ length earlier) × (e ≡ Made r.0 c.group)). let z : c.append ≡ length earlier = q.0 in absurd (omega (arith, z, low, lt)))
+              (λ o. o) (event_cases A e earlier c.append (Made r.0 c.group) r.1),
+          r.2,
+          r.3,
+        );
     answered = λ l g start end a g' k from to groups group h ha lt hk.
         order.answered l g start end a g' k from to groups group (older A e earlier l (Showed g start end groups) h) (older A e earlier a (Made g' group) ha) lt
         (older A e earlier k (Answered a from to) hk);
     after = λ l a k from to c i hk lt. order.after l a k from to c i (older A e earlier k (Answered a from to) hk) lt;
     begins = λ l m g h start end start' end' groups groups' hl hm lt.
         let r : (rest : List (Copy A)) × (order.copies m ≡ order.copies l ++ rest)
-            × ((c : Copy A) → Contains rest c → (end ≤ c.from) × ((g' : ℕ) (group : A) → event_at (e ∷ earlier) c.append ≡ Some (Made g' group) → g ≤ g')) =
+        × ((c : Copy A) → Contains rest c → (end ≤ c.from) × ((g' : ℕ) (group : A) → event_at (e ∷ earlier) c.append ≡ Some (Made g' group) → g ≤ g')) =
         order.begins l m g h start end start' end' groups groups' (older A e earlier l (Showed g start end groups) hl) (older A e earlier m (Showed h start' end' groups') hm) lt in
         (r.0, r.1, λ c i. ((r.2 c i).0, λ g' group made. (r.2 c i).1 g' group (older A e earlier c.append (Made g' group) made)));
   }

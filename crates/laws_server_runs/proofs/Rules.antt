@@ -1,5 +1,5 @@
 -- All rules of a range keep what is kept, and what they do to the story of its log.
-use Rattle.std.proofs.Common.{◌≡◌, ◌⊎◌, ℕ, ◌<◌, Bool, true, false, List, [], ◌∷◌, length, map, Option, Some, None, is_some, refl, sym, ap, ◌∙◌, subst, inl, inr, arith, if◌then◌else◌}
+use Rattle.std.proofs.Common.{◌≡◌, ◌⊎◌, ℕ, ◌<◌, Bool, true, false, List, [], ◌∷◌, length, map, Option, Some, None, is_some, refl, sym, ◌∙◌, subst, inl, inr, arith, if◌then◌else◌}
 use Rattle.wire.specs.declared.actor.ActorId.{ActorId}
 use Rattle.wire.specs.declared.actor.ReqNo.{ReqNo}
 use Rattle.wire.specs.declared.body.Body.{Body}
@@ -22,11 +22,11 @@ use Rattle.model_partition.specs.declared.stage.Stage.{Stage}
 use Rattle.model_partition.specs.declared.stage.Stage.TheVariants as stages
 use Rattle.model_partition.specs.Loading.{Group}
 use Rattle.model_partition.specs.Past.{Bytes}
-use Rattle.model_partition.specs.Range.{OutGroup, RangeState, RangeOutcome, if_there, is_serving, request, picking}
+use Rattle.model_partition.specs.Range.{OutGroup, RangeState, if_there, is_serving, request, picking}
 use Rattle.model_partition.specs.Serving.{transact_fault, transacts, transact_rule}
 use Rattle.model_partition.specs.Answering.{load_reply, log_reply, metadata_reply, gets_reply, is_taken, groups_of, answer_rule}
-use Rattle.model_partition.specs.Story.{Placed, Showed, Story, event_at}
-use Rattle.model_partition.specs.StreamActions.{StreamAction, Forms, Shows, group_of, formed, transact_actions, loading_actions, confirmed_actions, load_actions, metadata_actions, log_actions, answered_actions, answer_actions}
+use Rattle.model_partition.specs.Story.{Placed, Showed}
+use Rattle.model_partition.specs.StreamActions.{StreamAction, Forms, group_of, transact_actions, loading_actions, confirmed_actions, load_actions, metadata_actions, log_actions, answered_actions, answer_actions}
 use Rattle.model_partition.specs.ServedTables.{LoadsOnce}
 use Rattle.laws_loads.proofs.WaitingIsSound.{taken_served}
 use Rattle.laws_tables.proofs.Range.{newest, bound, older}

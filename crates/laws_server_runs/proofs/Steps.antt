@@ -1,27 +1,22 @@
 -- A step of a range at one server keeps what is kept of all servers.
-use Rattle.std.proofs.Common.{◌≡◌, ◌⊎◌, ⊎_elim, ℕ, suc, ◌+◌, ◌-◌, ◌<◌, List, [], ◌∷◌, ◌++◌, length, map, Bool, true, false, ◌&&◌, ◌==◌, Option, Some, None, option_map, slice_set, refl, sym, ap, ◌∙◌, subst, inl, inr, arith, append_assoc, append-nil, if◌then◌else◌}
+use Rattle.std.proofs.Common.{◌≡◌, ◌⊎◌, ⊎_elim, ℕ, suc, ◌-◌, List, [], ◌∷◌, ◌++◌, true, false, ◌&&◌, ◌==◌, Some, None, slice_set, refl, sym, ap, ◌∙◌, subst, inl, inr, arith, if◌then◌else◌}
 use Rattle.std.proofs.lemmas.Bool.Decides.{nat_tests}
 use Rattle.std.proofs.lemmas.Bool.{cases_eq}
 use Rattle.wire.specs.declared.note.Note.{Note}
 use Rattle.wire.specs.declared.packet.Packet.{Packet}
-use Rattle.wire.specs.declared.streams.StreamKind.{StreamKind}
-use Rattle.wire.specs.declared.streams.StreamKind.TheVariants as kinds
-use Rattle.model_streams.specs.Maps.{changed_at, entry_at}
+use Rattle.model_streams.specs.Maps.{entry_at}
 use Rattle.model_partition.specs.declared.stage.Stage.{Stage}
 use Rattle.model_partition.specs.declared.stage.Stage.TheVariants as stages
-use Rattle.model_partition.specs.declared.table_note.TableNote.{TableNote}
-use Rattle.model_partition.specs.Loading.{Group}
 use Rattle.model_partition.specs.Past.{Bytes}
-use Rattle.model_partition.specs.Story.{Story}
 use Rattle.model_partition.specs.Range.{RangeState, RangeOutcome, is_serving}
 use Rattle.model_partition.specs.Server.{ServerState, range_of}
-use Rattle.model_partition.specs.Servers.{ServerCell, ServersOutcome}
+use Rattle.model_partition.specs.Servers.{ServerCell}
 use Rattle.model_partition.specs.StreamActions.{StreamAction, Reads, Forms, Stands, Shows}
-use Rattle.model_partition.specs.ServerRun.{RangeHistory, ServerRun, after_action, after_actions, with_outcome, log_name}
+use Rattle.model_partition.specs.ServerRun.{ServerRun, after_action, after_actions, with_outcome, log_name}
 use Rattle.model_partition.specs.ServedTables.{AreSeenAs, ServesAt}
 use Rattle.laws_loads.proofs.Entries.{entry_set, entry_other}
 use Rattle.laws_server_runs.specs.RangeView.{RangeView, view_after, view_after_all, log_of}
-use Rattle.laws_server_runs.specs.RangeInvariant.{IsShownUnder, Serves, StageIs, RangeKept, StreamsKept, AreObserved, GoesOn, Rests, IsLonger, KeptIf, ServesAnew, StepKept}
+use Rattle.laws_server_runs.specs.RangeInvariant.{IsShownUnder, StageIs, RangeKept, StreamsKept, AreObserved, GoesOn, Rests, IsLonger, KeptIf, ServesAnew, StepKept}
 use Rattle.laws_server_runs.specs.RunInvariant.{view_at, HoldsFirst, RunKept}
 use Rattle.laws_server_runs.proofs.Fronts.{SeenBoth, seen_both}
 
@@ -169,8 +164,8 @@ module _ (texts : ℕ → Bytes) where
       | inr rest ↦ elim rest [
         | inl none ↦ on (λ e same. none (subst (λ z. IsShownUnder (x.story log_name) z) same (shown_at (view_at x t) u h e)))
         | inr still ↦
-          others (view_at x t) (view_at next_run t) u (actions_apart s g t apart x actions) h (suc u.load.generation)
-          (subst (λ z. GoesOn texts (suc u.load.generation) (x.story log_name) z) (sym still ∙ sym (ap log_of here)) Rests) longer (λ e same. no_more u.load.generation same)
+            others (view_at x t) (view_at next_run t) u (actions_apart s g t apart x actions) h (suc u.load.generation)
+            (subst (λ z. GoesOn texts (suc u.load.generation) (x.story log_name) z) (sym still ∙ sym (ap log_of here)) Rests) longer (λ e same. no_more u.load.generation same)
       ]
     ]
       where

@@ -1,17 +1,13 @@
 -- Servers over any streams that keep their order: what they load replays, and a served range is at the line of its generation.
-use Rattle.std.proofs.Common.{◌≡◌, ℕ, zero, suc, ◌+◌, List, [], ◌∷◌, ◌++◌, Bool, true, false, Option, Some, None, slice_get, refl, sym, ap, ◌∙◌, subst, arith, append_assoc, if◌then◌else◌}
+use Rattle.std.proofs.Common.{◌≡◌, ℕ, zero, suc, List, [], ◌∷◌, Bool, true, false, Some, None, slice_get, refl, sym, ap, ◌∙◌, subst, if◌then◌else◌}
 use Rattle.wire.specs.declared.note.Note.{Note}
-use Rattle.wire.specs.declared.packet.Packet.{Packet}
-use Rattle.wire.specs.declared.rows.Row.{Row}
 use Rattle.wire.specs.declared.streams.StreamKind.TheVariants as kinds
 use Rattle.wire.specs.declared.streams.StreamName.{StreamName}
 use Rattle.commitlog.specs.Replay.{Numbered}
 use Rattle.model_streams.specs.Maps.{entry_at}
 use Rattle.model_partition.specs.declared.stage.Stage.{Stage}
 use Rattle.model_partition.specs.declared.stage.Stage.TheVariants as stages
-use Rattle.model_partition.specs.declared.table_note.TableNote.{TableNote}
 use Rattle.model_partition.specs.Loading.{Group}
-use Rattle.model_partition.specs.Log.{IsServed, ShowsTables, observed}
 use Rattle.model_partition.specs.Past.{Bytes, Replays, Transaction, table_notes}
 use Rattle.model_partition.specs.Range.{RangeState, is_serving}
 use Rattle.model_partition.specs.Renaming.{renamed, decoded}
@@ -19,12 +15,12 @@ use Rattle.model_partition.specs.Server.{ServerState, range_of, started}
 use Rattle.model_partition.specs.Servers.{ServerCell, first_pick, first_server, first_servers}
 use Rattle.model_partition.specs.Story.{StreamEvent, KeepsOrder, Story}
 use Rattle.model_partition.specs.StreamActions.{StreamAction, Reads, Forms, Stands, Shows}
-use Rattle.model_partition.specs.ServerRun.{PlacedBytes, ServerRun, ServerEvent, Takes, GivesUp, Stops, Starts, Moment, RangeEffect, Begins, Does, Rests, is_stream, with_event, stream_named, after_action, after_actions, with_effect, cell_effect, after_event, first_run, run_of, log_name, metadata_name}
-use Rattle.model_partition.specs.ServedTables.{AreFirst, AreSeenAs, AllStand, LoadsOnce, StreamsInOrder, IsAtLine, ServesAt}
+use Rattle.model_partition.specs.ServerRun.{ServerRun, ServerEvent, Takes, GivesUp, Stops, Starts, Moment, RangeEffect, Begins, Does, Rests, is_stream, with_event, stream_named, after_action, after_actions, with_effect, cell_effect, after_event, first_run, run_of, log_name, metadata_name}
+use Rattle.model_partition.specs.ServedTables.{AreFirst, AreSeenAs, AllStand, StreamsInOrder, IsAtLine, ServesAt}
 use Rattle.laws_loads.proofs.Renaming.{renamed_keeps}
 use Rattle.laws_tables.proofs.Others.{with_others}
 use Rattle.laws_tables.proofs.Theorem.{replays}
-use Rattle.laws_server_runs.specs.RangeInvariant.{InOrder, IsLonger, AreObserved, RangeKept, Serves, StageIs}
+use Rattle.laws_server_runs.specs.RangeInvariant.{InOrder, IsLonger, AreObserved, RangeKept, StageIs}
 use Rattle.laws_server_runs.specs.RunInvariant.{view_at, HoldsFirst, RunKept}
 use Rattle.laws_server_runs.proofs.Fronts.{order_shorter, once_shorter, stand_shorter, longer_same, longer_twice}
 use Rattle.laws_server_runs.proofs.Steps.{kept_at}

@@ -1,6 +1,6 @@
 -- What is kept of a range at a server: while it loads, what it made of what it read; while it is served, that its tables are those
 -- of the line that its generation has come to.
-use Rattle.std.specs.Prelude.{◌≡◌, ◌⊎◌, ℕ, ◌<◌, true, false, List, [], ◌∷◌, ◌++◌, Option, Some, None, is_some}
+use Rattle.std.specs.Prelude.{◌≡◌, ◌⊎◌, ℕ, ◌<◌, true, List, [], ◌∷◌, ◌++◌, Option, Some, None, is_some}
 use Rattle.blocks.specs.Format.{◌>>=◌}
 use Rattle.wire.specs.declared.actor.ReqNo.{ReqNo}
 use Rattle.wire.specs.declared.note.Note.{Note}
@@ -18,7 +18,6 @@ use Rattle.client.specs.declared.load.LoadPhase.{LoadPhase}
 use Rattle.client.specs.declared.load.LoadPhase.TheVariants as phases
 use Rattle.model_partition.specs.declared.stage.Stage.{Stage}
 use Rattle.model_partition.specs.declared.stage.Stage.TheVariants as stages
-use Rattle.model_partition.specs.declared.table_note.TableNote.{TableNote}
 use Rattle.model_partition.specs.Log.{IsServed, next_number, observed, ShowsTables}
 use Rattle.model_partition.specs.Past.{Bytes}
 use Rattle.model_partition.specs.Story.{Placed, StreamEvent, Made, Answered, Showed, Story, event_at, KeepsOrder}

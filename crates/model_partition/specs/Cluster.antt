@@ -1,6 +1,5 @@
 -- Whole runs: nodes and the manager below, servers and the map above them.
-use Rattle.std.specs.Prelude.{ℕ, zero, suc, Bool, List, [], ◌∷◌, map, Option, Some, None, nat_lt, ◌==◌, slice_get, if◌then◌else◌}
-use Rattle.block_types.specs.declared.record.Nodes.{Nodes}
+use Rattle.std.specs.Prelude.{ℕ, Bool, List, [], ◌∷◌, map, Option, Some, None, nat_lt, ◌==◌, slice_get, if◌then◌else◌}
 use Rattle.wire.specs.declared.actor.ActorId.{ActorId}
 use Rattle.wire.specs.declared.actor.ActorId.TheVariants.{Map, Server}
 use Rattle.wire.specs.declared.packet.Packet.{Packet}

@@ -13,7 +13,6 @@ use Rattle.client.specs.declared.load.LoadPhase.TheVariants as phases
 use Rattle.client.specs.Client.{ClientState, Outcome, new_client, last_extent, check_rule, read_sealed_rule, read_checked_rule}
 use Rattle.client.specs.Load.{confirm_packet}
 use Rattle.metadata.specs.declared.record.KeyRange.{KeyRange}
-use Rattle.metadata.specs.declared.record.MetaRecord.{MetaRecord}
 use Rattle.metadata.specs.declared.record.Region.{Region}
 use Rattle.metadata.specs.Fold.{MetadataState, first_metadata, folded}
 use Rattle.metadata.specs.Reading.{group_at}

@@ -1,5 +1,5 @@
 -- The records of the map, as bytes.
-use Rattle.std.specs.Prelude.{ℕ, zero, suc, List, [], ◌∷◌, ◌++◌, Option, Some, None, ◌==◌, if◌then◌else◌}
+use Rattle.std.specs.Prelude.{ℕ, List, [], ◌∷◌, ◌++◌, Option, Some, None, ◌==◌, if◌then◌else◌}
 use Rattle.blocks.specs.Format.{◌>>=◌, number_at, pair_at, whole}
 use Rattle.blocks.specs.Record.{number}
 use Rattle.model_partition.specs.declared.map_record.MapRecord.{MapRecord}

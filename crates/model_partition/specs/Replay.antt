@@ -1,5 +1,5 @@
 -- The map that records make.
-use Rattle.std.specs.Prelude.{ℕ, suc, ◌^◌, Bool, true, false, ◌&&◌, is_some, nat_lt, List, [], ◌∷◌, Option, Some, None}
+use Rattle.std.specs.Prelude.{suc, ◌^◌, Bool, true, false, ◌&&◌, is_some, nat_lt, List, [], ◌∷◌, Option, Some, None}
 use Rattle.block_types.specs.declared.record.Record.{Record}
 use Rattle.block_types.specs.declared.record.Record.TheVariants.{Manage}
 use Rattle.model_partition.specs.declared.map_record.MapRecord.{MapRecord}

@@ -1,6 +1,6 @@
 -- What is owed by the servers of a range over any streams: the premises, and that a served range's tables are the table of the
 -- line that ends at its log position.
-use Rattle.std.specs.Prelude.{◌≡◌, ℕ, suc, ◌+◌, max, Bool, true, false, List, [], ◌∷◌, ◌++◌, length, Option, Some, None, if◌then◌else◌, ◌==◌}
+use Rattle.std.specs.Prelude.{◌≡◌, ℕ, suc, ◌+◌, max, Bool, true, false, List, [], ◌∷◌, ◌++◌, length, Option, Some, if◌then◌else◌, ◌==◌}
 use Rattle.wire.specs.declared.actor.ActorId.{ActorId}
 use Rattle.wire.specs.declared.actor.ActorId.TheVariants.{Map}
 use Rattle.wire.specs.declared.body.Body.{Body}

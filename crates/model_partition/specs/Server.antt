@@ -19,7 +19,6 @@ use Rattle.wire.specs.declared.refusal.Refusal.TheVariants as refusals
 use Rattle.wire.specs.declared.streams.StreamKind.TheVariants as kinds
 use Rattle.client.specs.Client.{new_client}
 use Rattle.client.specs.Load.{opening, open_packet}
-use Rattle.memtable.specs.declared.cell.Place.{Place}
 use Rattle.metadata.specs.Fold.{first_metadata}
 use Rattle.model_partition.specs.declared.stage.Stage.TheVariants.{Opening}
 use Rattle.model_partition.specs.declared.table_note.TableNote.{TableNote}
