@@ -9,8 +9,7 @@ use Rattle.wire.specs.declared.body.TableBody.TheVariants as tables
 use Rattle.wire.specs.declared.packet.Packet.{Packet}
 use Rattle.model_partition.specs.declared.table_note.TableNote.{TableNote}
 use Rattle.model_partition.specs.Answering.{answered_number}
-use Rattle.model_partition.specs.Servers.{CacheContent}
-use Rattle.model_partition.specs.Server.{ServerState, ServerOutcome, server_rule}
+use Rattle.model_partition.specs.Server.{ServerState, ServerOutcome}
 
 -- the packets and the observations
 pub record Sent : Type 0 where
@@ -19,16 +18,6 @@ pub record Sent : Type 0 where
 
 abbrev pub outcome : Sent → ServerState → ServerOutcome
 outcome t s = record { after = s; packets = t.packets; notes = t.notes }
-
--- one of these rules, of which each is for what some cache holds after it
-pub record ServerPerforms (before after : ServerState) (t : Sent) (rule : CacheContent → ServerOutcome) : Type 0 where
-  pub held : CacheContent
-  pub is : rule held ≡ outcome t after
-
--- the rule of the packet, for what some cache holds after it
-pub record HandlesPacket (before after : ServerState) (p : Packet) (t : Sent) : Type 0 where
-  pub held : CacheContent
-  pub rule : server_rule before p p.body held ≡ outcome t after
 
 -- no step sends or shows more
 abbrev pub IsShort : Sent → Type 0

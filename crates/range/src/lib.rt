@@ -1,7 +1,7 @@
 //! A partition server: the ranges that it holds, from one start to the next stop (Calder et al., SOSP 2011, section 5).
 //!
 //! This crate touches memory only. `RangeServer` is the table of a server over all its ranges (model_partition/specs/Server), and
-//! each call is a rule of it exactly, but for what caches hold. What the layers above may build on, each a clause here:
+//! each call is a rule of it exactly. What the layers above may build on, each a clause here:
 //! - `start` holds no range; `moment` shows the clock of leases.
 //! - `handle` is the rule of a packet: an answer goes to the range that waits for its number, what a user asks to the range that
 //!   it names, or it is refused (30); what the map tells assigns a range or renews its lease.

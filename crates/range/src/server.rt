@@ -1,12 +1,12 @@
 //! A partition server.
 ghost use Rattle.std.specs.Prelude.{◌≡◌, ◌<◌, ◌≤◌, ◌+◌, ◌^◌, ◌++◌, [], ◌∷◌, Some, None, Err, true, length, option_map, is_some, IfOk, OnErr};
-ghost use Rattle.model_partition.specs.Server.{map_rule, new_range, table_rule, numbered_rule, has_numbers, moment_rule, give_up_rule, started, users_of, assign_rule, renew_rule, range_of, transacts_in, gets_in, answer_of, awaiting};
+ghost use Rattle.model_partition.specs.Server.{map_rule, new_range, server_rule, table_rule, numbered_rule, has_numbers, moment_rule, give_up_rule, started, users_of, assign_rule, renew_rule, range_of, transacts_in, gets_in, answer_of, awaiting};
 ghost use Rattle.model_partition.specs.Answering as answering;
 ghost use Rattle.model_partition.specs.Servers.{loads};
 ghost use Rattle.client.specs.Load.{open_packet};
 ghost use Rattle.model_partition.specs.Range.{refuses, request};
 ghost use Rattle.wire.specs.declared.refusal.Refusal.TheVariants.{NotOwner};
-ghost use Rattle.range.specs.ServerStep.{HandlesPacket, ServerPerforms, IsShort, outcome, needs_memory, told_needs_memory, asked_needs_memory};
+ghost use Rattle.range.specs.ServerStep.{IsShort, outcome, needs_memory, told_needs_memory, asked_needs_memory};
 ghost use Rattle.range.specs.declared.fault.RangeFault.TheVariants as faults;
 
 use crate::answers::{answered_number, is_answerer};
@@ -145,7 +145,7 @@ impl RangeServer {
         request: &ReqNo,
     ) -> Result<Sent, AllocError>
         requires numbers { self.old.context.count + 1024 < 2 ^ 64 }
-        ensures ok { IfOk result (λ t. ServerPerforms self.old self.new t (λ held. gets_in self.old packet.now range key.now request.now held (range_of self.old.ranges range))) }
+        ensures ok { IfOk result (λ t. gets_in self.old packet.now range key.now request.now (range_of self.old.ranges range) ≡ outcome t self.new) }
         ensures err { OnErr result (self.new ≡ self.old) }
         ensures short { IfOk result IsShort }
     {
@@ -170,7 +170,7 @@ impl RangeServer {
     ) -> Result<Sent, AllocError>
         requires numbers { self.old.context.count + 1024 < 2 ^ 64 }
         requires answer { answering.answered_number packet.now.body ≡ Some request.now }
-        ensures ok { IfOk result (λ t. ServerPerforms self.old self.new t (λ held. answer_of self.old packet.now request.now held (awaiting self.old.ranges request.now))) }
+        ensures ok { IfOk result (λ t. answer_of self.old packet.now request.now (awaiting self.old.ranges request.now) ≡ outcome t self.new) }
         ensures err { OnErr result (self.new ≡ self.old) }
         ensures short { IfOk result IsShort }
     {
@@ -189,7 +189,7 @@ impl RangeServer {
     /// An answer, or a packet that is none.
     fn answered(&mut self, alloc: Global, packet: &Packet) -> Result<Sent, AllocError>
         requires numbers { self.old.context.count + 1024 < 2 ^ 64 }
-        ensures ok { IfOk result (λ t. ServerPerforms self.old self.new t (λ held. numbered_rule self.old packet.now held (answering.answered_number packet.now.body))) }
+        ensures ok { IfOk result (λ t. numbered_rule self.old packet.now (answering.answered_number packet.now.body) ≡ outcome t self.new) }
         ensures needed { OnErr result (is_some (answering.answered_number packet.now.body) ≡ true) }
         ensures err { OnErr result (self.new ≡ self.old) }
         ensures short { IfOk result IsShort }
@@ -213,7 +213,7 @@ impl RangeServer {
         body: &TableBody,
     ) -> Result<Sent, AllocError>
         requires numbers { self.old.context.count + 1024 < 2 ^ 64 }
-        ensures ok { IfOk result (λ t. ServerPerforms self.old self.new t (λ held. table_rule self.old packet.now body.now held)) }
+        ensures ok { IfOk result (λ t. table_rule self.old packet.now body.now ≡ outcome t self.new) }
         ensures needed { OnErr result (asked_needs_memory body.now ≡ true) }
         ensures err { OnErr result (self.new ≡ self.old) }
         ensures short { IfOk result IsShort }
@@ -349,7 +349,7 @@ impl RangeServer {
     /// What is done with a packet: the rule of its body. An error is out of memory (22), which comes only of an assignment, of
     /// what a user asks and of an answer, and nothing has changed. A server with no numbers left for its requests does nothing.
     pub fn handle(&mut self, alloc: Global, packet: &Packet) -> Result<Sent, AllocError>
-        ensures ok { IfOk result (λ t. HandlesPacket self.old self.new packet.now t) }
+        ensures ok { IfOk result (λ t. server_rule self.old packet.now packet.now.body ≡ outcome t self.new) }
         ensures needed { OnErr result (needs_memory packet.now.body ≡ true) }
         ensures err { OnErr result (self.new ≡ self.old) }
         ensures short { IfOk result IsShort }
@@ -370,7 +370,7 @@ impl RangeServer {
 
     /// The jobs of a range give up on the answers that they wait for, and new extents are made on these nodes from now on.
     /// 22: no memory. 30: the server does not hold the range. After a refusal nothing has changed. A server with no numbers left
-    /// for its requests does nothing.
+    /// for its requests does nothing, and makes new extents on the nodes that it had.
     #[tactic(auto, using(crate::proofs::Entries::removed_after, crate::proofs::Entries::set_same))]
     pub fn give_up(
         &mut self,
@@ -392,7 +392,6 @@ impl RangeServer {
             None => Err(RangeFault::NotOwner),
             Some(state) => {
                 if !has_numbers(&told) {
-                    self.context = told;
                     return Ok(Sent::nothing(alloc));
                 }
                 match state.give_up(alloc, &told) {

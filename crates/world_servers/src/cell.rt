@@ -1,7 +1,7 @@
 //! One server, over its starts and stops.
 ghost use Rattle.std.specs.Prelude.{◌≡◌, Some, None, option_map, IfOk, OnErr};
-ghost use Rattle.model_partition.specs.Servers.{cell_gives_up, cell_stops, cell_starts, first_server, give_up_fault, told_moment, cell_loads};
-ghost use Rattle.world_servers.specs.Servers.{ServerTakesPacket, cell_outcome, NoMore};
+ghost use Rattle.model_partition.specs.Servers.{cell_gives_up, cell_stops, cell_starts, cell_takes, first_server, give_up_fault, told_moment, cell_loads};
+ghost use Rattle.world_servers.specs.Servers.{cell_outcome, NoMore};
 
 use block_types::Nodes;
 use bytes::Bytes;
@@ -64,7 +64,7 @@ impl ServerCell {
 
     /// Gives it a packet. Nothing comes of it where it has stopped.
     pub(crate) fn give(&mut self, alloc: Global, packet: &Packet) -> Result<Sent, AllocError>
-        ensures ok { IfOk result (ServerTakesPacket self.old self.new packet.now) }
+        ensures ok { IfOk result (λ t. cell_takes self.old packet.now self.old.state ≡ cell_outcome self.new t) }
         ensures err { OnErr result (self.new ≡ self.old) }
         ensures few { IfOk result NoMore }
     {

@@ -1,7 +1,7 @@
 //! The partition servers of a run, each over its starts and stops, and the rows that a loaded table shows.
 //!
 //! This crate touches memory only. `Servers` is the list of the servers as model_partition/specs/Servers has it, and each call is
-//! a row of it exactly, but for what caches hold:
+//! a row of it exactly:
 //! - `start`: so many servers that run; `stop` and `restart`: what a server holds goes, and it comes back under another number.
 //! - `give` and `give_up`: what one server does; nothing where there is none of the number, or where it has stopped.
 //! - `loading`: the table that an answer to a server is about to show.

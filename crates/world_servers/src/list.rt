@@ -1,8 +1,8 @@
 //! The servers of a run.
 ghost use Rattle.std.specs.Prelude.{◌≡◌, ◌<◌, suc, [], length, map, option_map, IfOk, OnErr, IfSome, IfNone};
 ghost use Rattle.model_streams.specs.Maps.{entry_at};
-ghost use Rattle.model_partition.specs.Servers.{first_servers, give_up_refusal, server_gives_up, server_loads, server_stops, server_starts, told_moment};
-ghost use Rattle.world_servers.specs.Servers.{ServersTakePacket, outcome, NoMore};
+ghost use Rattle.model_partition.specs.Servers.{first_servers, give_up_refusal, server_gives_up, server_loads, server_stops, server_starts, server_takes, told_moment};
+ghost use Rattle.world_servers.specs.Servers.{outcome, NoMore};
 
 use crate::cell::{GiveUpAnswer, ServerCell};
 use block_types::Nodes;
@@ -42,7 +42,7 @@ fn give_at(
     packet: &Packet,
 ) -> Result<Sent, AllocError>
     requires { at < length cells.old.items }
-    ensures ok { IfOk result (ServersTakePacket cells.old.items cells.new.items (suc at) packet.now) }
+    ensures ok { IfOk result (λ t. server_takes cells.old.items (suc at) packet.now ≡ outcome cells.new.items t) }
     ensures err { OnErr result (cells.new.items ≡ cells.old.items) }
     ensures few { IfOk result NoMore }
 {
@@ -132,7 +132,7 @@ impl Servers {
         server: ServerNo,
         packet: &Packet,
     ) -> Result<Sent, AllocError>
-        ensures ok { IfOk result (ServersTakePacket self.old self.new server packet.now) }
+        ensures ok { IfOk result (λ t. server_takes self.old server packet.now ≡ outcome self.new t) }
         ensures err { OnErr result (self.new ≡ self.old) }
         ensures few { IfOk result NoMore }
     {
