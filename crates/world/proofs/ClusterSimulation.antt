@@ -11,11 +11,11 @@ use Rattle.wire.specs.declared.packet.Packet.{Packet}
 use Rattle.model_streams.specs.declared.event.Event.TheVariants.{Submit, Deliver, Stop, Restart, Decide, GiveUp, Assign, Renew, Moment}
 use Rattle.model_streams.specs.StreamSystem.{StreamSystem, happens, delivered, delivered_if, sent_more}
 use Rattle.model_streams.proofs.Tests.{if_elim}
-use Rattle.model_partition.specs.Servers.{CacheContent, ServerCell, ServersOutcome, told_moment, with_told, server_takes, server_gives_up, server_stops, server_starts}
+use Rattle.model_partition.specs.Servers.{ServerCell, ServersOutcome, told_moment, with_told, server_takes, server_gives_up, server_stops, server_starts}
 use Rattle.model_partition.specs.Cluster.{Cluster, delivered_to, delivers, servers_perform, stops, restarts, assigns, renews, map_takes, map_stops, map_starts}
 use Rattle.world_map.specs.Seen.{MapSeen, MapSteps, MapSimulates, MapSimulatesAt}
 use Rattle.world_streams.specs.StreamLayer.{StreamLayerState, StreamLayerMirrors}
-use Rattle.world_streams.specs.ServersStep.{AfterMap, AfterServers, AfterServerTakes}
+use Rattle.world_streams.specs.ServersStep.{AfterMap, AfterServers}
 use Rattle.world_streams.proofs.ServerOutput.{sent_mirrors, told_mirrors}
 use Rattle.world_streams.specs.declared.fault.WorldFault.{WorldFault}
 use Rattle.world.specs.Cluster.{ClusterState, ClusterMirrors, ClusterSimulates, IsBelow, addressee_of}
@@ -37,10 +37,10 @@ in_layer x l c w m h = record { stream_layer = h; servers = m.servers; map = m.m
 
 pub submit_came : (x : ClusterState) (l : StreamLayerState) (user : ℕ) (to : ActorId) (body : Body) → ((w : StreamSystem) → StreamLayerMirrors x.stream_layer w → StreamLayerMirrors l (happens w (Submit user to body))) →
     ClusterSimulates x (record x { stream_layer = l }) (Submit user to body)
-submit_came x l user to body h = record { held = []; mirrors = λ c m. in_layer x l c (happens c.stream_layer (Submit user to body)) m (h c.stream_layer m.stream_layer) }
+submit_came x l user to body h = λ c m. in_layer x l c (happens c.stream_layer (Submit user to body)) m (h c.stream_layer m.stream_layer)
 
 pub decide_came : (x : ClusterState) (l : StreamLayerState) (e : ℕ) → ((w : StreamSystem) → StreamLayerMirrors x.stream_layer w → StreamLayerMirrors l (happens w (Decide e))) → ClusterSimulates x (record x { stream_layer = l }) (Decide e)
-decide_came x l e h = record { held = []; mirrors = λ c m. in_layer x l c (happens c.stream_layer (Decide e)) m (h c.stream_layer m.stream_layer) }
+decide_came x l e h = λ c m. in_layer x l c (happens c.stream_layer (Decide e)) m (h c.stream_layer m.stream_layer)
 
 stops_below : (c : Cluster) (a : ActorId) (call : ℕ) (keep : Bool) → IsBelow a → stops c a call keep ≡ record c { stream_layer = happens c.stream_layer (Stop a call keep) }
 stops_below c (Node n) call keep h = refl
@@ -51,11 +51,8 @@ stops_below c (User u) call keep h = refl
 
 pub stop_came : (x : ClusterState) (l : StreamLayerState) (a : ActorId) (call : ℕ) (keep : Bool) → IsBelow a → ((w : StreamSystem) → StreamLayerMirrors x.stream_layer w → StreamLayerMirrors l (happens w (Stop a call keep))) →
     ClusterSimulates x (record x { stream_layer = l }) (Stop a call keep)
-stop_came x l a call keep below h = record {
-  held = [];
-  mirrors = λ c m.
-      subst (ClusterMirrors (record x { stream_layer = l })) (sym (stops_below c a call keep below)) (in_layer x l c (happens c.stream_layer (Stop a call keep)) m (h c.stream_layer m.stream_layer));
-}
+stop_came x l a call keep below h = λ c m.
+    subst (ClusterMirrors (record x { stream_layer = l })) (sym (stops_below c a call keep below)) (in_layer x l c (happens c.stream_layer (Stop a call keep)) m (h c.stream_layer m.stream_layer))
 
 restarts_below : (c : Cluster) (a : ActorId) → IsBelow a → restarts c a ≡ record c { stream_layer = happens c.stream_layer (Restart a) }
 restarts_below c (Node n) h = refl
@@ -66,33 +63,27 @@ restarts_below c (User u) h = refl
 
 pub restart_came : (x : ClusterState) (l : StreamLayerState) (a : ActorId) → IsBelow a → ((w : StreamSystem) → StreamLayerMirrors x.stream_layer w → StreamLayerMirrors l (happens w (Restart a))) →
     ClusterSimulates x (record x { stream_layer = l }) (Restart a)
-restart_came x l a below h = record {
-  held = [];
-  mirrors = λ c m. subst (ClusterMirrors (record x { stream_layer = l })) (sym (restarts_below c a below)) (in_layer x l c (happens c.stream_layer (Restart a)) m (h c.stream_layer m.stream_layer));
-}
+restart_came x l a below h = λ c m. subst (ClusterMirrors (record x { stream_layer = l })) (sym (restarts_below c a below)) (in_layer x l c (happens c.stream_layer (Restart a)) m (h c.stream_layer m.stream_layer))
 
 -- ---- deliveries
 
-goes_below : (c : Cluster) (p : Packet) (held : CacheContent) (to : ActorId) → IsBelow to → delivered_to c p held to ≡ record c { stream_layer = delivered c.stream_layer p to }
-goes_below c p held (Node n) h = refl
-goes_below c p held Manager h = refl
-goes_below c p held Map h = absurd h
-goes_below c p held (Server s) h = absurd h
-goes_below c p held (User u) h = refl
+goes_below : (c : Cluster) (p : Packet) (to : ActorId) → IsBelow to → delivered_to c p to ≡ record c { stream_layer = delivered c.stream_layer p to }
+goes_below c p (Node n) h = refl
+goes_below c p Manager h = refl
+goes_below c p Map h = absurd h
+goes_below c p (Server s) h = absurd h
+goes_below c p (User u) h = refl
 
-delivers_below : (c : Cluster) (held : CacheContent) (found : Option Packet) → ((p : Packet) → found ≡ Some p → IsBelow p.to) → delivers c held found ≡ record c { stream_layer = delivered_if c.stream_layer found }
-delivers_below c held None h = refl
-delivers_below c held (Some p) h = goes_below c p held p.to (h p refl)
+delivers_below : (c : Cluster) (found : Option Packet) → ((p : Packet) → found ≡ Some p → IsBelow p.to) → delivers c found ≡ record c { stream_layer = delivered_if c.stream_layer found }
+delivers_below c None h = refl
+delivers_below c (Some p) h = goes_below c p p.to (h p refl)
 
 pub deliver_came : (x : ClusterState) (l : StreamLayerState) (number : ℕ) → ((p : Packet) → slice_get x.stream_layer.post number ≡ Some p → IsBelow p.to) →
     ((w : StreamSystem) → StreamLayerMirrors x.stream_layer w → StreamLayerMirrors l (happens w (Deliver number))) → ClusterSimulates x (record x { stream_layer = l }) (Deliver number)
-deliver_came x l number below h = record {
-  held = [];
-  mirrors = λ c m.
-      subst (ClusterMirrors (record x { stream_layer = l }))
-      (sym (delivers_below c [] (slice_get c.stream_layer.post number) (λ p is. below p (ap (λ (post : List Packet). slice_get post number) m.stream_layer.post ∙ is))))
-      (in_layer x l c (happens c.stream_layer (Deliver number)) m (h c.stream_layer m.stream_layer));
-}
+deliver_came x l number below h = λ c m.
+    subst (ClusterMirrors (record x { stream_layer = l }))
+    (sym (delivers_below c (slice_get c.stream_layer.post number) (λ p is. below p (ap (λ (post : List Packet). slice_get post number) m.stream_layer.post ∙ is))))
+    (in_layer x l c (happens c.stream_layer (Deliver number)) m (h c.stream_layer m.stream_layer))
 
 -- the packet goes to nobody above
 pub goes_below_them : (found : Option Packet) → IfSome (addressee_of found) IsBelow → (p : Packet) → found ≡ Some p → IsBelow p.to
@@ -111,10 +102,7 @@ is_there (x ∷ xs) (suc n) to is = let l = is_there xs n to is in omega (arith,
 
 -- nothing comes of a number that was never sent
 pub unsent_came : (x : ClusterState) (number : ℕ) → addressee_of (slice_get x.stream_layer.post number) ≡ None → ClusterSimulates x x (Deliver number)
-unsent_came x number is = record {
-  held = [];
-  mirrors = λ c m. subst (λ (o : Option Packet). ClusterMirrors x (delivers c [] o)) (sym (none_there (slice_get c.stream_layer.post number) (ap (λ (post : List Packet). addressee_of (slice_get post number)) (sym m.stream_layer.post) ∙ is))) m;
-}
+unsent_came x number is = λ c m. subst (λ (o : Option Packet). ClusterMirrors x (delivers c o)) (sym (none_there (slice_get c.stream_layer.post number) (ap (λ (post : List Packet). addressee_of (slice_get post number)) (sym m.stream_layer.post) ∙ is))) m
   where
     none_there : (found : Option Packet) → addressee_of found ≡ None → found ≡ None
     none_there None e = refl
@@ -133,30 +121,24 @@ does_mirrors x l servers o t c m = record {
 }
 
 give_came : (x : ClusterState) (l : StreamLayerState) (servers : List ServerCell) (number s : ℕ) (p : Packet) → slice_get x.stream_layer.post number ≡ Some p → p.to ≡ Server s →
-    AfterServerTakes x.stream_layer l x.servers servers s p → ClusterSimulates x (record x { stream_layer = l; servers = servers }) (Deliver number)
-give_came x l servers number s p found to t = record {
-  held = t.held;
-  mirrors = λ c m.
-      let there : slice_get c.stream_layer.post number ≡ Some p = ap (λ (post : List Packet). slice_get post number) (sym m.stream_layer.post) ∙ found in
-      let is : delivers c t.held (slice_get c.stream_layer.post number) ≡ servers_perform c (server_takes x.servers s p t.held) =
-      ap (delivers c t.held) there ∙ ap (delivered_to c p t.held) to ∙ ap (λ (l : List ServerCell). servers_perform c (server_takes l s p t.held)) (sym m.servers) in
-      subst (ClusterMirrors (record x { stream_layer = l; servers = servers })) (sym is) (does_mirrors x l servers (server_takes x.servers s p t.held) t.took c m);
-}
+    AfterServers x.stream_layer l servers (server_takes x.servers s p) → ClusterSimulates x (record x { stream_layer = l; servers = servers }) (Deliver number)
+give_came x l servers number s p found to t = λ c m.
+    let there : slice_get c.stream_layer.post number ≡ Some p = ap (λ (post : List Packet). slice_get post number) (sym m.stream_layer.post) ∙ found in
+    let is : delivers c (slice_get c.stream_layer.post number) ≡ servers_perform c (server_takes x.servers s p) =
+    ap (delivers c) there ∙ ap (delivered_to c p) to ∙ ap (λ (l : List ServerCell). servers_perform c (server_takes l s p)) (sym m.servers) in
+    subst (ClusterMirrors (record x { stream_layer = l; servers = servers })) (sym is) (does_mirrors x l servers (server_takes x.servers s p) t c m)
 
 pub give_came_if : (x : ClusterState) (l : StreamLayerState) (servers : List ServerCell) (number s : ℕ) → addressee_of (slice_get x.stream_layer.post number) ≡ Some (Server s) →
-    ((p : Packet) → slice_get x.stream_layer.post number ≡ Some p → AfterServerTakes x.stream_layer l x.servers servers s p) → ClusterSimulates x (record x { stream_layer = l; servers = servers }) (Deliver number)
+    ((p : Packet) → slice_get x.stream_layer.post number ≡ Some p → AfterServers x.stream_layer l servers (server_takes x.servers s p)) → ClusterSimulates x (record x { stream_layer = l; servers = servers }) (Deliver number)
 give_came_if x l servers number s is t =
     let there = goes_there (slice_get x.stream_layer.post number) (Server s) is in
     give_came x l servers number s there.0 there.1 there.2 (t there.0 there.1)
 
 pub give_up_came : (x : ClusterState) (l : StreamLayerState) (servers : List ServerCell) (s range : ℕ) (pick : Nodes) → AfterServers x.stream_layer l servers (server_gives_up x.servers s range pick) →
     ClusterSimulates x (record x { stream_layer = l; servers = servers }) (GiveUp s range pick)
-give_up_came x l servers s range pick t = record {
-  held = [];
-  mirrors = λ c m.
-      subst (λ (cells : List ServerCell). ClusterMirrors (record x { stream_layer = l; servers = servers }) (servers_perform c (server_gives_up cells s range pick))) m.servers
-      (does_mirrors x l servers (server_gives_up x.servers s range pick) t c m);
-}
+give_up_came x l servers s range pick t = λ c m.
+    subst (λ (cells : List ServerCell). ClusterMirrors (record x { stream_layer = l; servers = servers }) (servers_perform c (server_gives_up cells s range pick))) m.servers
+    (does_mirrors x l servers (server_gives_up x.servers s range pick) t c m)
 
 -- nothing is sent and shown
 rests : (x : ClusterState) (servers : List ServerCell) (o : ServersOutcome) → o ≡ record { servers = servers; packets = []; notes = [] } → AfterServers x.stream_layer x.stream_layer servers o
@@ -165,22 +147,16 @@ rests x servers o is = subst (AfterServers x.stream_layer x.stream_layer servers
 
 pub stop_server_came : (x : ClusterState) (servers : List ServerCell) (s call : ℕ) (keep : Bool) → server_stops x.servers s call ≡ record { servers = servers; packets = []; notes = [] } →
     ClusterSimulates x (record x { servers = servers }) (Stop (Server s) call keep)
-stop_server_came x servers s call keep is = record {
-  held = [];
-  mirrors = λ c m.
-      subst (λ (cells : List ServerCell). ClusterMirrors (record x { servers = servers }) (servers_perform c (server_stops cells s call))) m.servers
-      (does_mirrors x x.stream_layer servers (server_stops x.servers s call) (rests x servers (server_stops x.servers s call) is) c m);
-}
+stop_server_came x servers s call keep is = λ c m.
+    subst (λ (cells : List ServerCell). ClusterMirrors (record x { servers = servers }) (servers_perform c (server_stops cells s call))) m.servers
+    (does_mirrors x x.stream_layer servers (server_stops x.servers s call) (rests x servers (server_stops x.servers s call) is) c m)
 
 pub restart_server_came : (x : ClusterState) (servers : List ServerCell) (s : ℕ) → server_starts x.servers s x.moment x.batch ≡ record { servers = servers; packets = []; notes = [] } →
     ClusterSimulates x (record x { servers = servers }) (Restart (Server s))
-restart_server_came x servers s is = record {
-  held = [];
-  mirrors = λ c m.
-      let same : server_starts x.servers s x.moment x.batch ≡ server_starts c.servers s c.now c.batch = λ i. server_starts (m.servers i) s (m.moment i) (m.batch i) in
-      subst (λ (o : ServersOutcome). ClusterMirrors (record x { servers = servers }) (servers_perform c o)) same
-      (does_mirrors x x.stream_layer servers (server_starts x.servers s x.moment x.batch) (rests x servers (server_starts x.servers s x.moment x.batch) is) c m);
-}
+restart_server_came x servers s is = λ c m.
+    let same : server_starts x.servers s x.moment x.batch ≡ server_starts c.servers s c.now c.batch = λ i. server_starts (m.servers i) s (m.moment i) (m.batch i) in
+    subst (λ (o : ServersOutcome). ClusterMirrors (record x { servers = servers }) (servers_perform c o)) same
+    (does_mirrors x x.stream_layer servers (server_starts x.servers s x.moment x.batch) (rests x servers (server_starts x.servers s x.moment x.batch) is) c m)
 
 -- ---- the map
 
@@ -197,13 +173,10 @@ map_went x l y c d packets is went m = record {
 
 route_came : (x : ClusterState) (l : StreamLayerState) (y : MapSeen) (number : ℕ) (p : Packet) → slice_get x.stream_layer.post number ≡ Some p → p.to ≡ Map →
     AfterMap x.stream_layer l (MapSimulates x.map y (λ c. map_takes c p)) → ClusterSimulates x (record x { stream_layer = l; map = y }) (Deliver number)
-route_came x l y number p found to o = record {
-  held = [];
-  mirrors = λ c m.
-      let there : slice_get c.stream_layer.post number ≡ Some p = ap (λ (post : List Packet). slice_get post number) (sym m.stream_layer.post) ∙ found in
-      let is : delivers c [] (slice_get c.stream_layer.post number) ≡ map_takes c p = ap (delivers c []) there ∙ ap (delivered_to c p []) to in
-      subst (ClusterMirrors (record x { stream_layer = l; map = y })) (sym is) (map_went x l y c (map_takes c p) o.packets o.stream_layer (o.steps_are c m.map) m);
-}
+route_came x l y number p found to o = λ c m.
+    let there : slice_get c.stream_layer.post number ≡ Some p = ap (λ (post : List Packet). slice_get post number) (sym m.stream_layer.post) ∙ found in
+    let is : delivers c (slice_get c.stream_layer.post number) ≡ map_takes c p = ap (delivers c) there ∙ ap (delivered_to c p) to in
+    subst (ClusterMirrors (record x { stream_layer = l; map = y })) (sym is) (map_went x l y c (map_takes c p) o.packets o.stream_layer (o.steps_are c m.map) m)
 
 pub route_came_if : (x : ClusterState) (l : StreamLayerState) (y : MapSeen) (number : ℕ) → addressee_of (slice_get x.stream_layer.post number) ≡ Some Map →
     ((p : Packet) → slice_get x.stream_layer.post number ≡ Some p → AfterMap x.stream_layer l (MapSimulates x.map y (λ c. map_takes c p))) → ClusterSimulates x (record x { stream_layer = l; map = y }) (Deliver number)
@@ -213,47 +186,29 @@ route_came_if x l y number is o =
 
 pub assign_came : (x : ClusterState) (l : StreamLayerState) (y : MapSeen) (range server until : ℕ) → AfterMap x.stream_layer l (MapSimulatesAt x.moment x.map y (λ c. assigns c range server until)) →
     ClusterSimulates x (record x { stream_layer = l; map = y }) (Assign range server until)
-assign_came x l y range server until o = record {
-  held = [];
-  mirrors = λ c m. map_went x l y c (assigns c range server until) o.packets o.stream_layer (o.steps_are c m.map (sym m.moment)) m;
-}
+assign_came x l y range server until o = λ c m. map_went x l y c (assigns c range server until) o.packets o.stream_layer (o.steps_are c m.map (sym m.moment)) m
 
 pub renew_came : (x : ClusterState) (l : StreamLayerState) (y : MapSeen) (range server until : ℕ) → AfterMap x.stream_layer l (MapSimulates x.map y (λ c. renews c range server until)) →
     ClusterSimulates x (record x { stream_layer = l; map = y }) (Renew range server until)
-renew_came x l y range server until o = record {
-  held = [];
-  mirrors = λ c m. map_went x l y c (renews c range server until) o.packets o.stream_layer (o.steps_are c m.map) m;
-}
+renew_came x l y range server until o = λ c m. map_went x l y c (renews c range server until) o.packets o.stream_layer (o.steps_are c m.map) m
 
 nothing_more : (r : StreamLayerState) → r ≡ record r { post = r.post ++ [] }
 nothing_more r = ap (λ (l : List Packet). record r { post = l }) (sym (append-nil r.post))
 
 pub stop_map_came : (x : ClusterState) (y : MapSeen) (call : ℕ) (keep : Bool) → MapSimulates x.map y (λ c. map_stops c call keep) [] → ClusterSimulates x (record x { map = y }) (Stop Map call keep)
-stop_map_came x y call keep steps = record {
-  held = [];
-  mirrors = λ c m. map_went x x.stream_layer y c (map_stops c call keep) [] (nothing_more x.stream_layer) (steps c m.map) m;
-}
+stop_map_came x y call keep steps = λ c m. map_went x x.stream_layer y c (map_stops c call keep) [] (nothing_more x.stream_layer) (steps c m.map) m
 
 pub restart_map_came : (x : ClusterState) (y : MapSeen) → MapSimulates x.map y map_starts [] → ClusterSimulates x (record x { map = y }) (Restart Map)
-restart_map_came x y steps = record {
-  held = [];
-  mirrors = λ c m. map_went x x.stream_layer y c (map_starts c) [] (nothing_more x.stream_layer) (steps c m.map) m;
-}
+restart_map_came x y steps = λ c m. map_went x x.stream_layer y c (map_starts c) [] (nothing_more x.stream_layer) (steps c m.map) m
 
 -- ---- the clock
 
 pub back_came : (x : ClusterState) (moment : ℕ) → nat_lt moment x.moment ≡ true → ClusterSimulates x x (Moment moment)
-back_came x moment is = record {
-  held = [];
-  mirrors = λ c m. if_elim (ClusterMirrors x) (nat_lt moment c.now) _ _ (λ t. m) (λ f. absurd (let same = ap (nat_lt moment) m.moment in cc));
-}
+back_came x moment is = λ c m. if_elim (ClusterMirrors x) (nat_lt moment c.now) _ _ (λ t. m) (λ f. absurd (let same = ap (nat_lt moment) m.moment in cc))
 
 pub on_came : (x : ClusterState) (moment : ℕ) (servers : List ServerCell) → nat_lt moment x.moment ≡ false → servers ≡ map (told_moment moment) x.servers →
     ClusterSimulates x (record x { moment = moment; servers = servers }) (Moment moment)
-on_came x moment servers is told = record {
-  held = [];
-  mirrors = λ c m.
-      if_elim (ClusterMirrors (record x { moment = moment; servers = servers })) (nat_lt moment c.now) _ _
-      (λ t. absurd (let same = ap (nat_lt moment) m.moment in cc))
-      (λ f. record { stream_layer = m.stream_layer; servers = told ∙ ap (map (told_moment moment)) m.servers; map = m.map; moment = refl; batch = m.batch });
-}
+on_came x moment servers is told = λ c m.
+    if_elim (ClusterMirrors (record x { moment = moment; servers = servers })) (nat_lt moment c.now) _ _
+    (λ t. absurd (let same = ap (nat_lt moment) m.moment in cc))
+    (λ f. record { stream_layer = m.stream_layer; servers = told ∙ ap (map (told_moment moment)) m.servers; map = m.map; moment = refl; batch = m.batch })

@@ -3,8 +3,7 @@ use Rattle.std.proofs.Common.{◌≡◌, ◌<◌, ◌+◌, ℕ, suc, List, [], �
 use Rattle.std.proofs.Math.Seq.{take-suc}
 use Rattle.model_streams.specs.declared.event.Event.{Event}
 use Rattle.model_streams.specs.Honest.{Agree, Kept}
-use Rattle.model_partition.specs.Servers.{CacheContent}
-use Rattle.model_partition.specs.Cluster.{Cluster, LeadTo, cluster_after, first_cluster}
+use Rattle.model_partition.specs.Cluster.{Cluster, cluster_after, cluster_after_all, first_cluster}
 use Rattle.model_partition.specs.Past.{Replays}
 use Rattle.laws_servers.proofs.EventsAsMoves.{led_by, moves_agree, moves_keep}
 use Rattle.laws_clusters.proofs.Theorem.{led_replays as all_replays}
@@ -13,21 +12,18 @@ use Rattle.world.specs.Cluster.{ClusterState, ClusterMirrors, ClusterSimulates, 
 
 -- ---- events
 
-led_on : (events : List Event) (event : Event) (c d : Cluster) (held : CacheContent) → LeadTo events c d → LeadTo (events ++ event ∷ []) c (cluster_after d event held)
-led_on [] event c d held h = (held, ap (λ (z : Cluster). cluster_after z event held) h)
-led_on (e ∷ events) event c d held h = (h.0, led_on events event (cluster_after c e h.0) d held h.1)
+after_one_more : (events : List Event) (event : Event) (c : Cluster) → cluster_after_all c (events ++ event ∷ []) ≡ cluster_after (cluster_after_all c events) event
+after_one_more [] event c = refl
+after_one_more (e ∷ events) event c = after_one_more events event (cluster_after c e)
 
-pub led_first : (c : Cluster) (x : ClusterState) → ClusterMirrors x c → ReachedBy [] c x
-led_first c x m = record { cluster = c; led = refl; mirrors = m }
+led_on : (x y : ClusterState) (first : Cluster) (events : List Event) (event : Event) → ReachedBy events first x → ClusterSimulates x y event → ReachedBy (events ++ event ∷ []) first y
+led_on x y first events event h came = subst (ClusterMirrors y) (sym (after_one_more events event first)) (came (cluster_after_all first events) h)
 
 -- one event more
 pub led_next : (x y : ClusterState) (first : Cluster) (events : List Event) (i : ℕ) (event : Event) → event ≡ slice_index_or events i event → i < length events →
     ReachedBy (take i events) first x → ClusterSimulates x y event → ReachedBy (take (i + 1) events) first y
-led_next x y first events i event is l h came = record {
-  cluster = cluster_after h.cluster event came.held;
-  led = subst (λ (es : List Event). LeadTo es first (cluster_after h.cluster event came.held)) (sym (taken ∙ ap (λ (e : Event). take i events ++ e ∷ []) (sym is))) (led_on (take i events) event first h.cluster came.held h.led);
-  mirrors = came.mirrors h.cluster h.mirrors;
-}
+led_next x y first events i event is l h came =
+    subst (λ (es : List Event). ReachedBy es first y) (sym (taken ∙ ap (λ (e : Event). take i events ++ e ∷ []) (sym is))) (led_on x y first (take i events) event h came)
   where
     one_more : i + 1 ≡ suc i
     one_more = omega arith
@@ -37,15 +33,16 @@ led_next x y first events i event is l h came = record {
 
 pub led_agree : (nodes servers target batch : ℕ) (events : List Event) (x : ClusterState) → ReachedBy events (first_cluster nodes servers target batch) x → Agree x.stream_layer.notes
 led_agree nodes servers target batch events x h =
-    subst Agree (sym h.mirrors.stream_layer.notes) (moves_agree nodes target h.cluster.stream_layer (led_by events (first_cluster nodes servers target batch) h.cluster h.led))
+    let first : Cluster = first_cluster nodes servers target batch in
+    subst Agree (sym h.stream_layer.notes) (moves_agree nodes target (cluster_after_all first events).stream_layer (led_by events first))
 
 pub led_keep : (nodes servers target batch : ℕ) (events : List Event) (x : ClusterState) → ReachedBy events (first_cluster nodes servers target batch) x → Kept x.stream_layer.notes
 led_keep nodes servers target batch events x h =
-    subst Kept (sym h.mirrors.stream_layer.notes) (moves_keep nodes target h.cluster.stream_layer (led_by events (first_cluster nodes servers target batch) h.cluster h.led))
+    let first : Cluster = first_cluster nodes servers target batch in
+    subst Kept (sym h.stream_layer.notes) (moves_keep nodes target (cluster_after_all first events).stream_layer (led_by events first))
 
 pub led_replays : (nodes servers target batch : ℕ) (events : List Event) (x : ClusterState) → ReachedBy events (first_cluster nodes servers target batch) x → Replays x.stream_layer.notes
-led_replays nodes servers target batch events x h =
-    subst Replays (sym h.mirrors.stream_layer.notes) (all_replays nodes servers target batch events h.cluster h.led)
+led_replays nodes servers target batch events x h = subst Replays (sym h.stream_layer.notes) (all_replays nodes servers target batch events)
 
 -- ---- runs
 
@@ -56,7 +53,7 @@ begins nodes servers target batch x m = record {
   target = target;
   batch = batch;
   events = [];
-  led = led_first (first_cluster nodes servers target batch) x m;
+  led = m;
 }
 
 pub goes_on : {A : Type 0} (old new : ClusterState) (event : Event) (result : Result A WorldFault) → IsRun old → OnOk result (ClusterSimulates old new event) → OnErr result (new ≡ old) → IsRun new
@@ -66,11 +63,7 @@ goes_on old new event (Ok x) h ok err = record {
   target = h.target;
   batch = h.batch;
   events = h.events ++ event ∷ [];
-  led = record {
-    cluster = cluster_after h.led.cluster event ok.held;
-    led = led_on h.events event (first_cluster h.nodes h.servers h.target h.batch) h.led.cluster ok.held h.led.led;
-    mirrors = ok.mirrors h.led.cluster h.led.mirrors;
-  };
+  led = led_on old new (first_cluster h.nodes h.servers h.target h.batch) h.events event h.led ok;
 }
 goes_on old new event (Err x) h ok err = subst IsRun (sym err) h
 

@@ -7,8 +7,8 @@ use Rattle.wire.specs.declared.refusal.Refusal.{Refusal}
 use Rattle.model_streams.specs.declared.event.Event.{Event}
 use Rattle.model_streams.specs.declared.event.Event.TheVariants.{Decide, GiveUp, Assign, Renew}
 use Rattle.model_streams.specs.Maps.{entry_at}
-use Rattle.model_partition.specs.Servers.{CacheContent, ServerCell, give_up_refusal}
-use Rattle.model_partition.specs.Cluster.{Cluster, LeadTo, cluster_after, first_cluster}
+use Rattle.model_partition.specs.Servers.{ServerCell, give_up_refusal}
+use Rattle.model_partition.specs.Cluster.{Cluster, cluster_after, cluster_after_all, first_cluster}
 use Rattle.world_map.specs.Seen.{MapSeen, MapMirrors, assign_refusal, renew_refusal}
 use Rattle.world_streams.specs.ManagerSeen.{decision_refusal}
 use Rattle.world_streams.specs.StreamLayer.{StreamLayerState, StreamLayerMirrors}
@@ -29,16 +29,13 @@ pub record ClusterMirrors (x : ClusterState) (c : Cluster) : Type 0 where
   pub moment : x.moment ≡ c.now
   pub batch : x.batch ≡ c.batch
 
--- the event led from one to the other, whatever the caches hold after it
-pub record ClusterSimulates (x y : ClusterState) (event : Event) : Type 0 where
-  pub held : CacheContent
-  pub mirrors : (c : Cluster) → ClusterMirrors x c → ClusterMirrors y (cluster_after c event held)
+-- the event leads from one to the other, as the model's cluster goes
+abbrev pub ClusterSimulates : ClusterState → ClusterState → Event → Type 0
+ClusterSimulates x y event = (c : Cluster) → ClusterMirrors x c → ClusterMirrors y (cluster_after c event)
 
--- these events led to it, whatever the caches hold
-pub record ReachedBy (events : List Event) (first : Cluster) (x : ClusterState) : Type 0 where
-  pub cluster : Cluster
-  pub led : LeadTo events first cluster
-  pub mirrors : ClusterMirrors x cluster
+-- it is what these events make of the first
+abbrev pub ReachedBy : List Event → Cluster → ClusterState → Type 0
+ReachedBy events first x = ClusterMirrors x (cluster_after_all first events)
 
 -- some events made this, from the start of some setup
 pub record IsRun (x : ClusterState) : Type 0 where

@@ -17,8 +17,7 @@ use wire::{Note, Packet};
 use world_streams::{Setup, WorldFault};
 
 /// A cluster that events made. At each moment it is what the model makes of some list of events, from the start of some
-/// setup, whatever caches of servers hold. So what was observed of extents is honest, and what was observed of tables replays,
-/// at any moment and of any run.
+/// setup. So what was observed of extents is honest, and what was observed of tables replays, at any moment and of any run.
 pub struct Run {
     cluster: Cluster,
 }

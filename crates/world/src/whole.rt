@@ -11,11 +11,10 @@ use model_streams::Event;
 use std::alloc::Global;
 use world_streams::{Setup, WorldFault};
 
-/// The run of these events, from the start of a setup. An error is out of memory (22). It is the run of the model that they
-/// lead to, whatever caches of servers hold; and what is observed is honest, whatever was delivered, again and in any order:
-/// all that is shown of an extent agrees, every acknowledged append stands in it at its answered offset, and each table that
-/// is loaded is that of a line of transactions that has every one that was acknowledged under an earlier generation, in order,
-/// each once.
+/// The run of these events, from the start of a setup. An error is out of memory (22). It is what the events make of the
+/// model's cluster, and nothing else; and what is observed is honest, whatever was delivered, again and in any order: all that is
+/// shown of an extent agrees, every acknowledged append stands in it at its answered offset, and each table that is loaded is
+/// that of a line of transactions that has every one that was acknowledged under an earlier generation, in order, each once.
 pub fn run(alloc: Global, setup: &Setup, events: &[Event]) -> Result<Finished, WorldFault>
     ensures led { IfOk result (λ r. ReachedBy events.now (first_cluster setup.now.nodes setup.now.servers setup.now.target setup.now.batch) r) }
     ensures agree { IfOk result (λ r. Agree r.stream_layer.notes) }

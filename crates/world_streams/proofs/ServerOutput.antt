@@ -11,8 +11,8 @@ use Rattle.model_partition.specs.declared.table_note.TableNote.TheVariants as ta
 use Rattle.model_partition.specs.Servers.{ArePlain, ShowsLoad, ServerCell, ServersOutcome, noted, rows_of, server_takes, told, with_told}
 use Rattle.world_streams.specs.StreamLayer.{StreamLayerState, StreamLayerMirrors}
 use Rattle.range.specs.ServerStep.{Sent}
-use Rattle.world_servers.specs.Servers.{ServersTakePacket, outcome}
-use Rattle.world_streams.specs.ServersStep.{AfterMap, ShowsRows, AfterServers, AfterServerTakes, told_with, with_sent}
+use Rattle.world_servers.specs.Servers.{outcome}
+use Rattle.world_streams.specs.ServersStep.{AfterMap, ShowsRows, AfterServers, told_with, with_sent}
 use Rattle.world_streams.proofs.EventSimulation.{get_at, nodes_as, manager_as}
 
 -- ---- one observation more
@@ -93,11 +93,11 @@ took r x after o sent is nodes manager post notes =
 
 -- the packet that was given is the one of the number
 pub took_packet : (r x : StreamLayerState) (before after : List ServerCell) (s k : ℕ) (d : Packet) (sent : Sent) → k < length r.post → d ≡ slice_index_or r.post k d →
-    ServersTakePacket before after s d sent → x.nodes ≡ r.nodes → x.manager ≡ r.manager → x.post ≡ r.post ++ sent.packets → x.notes ≡ noted r.notes sent.notes →
-    (p : Packet) → slice_get r.post k ≡ Some p → AfterServerTakes r x before after s p
+    server_takes before s d ≡ outcome after sent → x.nodes ≡ r.nodes → x.manager ≡ r.manager → x.post ≡ r.post ++ sent.packets → x.notes ≡ noted r.notes sent.notes →
+    (p : Packet) → slice_get r.post k ≡ Some p → AfterServers r x after (server_takes before s p)
 took_packet r x before after s k d sent there is gave nodes manager post notes p found =
-    subst (AfterServerTakes r x before after s) (same_Some d p (ap Some is ∙ sym (get_at r.post k d there) ∙ found))
-    (record { held = gave.held; took = took r x after (server_takes before s d gave.held) sent gave.is nodes manager post notes })
+    subst (λ (q : Packet). AfterServers r x after (server_takes before s q)) (same_Some d p (ap Some is ∙ sym (get_at r.post k d there) ∙ found))
+    (took r x after (server_takes before s d) sent gave nodes manager post notes)
 
 -- ---- steps of the map
 

@@ -8,7 +8,7 @@ use Rattle.memtable.specs.Entries.{Entries}
 use Rattle.metadata.specs.declared.record.IndexRange.{IndexRange}
 use Rattle.model_partition.specs.declared.table_note.TableNote.{TableNote}
 use Rattle.model_partition.specs.declared.table_note.TableNote.TheVariants as tables
-use Rattle.model_partition.specs.Servers.{ArePlain, CacheContent, ServerCell, ServersOutcome, noted, rows_of, server_takes}
+use Rattle.model_partition.specs.Servers.{ArePlain, ServerCell, ServersOutcome, noted, rows_of}
 use Rattle.world_streams.specs.StreamLayer.{StreamLayerState}
 
 -- the layer with what servers send and show
@@ -19,11 +19,6 @@ with_sent r packets notes = record r { post = r.post ++ packets; notes = noted r
 pub record AfterServers (r x : StreamLayerState) (servers : List ServerCell) (o : ServersOutcome) : Type 0 where
   pub stream_layer : x ≡ with_sent r o.packets o.notes
   pub servers_are : servers ≡ o.servers
-
--- the server of a number takes this packet, whatever its caches hold after it
-pub record AfterServerTakes (r x : StreamLayerState) (before after : List ServerCell) (s : ℕ) (p : Packet) : Type 0 where
-  pub held : CacheContent
-  pub took : AfterServers r x after (server_takes before s p held)
 
 -- one loaded table with these rows, and nothing else
 pub record IsLoadOf (shown : List Note) (rows : List Row) (more : List TableNote) : Type 0 where

@@ -1,8 +1,8 @@
 //! What servers show.
 ghost use Rattle.std.specs.Prelude.{◌≡◌, ◌+◌, ◌≤◌, Some, IfOk, OnErr, option_map, vec_len, vec_capacity};
 ghost use Rattle.memtable.specs.Entries.{Entries};
-ghost use Rattle.model_partition.specs.Servers.{noted, rows_of};
-ghost use Rattle.world_servers.specs.Servers.{ServersTakePacket, NoMore};
+ghost use Rattle.model_partition.specs.Servers.{noted, rows_of, server_takes};
+ghost use Rattle.world_servers.specs.Servers.{outcome, NoMore};
 ghost use Rattle.world_streams.specs.ServersStep.{ShowsRows, told_with};
 
 use crate::observations::Observations;
@@ -50,7 +50,7 @@ pub(crate) fn give(
     packet: &Packet,
     observed: &mut Observations,
 ) -> Result<Given, AllocError>
-    ensures ok { IfOk result (λ t. ServersTakePacket servers.old servers.new server packet.now t.sent) }
+    ensures ok { IfOk result (λ t. server_takes servers.old server packet.now ≡ outcome servers.new t.sent) }
     ensures rows { IfOk result (λ t. ShowsRows observed.old.items t.rows t.sent.notes) }
     ensures same { observed.new ≡ observed.old }
     ensures err { OnErr result (servers.new ≡ servers.old) }

@@ -7,11 +7,11 @@ ghost use Rattle.model_streams.specs.StreamSystem.{StreamSystem, happens, moved,
 ghost use Rattle.model_streams.specs.StreamSystem.Move.{Asks};
 ghost use Rattle.model_streams.specs.declared.event.Event.TheVariants as events;
 ghost use Rattle.model_streams.specs.Outcome.{packet};
-ghost use Rattle.model_partition.specs.Servers.{give_up_refusal, server_gives_up};
+ghost use Rattle.model_partition.specs.Servers.{give_up_refusal, server_gives_up, server_takes};
 ghost use Rattle.world_streams.specs.ManagerSeen.{ManagerMirrors, decision_refusal};
 ghost use Rattle.world_streams.specs.Nodes.{NodesMirror, seen_of, running_at};
 ghost use Rattle.world_streams.specs.StreamLayer.{IsFew, StreamLayerMirrors, ActorsStep, refusal_of};
-ghost use Rattle.world_streams.specs.ServersStep.{AfterMap, AfterServers, AfterServerTakes};
+ghost use Rattle.world_streams.specs.ServersStep.{AfterMap, AfterServers};
 ghost use Rattle.world_map.specs.Seen.{MapSimulates, MapSimulatesAt, assign_refusal, renew_refusal};
 ghost use Rattle.model_partition.specs.Cluster.{assigns, map_takes, renews};
 
@@ -348,7 +348,7 @@ impl StreamLayer {
         number: usize,
     ) -> Result<(), WorldFault>
         requires { number < length self.old.post }
-        ensures ok { OnOk result ((p : Packet) → slice_get self.old.post number ≡ Some p → AfterServerTakes self.old self.new servers.old servers.new server p) }
+        ensures ok { OnOk result ((p : Packet) → slice_get self.old.post number ≡ Some p → AfterServers self.old self.new servers.new (server_takes servers.old server p)) }
         ensures err { OnErr result (self.new ≡ self.old) }
         ensures servers_err { OnErr result (servers.new ≡ servers.old) }
     {

@@ -1,6 +1,7 @@
-use Rattle.std.proofs.Common.{◌∙◌, ◌++◌, ◌<◌, ap, length, refl, slice_index_or, subst, sym}
+use Rattle.std.proofs.Common.{◌≡◌, ◌∙◌, ◌++◌, ◌<◌, ap, length, refl, slice_index_or, subst, sym}
 use Rattle.range.specs.ServerStep.{Sent}
-use Rattle.world_servers.specs.Servers.{ServersTakePacket}
+use Rattle.model_partition.specs.Servers.{server_takes}
+use Rattle.world_servers.specs.Servers.{outcome}
 use Rattle.world_streams.specs.StreamLayer.{StreamLayerState}
 use Rattle.world_streams.proofs.ServerOutput.{took_packet}
 use Rattle.world_streams.proofs.stream_layer.StreamLayer.give.Goals as goal
@@ -12,5 +13,5 @@ returns-in-Ok-clause-ok c =
     (took_packet _ _ c.args.servers.now c.give.new.servers c.args.server c.args.number c.index.result.now sent
     (subst (λ (r : StreamLayerState). c.args.number < length r.post) (sym c.self.view_is) c.requires)
     (c.index.ensures ∙ ap (λ l. slice_index_or l c.args.number c.index.result.now) c.make_room.ensures.same)
-    (subst (ServersTakePacket c.args.servers.now c.give.new.servers c.args.server c.index.result.now) (sym c.sent.view_is) c.in-Ok.ensures.ok)
+    (subst (λ (t : Sent). server_takes c.args.servers.now c.args.server c.index.result.now ≡ outcome c.give.new.servers t) (sym c.sent.view_is) c.in-Ok.ensures.ok)
     refl refl (c.move_in.ensures ∙ ap (λ l. l ++ sent.packets) c.make_room.ensures.same) (cc (c.make_room-2.ensures.same, c.give.ensures.same)))
