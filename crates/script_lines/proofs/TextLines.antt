@@ -1,59 +1,81 @@
 -- The lines of a text, and that they are UTF-8 exactly where the text is.
-use Rattle.std.proofs.Common.{append-nil, ◌≡◌, ◌<◌, ◌≤◌, ◌-◌, ◌+◌, ◌∙◌, ◌++◌, ◌∷◌, ◌==◌, ℕ, Bool, Bor, List, [], ap, arith, cond, drop, false, get_or, length, length-append, map, refl, subst, sym, take, true}
+use Rattle.std.proofs.Common.{append-nil, append_assoc, add-one, ◌≡◌, ◌<◌, ◌≤◌, ◌-◌, ◌+◌, ◌∙◌, ◌++◌, ◌∷◌, ◌==◌, ℕ, Bool, Bor, List, [], ap, arith, cond, drop, false, suc, get_or, length, length-append, length-take, refl, subst, sym, take, true}
 use Rattle.std.proofs.lemmas.Grind.{common_steps}
 use Rattle.std.proofs.lemmas.Bool.{eqb-true}
-use Rattle.std.proofs.lemmas.List.{get_or_at, map-append, take_all, take_more}
-use Rattle.std.proofs.lemmas.List.Splits.{join_with_byte-slice_split}
+use Rattle.std.proofs.lemmas.List.{get_or-take, get_or_at, get_or_default, map-append, take-append-drop, take_all, take_rest}
+use Rattle.std.proofs.lemmas.List.Splits.{join_with_byte-slice_split, length-slice_split, slice_split_at, slice_split_none}
+use Rattle.std.proofs.Math.Seq.{drop-cons}
 use Rattle.std.proofs.lemmas.Str.{IsCharBoundary-after_ascii, IsCharBoundary-before_ascii, IsUtf8-append, IsUtf8-drop, IsUtf8-from_ascii, IsUtf8-nil, IsUtf8-take}
-use Rattle.std.specs.List.{AllByRecursion, join_with_byte, slice_split}
+use Rattle.std.specs.List.{All, AllByRecursion, join_with_byte, slice_split}
 use Rattle.std.specs.Str.{IsAscii, IsUtf8}
 use Rattle.std.specs.Str.Lines.{lines, lines_of_parts, strip_carriage_return}
-use Rattle.script_lines.proofs.Lists.{length-texts, text_at, texts}
+use Rattle.memchr.specs.Find.{NoneBefore, Nowhere, Passes, is_byte}
+use Rattle.script_lines.proofs.Lists.{texts}
 
--- the last part is a line if it is not empty, and those before it are lines less their carriage returns
-pub lines_before : (parts : List (List ℕ)) (last : List ℕ)
-    → lines_of_parts (parts ++ last ∷ []) ≡ map strip_carriage_return parts ++ cond (length last == 0) [] (last ∷ [])
-lines_before [] last = refl
-lines_before (x ∷ []) last = refl
-lines_before (x ∷ y ∷ more) last = ap (λ (l : List (List ℕ)). strip_carriage_return x ∷ l) (lines_before (y ∷ more) last)
+-- a newline ends the part before the others
+parts_next : (x : List ℕ) (parts : List (List ℕ)) → 0 < length parts → lines_of_parts (x ∷ parts) ≡ strip_carriage_return x ∷ lines_of_parts parts
+parts_next x [] some = absurd (omega arith)
+parts_next x (y ∷ more) some = refl
 
--- one more part is stripped
-pub stripped_next : (found parts : List (Bor (List ℕ))) (i : ℕ) (r d : Bor (List ℕ)) → i < length parts
-    → texts found ≡ map strip_carriage_return (take i (texts parts)) → r.now ≡ strip_carriage_return (get_or parts i d).now
-    → texts (found ++ r ∷ []) ≡ map strip_carriage_return (take (i + 1) (texts parts))
-stripped_next found parts i r d below before now =
-    let within : i < length (texts parts) = omega (arith, length-texts parts) in
-    let here : r.now ≡ strip_carriage_return (get_or (texts parts) i []) = now ∙ ap strip_carriage_return (sym (text_at parts i d below)) in
-    map-append (λ w. w.now) found (r ∷ []) ∙ ap (λ (l : List (List ℕ)). l ++ r.now ∷ []) before
-    ∙ ap (λ (l : List ℕ). map strip_carriage_return (take i (texts parts)) ++ l ∷ []) here
-    ∙ sym (map-append strip_carriage_return (take i (texts parts)) (get_or (texts parts) i [] ∷ []))
-    ∙ ap (map strip_carriage_return) (sym (take_more (texts parts) i [] within))
+-- the first line, and those behind its newline
+lines_next : (x rest : List ℕ) → All (λ b. (b == 10) ≡ false) x → lines (x ++ 10 ∷ rest) ≡ strip_carriage_return x ∷ lines rest
+lines_next x rest none =
+    let some : 0 < length (slice_split (λ b. b == 10) rest) = omega (arith, length-slice_split (λ b. b == 10) rest) in
+    ap lines_of_parts (slice_split_at (λ b. b == 10) x 10 rest none refl) ∙ parts_next x (slice_split (λ b. b == 10) rest) some
 
-pub stripped_all : (found parts : List (Bor (List ℕ))) (i : ℕ) → length parts ≤ i → texts found ≡ map strip_carriage_return (take i (texts parts))
-    → texts found ≡ map strip_carriage_return (texts parts)
-stripped_all found parts i past before = before ∙ ap (map strip_carriage_return) (take_all i (texts parts) (omega (arith, length-texts parts)))
+-- the last line, which no newline ends
+lines_last : (x : List ℕ) → All (λ b. (b == 10) ≡ false) x → lines x ≡ cond (length x == 0) [] (x ∷ [])
+lines_last x none = ap lines_of_parts (slice_split_none (λ b. b == 10) x none)
 
--- the lines of a text, by its parts
-pub lines_by_parts : (parts before : List (Bor (List ℕ))) (last : Bor (List ℕ)) (text : List ℕ) → texts parts ≡ slice_split (λ b. b == 10) text
-    → parts ≡ before ++ last ∷ [] → lines text ≡ map strip_carriage_return (texts before) ++ cond (length last.now == 0) [] (last.now ∷ [])
-lines_by_parts parts before last text is cut =
-    ap lines_of_parts (sym is ∙ ap texts cut ∙ map-append (λ w. w.now) before (last ∷ [])) ∙ lines_before (texts before) last.now
+not_true : (t : Bool) → ¬ (t ≡ true) → t ≡ false
+not_true true h = absurd (h refl)
+not_true false h = refl
 
--- the last part is empty, or it is one more line
-pub lines_without : (parts before found : List (Bor (List ℕ))) (last : Bor (List ℕ)) (text : List ℕ) (t : Bool) → texts parts ≡ slice_split (λ b. b == 10) text
-    → parts ≡ before ++ last ∷ [] → t ≡ (length last.now == 0) → t ≡ true → texts found ≡ map strip_carriage_return (texts before) → texts found ≡ lines text
-lines_without parts before found last text t is cut tested empty so =
-    so ∙ sym (append-nil (map strip_carriage_return (texts before)))
-    ∙ ap (λ (b : Bool). map strip_carriage_return (texts before) ++ cond b [] (last.now ∷ [])) (sym empty ∙ tested)
-    ∙ sym (lines_by_parts parts before last text is cut)
+-- no newline stands before the first
+none_before : (x : List ℕ) (k : ℕ) → k ≤ length x → Nowhere (Passes (is_byte 10) x) 0 k → All (λ b. (b == 10) ≡ false) (take k x)
+none_before x k below none i d within =
+    let before : i < k = omega (arith, length-take k x) in
+    let here : get_or (take k x) i d ≡ get_or x i 0 = get_or-take k x i d before ∙ get_or_default x i d 0 (omega arith) in
+    ap (λ b. b == 10) here ∙ not_true _ (none i (omega arith) before)
 
-pub lines_with : (parts before found : List (Bor (List ℕ))) (last : Bor (List ℕ)) (text : List ℕ) (t : Bool) → texts parts ≡ slice_split (λ b. b == 10) text
-    → parts ≡ before ++ last ∷ [] → t ≡ (length last.now == 0) → t ≡ false → texts found ≡ map strip_carriage_return (texts before)
-    → texts (found ++ last ∷ []) ≡ lines text
-lines_with parts before found last text t is cut tested full so =
-    map-append (λ w. w.now) found (last ∷ []) ∙ ap (λ (l : List (List ℕ)). l ++ last.now ∷ []) so
-    ∙ ap (λ (b : Bool). map strip_carriage_return (texts before) ++ cond b [] (last.now ∷ [])) (sym full ∙ tested)
-    ∙ sym (lines_by_parts parts before last text is cut)
+-- one line more, up to the first newline
+lines_more : (found : List (Bor (List ℕ))) (line : Bor (List ℕ)) (last text : List ℕ) (k : ℕ)
+    → texts found ++ lines last ≡ lines text → NoneBefore (Passes (is_byte 10) last) 0 (length last) k → Passes (is_byte 10) last k
+    → line.now ≡ strip_carriage_return (take k last) → texts (found ++ line ∷ []) ++ lines (drop (k + 1) last) ≡ lines text
+lines_more found line last text k before first here is =
+    let within : k < length last = first.high in
+    let none = none_before last k (omega arith) first.before in
+    let cut : last ≡ take k last ++ 10 ∷ drop (k + 1) last =
+    sym (take-append-drop k last) ∙ ap (λ l. take k last ++ l) (drop-cons last k 0 within ∙ ap (λ b. b ∷ drop (suc k) last) (eqb-true _ _ here) ∙ ap (λ n. 10 ∷ drop n last) (sym (add-one k))) in
+    ap (λ l. l ++ lines (drop (k + 1) last)) (map-append (λ w. w.now) found (line ∷ []))
+    ∙ append_assoc (texts found) (line.now ∷ []) (lines (drop (k + 1) last))
+    ∙ ap (λ l. texts found ++ l ∷ lines (drop (k + 1) last)) is
+    ∙ ap (λ l. texts found ++ l) (sym (lines_next (take k last) (drop (k + 1) last) none) ∙ ap lines (sym cut))
+    ∙ before
+
+-- the same, where the list of lines and the rest are as the code has them
+pub lines_go_on : (found new : List (Bor (List ℕ))) (line : Bor (List ℕ)) (last text : List ℕ) (k : ℕ) → new ≡ found ++ line ∷ []
+    → texts found ++ lines last ≡ lines text → NoneBefore (Passes (is_byte 10) last) 0 (length last) k → Passes (is_byte 10) last k
+    → line.now ≡ strip_carriage_return (take k last) → texts new ++ lines (take (length last - (k + 1)) (drop (k + 1) last)) ≡ lines text
+lines_go_on found new line last text k pushed before first here is =
+    ap (λ l. texts new ++ lines l) (take_rest last (k + 1)) ∙ ap (λ l. texts l ++ lines (drop (k + 1) last)) pushed
+    ∙ lines_more found line last text k before first here is
+
+-- what no newline ends is empty, or it is one more line
+all_of : (x : List ℕ) → Nowhere (Passes (is_byte 10) x) 0 (length x) → All (λ b. (b == 10) ≡ false) x
+all_of x none = subst (All (λ b. (b == 10) ≡ false)) (take_all (length x) x (omega arith)) (none_before x (length x) (omega arith) none)
+
+pub lines_without : (found : List (Bor (List ℕ))) (last text : List ℕ) (t : Bool) → texts found ++ lines last ≡ lines text
+    → Nowhere (Passes (is_byte 10) last) 0 (length last) → t ≡ (length last == 0) → t ≡ true → texts found ≡ lines text
+lines_without found last text t before none tested empty =
+    sym (append-nil (texts found)) ∙ ap (λ (b : Bool). texts found ++ cond b [] (last ∷ [])) (sym empty ∙ tested)
+    ∙ ap (λ l. texts found ++ l) (sym (lines_last last (all_of last none))) ∙ before
+
+pub lines_with : (found : List (Bor (List ℕ))) (last : Bor (List ℕ)) (text : List ℕ) (t : Bool) → texts found ++ lines last.now ≡ lines text
+    → Nowhere (Passes (is_byte 10) last.now) 0 (length last.now) → t ≡ (length last.now == 0) → t ≡ false → texts (found ++ last ∷ []) ≡ lines text
+lines_with found last text t before none tested full =
+    map-append (λ w. w.now) found (last ∷ []) ∙ ap (λ (b : Bool). texts found ++ cond b [] (last.now ∷ [])) (sym full ∙ tested)
+    ∙ ap (λ l. texts found ++ l) (sym (lines_last last.now (all_of last.now none))) ∙ before
 
 -- ---- UTF-8
 

@@ -1,5 +1,5 @@
 -- A line: a word, and values after it, a blank (32) before each. It is `None` where nothing states the text of a value.
-use Rattle.std.specs.Prelude.{ℕ, List, [], ◌∷◌, Option, Some}
+use Rattle.std.specs.Prelude.{ℕ, List, [], ◌∷◌, ◌++◌, Option, Some, codes, decimal}
 use Rattle.std.specs.Fmt.{◌++?◌}
 
 -- the text, and one value more
@@ -17,3 +17,11 @@ line_three word first second third = then_value (line_two word first second) thi
 
 abbrev pub line_four : List ℕ → Option (List ℕ) → Option (List ℕ) → Option (List ℕ) → Option (List ℕ) → Option (List ℕ)
 line_four word first second third fourth = then_value (line_three word first second third) fourth
+
+-- a word and three numbers, and the newline (10)
+abbrev pub three_line : List ℕ → ℕ → ℕ → ℕ → List ℕ
+three_line word first second third = word ++ 32 ∷ decimal first ++ 32 ∷ decimal second ++ 32 ∷ decimal third ++ 10 ∷ []
+
+-- an answer of a word and a number, and the newline
+abbrev pub told_line : ℕ → ℕ → List ℕ → ℕ → List ℕ
+told_line user ticket word number = codes "user" ++ 32 ∷ decimal user ++ 32 ∷ decimal ticket ++ (word ++ 32 ∷ decimal number) ++ 10 ∷ []

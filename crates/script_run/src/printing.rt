@@ -6,17 +6,29 @@ ghost use Rattle.script_run.specs.Failures.{IsRunFailure};
 ghost use Rattle.script_run.specs.Output.{line, lines_of_notes};
 
 use crate::error::Failure;
-use script_reports::{Report, report_note};
+use script_reports::{Report, report_note, short_line_of};
 use std::io::Write;
 use wire::Note;
 
-/// Prints a line.
-pub fn print<W: Write>(report: Report, writer: &mut W) -> Result<(), Failure>
+/// Prints a line, piece by piece.
+fn print_pieces<W: Write>(report: Report, writer: &mut W) -> Result<(), Failure>
     ensures printed { OnOk result (Appends (W.contents writer.old) (W.contents writer.new)
         (report_text report ++ 10 ∷ [])) }
     ensures failed { IfErr result IsRunFailure }
 {
     writeln!(writer, "{report}").map_err(Failure::Output)
+}
+
+/// Prints a line. One of a kind that is printed often goes out as one piece.
+pub fn print<W: Write>(report: Report, writer: &mut W) -> Result<(), Failure>
+    ensures printed { OnOk result (Appends (W.contents writer.old) (W.contents writer.new)
+        (report_text report ++ 10 ∷ [])) }
+    ensures failed { IfErr result IsRunFailure }
+{
+    match short_line_of(&report) {
+        Some(line) => writer.write_all(line.as_bytes()).map_err(Failure::Output),
+        None => print_pieces(report, writer),
+    }
 }
 
 /// Prints a line, if there is one.
