@@ -12,6 +12,7 @@ ghost use Rattle.enode.specs.Faults.{as_rule};
 ghost use Rattle.enode.specs.Node.{find, IsReplay, IsRestart};
 ghost use Rattle.enode.specs.Performs.{NodePerforms};
 ghost use Rattle.model_streams.specs.Bounds.{AreFew};
+ghost use Rattle.model_streams.specs.StoppedActor.{IsMadeOf};
 
 use crate::fault::{NodeFault, answer};
 use crate::recovery::replicas_of;
@@ -44,16 +45,17 @@ impl<D: Disk + Drop> Drop for Node<D> {
     }
 }
 
-/// While it runs, each replica is what the records make of it, but for what a stop drops.
+/// Each replica is what the records make of it, but for what a stop drops. Once it has stopped, the last record may be one
+/// that its replicas are without: the one at whose write the disk failed.
 impl<D: Disk> Model for Node<D> {
-    ghost use Rattle.std.specs.Prelude.{◌≡◌, false};
+    ghost use Rattle.model_streams.specs.StoppedActor.{IsMadeOf};
     ghost use Rattle.enode.specs.Node.{NodeState, IsReplay};
 
     ghost Value = { NodeState D };
 
     ghost view = { λ n. record { number = n.number; replicas = n.replicas.entries; file = n.file } };
 
-    ghost invariant = { λ n. n.file.stopped ≡ false → IsReplay n.number n.replicas.entries n.file.records };
+    ghost invariant = { λ n. IsMadeOf (IsReplay n.number n.replicas.entries) n.file.stopped n.file.records };
 }
 
 /// The node that the records of a file make.
@@ -167,9 +169,11 @@ impl<D: Disk> Node<D> {
         self.file.is_stopped()
     }
 
-    /// The file of its records, to look at: it tells what its disk was told, and copies the disk.
+    /// The file of its records, to look at: it tells what its disk was told, and copies the disk. Its replicas are what its
+    /// records make of them, but for what a stop drops; once it has stopped, all its records or all but the last.
     pub fn file(&self) -> &RecordFile<D>
-        ensures { result.now ≡ self.now.file }
+        ensures value { result.now ≡ self.now.file }
+        ensures holds { IsMadeOf (IsReplay self.now.number self.now.replicas) self.now.file.stopped self.now.file.records }
     {
         &self.file
     }

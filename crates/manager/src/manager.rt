@@ -8,6 +8,7 @@ ghost use Rattle.disk.specs.File.{IsFileOf, IsBeforeOrAfter, HoldsAtMost};
 ghost use Rattle.disk.specs.Memory.{memory_state};
 ghost use Rattle.wire.specs.declared.refusal.Refusal.{Refusal};
 ghost use Rattle.model_streams.specs.Bounds.{AreFew};
+ghost use Rattle.model_streams.specs.StoppedActor.{IsMadeOf};
 ghost use Rattle.model_streams.specs.Maps.{entry_at};
 ghost use Rattle.model_streams.specs.Manager.{Catalog, first_catalog, manager_rule, decide_rule, decide_refusal};
 ghost use Rattle.model_streams.specs.Replay.{catalog_fits};
@@ -40,9 +41,10 @@ impl<D: Disk + Drop> Drop for Manager<D> {
     }
 }
 
-/// While it runs, its table is what its records make of it, but for what a stop drops.
+/// Its table is what its records make of it, but for what a stop drops. Once it has stopped, the last record may be one that
+/// its table is without: the one at whose write the disk failed.
 impl<D: Disk> Model for Manager<D> {
-    ghost use Rattle.std.specs.Prelude.{◌≡◌, false};
+    ghost use Rattle.model_streams.specs.StoppedActor.{IsMadeOf};
     ghost use Rattle.manager_state.specs.Replay.{TableIsReplay};
     ghost use Rattle.manager_state.specs.Table.{plain};
     ghost use Rattle.manager.specs.Manager.{ManagerState, state_of};
@@ -51,7 +53,7 @@ impl<D: Disk> Model for Manager<D> {
 
     ghost view = { λ m. state_of m.table m.file };
 
-    ghost invariant = { λ m. m.file.stopped ≡ false → TableIsReplay (plain m.table) m.file.records };
+    ghost invariant = { λ m. IsMadeOf (TableIsReplay (plain m.table)) m.file.stopped m.file.records };
 }
 
 /// The manager of a file without a record and of the first table: its first record is written.
@@ -257,9 +259,11 @@ impl<D: Disk> Manager<D> {
         self.file.is_stopped()
     }
 
-    /// The file of its records, to look at: it tells what its disk was told, and copies the disk.
+    /// The file of its records, to look at: it tells what its disk was told, and copies the disk. Its table is what its
+    /// records make of it, but for what a stop drops; once it has stopped, all its records or all but the last.
     pub fn file(&self) -> &RecordFile<D>
-        ensures { result.now ≡ self.now.file }
+        ensures value { result.now ≡ self.now.file }
+        ensures holds { IsMadeOf (ManagerIsReplay self.now) self.now.file.stopped self.now.file.records }
     {
         &self.file
     }

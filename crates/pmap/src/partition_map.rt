@@ -7,6 +7,7 @@ ghost use Rattle.disk.specs.File.{IsFileOf};
 ghost use Rattle.disk.specs.Memory.{memory_state};
 ghost use Rattle.wire.specs.declared.refusal.Refusal.{Refusal};
 ghost use Rattle.model_streams.specs.Bounds.{AreFew};
+ghost use Rattle.model_streams.specs.StoppedActor.{IsMadeOf};
 ghost use Rattle.model_partition.specs.Map.{range_at, range_of_key, assign_fault, assign_rule, renew_fault, renew_rule, map_rule};
 ghost use Rattle.model_partition.specs.Partition.{IsPartition, AreNumbered, HaveEachKeyOnce};
 ghost use Rattle.model_partition.specs.Replay.{map_fits};
@@ -40,16 +41,17 @@ impl<D: Disk + Drop> Drop for PartitionMap<D> {
     }
 }
 
-/// While it runs, its ranges are what its records make of them.
+/// Its ranges are what its records make of them. Once it has stopped, the last record may be one that its ranges are without:
+/// the one at whose write the disk failed.
 impl<D: Disk> Model for PartitionMap<D> {
-    ghost use Rattle.std.specs.Prelude.{◌≡◌, false};
+    ghost use Rattle.model_streams.specs.StoppedActor.{IsMadeOf};
     ghost use Rattle.pmap.specs.MapWithFile.{MapWithFile, held_of, MakesMap};
 
     ghost Value = { MapWithFile D };
 
     ghost view = { λ m. held_of m.table m.file };
 
-    ghost invariant = { λ m. m.file.stopped ≡ false → MakesMap m.file.records m.table };
+    ghost invariant = { λ m. IsMadeOf (λ rs. MakesMap rs m.table) m.file.stopped m.file.records };
 }
 
 /// The map that the records of a file make.
@@ -233,9 +235,11 @@ impl<D: Disk> PartitionMap<D> {
         self.file.is_stopped()
     }
 
-    /// The file of its records, to look at: it tells what its disk was told, and copies the disk.
+    /// The file of its records, to look at: it tells what its disk was told, and copies the disk. Its ranges are what its
+    /// records make of them; once it has stopped, all its records or all but the last.
     pub fn file(&self) -> &RecordFile<D>
-        ensures { result.now ≡ self.now.file }
+        ensures value { result.now ≡ self.now.file }
+        ensures holds { IsMadeOf (λ rs. MakesMap rs (map_of self.now)) self.now.file.stopped self.now.file.records }
     {
         &self.file
     }

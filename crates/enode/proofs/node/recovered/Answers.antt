@@ -1,7 +1,7 @@
-use Rattle.std.proofs.Common.{subst}
+use Rattle.std.proofs.Common.{inl, subst}
 use Rattle.enode.specs.Node.{IsRestart}
 use Rattle.enode.proofs.Recovering.{restart_replays}
 use Rattle.enode.proofs.node.recovered.Goals as goal
 
 pub invariant_of-result : goal.invariant_of-result
-invariant_of-result g c = λ up. restart_replays _ _ _ (subst (IsRestart c.args.number c.in-Ok.replicas.entries) c.requires c.in-Ok.ensures.ok)
+invariant_of-result g c = inl (restart_replays _ _ _ (subst (IsRestart c.args.number c.in-Ok.replicas.entries) c.requires c.in-Ok.ensures.ok))

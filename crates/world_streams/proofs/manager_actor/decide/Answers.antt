@@ -36,7 +36,7 @@ returns-in-Err-DiskFailed-clause-ok c =
     c.in-Ok.ensures ∙ (λ i. shown_if (c.stands-stands.ensures i) (sealing_notes c.args.extent (c.sealing.ensures i))) in
     subst (λ (s : Step). (w : StreamSystem) → ManagerMirrors (manager_seen_of c.args.manager.now) w → ManagerSteps (manager_seen_of c.decide.new.self) w (manager_decides w c.args.extent) s) (sym c.taken-in-Err-DiskFailed.ensures.0)
     (decided_broken c.args.extent c.args.manager.now c.decide.new.self c.unsent.result c.in-Err-DiskFailed.field-0 c.told.result c.in-Err-DiskFailed.field-0-is (sym c.is_stopped.ensures ∙ c.if-is_stopped.false) (c.in-Err-DiskFailed.ensures.replays (sym c.is_stopped.ensures ∙ c.if-is_stopped.false))
-    (c.told.ensures ∙ (λ i. (memory_state (c.file.ensures i).disk).stop)) c.unsent.ensures.0 (c.unsent.ensures.1 ∙ shown) (record { refused = c.in-Err-DiskFailed.ensures.refused (sym c.is_stopped.ensures ∙ c.if-is_stopped.false); performed = c.in-Err-DiskFailed.ensures.performed (sym c.is_stopped.ensures ∙ c.if-is_stopped.false); taken = c.in-Err-DiskFailed.ensures.taken }))
+    (c.told.ensures ∙ (λ i. (memory_state (c.file.ensures.value i).disk).stop)) c.unsent.ensures.0 (c.unsent.ensures.1 ∙ shown) (record { refused = c.in-Err-DiskFailed.ensures.refused (sym c.is_stopped.ensures ∙ c.if-is_stopped.false); performed = c.in-Err-DiskFailed.ensures.performed (sym c.is_stopped.ensures ∙ c.if-is_stopped.false); taken = c.in-Err-DiskFailed.ensures.taken }))
 
 pub returns-in-Err-DiskFailed-clause-refusal : goal.returns-in-Err-DiskFailed-clause-refusal
 returns-in-Err-DiskFailed-clause-refusal c = c.taken-in-Err-DiskFailed.ensures.1 ∙ failed_fine c.args.extent c.args.manager.now c.decide.new.self c.in-Err-DiskFailed.field-0 c.in-Err-DiskFailed.field-0-is (sym c.is_stopped.ensures ∙ c.if-is_stopped.false) (record { refused = c.in-Err-DiskFailed.ensures.refused (sym c.is_stopped.ensures ∙ c.if-is_stopped.false); performed = c.in-Err-DiskFailed.ensures.performed (sym c.is_stopped.ensures ∙ c.if-is_stopped.false); taken = c.in-Err-DiskFailed.ensures.taken })

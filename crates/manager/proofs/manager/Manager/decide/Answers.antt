@@ -10,14 +10,14 @@ use Rattle.manager_rules.specs.Plan.{decide}
 use Rattle.manager_rules.proofs.Planning.{decision_follows}
 use Rattle.manager.specs.Manager.{state_of}
 use Rattle.manager.specs.Performs.{ManagerPerforms, as_rule}
-use Rattle.manager.proofs.ReplaysRecords.{performed, stays, step_few}
+use Rattle.manager.proofs.ReplaysRecords.{running, performed, stays, step_few}
 use Rattle.manager.proofs.Decisions.{rule_step}
 use Rattle.manager.proofs.manager.Manager.decide.Goals as goal
 
 pub invariant_of-self : goal.invariant_of-self
-invariant_of-self g c = λ up.
+invariant_of-self g c =
     stays g.D.Disk.state (plain c.self.inside.table) (plain c.decide_on-done.new.table) _ _ _ c.decide_on-done.result c.decide_on-done.ensures.done c.decide_on-done.ensures.again
-    (decision_follows (plain c.self.inside.table) _ (catalog_shows (plain c.self.inside.table)) c.extent.inside.0).can (c.self.invariant (sym c.is_stopped.ensures ∙ c.if-is_stopped.false)) up
+    (decision_follows (plain c.self.inside.table) _ (catalog_shows (plain c.self.inside.table)) c.extent.inside.0).can (running _ _ _ c.self.invariant (sym c.is_stopped.ensures ∙ c.if-is_stopped.false))
 
 pub returns-in-None-clause-performed : goal.returns-in-None-clause-performed
 returns-in-None-clause-performed g c = rw (← c.self.view_is) (λ up none b shows.
@@ -26,7 +26,7 @@ returns-in-None-clause-performed g c = rw (← c.self.view_is) (λ up none b sho
     subst (λ (e : ℕ). ManagerPerforms g.D.Disk.state was is (decide_rule b e (b.extent e)) (as_rule c.answer.result)) c.extent.view_is
     (subst (λ (w : Result Step DiskFault). ManagerPerforms g.D.Disk.state was is (decide_rule b c.extent.inside.0 (b.extent c.extent.inside.0)) w) (sym c.answer.ensures.rule)
     (performed g.D.Disk.state c.self.inside.table c.decide_on-done.new.table _ _ _ _ c.decide_on-done.result c.decide_on-done.ensures.done c.decide_on-done.ensures.again
-    (decision_follows _ b shows c.extent.inside.0) (c.self.invariant (sym c.is_stopped.ensures ∙ c.if-is_stopped.false)))))
+    (decision_follows _ b shows c.extent.inside.0) (running _ _ _ c.self.invariant (sym c.is_stopped.ensures ∙ c.if-is_stopped.false)))))
 
 pub returns-in-None-clause-few : goal.returns-in-None-clause-few
 returns-in-None-clause-few g c =
