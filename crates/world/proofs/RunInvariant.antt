@@ -2,9 +2,8 @@
 use Rattle.std.proofs.Common.{◌≡◌, ◌<◌, ◌+◌, ℕ, suc, List, [], ◌∷◌, ◌++◌, Result, Ok, Err, OnOk, OnErr, refl, sym, ap, ◌∙◌, subst, take, length, slice_index_or, arith}
 use Rattle.std.proofs.Math.Seq.{take-suc}
 use Rattle.model_streams.specs.declared.event.Event.{Event}
-use Rattle.model_streams.specs.Honest.{Agree, Kept}
 use Rattle.model_partition.specs.Cluster.{Cluster, cluster_after, cluster_after_all, first_cluster}
-use Rattle.model_partition.specs.Past.{Replays}
+use Rattle.model_partition.specs.Honest.{Honest}
 use Rattle.laws_servers.proofs.EventsAsMoves.{led_by, moves_agree, moves_keep}
 use Rattle.laws_clusters.proofs.Theorem.{led_replays as all_replays}
 use Rattle.world_streams.specs.declared.fault.WorldFault.{WorldFault}
@@ -31,18 +30,15 @@ led_next x y first events i event is l h came =
     taken : take (i + 1) events ≡ take i events ++ slice_index_or events i event ∷ []
     taken = ap (λ k. take k events) one_more ∙ take-suc events i event l
 
-pub led_agree : (nodes servers target batch : ℕ) (events : List Event) (x : ClusterState) → ReachedBy events (first_cluster nodes servers target batch) x → Agree x.stream_layer.notes
-led_agree nodes servers target batch events x h =
+pub led_honest : (nodes servers target batch : ℕ) (events : List Event) (x : ClusterState) → ReachedBy events (first_cluster nodes servers target batch) x → Honest x.stream_layer.notes
+led_honest nodes servers target batch events x h =
     let first : Cluster = first_cluster nodes servers target batch in
-    subst Agree (sym h.stream_layer.notes) (moves_agree nodes target (cluster_after_all first events).stream_layer (led_by events first))
-
-pub led_keep : (nodes servers target batch : ℕ) (events : List Event) (x : ClusterState) → ReachedBy events (first_cluster nodes servers target batch) x → Kept x.stream_layer.notes
-led_keep nodes servers target batch events x h =
-    let first : Cluster = first_cluster nodes servers target batch in
-    subst Kept (sym h.stream_layer.notes) (moves_keep nodes target (cluster_after_all first events).stream_layer (led_by events first))
-
-pub led_replays : (nodes servers target batch : ℕ) (events : List Event) (x : ClusterState) → ReachedBy events (first_cluster nodes servers target batch) x → Replays x.stream_layer.notes
-led_replays nodes servers target batch events x h = subst Replays (sym h.stream_layer.notes) (all_replays nodes servers target batch events)
+    subst Honest (sym h.stream_layer.notes)
+    (record {
+      agree = moves_agree nodes target (cluster_after_all first events).stream_layer (led_by events first);
+      kept = moves_keep nodes target (cluster_after_all first events).stream_layer (led_by events first);
+      replays = all_replays nodes servers target batch events;
+    })
 
 -- ---- runs
 
@@ -67,11 +63,5 @@ goes_on old new event (Ok x) h ok err = record {
 }
 goes_on old new event (Err x) h ok err = subst IsRun (sym err) h
 
-pub agrees : (x : ClusterState) → IsRun x → Agree x.stream_layer.notes
-agrees x h = led_agree h.nodes h.servers h.target h.batch h.events x h.led
-
-pub keeps : (x : ClusterState) → IsRun x → Kept x.stream_layer.notes
-keeps x h = led_keep h.nodes h.servers h.target h.batch h.events x h.led
-
-pub tables_replay : (x : ClusterState) → IsRun x → Replays x.stream_layer.notes
-tables_replay x h = led_replays h.nodes h.servers h.target h.batch h.events x h.led
+pub is_honest : (x : ClusterState) → IsRun x → Honest x.stream_layer.notes
+is_honest x h = led_honest h.nodes h.servers h.target h.batch h.events x h.led

@@ -1,8 +1,7 @@
 //! A run: a cluster that events brought to where it is.
 ghost use Rattle.std.specs.Prelude.{◌≡◌, IfOk, OnOk, OnErr, option_map};
-ghost use Rattle.model_streams.specs.Honest.{Agree, Kept};
 ghost use Rattle.model_partition.specs.Cluster.{first_cluster};
-ghost use Rattle.model_partition.specs.Past.{Replays};
+ghost use Rattle.model_partition.specs.Honest.{Honest};
 ghost use Rattle.wire.specs.Refusal.{number_of};
 ghost use Rattle.world_streams.specs.Nodes.{seen_of, running_at};
 ghost use Rattle.world.specs.Cluster.{ClusterSimulates, ClusterMirrors, refusal_of};
@@ -79,9 +78,7 @@ impl Run {
     /// of a line of transactions that has every one that was acknowledged under an earlier generation, in order, each once.
     pub fn observations(&self) -> &[Note]
         ensures notes { result.now ≡ self.now.stream_layer.notes }
-        ensures agree { Agree result.now }
-        ensures kept { Kept result.now }
-        ensures replays { Replays result.now }
+        ensures honest { Honest result.now }
     {
         self.cluster.observations()
     }

@@ -1,8 +1,7 @@
 //! Whole runs.
-ghost use Rattle.std.specs.Prelude.{IfOk};
-ghost use Rattle.model_streams.specs.Honest.{Agree, Kept};
-ghost use Rattle.model_partition.specs.Cluster.{first_cluster};
-ghost use Rattle.model_partition.specs.Past.{Replays};
+ghost use Rattle.std.specs.Prelude.{◌≡◌, IfOk};
+ghost use Rattle.model_partition.specs.Cluster.{cluster_after_all, first_cluster};
+ghost use Rattle.model_partition.specs.Honest.{Honest};
 ghost use Rattle.world.specs.Cluster.{ReachedBy};
 
 // A function and a type of one module may not differ in case alone.
@@ -17,9 +16,10 @@ use world_streams::{Setup, WorldFault};
 /// that of a line of transactions that has every one that was acknowledged under an earlier generation, in order, each once.
 pub fn run(alloc: Global, setup: &Setup, events: &[Event]) -> Result<Finished, WorldFault>
     ensures led { IfOk result (λ r. ReachedBy events.now (first_cluster setup.now.nodes setup.now.servers setup.now.target setup.now.batch) r) }
-    ensures agree { IfOk result (λ r. Agree r.stream_layer.notes) }
-    ensures kept { IfOk result (λ r. Kept r.stream_layer.notes) }
-    ensures replays { IfOk result (λ r. Replays r.stream_layer.notes) }
+    // what it shows is what the events make of the model's cluster
+    ensures shown { IfOk result (λ r. r.stream_layer.notes
+        ≡ (cluster_after_all (first_cluster setup.now.nodes setup.now.servers setup.now.target setup.now.batch) events.now).stream_layer.notes) }
+    ensures honest { IfOk result (λ r. Honest r.stream_layer.notes) }
 {
     let mut made = Finished::start(alloc, setup)?;
     for event in events {
