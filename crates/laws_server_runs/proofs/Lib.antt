@@ -18,3 +18,4 @@ pub mod ServedStands
 pub mod Served
 pub mod Rules
 pub mod Theorem
+pub mod Worked
