@@ -19,3 +19,5 @@ pub mod Served
 pub mod Rules
 pub mod Theorem
 pub mod Worked
+pub mod Unconfirmed
+pub mod NeededPremises

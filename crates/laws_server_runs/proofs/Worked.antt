@@ -50,28 +50,28 @@ use Rattle.laws_server_runs.proofs.Theorem.{run_replays, run_at_line}
 
 -- ---- what comes
 
-abbrev put : Transaction
+abbrev pub put : Transaction
 put = record { key = 97 ∷ []; value = Some (120 ∷ []) } ∷ []
 
 -- a group of this transaction, which has 24 bytes
-abbrev group : Group
+abbrev pub group : Group
 group = spelling (record { first = 1; transactions = put ∷ [] })
 
-abbrev comes : (server : ℕ) → ActorId → Body → ServerEvent
+abbrev pub comes : (server : ℕ) → ActorId → Body → ServerEvent
 comes server from body = Takes server (record { from = from; to = from; body = body })
 
 -- the request of a server of this count
-abbrev asked : (server count : ℕ) → ReqNo
+abbrev pub asked : (server count : ℕ) → ReqNo
 asked server count = requests.Server server 1 count
 
-abbrev nothing : StreamList
+abbrev pub nothing : StreamList
 nothing = record { base = 0; extents = [] }
 
 -- the streams of the range, where its log has these extents
-abbrev lists : List StreamExtent → StreamLists
+abbrev pub lists : List StreamExtent → StreamLists
 lists extents = record { metadata = nothing; log = record { base = 0; extents = extents }; row_data = nothing; blob_data = nothing }
 
-abbrev extent : StreamExtent
+abbrev pub extent : StreamExtent
 extent = record { extent = 7; places = first_pick; length = None }
 
 -- the group stands at the begin of extent 7
@@ -109,7 +109,7 @@ abbrev metadata : Story Group
 metadata = Showed 2 0 0 [] ∷ Showed 1 0 0 [] ∷ []
 
 -- the layer that the second server loads
-abbrev loaded : Entries
+abbrev pub loaded : Entries
 loaded = (97 ∷ [], Inline (120 ∷ [])) ∷ []
 
 abbrev told : List TableNote
