@@ -18,3 +18,6 @@ pub mod ServedStands
 pub mod Served
 pub mod Rules
 pub mod Theorem
+pub mod Worked
+pub mod Unconfirmed
+pub mod NeededPremises
