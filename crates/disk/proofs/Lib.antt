@@ -8,3 +8,4 @@ pub mod Scanning
 pub mod Outcomes
 pub mod Steps
 pub mod Beginning
+pub mod Sent

@@ -35,3 +35,8 @@ impl History {
         ensures { self.new.events ≡ (0, _front.now ++ _back.now) ∷ self.old.events }
     {}
 }
+
+// A ghost list and a marker lie in no memory, so another thread may have them.
+unsafe impl Send for History {}
+
+unsafe impl Sync for History {}

@@ -7,9 +7,15 @@ ghost use Rattle.model_streams.specs.Maps.{entry_at};
 ghost use Rattle.model_streams.specs.StreamSystem.{start};
 ghost use Rattle.model_streams.specs.declared.event.Event.{Event};
 ghost use Rattle.model_partition.specs.Honest.{Honest};
+ghost use Rattle.model_partition.specs.Past.{Bytes};
+ghost use Rattle.model_partition.specs.Range.{RangeState};
+ghost use Rattle.model_partition.specs.ServedTables.{IsAtLine, ServesAt};
+ghost use Rattle.model_partition.specs.ServerRun.{log_name};
+ghost use Rattle.model_partition.specs.TableContents.{AllTellRightly};
 ghost use Rattle.model_partition.specs.Servers.{ArePlain, ServerCell, ShowsLoad, server_gives_up, server_loads, server_takes};
 ghost use Rattle.model_partition.specs.Cluster.{Cluster, first_cluster, cluster_after, cluster_after_all};
 ghost use Rattle.laws_clusters.specs.Orders.{ComesOfStreams};
+ghost use Rattle.laws_clusters.specs.ServerEvents.{servers_of_run};
 ghost use Rattle.laws_servers.specs.Sending.{ByMoves, MaySendAll};
 
 /// A server sends nothing but what servers may ask of nodes and of the manager, and what no node takes. Of loaded tables it
@@ -30,10 +36,16 @@ pub fn runs_are_moves()
 /// Whatever is asked, delivered, lost or repeated, whoever stops, comes back or gives up, and whoever is assigned the range: what is
 /// observed is honest. All that is shown of an extent agrees, what is acknowledged is kept where it was acknowledged, and each
 /// table that is shown is that of a line of transactions that has every one that was acknowledged under a lower generation, in
-/// order, each once. What is shown of tables comes of streams that keep their order.
+/// order, each once (`honest`). The servers are those that what comes to them makes, and the streams that they see keep their
+/// order (`ordered`), so that the laws of servers over any streams are laws of runs: the tables of a range that is served are the
+/// table of the line that ends at its log position, over any texts that have all that was observed of extents (`served`).
 pub fn runs_are_honest()
     ensures honest { (nodes servers target batch : ℕ) (events : List Event) →
         Honest (cluster_after_all (first_cluster nodes servers target batch) events).stream_layer.notes }
     ensures ordered { (nodes servers target batch : ℕ) (events : List Event) →
-        ComesOfStreams (cluster_after_all (first_cluster nodes servers target batch) events).stream_layer.notes }
+        ComesOfStreams (cluster_after_all (first_cluster nodes servers target batch) events) (servers_of_run nodes servers target batch events) }
+    ensures served { (nodes servers target batch : ℕ) (events : List Event) (texts : ℕ → Bytes) (s range : ℕ) (r : RangeState) →
+        AllTellRightly texts (cluster_after_all (first_cluster nodes servers target batch) events).stream_layer.notes →
+        ServesAt (servers_of_run nodes servers target batch events) s range r →
+        IsAtLine texts ((servers_of_run nodes servers target batch events).story (log_name range)) r }
 {}

@@ -13,7 +13,8 @@ use Rattle.laws_stream_machine.proofs.ServerRequests.{turn_upper}
 use Rattle.laws_stream_machine.proofs.NodeAnswers.{in_shut}
 use Rattle.laws_ranges.proofs.TurnsAsMoves.{moves_of}
 use Rattle.laws_ranges.specs.Serves.{IsUnformed, AreUnformed}
-use Rattle.laws_clusters.specs.Fitting.{AreUnformedMoves}
+use Rattle.laws_log_reads.specs.Reads.{IsEmpty}
+use Rattle.laws_clusters.specs.Unformed.{AreUnformedMoves}
 
 abbrev pub IsMade : Story Group → Copy Group → Type 0
 IsMade story c = (g : ℕ) × (event_at story c.append ≡ Some (Made g c.group))
@@ -200,13 +201,13 @@ module _ (generation : ℕ → ℕ) where
   empty_of story none (c ∷ cs) made = let k = made c (inl refl) in absurd (none c.append k.0 c.group k.1)
 
   -- nothing stands there, and no check finds anything
-  pub shut_empty : (moves : List (Move Group generation)) → AreMoves Group generation moves → AreUnformedMoves generation moves → (e : ℕ) (y : SealedExtent Group) →
+  shut_empty : (moves : List (Move Group generation)) → AreMoves Group generation moves → AreUnformedMoves generation moves → (e : ℕ) (y : SealedExtent Group) →
       shut_at e (after_all Group generation moves).state.core.shut ≡ Some y → y.copies ≡ []
   shut_empty moves ok un e y is =
       let s : MachineState Group = (after_all Group generation moves).state in
       empty_of s.story (none_made moves ok un) y.copies (shut_made s (stands moves ok) e y is)
 
-  pub checked_empty : (moves : List (Move Group generation)) → AreMoves Group generation moves → AreUnformedMoves generation moves → (i e : ℕ) (stood : List (Copy Group)) (end : ℕ) →
+  checked_empty : (moves : List (Move Group generation)) → AreMoves Group generation moves → AreUnformedMoves generation moves → (i e : ℕ) (stood : List (Copy Group)) (end : ℕ) →
       In (Found_there i e stood end) (after_all Group generation moves).state.facts → stood ≡ []
   checked_empty moves ok un i e stood end there =
       empty_of (after_all Group generation moves).state.story (none_made moves ok un) stood (checked_made moves ok i e stood end there)
@@ -219,3 +220,10 @@ module _ (generation : ℕ → ℕ) where
   pub unformed_below : (steps : List (MachineStep Group)) (earlier : List (Move Group generation)) → AreUnformedMoves generation earlier → AreUnformedMoves generation (map Below steps ++ earlier)
   unformed_below [] earlier un = un
   unformed_below (x ∷ steps) earlier un = unformed_below steps earlier un
+
+  -- nothing stands where no group is formed
+  pub metadata_empty : (moves : List (Move Group generation)) → AreMoves Group generation moves → AreUnformedMoves generation moves → (i : ℕ) → IsEmpty i (after_all Group generation moves).state
+  metadata_empty moves ok un i = record {
+    sealed = λ index y is. shut_empty moves ok un index y is;
+    stood = λ index end copies there. checked_empty moves ok un i index copies end there;
+  }

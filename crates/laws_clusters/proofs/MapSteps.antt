@@ -6,26 +6,29 @@ use Rattle.model_streams.specs.Outcome.{Outcome}
 use Rattle.model_streams.specs.StreamSystem.{ActorCell, running, down, armed, burnt, stops_in, stands_in, sent_more}
 use Rattle.model_streams.proofs.Tests.{if_elim}
 use Rattle.model_partition.specs.Map.{MapState, range_at, assign_fault, assign_rule, renew_fault, renew_rule, map_rule}
+use Rattle.model_partition.specs.ServerRun.{ServerRun}
 use Rattle.model_partition.specs.Cluster.{Cluster, map_performs, map_performs_if, map_takes, assigns, renews, map_stops, map_starts}
 use Rattle.laws_clusters.proofs.OneRange.{AreFirst, Tells, Nothing, Word, IsRule, assign_is_rule, renew_is_rule, map_is_rule}
-use Rattle.laws_clusters.proofs.OtherEvents.{told_nothing, still_runs, rests_as, map_says_stands}
+use Rattle.laws_clusters.proofs.OtherEvents.{told_nothing, still_runs, still_here, rests_as, map_says_stands}
 use Rattle.laws_clusters.proofs.Invariant.{Standing}
 
-module _ (generation : ℕ → ℕ) (nodes target : ℕ) where
+module _ (generation : ℕ → ℕ) (nodes target : ℕ) (y : ServerRun) where
   abbrev Stands : Cluster → Type 0
-  Stands c = Standing generation nodes target c
+  Stands c = Standing generation nodes target c y
 
   -- another map, and nothing is sent
   another_map : (c : Cluster) (m : MapState) (cell : ActorCell) → AreFirst m.ranges → Stands c → Stands (record c { map = m; map_cell = cell })
-  another_map c m cell first x = rests_as generation nodes target c (record c { map = m; map_cell = cell }) x refl first (λ q past. past) (still_runs c.servers)
+  another_map c m cell first x =
+      rests_as generation nodes target c (record c { map = m; map_cell = cell }) y y x refl first (λ q past. past) (still_here y y.servers) x.cells (still_runs c.servers)
 
   sends_stand : (c : Cluster) (m : MapState) (cell : ActorCell) (packets : List Packet) → AreFirst m.ranges → Tells packets → Stands c →
       Stands (record c { map = m; map_cell = cell; stream_layer = sent_more c.stream_layer packets })
   sends_stand c m cell packets first (Nothing is) x =
       subst (λ ps. Stands (record c { map = m; map_cell = cell; stream_layer = sent_more c.stream_layer ps })) (sym is)
-      (rests_as generation nodes target c (record c { map = m; map_cell = cell; stream_layer = sent_more c.stream_layer [] }) x (told_nothing c.stream_layer) first (λ q past. past) (still_runs c.servers))
+      (rests_as generation nodes target c (record c { map = m; map_cell = cell; stream_layer = sent_more c.stream_layer [] }) y y x (told_nothing c.stream_layer) first (λ q past. past) (still_here y y.servers) x.cells
+      (still_runs c.servers))
   sends_stand c m cell packets first (Word to body is word) x =
-      subst (λ ps. Stands (record c { map = m; map_cell = cell; stream_layer = sent_more c.stream_layer ps })) (sym is) (map_says_stands generation nodes target c x to body word m cell first)
+      subst (λ ps. Stands (record c { map = m; map_cell = cell; stream_layer = sent_more c.stream_layer ps })) (sym is) (map_says_stands generation nodes target (record c { map = m; map_cell = cell }) y (another_map c m cell first x) to body word)
 
   does_stand : (c : Cluster) (o : Outcome MapState) → IsRule o → Stands c → Stands (map_performs c o)
   does_stand c o rule x =

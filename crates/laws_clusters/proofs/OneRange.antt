@@ -1,5 +1,5 @@
--- The map of a run has range 1 alone, and tells servers of no other.
-use Rattle.std.proofs.Common.{◌≡◌, ℕ, suc, ◌^◌, Bool, true, false, nat_lt, List, [], ◌∷◌, Option, Some, None, refl, sym, ◌∙◌, arith, if◌then◌else◌, ◌==◌}
+-- The map of a run has the first range alone, and tells servers of no other.
+use Rattle.std.proofs.Common.{◌≡◌, ℕ, suc, ◌^◌, ◌≤◌, Bool, true, false, nat_lt, List, [], ◌∷◌, Option, Some, None, refl, sym, ◌∙◌, subst, arith, if◌then◌else◌, ◌==◌}
 use Rattle.std.specs.Prelude.{map}
 use Rattle.std.proofs.lemmas.Bool.Decides.{nat_tests}
 use Rattle.wire.specs.declared.actor.ActorId.{ActorId}
@@ -11,19 +11,28 @@ use Rattle.wire.specs.declared.body.MapBody.{MapBody}
 use Rattle.wire.specs.declared.body.MapBody.TheVariants as maps
 use Rattle.wire.specs.declared.packet.Packet.{Packet}
 use Rattle.model_streams.specs.Outcome.{Outcome, packet}
-use Rattle.model_streams.specs.StreamSystem.{is_told}
+use Rattle.wire.specs.declared.streams.StreamName.{StreamName}
+use Rattle.replica.specs.Groups.{Group}
+use Rattle.model_partition.specs.StreamMachine.{MachineState}
+use Rattle.laws_stream_machine.specs.Refinement.{Sent, asked_number, IsAsked}
+use Rattle.model_streams.specs.StreamSystem.{StreamSystem, is_told}
 use Rattle.model_streams.proofs.Tests.{if_elim}
 use Rattle.model_partition.specs.declared.range_entry.RangeEntry.{RangeEntry}
+use Rattle.model_partition.specs.Past.{first_range}
 use Rattle.model_partition.specs.Map.{MapState, range_at, range_of_key, changed_if, assigned, renewed, assign_rule, renew_rule, route_rule, told, map_rule}
 
--- what the map tells servers of leases is of range 1, and what it tells else says nothing to them
+-- what the map tells servers of leases is of the first range, and what it tells else says nothing to them
 abbrev pub IsMapWord : MapBody → Type 0
-IsMapWord (maps.Assign range g until) = range ≡ 1
+IsMapWord (maps.Assign range g until) = range ≡ first_range
 IsMapWord body = Unit {0}
 
 abbrev pub IsWord : Body → Type 0
 IsWord (bodies.Map body) = IsMapWord body
 IsWord body = ⊥
+
+-- a range of which it tells servers has a number
+pub word_counted : (range : ℕ) → range ≡ first_range → 1 ≤ range
+word_counted range word = subst (λ k. 1 ≤ k) (sym word) (omega arith)
 
 pub word_told : (body : Body) → IsWord body → is_told body ≡ true
 word_told (bodies.Append body) word = absurd word
@@ -34,10 +43,29 @@ word_told (bodies.Stream body) word = absurd word
 word_told (bodies.Map body) word = refl
 word_told (bodies.Table body) word = absurd word
 
--- each range has number 1
+-- it says nothing of streams
+pub word_plain : (generation : ℕ → ℕ) (w : StreamSystem) (body : Body) → IsWord body → (name : StreamName) (m : MachineState Group) (sent : List Sent) → IsAsked generation name w m sent body
+word_plain generation w (bodies.Append body) word name m sent = absurd word
+word_plain generation w (bodies.Check body) word name m sent = absurd word
+word_plain generation w (bodies.Seal body) word name m sent = absurd word
+word_plain generation w (bodies.Read body) word name m sent = absurd word
+word_plain generation w (bodies.Stream body) word name m sent = absurd word
+word_plain generation w (bodies.Map body) word name m sent = tt
+word_plain generation w (bodies.Table body) word name m sent = absurd word
+
+pub word_unasked : (body : Body) → IsWord body → (q : ReqNo) → asked_number body ≡ Some q → ⊥
+word_unasked (bodies.Append body) word q is = absurd word
+word_unasked (bodies.Check body) word q is = absurd word
+word_unasked (bodies.Seal body) word q is = absurd word
+word_unasked (bodies.Read body) word q is = absurd word
+word_unasked (bodies.Stream body) word q is = absurd word
+word_unasked (bodies.Map body) word q is = cc
+word_unasked (bodies.Table body) word q is = absurd word
+
+-- each range is the first
 abbrev pub AreFirst : List RangeEntry → Type 0
 AreFirst [] = Unit {0}
-AreFirst (r ∷ rs) = (r.range ≡ 1) × AreFirst rs
+AreFirst (r ∷ rs) = (r.range ≡ first_range) × AreFirst rs
 
 -- nothing is sent, or one word
 pub data Tells (packets : List Packet) : Type 0 where
@@ -54,15 +82,15 @@ pub record IsRule (o : Outcome MapState) : Type 0 where
 change_first : (rs : List RangeEntry) (range : ℕ) (change : RangeEntry → RangeEntry) → ((r : RangeEntry) → (change r).range ≡ r.range) → AreFirst rs → AreFirst (map (changed_if range change) rs)
 change_first [] range change keeps first = tt
 change_first (r ∷ rs) range change keeps first = (
-  if_elim (λ (x : RangeEntry). x.range ≡ 1) (r.range == range) (change r) r (λ t. keeps r ∙ first.0) (λ f. first.0),
+  if_elim (λ (x : RangeEntry). x.range ≡ first_range) (r.range == range) (change r) r (λ t. keeps r ∙ first.0) (λ f. first.0),
   change_first rs range change keeps first.1,
 )
 
-found_first : (rs : List RangeEntry) (range : ℕ) (r : RangeEntry) → AreFirst rs → range_at rs range ≡ Some r → range ≡ 1
+found_first : (rs : List RangeEntry) (range : ℕ) (r : RangeEntry) → AreFirst rs → range_at rs range ≡ Some r → range ≡ first_range
 found_first [] range r first found = absurd cc
 found_first (x ∷ rs) range r first found = go (x.range == range) refl found (found_first rs range r first.1)
   where
-    go : (b : Bool) → (x.range == range) ≡ b → (if b then Some x else range_at rs range) ≡ Some r → (range_at rs range ≡ Some r → range ≡ 1) → range ≡ 1
+    go : (b : Bool) → (x.range == range) ≡ b → (if b then Some x else range_at rs range) ≡ Some r → (range_at rs range ≡ Some r → range ≡ first_range) → range ≡ first_range
     go true test is more = (let same : x.range ≡ range = grind (arith, nat_tests) in sym same ∙ first.0)
     go false test is more = more is
 

@@ -1,9 +1,6 @@
--- A cluster stands on where an event leaves the streams of its range alone: moments, stops, starts, leases, the nodes of new
--- extents, and what the map tells.
+-- A cluster stands on where an event leaves the streams of all ranges alone: moments, stops, starts, leases, the nodes of new
+-- extents, and packets that say nothing of streams.
 use Rattle.std.proofs.Common.{◌≡◌, ℕ, zero, suc, ◌-◌, ◌^◌, ◌≤◌, max, Bool, true, false, List, [], ◌∷◌, ◌++◌, map, Option, Some, None, option_map, Contains, slice_set, refl, sym, ap, ◌∙◌, subst, inl, inr, arith, if◌then◌else◌, ◌==◌, nat_lt, append-nil}
-use Rattle.std.specs.Map.{lookup, set_value}
-use Rattle.std.specs.BTreeMap.{is_at}
-use Rattle.std.specs.Ordering.{nat_cmp}
 use Rattle.std.proofs.lemmas.Bool.Decides.{nat_tests}
 use Rattle.std.proofs.lemmas.List.Elements.{Contains-append_cases}
 use Rattle.block_types.specs.declared.record.Nodes.{Nodes}
@@ -13,34 +10,40 @@ use Rattle.wire.specs.declared.actor.ReqNo.{ReqNo}
 use Rattle.wire.specs.declared.body.Body.{Body}
 use Rattle.wire.specs.declared.note.Note.{Note}
 use Rattle.wire.specs.declared.packet.Packet.{Packet}
+use Rattle.wire.specs.declared.refusal.Refusal.{Refusal}
+use Rattle.wire.specs.declared.streams.StreamKind.TheVariants as kinds
+use Rattle.wire.specs.declared.streams.StreamName.{StreamName}
 use Rattle.replica.specs.Groups.{Group}
 use Rattle.model_streams.specs.Maps.{entry_at}
 use Rattle.model_streams.specs.Outcome.{packet}
-use Rattle.model_streams.specs.StreamSystem.{ActorCell as MapCell, StreamSystem, Move, sent_more, start}
-use Rattle.model_streams.specs.StreamSystem.Move.{Says}
-use Rattle.laws_streams.proofs.Invariant.{run_moves_push}
-use Rattle.model_partition.specs.Servers.{ServerCell, with_told, cell_rests, cell_performs, cell_stops, cell_starts, first_pick, at_server, server_stops, server_starts, told_moment}
-use Rattle.model_partition.specs.Cluster.{Cluster, servers_perform, shows_moment}
-use Rattle.model_partition.specs.Map.{MapState}
-use Rattle.model_partition.specs.Range.{RangeState}
+use Rattle.model_streams.specs.StreamSystem.{StreamSystem, Move, sent_more}
+use Rattle.model_partition.specs.declared.table_note.TableNote.{TableNote}
+use Rattle.model_partition.specs.Past.{table_notes}
+use Rattle.model_partition.specs.ServedTables.{AreSeenAs}
+use Rattle.model_partition.specs.ServerRun.{ServerRun, RangeHistory, RangeEffect, Rests, with_effect, with_outcome, stream_named, after_event, Stops, Starts, Moment}
+use Rattle.model_partition.specs.TableContents.{AllTellRightly}
+use Rattle.model_partition.specs.Servers.{ServerCell, ServersOutcome, with_told, cell_rests, cell_performs, cell_stops, cell_starts, first_pick, at_server, server_stops, server_starts, told_moment}
+use Rattle.model_partition.specs.Cluster.{Cluster, servers_perform}
+use Rattle.model_partition.specs.declared.server_context.ServerContext.{ServerContext}
+use Rattle.model_partition.specs.Range.{RangeState, refuses}
 use Rattle.model_partition.specs.Server.{ServerState, ServerOutcome, range_of, set_range, rests, renew_rule, moment_rule, started}
 use Rattle.model_partition.specs.StreamMachine as extents
-use Rattle.model_partition.specs.ServerTurns.{after_all}
-use Rattle.laws_stream_machine.proofs.LowerLayer.{below_says}
-use Rattle.laws_ranges.specs.Serves.{metadata_of, log_of, Wider}
-use Rattle.laws_ranges.proofs.MoreKnown.{follows_on}
+use Rattle.model_partition.specs.ServerTurns.{Whole, after_all}
+use Rattle.laws_stream_machine.specs.Refinement.{Sent, asked_number, IsAsked}
+use Rattle.laws_servers.specs.Sending.{MaySend}
+use Rattle.laws_server_runs.specs.Places.{AreAscending}
+use Rattle.laws_server_runs.proofs.RangeLists.{left_here, left_other, ascending_left}
+use Rattle.std.proofs.lemmas.Bool.{cases_eq}
+use Rattle.laws_ranges.specs.Serves.{metadata_of, log_of}
 use Rattle.laws_ranges.proofs.BothStreams.{follows_same}
 use Rattle.laws_log_reads.proofs.UntouchedReads.{same_left}
-use Rattle.laws_log_reads.proofs.MoreKnown.{has_read_on}
-use Rattle.laws_log_reads.proofs.MachineSteps.{grown_wider}
-use Rattle.laws_clusters.proofs.StreamMachines.{AllKnown}
-use Rattle.laws_clusters.proofs.OtherRanges.{wider_same}
-use Rattle.laws_clusters.proofs.OneRange.{IsWord, AreFirst, word_told}
+use Rattle.laws_clusters.proofs.ObservedBytes.{AreObserved}
+use Rattle.laws_clusters.proofs.StreamMachines.{Further, all_told}
+use Rattle.laws_clusters.proofs.OtherRanges.{onward_same, holds_on, held_on}
+use Rattle.laws_clusters.proofs.OneRange.{IsWord, AreFirst, word_told, word_plain, word_unasked}
 use Rattle.laws_loads.proofs.Entries.{entry_set, entry_other, entry_unmapped}
-use Rattle.laws_clusters.proofs.RequestNumbers.{PastAt, IsPast, past_on, past_step, past_stops, past_starts, past_moment}
-use Rattle.laws_clusters.proofs.Invariant.{Streams, here, m_side, l_side, Holds, HeldAs, Runs, Standing}
-use Rattle.laws_clusters.proofs.ServerRules.{held_on}
-use Rattle.laws_clusters.proofs.ObservedNotes.{Tells}
+use Rattle.laws_clusters.proofs.RequestNumbers.{PastAt, IsPast, AreNumbersPast, past_on, past_step, past_stops, past_starts, past_moment}
+use Rattle.laws_clusters.proofs.Invariant.{Machines, AreBeside, here, m_side, l_side, Holds, IsHeld, Runs, Standing}
 
 -- ---- servers that run as before
 
@@ -49,26 +52,25 @@ pub record IsSameRange (r k : RangeState) : Type 0 where
   pub until : ℕ
   pub is : k ≡ record r { until = until }
 
-abbrev pub AreSameRanges : List (ℕ × RangeState) → List (ℕ × RangeState) → Type 0
-AreSameRanges [] [] = Unit {0}
-AreSameRanges (x ∷ xs) (y ∷ ys) = (y.0 ≡ x.0) × IsSameRange x.1 y.1 × AreSameRanges xs ys
-AreSameRanges xs ys = ⊥
+pub record AreSameRanges (xs ys : List (ℕ × RangeState)) : Type 0 where
+  pub ascending : AreAscending xs → AreAscending ys
+  pub ranges : AreAscending xs → (range : ℕ) (k : RangeState) → range_of ys range ≡ Some k → (r : RangeState) × (range_of xs range ≡ Some r) × IsSameRange r k
 
 pub same_ranges : (xs : List (ℕ × RangeState)) → AreSameRanges xs xs
-same_ranges [] = tt
-same_ranges (x ∷ xs) = (refl, record { until = x.1.until; is = refl }, same_ranges xs)
+same_ranges xs = record { ascending = λ a. a; ranges = λ a range k found. (k, found, record { until = k.until; is = refl }) }
 
 -- where the lease of one range ends otherwise
-leased : (test : ℕ → Bool) (xs : List (ℕ × RangeState)) (r : RangeState) (until : ℕ) → lookup test xs ≡ Some r → AreSameRanges xs (set_value test xs (record r { until = until }))
-leased test [] r until found = tt
-leased test (x ∷ xs) r until found = go (test x.0) found (leased test xs r until)
+leased : (xs : List (ℕ × RangeState)) (range : ℕ) (r : RangeState) (until : ℕ) → range_of xs range ≡ Some r → AreSameRanges xs (set_range xs range (Some (record r { until = until })))
+leased xs range r until known = record { ascending = ascending_left xs range (Some (record r { until = until })); ranges = all }
   where
-    go : (b : Bool) → (if b then Some x.1 else lookup test xs) ≡ Some r → (lookup test xs ≡ Some r → AreSameRanges xs (set_value test xs (record r { until = until }))) →
-        AreSameRanges (x ∷ xs) (if b then (x.0, record r { until = until }) ∷ xs else x ∷ set_value test xs (record r { until = until }))
-    go true one more =
-        let same : x.1 ≡ r = cc in
-        (refl, record { until = until; is = ap (λ (z : RangeState). record z { until = until }) (sym same) }, same_ranges xs)
-    go false one more = (refl, record { until = x.1.until; is = refl }, more one)
+    all : AreAscending xs → (j : ℕ) (k : RangeState) → range_of (set_range xs range (Some (record r { until = until }))) j ≡ Some k → (z : RangeState) × (range_of xs j ≡ Some z) × IsSameRange z k
+    all a j k found = elim (cases_eq j range) [
+      | inl same ↦
+          (let both : Some (record r { until = until }) ≡ Some k =
+          sym (left_here xs range r (Some (record r { until = until })) a known) ∙ subst (λ n. range_of (set_range xs range (Some (record r { until = until }))) n ≡ Some k) same found in
+          (r, subst (λ n. range_of xs n ≡ Some r) (sym same) known, record { until = until; is = (let one : record r { until = until } ≡ k = cc in sym one) }))
+      | inr apart ↦ (k, sym (left_other xs range (Some (record r { until = until })) j apart) ∙ found, record { until = k.until; is = refl })
+    ]
 
 -- a server that runs has the ranges that it had, or none
 pub data RunsAs (servers : List ServerCell) (s : ℕ) (cell : ServerCell) (st : ServerState) : Type 0 where
@@ -105,7 +107,7 @@ renew_quiet st range g until = by_range (range_of st.ranges range) refl
           server = refl;
           session = refl;
           count = omega arith;
-          ranges = leased (is_at (nat_cmp range)) st.ranges r (max r.until until) found;
+          ranges = leased st.ranges range r (max r.until until) found;
         }
         go false = rests_quiet st
 
@@ -116,75 +118,111 @@ told_nothing w = ap (λ (k : List Packet). record w { post = k }) (append-nil w.
 abbrev pub rule_done : Cluster → ℕ → ServerCell → ServerOutcome → Cluster
 rule_done c s cell o = servers_perform c (record { servers = slice_set c.servers (s - 1) (cell_performs cell o).cell; packets = (cell_performs cell o).packets; notes = (cell_performs cell o).notes })
 
+-- the run after a rule of a server, which does this with streams
+abbrev pub run_done : Cluster → ServerRun → ℕ → ServerCell → RangeEffect → ServerOutcome → ServerRun
+run_done c y s cell effect o =
+    with_outcome (with_effect s y effect) (record { servers = slice_set c.servers (s - 1) (cell_performs cell o).cell; packets = (cell_performs cell o).packets; notes = (cell_performs cell o).notes })
+
+-- other servers, perhaps, and nothing else is done or shown
+pub record IsStill (y z : ServerRun) : Type 0 where
+  pub history : (s range : ℕ) → z.history s range ≡ y.history s range
+  pub story : (name : StreamName) → z.story name ≡ y.story name
+  pub shown : (range : ℕ) → z.shown range ≡ y.shown range
+  pub answered : (range : ℕ) → z.answered range ≡ y.answered range
+  pub notes : z.notes ≡ y.notes
+
+pub still_here : (y : ServerRun) (servers : List ServerCell) → IsStill y (record y { servers = servers })
+still_here y servers = record { history = λ s range. refl; story = λ name. refl; shown = λ range. refl; answered = λ range. refl; notes = refl }
+
+pub still_done : (y : ServerRun) (servers : List ServerCell) (packets : List Packet) (notes : List TableNote) → notes ≡ [] → IsStill y (with_outcome y (record { servers = servers; packets = packets; notes = notes }))
+still_done y servers packets notes none = record { history = λ s range. refl; story = λ name. refl; shown = λ range. refl; answered = λ range. refl; notes = ap (λ ns. y.notes ++ ns) none ∙ append-nil y.notes }
+
 module _ (generation : ℕ → ℕ) (nodes target : ℕ) where
   -- ---- ranges
 
-  module _ (moves : List Move) (x : Streams generation nodes target moves) where
-    holds_same : (i : ℕ) (r k : RangeState) → IsSameRange r k → Holds generation nodes target moves x i r → Holds generation nodes target moves x i k
-    holds_same i r k same h =
-        let now : RangeState = record r { until = same.until } in
-        subst (λ z. Holds generation nodes target moves x i z) (sym same.is)
+  module _ (moves : List Move) (range : ℕ) (x : Machines generation) where
+    holds_same : (h : RangeHistory) (i : ℕ) (r k : RangeState) → IsSameRange r k → Holds generation nodes target moves range x h i r → Holds generation nodes target moves range x h i k
+    holds_same h i r k same b =
+        subst (λ z. Holds generation nodes target moves range x h i z) (sym same.is)
         (record {
-          follows = follows_same generation 1 (here generation nodes target moves) i (m_side generation nodes target moves x i) (l_side generation nodes target moves x i) r same.until r.gets r.held h.follows;
-          sound = h.sound;
-          read = same_left 1 (here generation nodes target moves) i (after_all Group generation x.l).state r now
+          follows = follows_same generation range (here generation nodes target moves) i (m_side generation x i) (l_side generation x i) r same.until r.gets r.held b.follows;
+          read = same_left range (here generation nodes target moves) i (after_all Group generation x.m).state (after_all Group generation x.l).state h r (record r { until = same.until })
               (record {
                 said = refl;
                 fixed = refl;
-                live = refl;
                 regions = refl;
-                log = record { extents = refl; checked = refl; base = refl };
-                by = λ position b. b;
-                some = λ b. b;
-              }) refl h.read;
+                metadata = record { base = refl; extents = refl; checked = refl };
+                log = record { base = refl; extents = refl; checked = refl };
+                metadata_by = λ position a. a;
+                log_by = λ position a. a;
+              }) refl b.read;
+          append = b.append;
         })
 
-    held_same : (o : Option ℕ) (xs ys : List (ℕ × RangeState)) → AreSameRanges xs ys → HeldAs generation nodes target moves x o xs → HeldAs generation nodes target moves x o ys
-    held_same o [] [] same h = tt
-    held_same o [] (b ∷ ys) same h = absurd same
-    held_same o (a ∷ xs) [] same h = absurd same
-    held_same o ((k, r) ∷ []) ((j, q) ∷ []) same h = (same.0 ∙ h.0, h.1, h.2, holds_same h.1 r q same.1 h.3)
-    held_same o (a ∷ []) (b ∷ (d ∷ ys)) same h = absurd same.2
-    held_same o (a ∷ (e ∷ xs)) (b ∷ ys) same h = absurd h
+    held_same : (h g : RangeHistory) → g ≡ h → (o : Option ℕ) (r k : RangeState) → IsSameRange r k → IsHeld generation nodes target moves range x h o r → IsHeld generation nodes target moves range x g o k
+    held_same h g history o r k same b = record {
+      counted = b.counted;
+      incarnation = b.incarnation;
+      is = b.is;
+      holds = subst (λ y. Holds generation nodes target moves range x y b.incarnation k) (sym history) (holds_same h b.incarnation r k same b.holds);
+    }
 
   -- ---- servers
 
-  pub runs_as : (c : Cluster) (x : Standing generation nodes target c) (s : ℕ) (cell : ServerCell) (st : ServerState) → RunsAs c.servers s cell st →
-      Runs generation nodes target x.moves x.streams (x.incarnation s) s cell st
-  runs_as c x s cell st (Ran old was at up server session lasts ranges) =
-      let before : Runs generation nodes target x.moves x.streams (x.incarnation s) s old was = x.servers s old was at up in
+  pub runs_as : (c : Cluster) (y z : ServerRun) → IsStill y z → (x : Standing generation nodes target c y) (s : ℕ) (cell : ServerCell) (st : ServerState) → RunsAs c.servers s cell st →
+      Runs generation nodes target x.moves x.machines (z.history s) (x.incarnation s) s cell st
+  runs_as c y z still x s cell st (Ran old was at up server session lasts ranges) =
+      let before : Runs generation nodes target x.moves x.machines (y.history s) (x.incarnation s) s old was = x.servers s old was at up in
       record {
         server = server ∙ before.server;
         session = session ∙ before.session ∙ sym lasts;
-        held = held_same x.moves x.streams (x.incarnation s) was.ranges st.ranges ranges before.held;
+        ascending = ranges.ascending before.ascending;
+        held = λ range k found.
+            (let same = ranges.ranges before.ascending range k found in
+            held_same x.moves range (x.machines range) (y.history s range) (z.history s range) (still.history s range) (x.incarnation s range) same.0 k same.2 (before.held range same.0 same.1));
       }
-  runs_as c x s cell st (Begun server session none) = record {
+  runs_as c y z still x s cell st (Begun server session none) = record {
     server = server;
     session = session;
-    held = subst (λ z. HeldAs generation nodes target x.moves x.streams (x.incarnation s) z) (sym none) tt;
+    ascending = subst (λ l. AreAscending l) (sym none) tt;
+    held = λ range k found. absurd (let e : None ≡ Some k = sym (ap (λ l. range_of l range) none) ∙ found in cc);
   }
 
   -- the same stream system, and the same streams
-  pub rests_as : (c d : Cluster) (x : Standing generation nodes target c) → d.stream_layer ≡ c.stream_layer → AreFirst d.map.ranges → ((q : ReqNo) → IsPast c.servers q → IsPast d.servers q) →
-      ((s : ℕ) (cell : ServerCell) (st : ServerState) → entry_at d.servers s ≡ Some cell → cell.state ≡ Some st → RunsAs c.servers s cell st) → Standing generation nodes target d
-  rests_as c d x same first past runs = record {
+  pub rests_as : (c d : Cluster) (y z : ServerRun) (x : Standing generation nodes target c y) → d.stream_layer ≡ c.stream_layer → AreFirst d.map.ranges → ((q : ReqNo) → IsPast c.servers q → IsPast d.servers q) →
+      IsStill y z → d.servers ≡ z.servers →
+      ((s : ℕ) (cell : ServerCell) (st : ServerState) → entry_at d.servers s ≡ Some cell → cell.state ≡ Some st → RunsAs c.servers s cell st) → Standing generation nodes target d z
+  rests_as c d y z x same first past still cells runs = record {
     moves = x.moves;
     leads = x.leads ∙ sym same;
-    streams = x.streams;
-    m_past = λ q p e. past q (x.m_past q p e);
-    l_past = λ q p e. past q (x.l_past q p e);
-    from_map = λ to body there. x.from_map to body (subst (λ (z : StreamSystem). Contains z.post (packet Map to body)) same there);
+    machines = x.machines;
+    beside = x.beside;
+    distinct = x.distinct;
+    past = λ range q has. past q (x.past range q has);
+    numbers = λ server to body there q number. past q (x.numbers server to body (subst (λ (v : StreamSystem). Contains v.post (packet (Server server) to body)) same there) q number);
+    from_map = λ to body there. x.from_map to body (subst (λ (v : StreamSystem). Contains v.post (packet Map to body)) same there);
     first_range = first;
     incarnation = x.incarnation;
     bound = x.bound;
     own = x.own;
     below = x.below;
     idle = x.idle;
-    servers = λ s cell st at up. runs_as c x s cell st (runs s cell st at up);
-    rows = x.rows;
-    tells = subst (λ (z : StreamSystem). Tells x.rows z.notes (after_all Group generation x.streams.l).state.story) (sym same) x.tells;
-    shows = x.shows;
+    cells = cells;
+    servers = λ s cell st at up. runs_as c y z still x s cell st (runs s cell st at up);
+    stories = record {
+      metadata_is = λ range. still.story (stream_named range kinds.Metadata) ∙ x.stories.metadata_is range;
+      log_is = λ range. still.story (stream_named range kinds.Log) ∙ x.stories.log_is range;
+      others = λ name other. still.story name ∙ x.stories.others name other;
+    };
+    observed = λ range. subst (λ ns. AreObserved ns (z.shown range)) (sym notes_same) (subst (λ ps. AreObserved c.stream_layer.notes ps) (sym (still.shown range)) (x.observed range));
+    acked = λ range. subst (λ ns. AreObserved ns (z.answered range)) (sym notes_same) (subst (λ ps. AreObserved c.stream_layer.notes ps) (sym (still.answered range)) (x.acked range));
+    told = λ texts all.
+        subst (λ shown. AreSeenAs texts shown (table_notes d.stream_layer.notes)) (sym still.notes)
+        (subst (λ ns. AreSeenAs texts y.notes (table_notes ns)) (sym notes_same) (x.told texts (subst (λ ns. AllTellRightly texts ns) notes_same all)));
   }
+    where
+      notes_same : d.stream_layer.notes ≡ c.stream_layer.notes
+      notes_same = ap (λ (w : StreamSystem). w.notes) same
 
   -- ---- one server
 
@@ -201,22 +239,39 @@ module _ (generation : ℕ → ℕ) (nodes target : ℕ) where
             subst (λ k. RunsAs c.servers k other z) same (subst (λ y. RunsAs c.servers s y z) cell_is (runs z (ap (λ (y : ServerCell). y.state) cell_is ∙ up)))
         go false e = still_runs c.servers u other z (sym (entry_other c.servers s cell next at u (λ q. grind (arith, nat_tests))) ∙ there) up
 
-    pub one_stands : (w : StreamSystem) → w ≡ c.stream_layer → Standing generation nodes target c → Standing generation nodes target (record c { stream_layer = w; servers = slice_set c.servers (s - 1) next })
-    one_stands w same x = rests_as c (record c { stream_layer = w; servers = slice_set c.servers (s - 1) next }) x same x.first_range (past_on c.servers s cell next at past) all_run
+    pub one_stands : (w : StreamSystem) (y z : ServerRun) → w ≡ c.stream_layer → IsStill y z → z.servers ≡ slice_set c.servers (s - 1) next → Standing generation nodes target c y →
+        Standing generation nodes target (record c { stream_layer = w; servers = slice_set c.servers (s - 1) next }) z
+    one_stands w y z same still cells x =
+        rests_as c (record c { stream_layer = w; servers = slice_set c.servers (s - 1) next }) y z x same x.first_range (past_on c.servers s cell next at past) still (sym cells) all_run
+
+  -- an event of a cluster, and the run of its servers after it
+  abbrev pub StandsAfter : Cluster → ServerRun → ServersOutcome → Type 0
+  StandsAfter c y o = Standing generation nodes target (servers_perform c o) (with_outcome y o)
+
+  -- there is no such server
+  pub nobody_stands : (c : Cluster) (y : ServerRun) → Standing generation nodes target c y → StandsAfter c y (record { servers = c.servers; packets = []; notes = [] })
+  nobody_stands c y x =
+      rests_as c (record c { stream_layer = with_told c.stream_layer [] [] }) y (with_outcome y (record { servers = c.servers; packets = []; notes = [] })) x (told_nothing c.stream_layer) x.first_range (λ q p. p)
+      (still_done y c.servers [] [] refl) refl (still_runs c.servers)
 
   -- what the server of a number does, if there is one
-  pub cell_stands : (c : Cluster) (s : ℕ) (rule : ServerCell → ServerCell) → ((cell : ServerCell) (n k : ℕ) → PastAt cell n k → PastAt (rule cell) n k) →
-      ((cell : ServerCell) (st : ServerState) → entry_at c.servers s ≡ Some cell → (rule cell).state ≡ Some st → RunsAs c.servers s (rule cell) st) → Standing generation nodes target c →
-      Standing generation nodes target (servers_perform c (at_server c.servers s (λ cell. cell_rests (rule cell)) (entry_at c.servers s)))
-  cell_stands c s rule past runs x = go (entry_at c.servers s) refl
+  pub cell_stands : (c : Cluster) (y : ServerRun) (s : ℕ) (rule : ServerCell → ServerCell) → ((cell : ServerCell) (n k : ℕ) → PastAt cell n k → PastAt (rule cell) n k) →
+      ((cell : ServerCell) (st : ServerState) → entry_at c.servers s ≡ Some cell → (rule cell).state ≡ Some st → RunsAs c.servers s (rule cell) st) → Standing generation nodes target c y →
+      StandsAfter c y (at_server c.servers s (λ cell. cell_rests (rule cell)) (entry_at c.servers s))
+  cell_stands c y s rule past runs x = go (entry_at c.servers s) refl
     where
-      go : (o : Option ServerCell) → entry_at c.servers s ≡ o → Standing generation nodes target (servers_perform c (at_server c.servers s (λ cell. cell_rests (rule cell)) o))
-      go None at = rests_as c (record c { stream_layer = with_told c.stream_layer [] [] }) x (told_nothing c.stream_layer) x.first_range (λ q p. p) (still_runs c.servers)
-      go (Some cell) at = one_stands c s cell (rule cell) at (past cell) (λ st up. runs cell st at up) (with_told c.stream_layer [] []) (told_nothing c.stream_layer) x
+      go : (o : Option ServerCell) → entry_at c.servers s ≡ o → StandsAfter c y (at_server c.servers s (λ cell. cell_rests (rule cell)) o)
+      go None at = nobody_stands c y x
+      go (Some cell) at =
+          one_stands c s cell (rule cell) at (past cell) (λ st up. runs cell st at up) (with_told c.stream_layer [] []) y
+          (with_outcome y (record { servers = slice_set c.servers (s - 1) (rule cell); packets = []; notes = [] })) (told_nothing c.stream_layer)
+          (still_done y (slice_set c.servers (s - 1) (rule cell)) [] [] refl) refl x
 
   -- a server stops
-  pub stops_stand : (c : Cluster) (s call : ℕ) → Standing generation nodes target c → Standing generation nodes target (servers_perform c (server_stops c.servers s call))
-  stops_stand c s call x = cell_stands c s (cell_stops call) (past_stops call) (λ cell st at up. go cell st at (call == 0) up) x
+  pub stops_stand : (c : Cluster) (y : ServerRun) (s call : ℕ) → Standing generation nodes target c y → Standing generation nodes target (servers_perform c (server_stops c.servers s call)) (after_event y (Stops s call))
+  stops_stand c y s call x =
+      subst (λ l. Standing generation nodes target (servers_perform c (server_stops c.servers s call)) (with_outcome y (server_stops l s call))) x.cells
+      (cell_stands c y s (cell_stops call) (past_stops call) (λ cell st at up. go cell st at (call == 0) up) x)
     where
       go : (cell : ServerCell) (st : ServerState) → entry_at c.servers s ≡ Some cell → (b : Bool) → (if b then record cell { state = None } else cell).state ≡ Some st →
           RunsAs c.servers s (if b then record cell { state = None } else cell) st
@@ -224,8 +279,11 @@ module _ (generation : ℕ → ℕ) (nodes target : ℕ) where
       go cell st at false up = still_runs c.servers s cell st at up
 
   -- a server starts
-  pub starts_stand : (c : Cluster) (s now batch : ℕ) → Standing generation nodes target c → Standing generation nodes target (servers_perform c (server_starts c.servers s now batch))
-  starts_stand c s now batch x = cell_stands c s (λ cell. cell_starts s now batch cell cell.state) (past_starts s now batch) (λ cell st at up. by_state cell st at cell.state refl up) x
+  pub starts_stand : (c : Cluster) (y : ServerRun) (s now batch : ℕ) → Standing generation nodes target c y →
+      Standing generation nodes target (servers_perform c (server_starts c.servers s now batch)) (after_event y (Starts s now batch))
+  starts_stand c y s now batch x =
+      subst (λ l. Standing generation nodes target (servers_perform c (server_starts c.servers s now batch)) (with_outcome y (server_starts l s now batch))) x.cells
+      (cell_stands c y s (λ cell. cell_starts s now batch cell cell.state) (past_starts s now batch) (λ cell st at up. by_state cell st at cell.state refl up) x)
     where
       go : (cell : ServerCell) (st : ServerState) → entry_at c.servers s ≡ Some cell → cell.state ≡ None → (b : Bool) →
           (if b then record { session = suc cell.session; state = Some (started s (suc cell.session) now first_pick batch) } else cell).state ≡ Some st →
@@ -242,8 +300,12 @@ module _ (generation : ℕ → ℕ) (nodes target : ℕ) where
 
   -- ---- a moment
 
-  pub moment_stands : (c : Cluster) (now : ℕ) → Standing generation nodes target c → Standing generation nodes target (shows_moment c now)
-  moment_stands c now x = go (nat_lt now c.now)
+  -- a moment that does not go back
+  pub moment_stands : (c : Cluster) (y : ServerRun) (now : ℕ) → Standing generation nodes target c y →
+      Standing generation nodes target (record c { now = now; servers = map (told_moment now) c.servers }) (after_event y (Moment now))
+  moment_stands c y now x =
+      rests_as c (record c { now = now; servers = map (told_moment now) c.servers }) y (after_event y (Moment now)) x refl x.first_range (past_moment c.servers now)
+      (still_here y (map (told_moment now) y.servers)) (ap (map (told_moment now)) x.cells) runs
     where
       by_state : (s : ℕ) (cell : ServerCell) (st : ServerState) → entry_at c.servers s ≡ Some cell → (o : Option ServerState) → cell.state ≡ o → option_map (λ server. moment_rule server now) o ≡ Some st →
           RunsAs c.servers s (told_moment now cell) st
@@ -256,10 +318,6 @@ module _ (generation : ℕ → ℕ) (nodes target : ℕ) where
       runs s cell st at up =
           let (old, there, is) = entry_unmapped (told_moment now) c.servers s cell at in
           subst (λ z. RunsAs c.servers s z st) (sym is) (by_state s old st there old.state refl (ap (λ (z : ServerCell). z.state) (sym is) ∙ up))
-
-      go : (b : Bool) → Standing generation nodes target (if b then c else record c { now = now; servers = map (told_moment now) c.servers })
-      go true = x
-      go false = rests_as c (record c { now = now; servers = map (told_moment now) c.servers }) x refl x.first_range (past_moment c.servers now) runs
 
   -- ---- leases, and the nodes for new extents
 
@@ -274,129 +332,126 @@ module _ (generation : ℕ → ℕ) (nodes target : ℕ) where
       same_runs : (z : ServerState) → Some after ≡ Some z → RunsAs c.servers s (record cell { state = Some after }) z
       same_runs z e = let same : after ≡ z = cc in subst (λ y. RunsAs c.servers s (record cell { state = Some after }) y) same (Ran cell st at is server session refl ranges)
 
-      same_system_stands : (w : StreamSystem) → w ≡ c.stream_layer → Standing generation nodes target c →
-          Standing generation nodes target (record c { stream_layer = w; servers = slice_set c.servers (s - 1) (record cell { state = Some after }) })
-      same_system_stands w same x = one_stands c s cell (record cell { state = Some after }) at same_past same_runs w same x
+      same_system_stands : (w : StreamSystem) (y z : ServerRun) → w ≡ c.stream_layer → IsStill y z → z.servers ≡ slice_set c.servers (s - 1) (record cell { state = Some after }) →
+          Standing generation nodes target c y → Standing generation nodes target (record c { stream_layer = w; servers = slice_set c.servers (s - 1) (record cell { state = Some after }) }) z
+      same_system_stands w y z same still cells x = one_stands c s cell (record cell { state = Some after }) at same_past same_runs w y z same still cells x
 
-      -- the same ranges, up to the ends of their leases
-      pub same_ranges_stand : Standing generation nodes target c → Standing generation nodes target (record c { servers = slice_set c.servers (s - 1) (record cell { state = Some after }) })
-      same_ranges_stand x = same_system_stands c.stream_layer refl x
+    abbrev picked_servers : Nodes → List ServerCell
+    picked_servers pick = slice_set c.servers (s - 1) (record cell { state = Some (record st { context = record st.context { pick = pick } }) })
 
-    pub picks_stand : (pick : Nodes) → Standing generation nodes target c →
-        Standing generation nodes target (record c { servers = slice_set c.servers (s - 1) (record cell { state = Some (record st { context = record st.context { pick = pick } }) }) })
-    picks_stand pick x = same_ranges_stand (record st { context = record st.context { pick = pick } }) refl refl (omega arith) (same_ranges st.ranges) x
+    -- other nodes for new extents
+    pub picks_stand : (pick : Nodes) (y : ServerRun) → Standing generation nodes target c y → Standing generation nodes target (record c { servers = picked_servers pick }) (record y { servers = picked_servers pick })
+    picks_stand pick y x =
+        same_system_stands (record st { context = record st.context { pick = pick } }) refl refl (omega arith) (same_ranges st.ranges) c.stream_layer y (record y { servers = picked_servers pick }) refl
+        (still_here y (picked_servers pick)) refl x
 
     -- a rule that sends and shows nothing
-    pub quiet_stands : (o : ServerOutcome) → IsQuiet st o → Standing generation nodes target c → Standing generation nodes target (rule_done c s cell o)
-    quiet_stands o q x =
-        same_system_stands o.after q.server q.session q.count q.ranges (with_told c.stream_layer o.packets o.notes)
-        (ap (λ ps. with_told c.stream_layer ps o.notes) q.packets ∙ ap (λ ns. with_told c.stream_layer [] ns) q.notes ∙ told_nothing c.stream_layer) x
+    pub quiet_stands : (o : ServerOutcome) → IsQuiet st o → (y : ServerRun) → Standing generation nodes target c y → Standing generation nodes target (rule_done c s cell o) (run_done c y s cell Rests o)
+    quiet_stands o q y x =
+        same_system_stands o.after q.server q.session q.count q.ranges (with_told c.stream_layer o.packets o.notes) y (run_done c y s cell Rests o)
+        (ap (λ ps. with_told c.stream_layer ps o.notes) q.packets ∙ ap (λ ns. with_told c.stream_layer [] ns) q.notes ∙ told_nothing c.stream_layer)
+        (still_done y (slice_set c.servers (s - 1) (cell_performs cell o).cell) o.packets o.notes q.notes) refl x
 
-    pub renew_stands : (range g until : ℕ) → Standing generation nodes target c → Standing generation nodes target (rule_done c s cell (renew_rule st range g until (range_of st.ranges range)))
-    renew_stands range g until x = quiet_stands (renew_rule st range g until (range_of st.ranges range)) (renew_quiet st range g until) x
+    pub renew_stands : (range g until : ℕ) (y : ServerRun) → Standing generation nodes target c y →
+        Standing generation nodes target (rule_done c s cell (renew_rule st range g until (range_of st.ranges range))) (run_done c y s cell Rests (renew_rule st range g until (range_of st.ranges range)))
+    renew_stands range g until y x = quiet_stands (renew_rule st range g until (range_of st.ranges range)) (renew_quiet st range g until) y x
 
-  -- ---- what the map tells
+  -- ---- packets that say nothing of streams
 
-  module _ (c : Cluster) (x : Standing generation nodes target c) (to : ActorId) (told : Body) (word : IsWord told) where
+  module _ (c : Cluster) (y : ServerRun) (x : Standing generation nodes target c y) (p : Packet) (may : MaySend p)
+      (plain : (name : StreamName) (m : extents.MachineState Group) (sent : List Sent) → IsAsked generation name (here generation nodes target x.moves) m sent p.body)
+      (unasked : (q : ReqNo) → asked_number p.body ≡ Some q → ⊥) (word : p.from ≡ Map → IsWord p.body) where
     abbrev w : StreamSystem
     w = here generation nodes target x.moves
 
+    told : Further generation nodes target x.moves (with_told w (p ∷ []) []) (p ∷ [])
+    told = all_told generation nodes target x.moves (p ∷ []) [] (may, tt)
+
     abbrev later : List Move
-    later = x.moves ++ Says Map to told ∷ []
+    later = x.moves ++ told.after
 
-    abbrev v : StreamSystem
-    v = here generation nodes target later
+    same_catalog : (here generation nodes target later).catalog ≡ w.catalog
+    same_catalog = ap (λ (z : StreamSystem). z.catalog) told.leads
 
-    only_one : (p : Packet) → Contains (packet Map to told ∷ []) p → packet Map to told ≡ p
-    only_one p (zero, less, is) = is
-    only_one p (suc k, less, is) = absurd (omega arith)
+    same_notes : (note : Note) → Contains w.notes note → Contains (here generation nodes target later).notes note
+    same_notes note there = subst (λ (z : StreamSystem). Contains z.notes note) (sym told.leads) there
 
-    said : v ≡ sent_more w (packet Map to told ∷ [])
-    said =
-        run_moves_push x.moves (Says Map to told) (start nodes target)
-        ∙ ap (λ (t : Bool). if t then sent_more w (packet Map to told ∷ []) else w) (word_told told word)
+    only_one : (q : Packet) → Contains (p ∷ []) q → p ≡ q
+    only_one q (zero, less, is) = is
+    only_one q (suc k, less, is) = absurd (omega arith)
 
-    same_catalog : v.catalog ≡ w.catalog
-    same_catalog = ap (λ (z : StreamSystem). z.catalog) said
-
-    same_notes : (note : Note) → Contains w.notes note → Contains v.notes note
-    same_notes note there = subst (λ (z : StreamSystem). Contains z.notes note) (sym said) there
-
-    still_known : AllKnown generation 1 nodes target v x.streams.m_sent x.streams.l_sent
-    still_known server other body there q asked none free =
-        elim (Contains-append_cases w.post (packet Map to told ∷ []) (packet (Server server) other body) (subst (λ (z : StreamSystem). Contains z.post (packet (Server server) other body)) said there)) [
-          | inl old ↦ x.streams.beside.known server other body old q asked none free
-          | inr new ↦ (let same : packet Map to told ≡ packet (Server server) other body = only_one (packet (Server server) other body) new in
-              let from : Map ≡ Server server = ap (λ (p : Packet). p.from) same in absurd cc)
-        ]
-
-    streams : Streams generation nodes target later
-    streams = record {
-      m = x.streams.m;
-      l = x.streams.l;
-      m_sent = x.streams.m_sent;
-      l_sent = x.streams.l_sent;
-      m_are = x.streams.m_are;
-      l_are = x.streams.l_are;
-      unformed = x.streams.unformed;
-      fit = x.streams.fit;
-      beside = record {
-        metadata = below_says generation (metadata_of 1) nodes target x.moves (after_all Group generation x.streams.m) x.streams.m_sent x.streams.beside.metadata Map to told;
-        log = below_says generation (log_of 1) nodes target x.moves (after_all Group generation x.streams.l) x.streams.l_sent x.streams.beside.log Map to told;
-        known = still_known;
-      };
-      apart = x.streams.apart;
-    }
-
-    still_holds : (j : ℕ) (r : RangeState) → Holds generation nodes target x.moves x.streams j r → Holds generation nodes target later streams j r
-    unfolding streams
-    still_holds j r h =
-        let s : extents.MachineState Group = (after_all Group generation x.streams.m).state in
-        let t : extents.MachineState Group = (after_all Group generation x.streams.l).state in
-        let m_wider : Wider (metadata_of 1) w v s s x.streams.m_sent x.streams.m_sent = wider_same generation nodes target (metadata_of 1) w v s x.streams.m_sent same_catalog in
-        let l_wider : Wider (log_of 1) w v t t x.streams.l_sent x.streams.l_sent = wider_same generation nodes target (log_of 1) w v t x.streams.l_sent same_catalog in
+    still_beside : (range : ℕ) → AreBeside generation nodes target later range (x.machines range)
+    still_beside range =
+        let old : AreBeside generation nodes target x.moves range (x.machines range) = x.beside range in
+        let m : Whole Group generation = after_all Group generation (x.machines range).m in
+        let l : Whole Group generation = after_all Group generation (x.machines range).l in
         record {
-          follows = follows_on generation 1 w v j (m_side generation nodes target x.moves x.streams j) (m_side generation nodes target later streams j)
-              (l_side generation nodes target x.moves x.streams j) (l_side generation nodes target later streams j) m_wider refl l_wider refl r (λ e. refl) h.follows;
-          sound = h.sound;
-          read = has_read_on 1 w v j t t (grown_wider 1 w v t t x.streams.l_sent x.streams.l_sent l_wider same_notes) r h.read;
+          m_are = old.m_are;
+          l_are = old.l_are;
+          unformed = old.unformed;
+          apart = old.apart;
+          metadata = λ counted. told.below (metadata_of range) m (x.machines range).m_sent (plain (metadata_of range) m.state (x.machines range).m_sent, tt) (old.metadata counted);
+          log = λ counted. told.below (log_of range) l (x.machines range).l_sent (plain (log_of range) l.state (x.machines range).l_sent, tt) (old.log counted);
         }
 
-    still_stands : (s : ℕ) (cell : ServerCell) (st : ServerState) → entry_at c.servers s ≡ Some cell → cell.state ≡ Some st → Runs generation nodes target later streams (x.incarnation s) s cell st
+    still_numbers : AreNumbersPast c.servers (c.stream_layer.post ++ p ∷ [])
+    still_numbers server to body there q number = elim (Contains-append_cases c.stream_layer.post (p ∷ []) (packet (Server server) to body) there) [
+      | inl old ↦ x.numbers server to body old q number
+      | inr now ↦ absurd (unasked q (ap (λ (z : Packet). asked_number z.body) (only_one (packet (Server server) to body) now) ∙ number))
+    ]
+
+    still_from_map : (other : ActorId) (body : Body) → Contains (c.stream_layer.post ++ p ∷ []) (packet Map other body) → IsWord body
+    still_from_map other body there = elim (Contains-append_cases c.stream_layer.post (p ∷ []) (packet Map other body) there) [
+      | inl old ↦ x.from_map other body old
+      | inr now ↦ (let same : p ≡ packet Map other body = only_one (packet Map other body) now in subst (λ (z : Packet). IsWord z.body) same (word (ap (λ (z : Packet). z.from) same)))
+    ]
+
+    still_stands : (s : ℕ) (cell : ServerCell) (st : ServerState) → entry_at c.servers s ≡ Some cell → cell.state ≡ Some st → Runs generation nodes target later x.machines (y.history s) (x.incarnation s) s cell st
     still_stands s cell st at up =
-        let before : Runs generation nodes target x.moves x.streams (x.incarnation s) s cell st = x.servers s cell st at up in
+        let before : Runs generation nodes target x.moves x.machines (y.history s) (x.incarnation s) s cell st = x.servers s cell st at up in
         record {
           server = before.server;
           session = before.session;
-          held = held_on generation nodes target x.moves later x.streams streams (x.incarnation s) (x.incarnation s) refl st.ranges (λ j r mine h. still_holds j r h) before.held;
+          ascending = before.ascending;
+          held = λ range r found.
+              held_on generation nodes target range x.moves later (x.machines range) (x.machines range) (y.history s range) (y.history s range) refl (x.incarnation s range) (x.incarnation s range) refl r
+              (λ j mine h.
+              holds_on generation nodes target range x.moves later (x.machines range) (x.machines range) (onward_same generation nodes target range x.moves later (x.machines range) same_catalog same_notes) j (refl, refl)
+              (y.history s range) r h) (before.held range r found);
         }
 
-    still_from_map : (other : ActorId) (body : Body) → Contains (c.stream_layer.post ++ packet Map to told ∷ []) (packet Map other body) → IsWord body
-    still_from_map other body there =
-        elim (Contains-append_cases c.stream_layer.post (packet Map to told ∷ []) (packet Map other body) there) [
-          | inl old ↦ x.from_map other body old
-          | inr new ↦ subst IsWord (ap (λ (p : Packet). p.body) (only_one (packet Map other body) new)) word
-        ]
-
-    -- the map tells of range 1 alone
-    pub map_says_stands : (told_map : MapState) (map_cell : MapCell) → AreFirst told_map.ranges →
-        Standing generation nodes target (record c { map = told_map; map_cell = map_cell; stream_layer = sent_more c.stream_layer (packet Map to told ∷ []) })
-    unfolding streams
-    map_says_stands told_map map_cell first = record {
+    -- one is sent
+    pub says_stands : Standing generation nodes target (record c { stream_layer = sent_more c.stream_layer (p ∷ []) }) y
+    says_stands = record {
       moves = later;
-      leads = said ∙ ap (λ z. sent_more z (packet Map to told ∷ [])) x.leads;
-      streams = streams;
-      m_past = x.m_past;
-      l_past = x.l_past;
+      leads = told.leads ∙ ap (λ z. sent_more z (p ∷ [])) x.leads;
+      machines = x.machines;
+      beside = still_beside;
+      distinct = x.distinct;
+      past = x.past;
+      numbers = still_numbers;
       from_map = still_from_map;
-      first_range = first;
+      first_range = x.first_range;
       incarnation = x.incarnation;
       bound = x.bound;
       own = x.own;
       below = x.below;
       idle = x.idle;
+      cells = x.cells;
       servers = still_stands;
-      rows = x.rows;
-      tells = x.tells;
-      shows = x.shows;
+      stories = x.stories;
+      observed = x.observed;
+      acked = x.acked;
+      told = x.told;
     }
+
+  -- the map tells servers of leases
+  pub map_says_stands : (c : Cluster) (y : ServerRun) → Standing generation nodes target c y → (to : ActorId) (body : Body) → IsWord body →
+      Standing generation nodes target (record c { stream_layer = sent_more c.stream_layer (packet Map to body ∷ []) }) y
+  map_says_stands c y x to body word =
+      says_stands c y x (packet Map to body) (inr (word_told body word)) (λ name m sent. word_plain generation (here generation nodes target x.moves) body word name m sent) (word_unasked body word) (λ from. word)
+
+  -- a server refuses what a user asks
+  pub refuses_stands : (c : Cluster) (y : ServerRun) → Standing generation nodes target c y → (d : ServerContext) (to : ActorId) (q : ReqNo) (why : Refusal) →
+      Standing generation nodes target (record c { stream_layer = sent_more c.stream_layer (refuses d to q why ∷ []) }) y
+  refuses_stands c y x d to q why = says_stands c y x (refuses d to q why) (inr refl) (λ name m sent. tt) (λ v number. absurd cc) (λ from. absurd cc)

@@ -1,16 +1,22 @@
 -- The numbers of requests that servers have used, over starts and stops.
-use Rattle.std.proofs.Common.{◌≡◌, ◌⊎◌, ℕ, zero, suc, ◌-◌, ◌^◌, ◌≤◌, ◌<◌, Bool, true, false, List, [], ◌∷◌, map, Option, Some, None, option_map, slice_get, slice_set, refl, sym, ap, ◌∙◌, subst, inl, inr, arith, if◌then◌else◌, ◌==◌, nat_lt}
+use Rattle.std.proofs.Common.{◌≡◌, ◌⊎◌, ℕ, suc, ◌-◌, ◌^◌, ◌≤◌, ◌<◌, Bool, true, false, List, map, Option, Some, None, option_map, Contains, slice_set, refl, sym, ap, ◌∙◌, subst, inl, inr, arith, if◌then◌else◌, ◌==◌, nat_lt}
 use Rattle.std.proofs.lemmas.Bool.Decides.{nat_tests}
+use Rattle.wire.specs.declared.actor.ActorId.{ActorId}
+use Rattle.wire.specs.declared.actor.ActorId.TheVariants.{Server}
 use Rattle.wire.specs.declared.actor.ReqNo.{ReqNo}
 use Rattle.wire.specs.declared.actor.ReqNo.TheVariants as requests
+use Rattle.wire.specs.declared.body.Body.{Body}
+use Rattle.wire.specs.declared.packet.Packet.{Packet}
 use Rattle.client.specs.Requests.{is_same}
 use Rattle.model_streams.specs.Maps.{entry_at}
+use Rattle.model_streams.specs.Outcome.{packet}
+use Rattle.model_partition.specs.declared.server_context.ServerContext.{ServerContext}
 use Rattle.model_partition.specs.Server.{ServerState, moment_rule, started}
 use Rattle.model_partition.specs.Servers.{ServerCell, cell_stops, cell_starts, first_pick, told_moment}
-use Rattle.laws_loads.proofs.Entries.{entry_set, entry_other, entry_map, entry_mapped, entry_unmapped}
-use Rattle.laws_stream_machine.specs.Refinement.{Purpose, Sent, purpose_of}
+use Rattle.laws_loads.proofs.Entries.{entry_set, entry_other, entry_mapped}
+use Rattle.laws_stream_machine.specs.Refinement.{Purpose, Sent, purpose_of, asked_number}
 use Rattle.laws_stream_machine.proofs.ServerRequests.{same_request}
-use Rattle.laws_ranges.specs.Serves.{sent_with, AreUnused}
+use Rattle.laws_ranges.specs.Serves.{sent_with, Adds, AreUnused}
 
 -- a number of a session of this cell that is over, or of the one that lasts, and used
 abbrev pub PastAt : ServerCell → ℕ → ℕ → Type 0
@@ -19,6 +25,10 @@ PastAt cell n k = (n < cell.session) ⊎ ((n ≡ cell.session) × ((st : ServerS
 abbrev pub IsPast : List ServerCell → ReqNo → Type 0
 IsPast servers (requests.Server s n k) = (cell : ServerCell) × (entry_at servers s ≡ Some cell) × PastAt cell n k
 IsPast servers q = ⊥
+
+-- each number that a server has asked under was used
+abbrev pub AreNumbersPast : List ServerCell → List Packet → Type 0
+AreNumbersPast servers post = (server : ℕ) (to : ActorId) (body : Body) → Contains post (packet (Server server) to body) → (q : ReqNo) → asked_number body ≡ Some q → IsPast servers q
 
 -- each number that has a purpose was used
 abbrev pub AllPast : List ServerCell → List Sent → Type 0
@@ -102,24 +112,26 @@ past_moment servers now (requests.Server s n k) (cell, is, past) = (told_moment 
 
 -- ---- numbers that are not used, and those that are used next
 
--- no number from the count on has a purpose
-pub unused_of : (servers : List ServerCell) (s : ℕ) (cell : ServerCell) (st : ServerState) (sent : List Sent) → entry_at servers s ≡ Some cell → cell.state ≡ Some st →
-    st.context.server ≡ s → st.context.session ≡ cell.session → AllPast servers sent → AreUnused st.context st.context.count sent
-unused_of servers s cell st sent at runs server session all k from = go (purpose_of sent (requests.Server st.context.server st.context.session k)) refl
-  where
-    below : (other : ServerCell) → entry_at servers st.context.server ≡ Some other → PastAt other st.context.session k → ⊥
-    below other is past = by_past (subst (λ z. PastAt z st.context.session k) same past)
-      where
-        same : other ≡ cell
-        same = let both : Some other ≡ Some cell = sym is ∙ ap (λ z. entry_at servers z) server ∙ at in cc
+module _ (servers : List ServerCell) (s : ℕ) (cell : ServerCell) (st : ServerState) (at : entry_at servers s ≡ Some cell) (runs : cell.state ≡ Some st)
+    (server : st.context.server ≡ s) (session : st.context.session ≡ cell.session) where
+  -- no number from the count on was used
+  pub not_past : (k : ℕ) → st.context.count ≤ k → IsPast servers (requests.Server st.context.server st.context.session k) → ⊥
+  not_past k from (other, is, past) = by_past (subst (λ z. PastAt z st.context.session k) same past)
+    where
+      same : other ≡ cell
+      same = let both : Some other ≡ Some cell = sym is ∙ ap (λ z. entry_at servers z) server ∙ at in cc
 
-        by_past : PastAt cell st.context.session k → ⊥
-        by_past (inl over) = omega (arith, over, session)
-        by_past (inr (lasts, used)) = let less : k < st.context.count = used st runs in omega (arith, less, from)
+      by_past : PastAt cell st.context.session k → ⊥
+      by_past (inl over) = omega (arith, over, session)
+      by_past (inr (lasts, used)) = let less : k < st.context.count = used st runs in omega (arith, less, from)
 
-    go : (o : Option Purpose) → purpose_of sent (requests.Server st.context.server st.context.session k) ≡ o → o ≡ None
-    go None is = refl
-    go (Some p) is = absurd (let past = all (requests.Server st.context.server st.context.session k) p is in below past.0 past.1 past.2)
+  -- and none has a purpose
+  pub unused_of : (sent : List Sent) → AllPast servers sent → AreUnused st.context st.context.count sent
+  unused_of sent all k from = go (purpose_of sent (requests.Server st.context.server st.context.session k)) refl
+    where
+      go : (o : Option Purpose) → purpose_of sent (requests.Server st.context.server st.context.session k) ≡ o → o ≡ None
+      go None is = refl
+      go (Some p) is = absurd (not_past k from (all (requests.Server st.context.server st.context.session k) p is))
 
 -- a number below the count after a step is used then
 pub new_past : (servers : List ServerCell) (s : ℕ) (c d : ServerCell) (st' : ServerState) → entry_at servers s ≡ Some c → d.state ≡ Some st' → (k : ℕ) → k < st'.context.count →
@@ -143,3 +155,32 @@ all_past_adds servers sent q (Some p) all new r z is = go (is_same q r) refl is
     go : (b : Bool) → is_same q r ≡ b → (if b then Some p else purpose_of sent r) ≡ Some z → IsPast servers r
     go true test e = subst (λ v. IsPast servers v) (same_request q r test) (new p refl)
     go false test e = all r z e
+
+-- ---- one more request, under a number that was not used
+
+module _ (servers : List ServerCell) where
+  with_some : (v : ReqNo) (o : Option Purpose) (sent : List Sent) → (IsPast servers v → ⊥) → (q : ReqNo) (p : Purpose) → purpose_of (sent_with v o sent) q ≡ Some p →
+      ((z : Purpose) × (purpose_of sent q ≡ Some z)) ⊎ (IsPast servers q → ⊥)
+  with_some v None sent new q p is = inl (p, is)
+  with_some v (Some z) sent new q p is = go (is_same v q) refl is
+    where
+      go : (b : Bool) → is_same v q ≡ b → (if b then Some z else purpose_of sent q) ≡ Some p → ((y : Purpose) × (purpose_of sent q ≡ Some y)) ⊎ (IsPast servers q → ⊥)
+      go true test e = inr (λ past. new (subst (λ u. IsPast servers u) (sym (same_request v q test)) past))
+      go false test e = inl (p, e)
+
+  with_none : (v : ReqNo) (o : Option Purpose) (sent : List Sent) → (IsPast servers v → ⊥) → (q : ReqNo) → IsPast servers q → purpose_of sent q ≡ None → purpose_of (sent_with v o sent) q ≡ None
+  with_none v None sent new q past none = none
+  with_none v (Some z) sent new q past none = go (is_same v q) refl
+    where
+      go : (b : Bool) → is_same v q ≡ b → (if b then Some z else purpose_of sent q) ≡ None
+      go true test = absurd (new (subst (λ u. IsPast servers u) (sym (same_request v q test)) past))
+      go false test = none
+
+  module _ (d : ServerContext) (new : (k : ℕ) → d.count ≤ k → IsPast servers (requests.Server d.server d.session k) → ⊥) (sent more : List Sent) (a : Adds d sent more) where
+    -- a number that has a purpose now had one, or was not used
+    pub added_some : (q : ReqNo) (p : Purpose) → purpose_of more q ≡ Some p → ((z : Purpose) × (purpose_of sent q ≡ Some z)) ⊎ (IsPast servers q → ⊥)
+    added_some q p is = with_some (requests.Server d.server d.session a.number) a.purpose sent (new a.number a.from) q p (sym (ap (λ l. purpose_of l q) a.is) ∙ is)
+
+    -- a number that was used without a purpose has none now
+    pub added_none : (q : ReqNo) → IsPast servers q → purpose_of sent q ≡ None → purpose_of more q ≡ None
+    added_none q past none = ap (λ l. purpose_of l q) a.is ∙ with_none (requests.Server d.server d.session a.number) a.purpose sent (new a.number a.from) q past none

@@ -1,41 +1,69 @@
--- A cluster stands on where a server does a rule of its range.
-use Rattle.std.proofs.Common.{◌≡◌, ◌⊎◌, ⊎_elim, ℕ, suc, ◌+◌, ◌-◌, ◌≤◌, ◌<◌, Bool, true, false, List, [], ◌∷◌, ◌++◌, Option, Some, None, Contains, slice_set, refl, sym, ap, ◌∙◌, subst, inl, inr, arith, if◌then◌else◌, ◌==◌}
-use Rattle.std.proofs.lemmas.Bool.{cases_lt}
+-- A cluster stands on where a server does a rule of one of its ranges.
+use Rattle.std.proofs.Common.{◌≡◌, ◌⊎◌, ⊎_elim, ℕ, zero, suc, ◌+◌, ◌-◌, ◌≤◌, ◌<◌, Bool, true, false, List, [], ◌∷◌, ◌++◌, Option, Some, None, Contains, slice_set, refl, sym, ap, ◌∙◌, subst, inl, inr, arith, if◌then◌else◌, ◌==◌, ◌&&◌}
+use Rattle.std.proofs.lemmas.Bool.{cases_eq, cases_lt}
 use Rattle.std.proofs.lemmas.Bool.Decides.{nat_tests}
 use Rattle.std.proofs.lemmas.List.Elements.{Contains-append_cases}
 use Rattle.wire.specs.declared.actor.ActorId.{ActorId}
-use Rattle.wire.specs.declared.actor.ActorId.TheVariants.{Map}
+use Rattle.wire.specs.declared.actor.ActorId.TheVariants.{Map, Server}
 use Rattle.wire.specs.declared.actor.ReqNo.{ReqNo}
 use Rattle.wire.specs.declared.actor.ReqNo.TheVariants as requests
 use Rattle.wire.specs.declared.body.Body.{Body}
 use Rattle.wire.specs.declared.packet.Packet.{Packet}
-use Rattle.wire.specs.declared.rows.Row.{Row}
+use Rattle.wire.specs.declared.note.Note.{Note}
+use Rattle.wire.specs.declared.streams.StreamKind.{StreamKind}
+use Rattle.wire.specs.declared.streams.StreamKind.TheVariants as kinds
+use Rattle.wire.specs.declared.streams.StreamName.{StreamName}
 use Rattle.replica.specs.Groups.{Group}
 use Rattle.model_streams.specs.Maps.{entry_at}
 use Rattle.model_streams.specs.Outcome.{packet}
 use Rattle.model_streams.specs.StreamSystem.{StreamSystem, Move}
 use Rattle.model_partition.specs.declared.server_context.ServerContext.{ServerContext}
-use Rattle.model_partition.specs.Servers.{ServerCell, noted, with_told}
 use Rattle.model_partition.specs.Cluster.{Cluster}
-use Rattle.model_partition.specs.Log.{ShowsTables}
+use Rattle.model_partition.specs.Past.{Bytes, table_notes}
 use Rattle.model_partition.specs.Range.{RangeState, RangeOutcome}
-use Rattle.model_partition.specs.Server.{ServerState}
-use Rattle.model_partition.specs.ServerTurns.{Phase, after_all}
-use Rattle.model_partition.specs.ServerTurns as machine
-use Rattle.model_partition.specs.Renaming.{renamed, decoded}
-use Rattle.laws_stream_machine.specs.Refinement.{Purpose, Sent, purpose_of}
-use Rattle.laws_ranges.specs.Serves.{Side, sent_with, Adds, AreUnused, IsSentBy, AskedOfBoth, RuleTells}
-use Rattle.laws_loads.specs.Sound.{IsSoundIf}
-use Rattle.laws_ranges.proofs.MachineSteps.{newest}
-use Rattle.laws_log_reads.specs.Reads.{HasReadIf}
-use Rattle.laws_servers.specs.Sending.{MaySendAll}
-use Rattle.laws_clusters.proofs.RangeSteps.{Next, goes_on, m_after, l_after}
-use Rattle.laws_clusters.proofs.OtherRanges.{others_hold, own_if}
+use Rattle.model_partition.specs.ServedTables.{AreSeenAs}
+use Rattle.model_partition.specs.Server.{ServerState, range_of}
+use Rattle.model_partition.specs.ServerRun.{ServerRun, after_actions, with_outcome, stream_named}
+use Rattle.model_partition.specs.Servers.{ServerCell, noted, with_told}
+use Rattle.model_partition.specs.ServerTurns.{after_all}
+use Rattle.model_partition.specs.StreamActions.{StreamAction}
+use Rattle.model_partition.specs.TableContents.{AllTellRightly}
+use Rattle.laws_loads.specs.RangeView.{RangeView, view_after_all}
 use Rattle.laws_loads.proofs.Entries.{entry_set, entry_other}
-use Rattle.laws_clusters.proofs.RequestNumbers.{PastAt, IsPast, AllPast, past_on, past_step, unused_of, new_past, all_past_adds}
+use Rattle.laws_stream_machine.specs.Refinement.{Purpose, Sent, purpose_of, IsAt, IsUnsealedAt}
+use Rattle.laws_stream_machine.proofs.ServerRequests.{Unused}
+use Rattle.laws_ranges.specs.Seen.{BeganAt, SeesStories}
+use Rattle.laws_ranges.specs.Serves.{Side, metadata_of, log_of, sent_with, Adds, AreUnused, IsSentBy, IsKnown, AskedOfBoth, RuleGoes}
+use Rattle.laws_ranges.proofs.MachineSteps.{newest}
+use Rattle.laws_server_runs.specs.RunInvariant.{view_at}
+use Rattle.laws_server_runs.proofs.Actions.{same_test, other_test, actions_here, actions_apart, actions_bytes, actions_rest}
+use Rattle.laws_servers.specs.Sending.{MaySendAll}
+use Rattle.laws_server_runs.specs.Places.{AreAscending, TablesWithin}
+use Rattle.laws_clusters.proofs.Invariant.{SeesAll, IsOther, Machines, HasNumber, HasNone, AreDistinct, IsIdle, AreBeside, here, m_side, l_side, Holds, IsHeld, Runs, Standing}
+use Rattle.laws_clusters.proofs.ObservedBytes.{AreObserved, observed_on, before_tells, tables_behind, seen_all}
 use Rattle.laws_clusters.proofs.OneRange.{IsWord}
-use Rattle.laws_clusters.proofs.Invariant.{Streams, here, m_side, l_side, Holds, HeldAs, Runs, Standing}
-use Rattle.laws_clusters.proofs.ObservedNotes.{Tells}
+use Rattle.laws_clusters.proofs.OtherRanges.{noted_keeps, onward_same, holds_on, held_on, own_if}
+use Rattle.laws_clusters.proofs.RangeActions.{actions_aside}
+use Rattle.laws_clusters.proofs.RangeRules.{Done}
+use Rattle.laws_clusters.proofs.RangeSteps.{m_after, l_after, machines_after, m_side_is, l_side_is, others_steady, goes_onward, goes_on}
+use Rattle.laws_clusters.proofs.StreamMachines.{Further, is_unused, all_told}
+use Rattle.laws_clusters.proofs.Elsewhere.{none_of, all_elsewhere}
+use Rattle.laws_stream_machine.proofs.LowerLayer.{below_alone}
+use Rattle.laws_clusters.proofs.RequestNumbers.{PastAt, IsPast, AreNumbersPast, AllPast, past_on, past_step, not_past, unused_of, new_past, all_past_adds, added_some, added_none}
+
+-- this run, but for what a server has read of a range
+pub record IsNear (s range : ℕ) (y b : ServerRun) : Type 0 where
+  pub history : (t j : ℕ) → ((t == s) && (j == range)) ≡ false → b.history t j ≡ y.history t j
+  pub story : (name : StreamName) → b.story name ≡ y.story name
+  pub shown : (j : ℕ) → b.shown j ≡ y.shown j
+  pub answered : (j : ℕ) → b.answered j ≡ y.answered j
+  pub notes : b.notes ≡ y.notes
+
+-- of a server's ranges one is left so, and all others are as before
+pub record AreLeft (before after : List (ℕ × RangeState)) (range : ℕ) (o : Option RangeState) : Type 0 where
+  pub ascending : AreAscending after
+  pub here : (r : RangeState) → range_of after range ≡ Some r → o ≡ Some r
+  pub others : (j : ℕ) → (j ≡ range → ⊥) → range_of after j ≡ range_of before j
 
 -- the number of a request that has a purpose is below the next one
 below_next : (d : ServerContext) (count : ℕ) (sent more : List Sent) → AreUnused d count more → (a : Adds d sent more) → (p : Purpose) → a.purpose ≡ Some p → a.number < count
@@ -48,67 +76,150 @@ below_next d count sent more unused a p some =
     absurd (let z : None ≡ Some p = sym none ∙ there in cc)))
     (cases_lt a.number count)
 
+-- ---- tests of a server and a range
+
+not_second : (a b : Bool) → b ≡ false → (a && b) ≡ false
+not_second true b e = e
+not_second false b e = refl
+
+other_range : (t s j range : ℕ) → (j ≡ range → ⊥) → ((t == s) && (j == range)) ≡ false
+other_range t s j range apart = not_second (t == s) (j == range) (other_test j range apart)
+
+other_server : (t s j range : ℕ) → (t ≡ s → ⊥) → ((t == s) && (j == range)) ≡ false
+other_server t s j range apart = ap (λ a. a && (j == range)) (other_test t s apart)
+
+-- ---- incarnations of ranges at servers
+
+abbrev with_one : (ℕ → ℕ → Option ℕ) → ℕ → ℕ → ℕ → ℕ → ℕ → Option ℕ
+with_one o s range i t j = if (t == s) && (j == range) then Some i else o t j
+
+one_here : (o : ℕ → ℕ → Option ℕ) (s range i : ℕ) → with_one o s range i s range ≡ Some i
+one_here o s range i = ap (λ b. if b && (range == range) then Some i else o s range) (same_test s) ∙ ap (λ b. if b then Some i else o s range) (same_test range)
+
+one_other : (o : ℕ → ℕ → Option ℕ) (s range i t j : ℕ) → ((t == s) && (j == range)) ≡ false → with_one o s range i t j ≡ o t j
+one_other o s range i t j test = ap (λ b. if b then Some i else o t j) test
+
+-- whose it is
+whose : (o : ℕ → ℕ → Option ℕ) (s range i t j k : ℕ) → with_one o s range i t j ≡ Some k → ((t ≡ s) × (j ≡ range) × (i ≡ k)) ⊎ (o t j ≡ Some k)
+whose o s range i t j k e = go (t == s) (j == range) refl refl e
+  where
+    go : (a b : Bool) → (t == s) ≡ a → (j == range) ≡ b → (if a && b then Some i else o t j) ≡ Some k → ((t ≡ s) × (j ≡ range) × (i ≡ k)) ⊎ (o t j ≡ Some k)
+    go true true one two z = inl (grind (arith, nat_tests), grind (arith, nat_tests), cc)
+    go true false one two z = inr z
+    go false b one two z = inr z
+
 module _ (generation : ℕ → ℕ) (nodes target : ℕ) where
-  -- ---- incarnations of servers
-
-  abbrev with_one : (ℕ → Option ℕ) → ℕ → ℕ → ℕ → Option ℕ
-  with_one o s i u = if u == s then Some i else o u
-
-  one_here : (o : ℕ → Option ℕ) (s i : ℕ) → with_one o s i s ≡ Some i
-  one_here o s i = let t : (s == s) ≡ true = grind (arith, nat_tests) in ap (λ b. if b then Some i else o s) t
-
-  one_other : (o : ℕ → Option ℕ) (s i u : ℕ) → (u ≡ s → ⊥) → with_one o s i u ≡ o u
-  one_other o s i u other = let t : (u == s) ≡ false = grind (arith, nat_tests) in ap (λ b. if b then Some i else o u) t
-
-  -- whose it is
-  whose : (o : ℕ → Option ℕ) (s i u k : ℕ) → with_one o s i u ≡ Some k → ((u ≡ s) × (i ≡ k)) ⊎ ((u ≡ s → ⊥) × (o u ≡ Some k))
-  whose o s i u k e = go (u == s) refl e
+  -- a number of both lists, or of one
+  has_number : (z : Machines generation) (q : ReqNo) → (purpose_of z.m_sent q ≡ None → purpose_of z.l_sent q ≡ None → ⊥) → HasNumber generation z q
+  has_number z q known = go (purpose_of z.m_sent q) (purpose_of z.l_sent q) refl refl
     where
-      go : (b : Bool) → (u == s) ≡ b → (if b then Some i else o u) ≡ Some k → ((u ≡ s) × (i ≡ k)) ⊎ ((u ≡ s → ⊥) × (o u ≡ Some k))
-      go true t z = inl (grind (arith, nat_tests), cc)
-      go false t z = inr ((λ q. grind (arith, nat_tests)), z)
+      go : (a b : Option Purpose) → purpose_of z.m_sent q ≡ a → purpose_of z.l_sent q ≡ b → HasNumber generation z q
+      go (Some p) b one two = (p, inl one)
+      go None (Some p) one two = (p, inr two)
+      go None None one two = absurd (known one two)
 
-  pub held_on : (moves later : List Move) (x : Streams generation nodes target moves) (y : Streams generation nodes target later) (o p : Option ℕ) → p ≡ o → (ranges : List (ℕ × RangeState)) →
-      ((j : ℕ) (r : RangeState) → o ≡ Some j → Holds generation nodes target moves x j r → Holds generation nodes target later y j r) →
-      HeldAs generation nodes target moves x o ranges → HeldAs generation nodes target later y p ranges
-  held_on moves later x y o p same [] on h = tt
-  held_on moves later x y o p same ((k, r) ∷ []) on h = (h.0, h.1, same ∙ h.2, on h.1 r h.2 h.3)
-  held_on moves later x y o p same (a ∷ (b ∷ more)) on h = absurd h
+  has_none : (z : Machines generation) (q : ReqNo) → (HasNumber generation z q → ⊥) → HasNone generation z q
+  has_none z q not = (none_of z.m_sent q (λ p e. not (p, inl e)), none_of z.l_sent q (λ p e. not (p, inr e)))
 
-  module _ (c : Cluster) (x : Standing generation nodes target c) (s : ℕ) (cell : ServerCell) (st : ServerState) (at : entry_at c.servers s ≡ Some cell) (is : cell.state ≡ Some st) where
+  -- what is asked of both streams of a range is under a number of theirs
+  known_of : (range i : ℕ) (w : StreamSystem) (n k : Side) (ps : List Packet) → AskedOfBoth generation range w i n k ps → (p : Packet) → Contains ps p → IsKnown generation range w i n.sent k.sent p.body
+  known_of range i w n k [] asked p (at, less, is) = absurd (omega (arith, less))
+  known_of range i w n k (x ∷ ps) asked p (zero, less, is) = subst (λ (z : Packet). IsKnown generation range w i n.sent k.sent z.body) is asked.0.2
+  known_of range i w n k (x ∷ ps) asked p (suc at, less, is) = known_of range i w n k ps asked.1 p (at, omega (arith, less), is)
+
+  module _ (c : Cluster) (y : ServerRun) (x : Standing generation nodes target c y) (s : ℕ) (cell : ServerCell) (st : ServerState) (at : entry_at c.servers s ≡ Some cell) (is : cell.state ≡ Some st) where
     abbrev w : StreamSystem
     w = here generation nodes target x.moves
 
-    pub run_of : Runs generation nodes target x.moves x.streams (x.incarnation s) s cell st
+    pub run_of : Runs generation nodes target x.moves x.machines (y.history s) (x.incarnation s) s cell st
     run_of = x.servers s cell st at is
 
-    pub sent_by : IsSentBy st.context st.context.count x.streams.m_sent x.streams.l_sent
-    sent_by = record {
-      apart = x.streams.apart;
-      metadata = unused_of c.servers s cell st x.streams.m_sent at is run_of.server run_of.session x.m_past;
-      log = unused_of c.servers s cell st x.streams.l_sent at is run_of.server run_of.session x.l_past;
-    }
+    not_used : (k : ℕ) → st.context.count ≤ k → IsPast c.servers (requests.Server st.context.server st.context.session k) → ⊥
+    not_used = not_past c.servers s cell st at is run_of.server run_of.session
 
-    module _ (i : ℕ) (alone : (t : ℕ) → (t ≡ s → ⊥) → x.incarnation t ≡ Some i → ⊥) (o : RangeOutcome)
-        (t : RuleTells generation 1 w i (m_side generation nodes target x.moves x.streams i) (l_side generation nodes target x.moves x.streams i) st.context o)
-        (sound : IsSoundIf o.after) (read : HasReadIf 1 w i (after_all Group generation x.streams.l).state o.after) (ps : List Packet) (may : MaySendAll ps)
-        (asked : AskedOfBoth generation 1 w i (m_after generation nodes target x.moves x.streams i st.context sent_by o t) (l_after generation nodes target x.moves x.streams i st.context sent_by o t) ps)
+    unused : (k : ℕ) → st.context.count ≤ k → Unused w (requests.Server st.context.server st.context.session k)
+    unused k from =
+        is_unused generation nodes target x.moves c.servers (requests.Server st.context.server st.context.session k) (subst (λ (z : StreamSystem). AreNumbersPast c.servers z.post) (sym x.leads) x.numbers) (not_used k from)
+
+    module _ (range : ℕ) where
+      m_past : AllPast c.servers (x.machines range).m_sent
+      m_past q p e = x.past range q (p, inl e)
+
+      l_past : AllPast c.servers (x.machines range).l_sent
+      l_past q p e = x.past range q (p, inr e)
+
+      pub sent_by : IsSentBy st.context st.context.count (x.machines range).m_sent (x.machines range).l_sent
+      sent_by = record {
+        apart = (x.beside range).apart;
+        metadata = unused_of c.servers s cell st at is run_of.server run_of.session (x.machines range).m_sent m_past;
+        log = unused_of c.servers s cell st at is run_of.server run_of.session (x.machines range).l_sent l_past;
+      }
+
+    module _ (range : ℕ) (counted : 1 ≤ range) (i : ℕ) (alone : (t j : ℕ) → x.incarnation t j ≡ Some i → (t ≡ s) × (j ≡ range)) (b : ServerRun) (near : IsNear s range y b)
+        (began : BeganAt ((b.history s range).append kinds.Log) ((after_all Group generation (x.machines range).l).phase i)) (o : RangeOutcome) (actions : List StreamAction)
+        (k : Done generation nodes target c y x range counted i st.context (view_at range b s) o actions) (ps : List Packet) (may : MaySendAll ps)
+        (asked : AskedOfBoth generation range w i (m_after generation nodes target x.moves range (x.machines range) i st.context o k.rule.goes) (l_after generation nodes target x.moves range (x.machines range) i st.context o k.rule.goes) ps)
         (senders : (p : Packet) → Contains ps p → p.from ≡ Map → ⊥)
-        (after : ServerState) (context_is : after.context ≡ record st.context { count = o.count })
-        (shape : (after.ranges ≡ []) ⊎ ((r : RangeState) × (after.ranges ≡ (1, r) ∷ []) × (o.after ≡ Some r)))
-        (rows : ℕ → List Row) (tells : Tells rows (noted w.notes o.notes) (l_after generation nodes target x.moves x.streams i st.context sent_by o t).stand.state.story)
-        (shows : ShowsTables rows (renamed decoded (l_after generation nodes target x.moves x.streams i st.context sent_by o t).stand.state.story)) where
+        (after : ServerState) (context_is : after.context ≡ record st.context { count = o.count }) (shape : AreLeft st.ranges after.ranges range o.after) where
+      abbrev z : Machines generation
+      z = x.machines range
+
+      abbrev goes : RuleGoes generation range w i (m_side generation z i) (l_side generation z i) st.context o
+      goes = k.rule.goes
+
+      -- the machines of the range after the rule, and where the incarnation stands then
+      abbrev new : Machines generation
+      new = machines_after generation nodes target x.moves range z i st.context o goes
+
+      abbrev m_then : Side
+      m_then = m_after generation nodes target x.moves range z i st.context o goes
+
+      abbrev l_then : Side
+      l_then = l_after generation nodes target x.moves range z i st.context o goes
+
+      -- what the range sees of its streams afterwards
+      abbrev v : RangeView
+      v = view_after_all (generation i) (view_at range b s) actions
+
       abbrev next_cell : ServerCell
       next_cell = record cell { state = Some after }
 
-      abbrev pub next_cluster : Cluster
-      next_cluster = record c { stream_layer = with_told c.stream_layer ps o.notes; servers = slice_set c.servers (s - 1) next_cell }
+      abbrev next_servers : List ServerCell
+      next_servers = slice_set c.servers (s - 1) next_cell
 
-      next : Next generation nodes target x.moves x.streams i st.context sent_by o t ps
-      next = goes_on generation nodes target x.moves x.streams i st.context sent_by o t ps may asked
+      abbrev pub next_cluster : Cluster
+      next_cluster = record c { stream_layer = with_told c.stream_layer ps o.notes; servers = next_servers }
+
+      abbrev done : ServerRun
+      done = after_actions s range (generation i) b actions
+
+      abbrev pub next_run : ServerRun
+      next_run = with_outcome done (record { servers = next_servers; packets = ps; notes = o.notes })
+
+      told : Further generation nodes target x.moves (with_told w ps o.notes) ps
+      told = all_told generation nodes target x.moves ps o.notes may
 
       abbrev later : List Move
-      later = x.moves ++ next.after
+      later = x.moves ++ told.after
+
+      same_catalog : (here generation nodes target later).catalog ≡ w.catalog
+      same_catalog = ap (λ (u : StreamSystem). u.catalog) told.leads
+
+      all_notes : (note : Note) → Contains w.notes note → Contains (here generation nodes target later).notes note
+      all_notes note there = subst (λ (u : StreamSystem). Contains u.notes note) (sym told.leads) (noted_keeps w.notes o.notes note there)
+
+      -- ---- the machines of all ranges
+
+      abbrev next_machines : ℕ → Machines generation
+      next_machines j = if j == range then new else x.machines j
+
+      -- what is so of the range, and of each other
+      by_range : (P : ℕ → Machines generation → Type 0) → P range new → ((j : ℕ) → (j ≡ range → ⊥) → P j (x.machines j)) → (j : ℕ) → P j (next_machines j)
+      by_range P own others j = go (j == range) refl
+        where
+          go : (t : Bool) → (j == range) ≡ t → P j (if t then new else x.machines j)
+          go true e = let same : range ≡ j = grind (arith, nat_tests) in subst (λ n. P n new) same own
+          go false e = others j (λ same. grind (arith, nat_tests))
 
       -- ---- numbers
 
@@ -118,19 +229,94 @@ module _ (generation : ℕ → ℕ) (nodes target : ℕ) where
       cell_past : (n k : ℕ) → PastAt cell n k → PastAt next_cell n k
       cell_past =
           past_step cell next_cell refl
-          (λ z e. (st, is, (let same : after ≡ z = cc in subst (λ (y : ServerState). st.context.count ≤ y.context.count) same (let up = t.goes.rises in omega (arith, up, count_is)))))
+          (λ u e. (st, is, (let same : after ≡ u = cc in subst (λ (y : ServerState). st.context.count ≤ y.context.count) same (let up = goes.rises in omega (arith, up, count_is)))))
 
-      new_number : (k : ℕ) → k < o.count → IsPast (slice_set c.servers (s - 1) next_cell) (requests.Server st.context.server st.context.session k)
+      still_past : (q : ReqNo) → IsPast c.servers q → IsPast next_servers q
+      still_past = past_on c.servers s cell next_cell at cell_past
+
+      new_number : (k : ℕ) → k < o.count → IsPast next_servers (requests.Server st.context.server st.context.session k)
       new_number k less =
-          subst (λ a. IsPast (slice_set c.servers (s - 1) next_cell) (requests.Server a st.context.session k)) (sym run_of.server)
-          (subst (λ a. IsPast (slice_set c.servers (s - 1) next_cell) (requests.Server s a k)) (sym run_of.session)
-          (new_past c.servers s cell next_cell after at refl k (omega (arith, less, count_is))))
+          subst (λ a. IsPast next_servers (requests.Server a st.context.session k)) (sym run_of.server)
+          (subst (λ a. IsPast next_servers (requests.Server s a k)) (sym run_of.session) (new_past c.servers s cell next_cell after at refl k (omega (arith, less, count_is))))
 
-      past_adds : (sent more : List Sent) → AllPast c.servers sent → AreUnused st.context o.count more → Adds st.context sent more → AllPast (slice_set c.servers (s - 1) next_cell) more
-      past_adds sent more past unused a =
-          subst (λ z. AllPast (slice_set c.servers (s - 1) next_cell) z) (sym a.is)
-          (all_past_adds (slice_set c.servers (s - 1) next_cell) sent (requests.Server st.context.server st.context.session a.number) a.purpose
-          (λ q p e. past_on c.servers s cell next_cell at cell_past q (past q p e)) (λ p e. new_number a.number (below_next st.context o.count sent more unused a p e)))
+      past_adds : (sent more : List Sent) → AllPast c.servers sent → AreUnused st.context o.count more → Adds st.context sent more → AllPast next_servers more
+      past_adds sent more past none a =
+          subst (λ u. AllPast next_servers u) (sym a.is)
+          (all_past_adds next_servers sent (requests.Server st.context.server st.context.session a.number) a.purpose
+          (λ q p e. still_past q (past q p e)) (λ p e. new_number a.number (below_next st.context o.count sent more none a p e)))
+
+      new_past_all : (q : ReqNo) → HasNumber generation new q → IsPast next_servers q
+      new_past_all q (p, inl e) = past_adds z.m_sent goes.metadata_sent (m_past range) goes.sent_by.metadata goes.metadata_adds q p e
+      new_past_all q (p, inr e) = past_adds z.l_sent goes.log_sent (l_past range) goes.sent_by.log goes.log_adds q p e
+
+      -- a number of the range was one before, or was not used
+      was_number : (q : ReqNo) → HasNumber generation new q → HasNumber generation z q ⊎ (IsPast c.servers q → ⊥)
+      was_number q (p, inl e) = elim (added_some c.servers st.context not_used z.m_sent goes.metadata_sent goes.metadata_adds q p e) [ inl old ↦ inl (old.0, inl old.1) | inr fresh ↦ inr fresh ]
+      was_number q (p, inr e) = elim (added_some c.servers st.context not_used z.l_sent goes.log_sent goes.log_adds q p e) [ inl old ↦ inl (old.0, inr old.1) | inr fresh ↦ inr fresh ]
+
+      -- no number of the range is another range's
+      none_elsewhere : (j : ℕ) → (j ≡ range → ⊥) → (q : ReqNo) → HasNumber generation new q → HasNone generation (x.machines j) q
+      none_elsewhere j apart q has = elim (was_number q has) [
+        | inl old ↦ x.distinct range j (λ e. apart (sym e)) q old
+        | inr fresh ↦ has_none (x.machines j) q (λ other. fresh (x.past j q other))
+      ]
+
+      still_none : (q : ReqNo) → IsPast c.servers q → HasNone generation z q → HasNone generation new q
+      still_none q past none = (
+        added_none c.servers st.context not_used z.m_sent goes.metadata_sent goes.metadata_adds q past none.0,
+        added_none c.servers st.context not_used z.l_sent goes.log_sent goes.log_adds q past none.1,
+      )
+
+      all_distinct : (one other : ℕ) → (one ≡ other → ⊥) → AreDistinct generation (next_machines one) (next_machines other)
+      all_distinct =
+          by_range (λ one u. (other : ℕ) → (one ≡ other → ⊥) → AreDistinct generation u (next_machines other))
+          (by_range (λ j u. (range ≡ j → ⊥) → AreDistinct generation new u) (λ apart. absurd (apart refl)) (λ j other apart q has. none_elsewhere j other q has))
+          (λ one apart.
+          by_range (λ j u. (one ≡ j → ⊥) → AreDistinct generation (x.machines one) u) (λ other q has. still_none q (x.past one q has) (x.distinct one range other q has)) (λ j other different. x.distinct one j different))
+
+      all_past : (j : ℕ) (q : ReqNo) → HasNumber generation (next_machines j) q → IsPast next_servers q
+      all_past = by_range (λ j u. (q : ReqNo) → HasNumber generation u q → IsPast next_servers q) new_past_all (λ j apart q has. still_past q (x.past j q has))
+
+      all_numbers : AreNumbersPast next_servers (c.stream_layer.post ++ ps)
+      all_numbers server to body there q number = elim (Contains-append_cases c.stream_layer.post ps (packet (Server server) to body) there) [
+        | inl old ↦ still_past q (x.numbers server to body old q number)
+        | inr now ↦ new_past_all q (has_number new q (known_of range i w m_then l_then ps asked (packet (Server server) to body) now q number))
+      ]
+
+      -- ---- the streams
+
+      -- a stream of another range
+      aside_below : (j : ℕ) → (j ≡ range → ⊥) → AreBeside generation nodes target x.moves j (x.machines j) → AreBeside generation nodes target later j (x.machines j)
+      aside_below j apart old = record {
+        m_are = old.m_are;
+        l_are = old.l_are;
+        unformed = old.unformed;
+        apart = old.apart;
+        metadata = λ some.
+            told.below (metadata_of j) (after_all Group generation (x.machines j).m) (x.machines j).m_sent
+            (all_elsewhere generation range w i m_then l_then (metadata_of j) apart (after_all Group generation (x.machines j).m) (x.machines j).m_sent
+            (metadata_alone (metadata_of range) (apart_name (metadata_of j) (metadata_of range) apart)) (metadata_alone (log_of range) (apart_name (metadata_of j) (log_of range) apart))
+            (λ q known. (none_elsewhere j apart q (has_number new q known)).0) nodes target ps asked) (old.metadata some);
+        log = λ some.
+            told.below (log_of j) (after_all Group generation (x.machines j).l) (x.machines j).l_sent
+            (all_elsewhere generation range w i m_then l_then (log_of j) apart (after_all Group generation (x.machines j).l) (x.machines j).l_sent
+            (log_alone (metadata_of range) (apart_name (log_of j) (metadata_of range) apart)) (log_alone (log_of range) (apart_name (log_of j) (log_of range) apart))
+            (λ q known. (none_elsewhere j apart q (has_number new q known)).1) nodes target ps asked) (old.log some);
+      }
+        where
+          apart_name : (name other : StreamName) → (name.range ≡ other.range → ⊥) → other ≡ name → ⊥
+          apart_name name other differ e = differ (sym (ap (λ (u : StreamName). u.range) e))
+
+          metadata_alone : (other : StreamName) → (other ≡ metadata_of j → ⊥) → (n m e : ℕ) → IsAt w other n e → IsUnsealedAt w (metadata_of j) m e → ⊥
+          metadata_alone = below_alone generation (metadata_of j) nodes target x.moves
+
+          log_alone : (other : StreamName) → (other ≡ log_of j → ⊥) → (n m e : ℕ) → IsAt w other n e → IsUnsealedAt w (log_of j) m e → ⊥
+          log_alone = below_alone generation (log_of j) nodes target x.moves
+
+      all_beside : (j : ℕ) → AreBeside generation nodes target later j (next_machines j)
+      all_beside =
+          by_range (λ j u. AreBeside generation nodes target later j u)
+          (goes_on generation nodes target x.moves range z i st.context o goes (x.beside range) unused k.rule.unformed ps (with_told w ps o.notes) asked told) (λ j apart. aside_below j apart (x.beside j))
 
       -- ---- packets of the map
 
@@ -140,92 +326,186 @@ module _ (generation : ℕ → ℕ) (nodes target : ℕ) where
 
       -- ---- incarnations
 
-      abbrev inc : ℕ → Option ℕ
-      inc = with_one x.incarnation s i
+      abbrev inc : ℕ → ℕ → Option ℕ
+      inc = with_one x.incarnation s range i
 
-      own_one : (a b k : ℕ) → inc a ≡ Some k → inc b ≡ Some k → a ≡ b
-      own_one a b k e f = elim (whose x.incarnation s i a k e) [
-        | inl here_a ↦ elim (whose x.incarnation s i b k f) [
-          | inl here_b ↦ here_a.0 ∙ sym here_b.0
-          | inr there_b ↦ absurd (alone b there_b.0 (there_b.1 ∙ ap Some (sym here_a.1)))
+      own_one : (t u j n k : ℕ) → inc t j ≡ Some k → inc u n ≡ Some k → (t ≡ u) × (j ≡ n)
+      own_one t u j n k e f = elim (whose x.incarnation s range i t j k e) [
+        | inl here_t ↦ elim (whose x.incarnation s range i u n k f) [
+          | inl here_u ↦ (here_t.0 ∙ sym here_u.0, here_t.1 ∙ sym here_u.1)
+          | inr there_u ↦ (let a = alone u n (there_u ∙ ap Some (sym here_t.2)) in (here_t.0 ∙ sym a.0, here_t.1 ∙ sym a.1))
         ]
-        | inr there_a ↦ elim (whose x.incarnation s i b k f) [
-          | inl here_b ↦ absurd (alone a there_a.0 (there_a.1 ∙ ap Some (sym here_b.1)))
-          | inr there_b ↦ x.own a b k there_a.1 there_b.1
+        | inr there_t ↦ elim (whose x.incarnation s range i u n k f) [
+          | inl here_u ↦ (let a = alone t j (there_t ∙ ap Some (sym here_u.2)) in (a.0 ∙ sym here_u.0, a.1 ∙ sym here_u.1))
+          | inr there_u ↦ x.own t u j n k there_t there_u
         ]
       ]
 
-      below_one : (a k : ℕ) → inc a ≡ Some k → k < x.bound + suc i
-      below_one a k e = elim (whose x.incarnation s i a k e) [
-        | inl here_a ↦ (let same = here_a.1 in omega (arith, same))
-        | inr there_a ↦ (let less = x.below a k there_a.1 in omega (arith, less))
+      below_one : (t j k : ℕ) → inc t j ≡ Some k → k < x.bound + suc i
+      below_one t j k e = elim (whose x.incarnation s range i t j k e) [
+        | inl here_t ↦ (let same = here_t.2 in omega (arith, same))
+        | inr there_t ↦ (let less = x.below t j k there_t in omega (arith, less))
       ]
 
-      idle_one : (j : ℕ) → x.bound + suc i ≤ j → ((after_all Group generation next.streams.m).phase j ≡ machine.Idle) × ((after_all Group generation next.streams.l).phase j ≡ machine.Idle)
-      idle_one j le =
-          let other : j ≡ i → ⊥ = (λ e. omega (arith, le, e)) in
-          let old = x.idle j (omega (arith, le)) in
-          (next.m_others j other ∙ old.0, next.l_others j other ∙ old.1)
+      idle_one : (n : ℕ) → x.bound + suc i ≤ n → (j : ℕ) → IsIdle generation (next_machines j) n
+      idle_one n le =
+          let other : n ≡ i → ⊥ = (λ e. omega (arith, le, e)) in
+          let old = x.idle n (omega (arith, le)) in
+          let steady = others_steady generation nodes target x.moves range z i st.context o goes n other in
+          by_range (λ j u. IsIdle generation u n) (steady.0 ∙ (old range).0, steady.1 ∙ (old range).1) (λ j apart. old j)
 
       -- ---- servers
 
-      own_runs : Runs generation nodes target later next.streams (inc s) s next_cell after
+      -- what is seen at the server, and what others see
+      here_is : view_at range done s ≡ v
+      here_is = actions_here s range (generation i) b actions
+
+      apart_is : (t j : ℕ) → ((t == s) && (j == range)) ≡ false → next_run.history t j ≡ y.history t j
+      apart_is t j test = actions_apart s range (generation i) t j test b actions ∙ near.history t j test
+
+      sees : SeesStories generation i v m_then.stand l_then.stand
+      sees =
+          k.rule.seen
+          (record {
+            metadata = near.story (stream_named range kinds.Metadata) ∙ x.stories.metadata_is range;
+            log = near.story (stream_named range kinds.Log) ∙ x.stories.log_is range;
+            append = began;
+          })
+
+      -- a range of another number is held as it was
+      aside_held : (t j : ℕ) (r : RangeState) → (j ≡ range → ⊥) → IsHeld generation nodes target x.moves j (x.machines j) (y.history t j) (x.incarnation t j) r →
+          IsHeld generation nodes target later j (x.machines j) (next_run.history t j) (inc t j) r
+      aside_held t j r apart =
+          let test : ((t == s) && (j == range)) ≡ false = other_range t s j range apart in
+          held_on generation nodes target j x.moves later (x.machines j) (x.machines j) (y.history t j) (next_run.history t j) (apart_is t j test) (x.incarnation t j) (inc t j) (one_other x.incarnation s range i t j test) r
+          (λ n mine h. holds_on generation nodes target j x.moves later (x.machines j) (x.machines j) (onward_same generation nodes target j x.moves later (x.machines j) same_catalog all_notes) n (refl, refl) (y.history t j) r h)
+
+      -- and so is the range at another server
+      other_held : (t : ℕ) (r : RangeState) → (t ≡ s → ⊥) → IsHeld generation nodes target x.moves range z (y.history t range) (x.incarnation t range) r →
+          IsHeld generation nodes target later range new (next_run.history t range) (inc t range) r
+      other_held t r apart =
+          let test : ((t == s) && (range == range)) ≡ false = other_server t s range range apart in
+          held_on generation nodes target range x.moves later z new (y.history t range) (next_run.history t range) (apart_is t range test) (x.incarnation t range) (inc t range) (one_other x.incarnation s range i t range test) r
+          (λ n mine h.
+          holds_on generation nodes target range x.moves later z new (goes_onward generation nodes target x.moves range z i st.context o goes later same_catalog all_notes) n
+          (others_steady generation nodes target x.moves range z i st.context o goes n (λ same. apart (alone t range (mine ∙ ap Some same)).0)) (y.history t range) r h)
+
+      own_held : (r : RangeState) → range_of after.ranges range ≡ Some r → IsHeld generation nodes target later range new (next_run.history s range) (inc s range) r
+      own_held r found = record {
+        counted = counted;
+        incarnation = i;
+        is = one_here x.incarnation s range i;
+        holds = subst (λ (u : RangeView). Holds generation nodes target later range new u.history i r) (sym here_is)
+            (own_if generation nodes target x.moves range z i st.context o goes later same_catalog all_notes v.history sees.append k.read r (shape.here r found));
+      }
+
+      own_runs : Runs generation nodes target later next_machines (next_run.history s) (inc s) s next_cell after
       own_runs = record {
         server = ap (λ (d : ServerContext). d.server) context_is ∙ run_of.server;
         session = ap (λ (d : ServerContext). d.session) context_is ∙ run_of.session;
-        held = elim shape [
-          | inl none ↦ subst (λ z. HeldAs generation nodes target later next.streams (inc s) z) (sym none) tt
-          | inr one ↦ subst (λ z. HeldAs generation nodes target later next.streams (inc s) z) (sym one.1)
-              (refl, i, one_here x.incarnation s i, own_if generation nodes target x.moves x.streams i st.context sent_by o t ps next (Some one.0) one.2 sound read one.0 refl)
-        ];
+        ascending = shape.ascending;
+        held = λ j r.
+            by_range (λ n u. range_of after.ranges n ≡ Some r → IsHeld generation nodes target later n u (next_run.history s n) (inc s n) r) (own_held r)
+            (λ n apart found. aside_held s n r apart (run_of.held n r (sym (shape.others n apart) ∙ found))) j;
       }
 
-      others_run : (u : ℕ) (other_cell : ServerCell) (z : ServerState) → (u ≡ s → ⊥) → entry_at (slice_set c.servers (s - 1) next_cell) u ≡ Some other_cell → other_cell.state ≡ Some z →
-          Runs generation nodes target later next.streams (inc u) u other_cell z
-      others_run u other_cell z other there up =
-          let old = x.servers u other_cell z (sym (entry_other c.servers s cell next_cell at u other) ∙ there) up in
+      others_run : (t : ℕ) (other_cell : ServerCell) (u : ServerState) → (t ≡ s → ⊥) → entry_at next_servers t ≡ Some other_cell → other_cell.state ≡ Some u →
+          Runs generation nodes target later next_machines (next_run.history t) (inc t) t other_cell u
+      others_run t other_cell u other there up =
+          let old = x.servers t other_cell u (sym (entry_other c.servers s cell next_cell at t other) ∙ there) up in
           record {
             server = old.server;
             session = old.session;
-            held = held_on x.moves later x.streams next.streams (x.incarnation u) (inc u) (one_other x.incarnation s i u other) z.ranges
-                (λ j r mine h. others_hold generation nodes target x.moves x.streams i st.context sent_by o t ps next j (λ same. alone u other (mine ∙ ap Some same)) r h) old.held;
+            ascending = old.ascending;
+            held = λ j r.
+                by_range (λ n m. range_of u.ranges n ≡ Some r → IsHeld generation nodes target later n m (next_run.history t n) (inc t n) r) (λ found. other_held t r other (old.held range r found))
+                (λ n apart found. aside_held t n r apart (old.held n r found)) j;
           }
 
-      all_run : (u : ℕ) (other_cell : ServerCell) (z : ServerState) → entry_at (slice_set c.servers (s - 1) next_cell) u ≡ Some other_cell → other_cell.state ≡ Some z →
-          Runs generation nodes target later next.streams (inc u) u other_cell z
-      all_run u other_cell z there up = go (u == s) refl
+      all_run : (t : ℕ) (other_cell : ServerCell) (u : ServerState) → entry_at next_servers t ≡ Some other_cell → other_cell.state ≡ Some u →
+          Runs generation nodes target later next_machines (next_run.history t) (inc t) t other_cell u
+      all_run t other_cell u there up = go (t == s) refl
         where
-          go : (b : Bool) → (u == s) ≡ b → Runs generation nodes target later next.streams (inc u) u other_cell z
+          go : (b : Bool) → (t == s) ≡ b → Runs generation nodes target later next_machines (next_run.history t) (inc t) t other_cell u
           go true e =
-              let same : s ≡ u = grind (arith, nat_tests) in
-              let found : Some next_cell ≡ Some other_cell = sym (entry_set c.servers s cell next_cell at) ∙ subst (λ k. entry_at (slice_set c.servers (s - 1) next_cell) k ≡ Some other_cell) (sym same) there in
+              let same : s ≡ t = grind (arith, nat_tests) in
+              let found : Some next_cell ≡ Some other_cell = sym (entry_set c.servers s cell next_cell at) ∙ subst (λ k. entry_at next_servers k ≡ Some other_cell) (sym same) there in
               let cell_is : next_cell ≡ other_cell = cc in
-              let state_is : Some after ≡ Some z = ap (λ (y : ServerCell). y.state) cell_is ∙ up in
-              let after_is : after ≡ z = cc in
-              subst (λ k. Runs generation nodes target later next.streams (inc k) k other_cell z) same
-              (subst (λ y. Runs generation nodes target later next.streams (inc s) s y z) cell_is (subst (λ y. Runs generation nodes target later next.streams (inc s) s next_cell y) after_is own_runs))
-          go false e = others_run u other_cell z (λ q. grind (arith, nat_tests)) there up
+              let state_is : Some after ≡ Some u = ap (λ (y : ServerCell). y.state) cell_is ∙ up in
+              let after_is : after ≡ u = cc in
+              subst (λ k. Runs generation nodes target later next_machines (next_run.history k) (inc k) k other_cell u) same
+              (subst (λ y. Runs generation nodes target later next_machines (next_run.history s) (inc s) s y u) cell_is
+              (subst (λ y. Runs generation nodes target later next_machines (next_run.history s) (inc s) s next_cell y) after_is own_runs))
+          go false e = others_run t other_cell u (λ q. grind (arith, nat_tests)) there up
+
+      -- ---- what is seen
+
+      story_aside : (name : StreamName) → IsOther range name → next_run.story name ≡ y.story name
+      story_aside name other = actions_aside s range (generation i) b actions k.on_log name other ∙ near.story name
+
+      of_other : (j : ℕ) (kind : StreamKind) → (j ≡ range → ⊥) → IsOther range (stream_named j kind)
+      of_other j kind apart = ((λ same. apart (ap (λ (u : StreamName). u.range) same)), (λ same. apart (ap (λ (u : StreamName). u.range) same)))
+
+      all_seen : SeesAll next_run (λ j. (after_all Group generation (next_machines j).m).state.story) (λ j. (after_all Group generation (next_machines j).l).state.story)
+      all_seen = record {
+        metadata_is = by_range (λ j u. next_run.story (stream_named j kinds.Metadata) ≡ (after_all Group generation u.m).state.story)
+            (ap (λ (u : RangeView). u.story kinds.Metadata) here_is ∙ sees.metadata ∙ sym (ap (λ (u : Side). u.stand.state.story) (m_side_is generation nodes target x.moves range z i st.context o goes)))
+            (λ j apart. story_aside (stream_named j kinds.Metadata) (of_other j kinds.Metadata apart) ∙ x.stories.metadata_is j);
+        log_is = by_range (λ j u. next_run.story (stream_named j kinds.Log) ≡ (after_all Group generation u.l).state.story)
+            (ap (λ (u : RangeView). u.story kinds.Log) here_is ∙ sees.log ∙ sym (ap (λ (u : Side). u.stand.state.story) (l_side_is generation nodes target x.moves range z i st.context o goes)))
+            (λ j apart. story_aside (stream_named j kinds.Log) (of_other j kinds.Log apart) ∙ x.stories.log_is j);
+        others = λ name other. story_aside name (other range) ∙ x.stories.others name other;
+      }
+
+      -- what was shown was observed before the rule
+      observed_before : (j : ℕ) → AreObserved c.stream_layer.notes (next_run.shown j)
+      observed_before j = elim (cases_eq j range) [
+        | inl same ↦
+            subst (λ n. AreObserved c.stream_layer.notes (next_run.shown n)) (sym same)
+            (subst (λ (u : RangeView). AreObserved c.stream_layer.notes u.shown) (sym here_is) (subst (λ (u : StreamSystem). AreObserved u.notes v.shown) x.leads k.observed.shown_there))
+        | inr other ↦ subst (λ ps. AreObserved c.stream_layer.notes ps) (sym ((actions_bytes s range (generation i) j other b actions).0 ∙ near.shown j)) (x.observed j)
+      ]
+
+      acked_before : (j : ℕ) → AreObserved c.stream_layer.notes (next_run.answered j)
+      acked_before j = elim (cases_eq j range) [
+        | inl same ↦
+            subst (λ n. AreObserved c.stream_layer.notes (next_run.answered n)) (sym same)
+            (subst (λ (u : RangeView). AreObserved c.stream_layer.notes u.answered) (sym here_is) (subst (λ (u : StreamSystem). AreObserved u.notes v.answered) x.leads k.observed.answered_there))
+        | inr other ↦ subst (λ ps. AreObserved c.stream_layer.notes ps) (sym ((actions_bytes s range (generation i) j other b actions).1 ∙ near.answered j)) (x.acked j)
+      ]
+
+      notes_are : next_run.notes ≡ y.notes ++ o.notes
+      notes_are = ap (λ ns. ns ++ o.notes) ((actions_rest s range (generation i) b actions).1 ∙ near.notes)
+
+      tables_told : TablesWithin next_run.shown next_run.notes → (texts : ℕ → Bytes) → AllTellRightly texts (noted c.stream_layer.notes o.notes) →
+          AreSeenAs texts next_run.notes (table_notes (noted c.stream_layer.notes o.notes))
+      tables_told laid texts all =
+          subst (λ ns. AreSeenAs texts ns (table_notes (noted c.stream_layer.notes o.notes))) (sym notes_are)
+          (seen_all texts y.notes o.notes c.stream_layer.notes next_run.shown all observed_before
+          (tables_behind next_run.shown y.notes o.notes (subst (λ ns. TablesWithin next_run.shown ns) notes_are laid))
+          (x.told texts (before_tells texts c.stream_layer.notes o.notes all)))
 
       -- the cluster after the rule
-      pub stepped : Standing generation nodes target next_cluster
-      stepped =
-          let leads : here generation nodes target later ≡ with_told c.stream_layer ps o.notes = next.leads ∙ ap (λ z. with_told z ps o.notes) x.leads in
-          let story = ap (λ (z : Side). z.stand.state.story) next.l_side_is in
-          record {
-            moves = later;
-            leads = leads;
-            streams = next.streams;
-            m_past = subst (λ z. AllPast (slice_set c.servers (s - 1) next_cell) z) (sym (ap (λ (z : Side). z.sent) next.m_side_is)) (past_adds x.streams.m_sent t.goes.metadata_sent x.m_past t.goes.sent_by.metadata t.goes.metadata_adds);
-            l_past = subst (λ z. AllPast (slice_set c.servers (s - 1) next_cell) z) (sym (ap (λ (z : Side). z.sent) next.l_side_is)) (past_adds x.streams.l_sent t.goes.log_sent x.l_past t.goes.sent_by.log t.goes.log_adds);
-            from_map = map_tells;
-            first_range = x.first_range;
-            incarnation = inc;
-            bound = x.bound + suc i;
-            own = own_one;
-            below = below_one;
-            idle = idle_one;
-            servers = all_run;
-            rows = rows;
-            tells = subst (λ z. Tells rows (noted c.stream_layer.notes o.notes) z) (sym story) (subst (λ (z : StreamSystem). Tells rows (noted z.notes o.notes) (l_after generation nodes target x.moves x.streams i st.context sent_by o t).stand.state.story) x.leads tells);
-            shows = subst (λ z. ShowsTables rows (renamed decoded z)) (sym story) shows;
-          }
+      pub stepped : TablesWithin next_run.shown next_run.notes → Standing generation nodes target next_cluster next_run
+      stepped laid = record {
+        moves = later;
+        leads = told.leads ∙ ap (λ u. with_told u ps o.notes) x.leads;
+        machines = next_machines;
+        beside = all_beside;
+        distinct = all_distinct;
+        past = all_past;
+        numbers = all_numbers;
+        from_map = map_tells;
+        first_range = x.first_range;
+        incarnation = inc;
+        bound = x.bound + suc i;
+        own = own_one;
+        below = below_one;
+        idle = idle_one;
+        cells = refl;
+        servers = all_run;
+        stories = all_seen;
+        observed = λ j. observed_on c.stream_layer.notes (noted c.stream_layer.notes o.notes) (noted_keeps c.stream_layer.notes o.notes) (next_run.shown j) (observed_before j);
+        acked = λ j. observed_on c.stream_layer.notes (noted c.stream_layer.notes o.notes) (noted_keeps c.stream_layer.notes o.notes) (next_run.answered j) (acked_before j);
+        told = tables_told laid;
+      }

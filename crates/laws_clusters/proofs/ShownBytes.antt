@@ -11,7 +11,7 @@ use Rattle.laws_streams.specs.Origins.{Begins, Shows as ShowsBytes}
 use Rattle.laws_streams.proofs.ContentAnswers.{content_answered}
 use Rattle.model_partition.specs.TableContents.{StandsAt}
 use Rattle.laws_loads.proofs.Cells.{length_both}
-use Rattle.laws_loads.proofs.Rows.{TellsRightly, AllTellRightly}
+use Rattle.model_partition.specs.TableContents.{TellsRightly, AllTellRightly}
 
 -- ---- groups and bytes that stand in a text
 
@@ -60,10 +60,10 @@ shows_of o bytes whole s =
 
 -- ---- all observations
 
-abbrev TellsAll : (ℕ → Bytes) → List Note → Type 0
+abbrev pub TellsAll : (ℕ → Bytes) → List Note → Type 0
 TellsAll texts notes = (note : Note) → Contains notes note → TellsRightly texts note
 
-all_tell : (texts : ℕ → Bytes) (notes : List Note) → TellsAll texts notes → AllTellRightly texts notes
+pub all_tell : (texts : ℕ → Bytes) (notes : List Note) → TellsAll texts notes → AllTellRightly texts notes
 all_tell texts [] each = tt
 all_tell texts (note ∷ notes) each =
     (each note (0, omega arith, refl), all_tell texts notes (λ x c. each x (suc c.0, (let b : c.0 < length notes = c.1 in omega arith), c.2)))

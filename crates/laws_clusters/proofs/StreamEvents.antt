@@ -31,7 +31,7 @@ use Rattle.replica.specs.Reading.{groups_to, groups_from}
 use Rattle.streams.specs.Streams.{stream_of, extending}
 use Rattle.model_streams.specs.declared.checking.Checking.{Checking}
 use Rattle.model_streams.specs.declared.event.Event.{Event}
-use Rattle.model_streams.specs.declared.event.Event.TheVariants.{Submit, Deliver, Stop, Restart, Decide, GiveUp, Assign, Renew, Moment}
+use Rattle.model_streams.specs.declared.event.Event.TheVariants.{Submit, Deliver, Stop, Restart, Decide, GiveUp, Assign, Renew, Moment, Checkpoint, Split, Merge}
 use Rattle.model_streams.specs.declared.extent.Extent.{Extent}
 use Rattle.model_streams.specs.declared.waiting_append.WaitingAppend.{WaitingAppend}
 use Rattle.model_streams.specs.Actors.{is_node, is_manager, is_user, generation_of}
@@ -430,6 +430,9 @@ happens_leaves w (GiveUp server range pick) = unsent_leaves w w refl refl
 happens_leaves w (Assign range server until) = unsent_leaves w w refl refl
 happens_leaves w (Renew range server until) = unsent_leaves w w refl refl
 happens_leaves w (Moment now) = unsent_leaves w w refl refl
+happens_leaves w (Checkpoint server range combine) = unsent_leaves w w refl refl
+happens_leaves w (Split server range key) = unsent_leaves w w refl refl
+happens_leaves w (Merge server left right) = unsent_leaves w w refl refl
 
 -- ---- what follows
 

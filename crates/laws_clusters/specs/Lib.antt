@@ -1,3 +1,4 @@
-pub mod Fitting
+pub mod Unformed
 pub mod Orders
 pub mod Senders
+pub mod ServerEvents

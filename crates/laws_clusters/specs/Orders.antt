@@ -1,18 +1,22 @@
--- What a run shows of a range comes of streams that keep their order.
-use Rattle.std.specs.Prelude.{◌≡◌, ℕ, List}
-use Rattle.wire.specs.declared.note.Note.{Note}
-use Rattle.wire.specs.declared.rows.Row.{Row}
-use Rattle.replica.specs.Groups.{Group}
-use Rattle.model_partition.specs.Log.{observed}
-use Rattle.model_partition.specs.Past.{table_notes}
-use Rattle.model_partition.specs.Story.{KeepsOrder, Story}
-use Rattle.model_partition.specs.Renaming.{renamed, decoded}
+-- A run as its servers see it: the streams that they see keep their order.
+use Rattle.std.specs.Prelude.{◌≡◌, ℕ}
+use Rattle.wire.specs.declared.streams.StreamName.{StreamName}
+use Rattle.model_partition.specs.Cluster.{Cluster}
+use Rattle.model_partition.specs.Past.{Bytes, table_notes}
+use Rattle.model_partition.specs.ServedTables.{AllStand, AreSeenAs, LoadsOnce}
+use Rattle.model_partition.specs.ServerRun.{ServerRun}
+use Rattle.model_partition.specs.Story.{KeepsOrder}
+use Rattle.model_partition.specs.TableContents.{AllTellRightly}
+use Rattle.laws_tables.specs.Ends.{EndsRise}
 
--- the stories of a range's metadata and log keep their order, and what is observed of its tables is what the log's groups spell
-pub record ComesOfStreams (notes : List Note) : Type 0 where
-  pub metadata : Story Group
-  pub log : Story Group
-  pub metadata_order : KeepsOrder metadata
-  pub log_order : KeepsOrder log
-  pub rows : ℕ → List Row
-  pub told : table_notes notes ≡ observed rows (renamed decoded log)
+-- The servers of this cluster are those of this run of servers. The story of each stream, as they see it, keeps its order, no
+-- generation is confirmed twice, and confirmed loads end in the order of their generations. Over any texts that have all that was observed of extents, what loads showed of logs and what
+-- appends were answered for stands there, and what is observed of tables is what the servers show.
+pub record ComesOfStreams (c : Cluster) (x : ServerRun) : Type 0 where
+  pub servers : c.servers ≡ x.servers
+  pub ordered : (name : StreamName) → KeepsOrder (x.story name)
+  pub once : (name : StreamName) → LoadsOnce (x.story name)
+  pub ends : (name : StreamName) → EndsRise (x.story name)
+  pub shown : (texts : ℕ → Bytes) → AllTellRightly texts c.stream_layer.notes → (range : ℕ) → AllStand texts (x.shown range)
+  pub answered : (texts : ℕ → Bytes) → AllTellRightly texts c.stream_layer.notes → (range : ℕ) → AllStand texts (x.answered range)
+  pub told : (texts : ℕ → Bytes) → AllTellRightly texts c.stream_layer.notes → AreSeenAs texts x.notes (table_notes c.stream_layer.notes)

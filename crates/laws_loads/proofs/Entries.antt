@@ -1,14 +1,6 @@
--- Lists that are numbered from 1, and a server's list of ranges where range 1 is the only one.
-use Rattle.std.proofs.Common.{◌≡◌, ◌⊎◌, ⊎_elim, ℕ, zero, suc, ◌-◌, List, [], ◌∷◌, map, Bool, false, Option, Some, None, option_map, slice_get, slice_set, refl, sym, ap, ◌∙◌, subst, inl, inr, arith, if◌then◌else◌}
-use Rattle.std.specs.Cmp.{nat_cmp_is}
-use Rattle.std.specs.Ordering.{nat_cmp, is_eq}
-use Rattle.std.specs.declared.cmp.Ordering.TheVariants.{Less, Greater}
-use Rattle.std.proofs.lemmas.Bool.{cases_eq, cases_lt}
+-- Lists that are numbered from 1.
+use Rattle.std.proofs.Common.{◌≡◌, ℕ, zero, suc, ◌-◌, List, [], ◌∷◌, map, Option, Some, None, option_map, slice_get, slice_set, refl, sym, ap, ◌∙◌, subst, arith}
 use Rattle.model_streams.specs.Maps.{entry_at}
-use Rattle.model_partition.specs.Range.{RangeState}
-use Rattle.model_partition.specs.Server.{range_of}
-
--- ---- lists that are numbered from 1
 
 set_here : {A : Type 0} (xs : List A) (n : ℕ) (c d : A) → slice_get xs n ≡ Some c → slice_get (slice_set xs n d) n ≡ Some d
 set_here {A} [] n c d e = absurd cc
@@ -59,18 +51,3 @@ pub set_twice : {A : Type 0} (xs : List A) (n : ℕ) (a b : A) → slice_set (sl
 set_twice {A} [] n a b = refl
 set_twice {A} (x ∷ xs) zero a b = refl
 set_twice {A} (x ∷ xs) (suc n) a b = ap (λ l. x ∷ l) (set_twice xs n a b)
-
--- ---- range 1 alone
-
-other_number : (range : ℕ) → (range ≡ 1 → ⊥) → is_eq (nat_cmp range 1) ≡ false
-other_number range other =
-    ⊎_elim {C = is_eq (nat_cmp range 1) ≡ false}
-    (λ less. ap is_eq (sym (nat_cmp_is range 1 Less less)))
-    (λ le. ap is_eq (sym (nat_cmp_is range 1 Greater (omega (arith, le, other)))))
-    (cases_lt range 1)
-
--- the only range is range 1
-pub one_range : (r : RangeState) (range : ℕ) → (range ≡ 1) ⊎ (range_of ((1, r) ∷ []) range ≡ None)
-one_range r range =
-    ⊎_elim {C = (range ≡ 1) ⊎ (range_of ((1, r) ∷ []) range ≡ None)} (λ same. inl same)
-    (λ other. inr (ap (λ (b : Bool). if b then Some r else None) (other_number range other))) (cases_eq range 1)

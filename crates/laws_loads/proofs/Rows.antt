@@ -18,7 +18,7 @@ use Rattle.memtable.specs.Entries.{Entries, key_cmp, found, put_all}
 use Rattle.replica.specs.Groups.{joined, text}
 use Rattle.model_partition.specs.Servers.{part, shown_in, first_shown, or_later, row_if, row_of, rows_of}
 use Rattle.model_partition.specs.Past.{Bytes, stored}
-use Rattle.model_partition.specs.TableContents.{StandsAt, value_in, value_of, table_in}
+use Rattle.model_partition.specs.TableContents.{StandsAt, value_in, value_of, table_in, TellsRightly, AllTellRightly}
 use Rattle.laws_loads.proofs.Cells.{same_key}
 
 -- ---- keys in order
@@ -66,22 +66,6 @@ none_later key [] l = refl
 none_later key (e ∷ es) l = rw l.0 (none_later key es l.1)
 
 -- ---- places
-
--- what this observation shows of an extent stands in its text
-abbrev pub TellsRightly : (ℕ → Bytes) → Note → Type 0
-TellsRightly texts (Acked e offset group) = StandsAt (texts e) offset (joined group)
-TellsRightly texts (Content e node groups) = StandsAt (texts e) 0 (text groups)
-TellsRightly texts (Seen e node offset bytes) = StandsAt (texts e) offset bytes
-TellsRightly texts (SealedAt e length) = Unit {0}
-TellsRightly texts (Began range generation number changes) = Unit {0}
-TellsRightly texts (Done range generation number) = Unit {0}
-TellsRightly texts (Loaded range generation rows next) = Unit {0}
-TellsRightly texts (Split range low high key) = Unit {0}
-TellsRightly texts (Merged left right range) = Unit {0}
-
-abbrev pub AllTellRightly : (ℕ → Bytes) → List Note → Type 0
-AllTellRightly texts [] = Unit {0}
-AllTellRightly texts (note ∷ notes) = TellsRightly texts note × AllTellRightly texts notes
 
 drop_more : (xs ys : Bytes) (n m : ℕ) → length xs ≡ n → drop (n + m) (xs ++ ys) ≡ drop m ys
 drop_more [] ys zero m e = ap (λ k. drop k ys) {x = 0 + m} {y = m} (omega arith)

@@ -14,8 +14,8 @@ use Rattle.metadata.specs.Keys.{within}
 use Rattle.model_streams.proofs.Tests.{if_elim, none_met}
 use Rattle.model_partition.specs.declared.server_context.ServerContext.{ServerContext}
 use Rattle.model_partition.specs.declared.waiting.WaitingTransaction.{WaitingTransaction}
-use Rattle.model_partition.specs.Range.{RangeState, RangeOutcome, is_serving}
-use Rattle.model_partition.specs.Serving.{record_of, fits_a_group, grown, group_count, appends, forms, is_key, value_size, lease_ended, waiting_count, is_full, transact_fault, transacts, transact_rule}
+use Rattle.model_partition.specs.Range.{RangeState, is_serving}
+use Rattle.model_partition.specs.Serving.{record_of, fits_a_group, grown, group_count, appends, is_key, value_size, lease_ended, waiting_count, is_full, transact_fault}
 use Rattle.laws_loads.proofs.Renaming.{mapped_length, more_length}
 use Rattle.laws_loads.specs.Sound.{AreTransactions, IsSound, IsSoundIf}
 
@@ -160,16 +160,3 @@ appends_sound d r n h k =
       counted = (let all : length (take n r.queue) + length (drop n r.queue) ≡ length r.queue = parts_count n r.queue in omega (arith, all, h.counted));
       numbered = omega (arith, h.numbered);
     }
-
-pub forms_sound : (d : ServerContext) (r : RangeState) → IsSound r → IsSoundIf (forms d r).after
-forms_sound d r h =
-    if_elim (λ (o : RangeOutcome). IsSoundIf o.after) (not (is_some r.out) && (nat_lt 0 (group_count d r) && nat_lt (r.next + group_count d r) (2 ^ 64))) _ _
-    (λ t. appends_sound d r (group_count d r) h (is_next d r h t)) (λ f. h)
-
-transacts_sound : (d : ServerContext) (r : RangeState) (from : ActorId) (v : ReqNo) (changes : List Change) (fault : Option Refusal) → transact_fault d r changes ≡ fault → IsSound r → IsSoundIf (transacts d r from v changes fault).after
-transacts_sound d r from v changes (Some refusal) e h = h
-transacts_sound d r from v changes None e h = forms_sound d (record r { queue = r.queue ++ record { from = from; request = v; changes = changes } ∷ [] }) (pushed_sound d r from v changes e h)
-
--- a transaction
-pub transact_sound : (d : ServerContext) (r : RangeState) (from : ActorId) (v : ReqNo) (changes : List Change) → IsSound r → IsSoundIf (transact_rule d r from v changes).after
-transact_sound d r from v changes h = transacts_sound d r from v changes (transact_fault d r changes) refl h

@@ -1,5 +1,5 @@
--- Rows that leave a range in its load, and touch nothing that waits at it.
-use Rattle.std.specs.Prelude.{◌≡◌, ◌⊎◌, ℕ, true, false, List, [], Option, Some, None}
+-- Rules that leave a range in its load.
+use Rattle.std.specs.Prelude.{◌≡◌, ◌⊎◌, true, false, Option, Some, None}
 use Rattle.wire.specs.declared.actor.ReqNo.{ReqNo}
 use Rattle.wire.specs.declared.body.Body.{Body}
 use Rattle.wire.specs.declared.body.Body.TheVariants as bodies
@@ -8,18 +8,17 @@ use Rattle.client.specs.declared.load.LoadPhase.TheVariants as phases
 use Rattle.client.specs.Load.{load_awaits}
 use Rattle.model_partition.specs.declared.server_context.ServerContext.{ServerContext}
 use Rattle.model_partition.specs.declared.stage.Stage.{Stage}
-use Rattle.model_partition.specs.declared.waiting.WaitingTransaction.{WaitingTransaction}
-use Rattle.model_partition.specs.Range.{OutGroup, RangeState, RangeOutcome, is_serving}
+use Rattle.model_partition.specs.Range.{RangeState, RangeOutcome, is_serving}
 use Rattle.model_partition.specs.Loading.{serves}
 
--- the stage is one of a load, or as it was; what waits is as it was
-abbrev pub StaysIf : Stage → List WaitingTransaction → Option OutGroup → ℕ → Option RangeState → Type 0
-StaysIf stage queue out next None = Unit {0}
-StaysIf stage queue out next (Some r) = ((is_serving r.stage ≡ false) ⊎ (r.stage ≡ stage)) × (r.queue ≡ queue) × (r.out ≡ out) × (r.next ≡ next)
+-- the stage is one of a load, or as it was
+abbrev pub StaysIf : Stage → Option RangeState → Type 0
+StaysIf stage None = Unit {0}
+StaysIf stage (Some r) = (is_serving r.stage ≡ false) ⊎ (r.stage ≡ stage)
 
--- so it is, or the range is dropped, and nothing is shown
+-- so it is, or the range is dropped
 abbrev pub Stays : RangeState → RangeOutcome → Type 0
-Stays r o = StaysIf r.stage r.queue r.out r.next o.after × (o.notes ≡ [])
+Stays r o = StaysIf r.stage o.after
 
 -- the range is not served
 abbrev pub IsUnserved : Option RangeState → Type 0

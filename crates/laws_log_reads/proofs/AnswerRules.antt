@@ -1,5 +1,5 @@
 -- What any answer leaves of what a range has read.
-use Rattle.std.proofs.Common.{◌≡◌, ℕ, List, [], Bool, true, false, Option, Some, None, option_to_list, nat_lt, refl, sym, ap, ◌∙◌, subst, if◌then◌else◌}
+use Rattle.std.proofs.Common.{◌≡◌, ℕ, List, [], Bool, true, false, Option, Some, None, option_to_list, is_some, nat_lt, refl, sym, ap, ◌∙◌, subst, if◌then◌else◌}
 use Rattle.wire.specs.declared.actor.ReqNo.{ReqNo}
 use Rattle.wire.specs.declared.body.AppendBody.{AppendBody}
 use Rattle.wire.specs.declared.body.AppendBody.TheVariants as appends
@@ -12,7 +12,6 @@ use Rattle.wire.specs.declared.body.Body.TheVariants as bodies
 use Rattle.wire.specs.declared.refusal.Refusal.TheVariants as refusals
 use Rattle.wire.specs.declared.streams.StreamKind.TheVariants as kinds
 use Rattle.wire.specs.declared.streams.StreamLists.{StreamLists}
-use Rattle.memtable.specs.declared.cell.Place.{Place}
 use Rattle.client.specs.declared.load.LoadPhase.{LoadPhase}
 use Rattle.client.specs.declared.load.LoadPhase.TheVariants as phases
 use Rattle.client.specs.Client.{Outcome, awaits, reply_rule}
@@ -24,147 +23,181 @@ use Rattle.model_partition.specs.declared.server_context.ServerContext.{ServerCo
 use Rattle.model_partition.specs.declared.stage.Stage.{Stage}
 use Rattle.model_partition.specs.declared.stage.Stage.TheVariants as stages
 use Rattle.model_partition.specs.Range.{RangeState, RangeOutcome, request, answers, dropped, picking, is_serving}
+use Rattle.model_partition.specs.ServerRun.{RangeHistory}
+use Rattle.model_partition.specs.StreamActions.{StreamAction, serving_actions, loading_actions, confirmed_actions, load_actions, metadata_actions, log_actions, answered_actions, answer_actions}
 use Rattle.model_partition.specs.Loading.{open_region, opens, are_counted, serves_region, serves_from, serves, log_news}
 use Rattle.model_partition.specs.Getting.{place_of}
 use Rattle.model_partition.specs.Answering.{answered_number, stream_number, groups_of, load_refused, load_told, load_reply, metadata_reply, serving_news, is_taken, log_taken, log_reply, bytes_reply, gets_reply, answer_rule}
+use Rattle.laws_loads.specs.RangeView.{RangeView, view_after_all}
 use Rattle.laws_stream_machine.specs.Refinement.{Opens, purpose_of, Means, StreamMeans}
 use Rattle.laws_stream_machine.proofs.ServerRequests.{same_request}
 use Rattle.laws_ranges.specs.Serves.{Side, metadata_of, log_of, IsOpening, StageIs, Follows, BothListed}
-use Rattle.laws_log_reads.specs.Reads.{HasReadAt, HasRead, HasReadIf, IsSpelled, IsEmpty, Shows}
-use Rattle.laws_log_reads.proofs.LoadBegins.{opens_left}
+use Rattle.laws_log_reads.specs.Reads.{HasReadAt, HasRead, HasReadIf, IsEmpty, Shows, RuleReads}
+use Rattle.laws_log_reads.proofs.LoadBegins.{Left, opens_left}
 use Rattle.laws_log_reads.proofs.MetadataAnswers.{metadata_reply_left}
 use Rattle.laws_log_reads.proofs.LogAnswers.{log_by_stage}
-use Rattle.laws_log_reads.proofs.OtherRules.{bytes_left, serving_left}
+use Rattle.laws_log_reads.proofs.OtherRules.{bytes_keep, serving_left}
 
 module _ (generation : ℕ → ℕ) (range : ℕ) (w : StreamSystem) (i : ℕ) (both : BothListed w range) (m l : Side) (d : ServerContext) where
-  abbrev Leaves : RangeOutcome → Type 0
-  Leaves o = HasReadIf range w i l.stand.state o.after
+  -- a range that is served from now on, or is dropped
+  module _ (h : RangeHistory) (r : RangeState) where
+    abbrev Goes : RangeOutcome → Type 0
+    Goes o = Left generation range w i m l d h o
 
-  abbrev Meant : Body → Type 0
-  Meant body = Means generation (metadata_of range) w m.stand.state m.sent body × Means generation (log_of range) w l.stand.state l.sent body
-
-  module _ (r : RangeState) (h : HasRead range w i l.stand.state r) (f : Follows generation range w i m l r) where
-    -- ---- the answer to the opening
-
-    module _ (v : ReqNo) (lists : StreamLists) (q : ReqNo) (phase : r.load.phase ≡ phases.Opening q) (same : is_same q v ≡ true) (means : Meant (bodies.Stream (streams.Opened v lists))) where
-      opening_left : (b : IsOpening generation range w i m l r) → HasReadAt range w i l.stand.state r stages.Opening → Leaves (opens d r lists)
-      opening_left b a =
-          let both_phases : phases.Opening b.q ≡ phases.Opening q = sym b.phase ∙ phase in
-          let asked : b.q ≡ q = cc in
-          let number : b.q ≡ v = asked ∙ same_request q v same in
-          let one : StreamMeans generation (metadata_of range) w m.stand.state m.sent (Some (Opens i)) (streams.Opened v lists) =
-          subst (λ z. StreamMeans generation (metadata_of range) w m.stand.state m.sent z (streams.Opened v lists)) (ap (λ k. purpose_of m.sent k) (sym number) ∙ b.metadata.for) means.0 in
-          let two : StreamMeans generation (log_of range) w l.stand.state l.sent (Some (Opens i)) (streams.Opened v lists) =
-          subst (λ z. StreamMeans generation (log_of range) w l.stand.state l.sent z (streams.Opened v lists)) (ap (λ k. purpose_of l.sent k) (sym number) ∙ b.log.for) means.1 in
-          opens_left generation range w i both.log l d m r a.fixed a.log lists one.1 two.1
-
-      not_opening : (p : LoadPhase) → r.load.phase ≡ p → (p ≡ phases.Opening q → ⊥) → ⊥
-      not_opening p e no_opening = no_opening (sym e ∙ phase)
-
-      opened_by : (stage : Stage) → StageIs generation range w i m l r stage → HasReadAt range w i l.stand.state r stage → Leaves (opens d r lists)
-      opened_by stages.Opening b a = opening_left b a
-      opened_by (stages.Checking kinds.Metadata) b a = absurd (not_opening phases.Opened b.phase (λ z. cc))
-      opened_by (stages.Checking kinds.Log) b a = absurd (not_opening phases.Opened b.phase (λ z. cc))
-      opened_by (stages.Checking kinds.RowData) b a = absurd b
-      opened_by (stages.Checking kinds.BlobData) b a = absurd b
-      opened_by (stages.Reading kinds.Metadata position) b a = absurd (not_opening phases.Opened b.phase (λ z. cc))
-      opened_by (stages.Reading kinds.Log position) b a = absurd (not_opening phases.Opened b.phase (λ z. cc))
-      opened_by (stages.Reading kinds.RowData position) b a = absurd b
-      opened_by (stages.Reading kinds.BlobData position) b a = absurd b
-      opened_by stages.Confirming b a = absurd (not_opening (phases.Confirming b.q) b.phase (λ z. cc))
-      opened_by stages.Serving b a = absurd (not_opening phases.Confirmed b.phase (λ z. cc))
-
-      opened_left : Leaves (opens d r lists)
-      opened_left = opened_by r.stage f.stage h.at
-
-    -- ---- the answer to the confirmation
-
-    from_left : (o : Option Region) → Leaves (serves_from d r o)
+    from_left : (o : Option Region) → Goes (serves_from d r o)
     from_left None = tt
     from_left (Some region) = go (nat_lt 0 region.next)
       where
-        go : (t : Bool) → Leaves (if t then serves_region d r region else dropped d r)
+        go : (t : Bool) → Goes (if t then serves_region d r region else dropped d r)
         go true = record { at = tt }
         go false = tt
 
-    serves_left : Leaves (serves d r)
+    serves_left : Goes (serves d r)
     serves_left = go (are_counted r.log)
       where
-        go : (t : Bool) → Leaves (if t then serves_from d r (open_region r.regions) else dropped d r)
+        go : (t : Bool) → Goes (if t then serves_from d r (open_region r.regions) else dropped d r)
         go true = from_left (open_region r.regions)
         go false = tt
 
-    told_left : (v : ReqNo) (p : LoadPhase) → r.load.phase ≡ p → load_awaits p v ≡ true → (body : StreamBody) → stream_number body ≡ Some v → Meant (bodies.Stream body) → Leaves (load_told d r p body)
-    told_left v (phases.Opening q) e same (streams.Opened u lists) number means =
-        let this : u ≡ v = cc in
-        opened_left u lists q e (subst (λ k. is_same q k ≡ true) (sym this) same) means
-    told_left v (phases.Opening q) e same body number means = h
-    told_left v (phases.Confirming q) e same (streams.Confirmed u) number means = serves_left
-    told_left v (phases.Confirming q) e same body number means = h
-    told_left v p e same body number means = h
+  module _ (v : RangeView) where
+    abbrev Leaves : RangeOutcome → List StreamAction → Type 0
+    Leaves o actions = RuleReads generation range w i m l v o actions
 
-    refused_left : (body : AppendBody) → Leaves (load_refused d r body)
-    refused_left (appends.Refused v refusals.Stale) = tt
-    refused_left (appends.Refused v refusal) = h
-    refused_left body = h
+    abbrev ReadAt : RangeState → Stage → Type 0
+    ReadAt r stage = HasReadAt range w i m.stand.state l.stand.state v.history r stage
 
-    load_reply_left : (v : ReqNo) → load_awaits r.load.phase v ≡ true → (body : Body) → answered_number body ≡ Some v → Meant body → Leaves (load_reply d r body)
-    load_reply_left v same (bodies.Append body) number means = refused_left body
-    load_reply_left v same (bodies.Stream body) number means = told_left v r.load.phase refl same body number means
-    load_reply_left v same body number means = h
+    abbrev Meant : Body → Type 0
+    Meant body = Means generation (metadata_of range) w m.stand.state m.sent body × Means generation (log_of range) w l.stand.state l.sent body
 
-    -- ---- an answer to the log
+    module _ (r : RangeState) (h : HasRead range w i m.stand.state l.stand.state v.history r) (f : Follows generation range w i m l r) where
+      -- ---- the answer to the opening
 
-    module _ (spelled : IsSpelled range w i l.stand.state) (body : Body) (shows : Shows range w i l.stand.state l.sent body) (means : Means generation (log_of range) w l.stand.state l.sent body) where
-      o : Outcome
-      o = reply_rule (picking d r.log) (request d) body
+      module _ (u : ReqNo) (lists : StreamLists) (q : ReqNo) (phase : r.load.phase ≡ phases.Opening q) (same : is_same q u ≡ true) (means : Meant (bodies.Stream (streams.Opened u lists))) where
+        opening_left : (b : IsOpening generation range w i m l r) → ReadAt r stages.Opening → Leaves (opens d r lists) []
+        opening_left b a =
+            let both_phases : phases.Opening b.q ≡ phases.Opening q = sym b.phase ∙ phase in
+            let asked : b.q ≡ q = cc in
+            let number : b.q ≡ u = asked ∙ same_request q u same in
+            let one : StreamMeans generation (metadata_of range) w m.stand.state m.sent (Some (Opens i)) (streams.Opened u lists) =
+            subst (λ z. StreamMeans generation (metadata_of range) w m.stand.state m.sent z (streams.Opened u lists)) (ap (λ k. purpose_of m.sent k) (sym number) ∙ b.metadata.for) means.0 in
+            let two : StreamMeans generation (log_of range) w l.stand.state l.sent (Some (Opens i)) (streams.Opened u lists) =
+            subst (λ z. StreamMeans generation (log_of range) w l.stand.state l.sent z (streams.Opened u lists)) (ap (λ k. purpose_of l.sent k) (sym number) ∙ b.log.for) means.1 in
+            opens_left generation range w i m l d v.history r a.fixed a.streams.metadata a.streams.log lists
+            one.1 two.1
 
-      abbrev TakenAt : Stage → Type 0
-      TakenAt z =
-          Leaves (if is_serving z then serving_news d (record r { log = o.after }) o.news (option_to_list o.packet)
-          else log_news d (record r { log = o.after }) (groups_of body) z o.news (option_to_list o.packet))
+        not_opening : (p : LoadPhase) → r.load.phase ≡ p → (p ≡ phases.Opening q → ⊥) → ⊥
+        not_opening p e no_opening = no_opening (sym e ∙ phase)
 
-      taken_by : (stage : Stage) → r.stage ≡ stage → StageIs generation range w i m l r stage → HasReadAt range w i l.stand.state r stage → TakenAt stage
-      unfolding o
-      taken_by stages.Serving e b a = serving_left range w i l.stand.state d (record r { log = o.after }) e o.news (option_to_list o.packet)
-      taken_by stages.Opening e b a = log_by_stage generation range w i both m l d r h body spelled shows means stages.Opening e b (λ z. cc) a
-      taken_by (stages.Checking kind) e b a = log_by_stage generation range w i both m l d r h body spelled shows means (stages.Checking kind) e b (λ z. cc) a
-      taken_by (stages.Reading kind position) e b a = log_by_stage generation range w i both m l d r h body spelled shows means (stages.Reading kind position) e b (λ z. cc) a
-      taken_by stages.Confirming e b a = log_by_stage generation range w i both m l d r h body spelled shows means stages.Confirming e b (λ z. cc) a
+        opened_by : (stage : Stage) → StageIs generation range w i m l r stage → ReadAt r stage → Leaves (opens d r lists) []
+        opened_by stages.Opening b a = opening_left b a
+        opened_by (stages.Checking kinds.Metadata) b a = absurd (not_opening phases.Opened b.phase (λ z. cc))
+        opened_by (stages.Checking kinds.Log) b a = absurd (not_opening phases.Opened b.phase (λ z. cc))
+        opened_by (stages.Checking kinds.RowData) b a = absurd b
+        opened_by (stages.Checking kinds.BlobData) b a = absurd b
+        opened_by (stages.Reading kinds.Metadata position) b a = absurd (not_opening phases.Opened b.phase (λ z. cc))
+        opened_by (stages.Reading kinds.Log position) b a = absurd (not_opening phases.Opened b.phase (λ z. cc))
+        opened_by (stages.Reading kinds.RowData position) b a = absurd b
+        opened_by (stages.Reading kinds.BlobData position) b a = absurd b
+        opened_by stages.Confirming b a = absurd (not_opening (phases.Confirming b.q) b.phase (λ z. cc))
+        opened_by stages.Serving b a = absurd (not_opening phases.Confirmed b.phase (λ z. cc))
 
-      pub log_reply_left : Leaves (log_reply d r body)
-      unfolding o
-      log_reply_left = go (is_taken r body)
+        opened_left : Leaves (opens d r lists) []
+        opened_left = opened_by r.stage f.stage h.at
+
+      -- ---- the answer to the opening or the confirmation
+
+      told_left : (u : ReqNo) (p : LoadPhase) → r.load.phase ≡ p → load_awaits p u ≡ true → (body : StreamBody) → stream_number body ≡ Some u → Meant (bodies.Stream body) →
+          Leaves (load_told d r p body) (confirmed_actions r p body)
+      told_left u (phases.Opening q) e same (streams.Opened k lists) number means =
+          let this : k ≡ u = cc in
+          opened_left k lists q e (subst (λ z. is_same q z ≡ true) (sym this) same) means
+      told_left u (phases.Opening q) e same body number means = h
+      told_left u (phases.Confirming q) e same (streams.Confirmed k) number means =
+          serves_left (view_after_all (generation i) v (confirmed_actions r (phases.Confirming q) (streams.Confirmed k))).history r
+      told_left u (phases.Confirming q) e same body number means = h
+      told_left u p e same body number means = h
+
+      refused_left : (body : AppendBody) → Leaves (load_refused d r body) []
+      refused_left (appends.Refused u refusals.Stale) = tt
+      refused_left (appends.Refused u refusal) = h
+      refused_left body = h
+
+      load_reply_left : (u : ReqNo) → load_awaits r.load.phase u ≡ true → (body : Body) → answered_number body ≡ Some u → Meant body → Leaves (load_reply d r body) (load_actions r body)
+      load_reply_left u same (bodies.Append body) number means = refused_left body
+      load_reply_left u same (bodies.Stream body) number means = told_left u r.load.phase refl same body number means
+      load_reply_left u same body number means = h
+
+      -- ---- an answer to the log
+
+      module _ (body : Body) (shows : Shows (log_of range) w l.sent body) (means : Means generation (log_of range) w l.stand.state l.sent body) (whole : RangeOutcome) where
+        abbrev o : Outcome
+        o = reply_rule (picking d r.log) (request d) body
+
+        abbrev TakenAt : Stage → Type 0
+        TakenAt z =
+            Leaves
+            (if is_serving z then serving_news d (record r { log = o.after }) o.news (option_to_list o.packet)
+            else log_news d (record r { log = o.after }) (groups_of body) z o.news (option_to_list o.packet))
+            (if is_serving z then serving_actions r o.news whole else loading_actions kinds.Log r.log z (groups_of body) o.news)
+
+        taken_by : (stage : Stage) → r.stage ≡ stage → StageIs generation range w i m l r stage → ReadAt r stage → TakenAt stage
+        taken_by stages.Serving e b a =
+            serving_left range w i m.stand.state l.stand.state (view_after_all (generation i) v (serving_actions r o.news whole)).history d (record r { log = o.after }) e o.news (option_to_list o.packet)
+        taken_by stages.Opening e b a = log_by_stage generation range w i both m l d v r h body shows means stages.Opening e b (λ z. cc) a
+        taken_by (stages.Checking kind) e b a = log_by_stage generation range w i both m l d v r h body shows means (stages.Checking kind) e b (λ z. cc) a
+        taken_by (stages.Reading kind position) e b a = log_by_stage generation range w i both m l d v r h body shows means (stages.Reading kind position) e b (λ z. cc) a
+        taken_by stages.Confirming e b a = log_by_stage generation range w i both m l d v r h body shows means stages.Confirming e b (λ z. cc) a
+
+        log_reply_left : Leaves (log_reply d r body) (if is_taken r body then log_actions d r body whole else [])
+        log_reply_left = go (is_taken r body)
+          where
+            go : (t : Bool) → Leaves (if t then log_taken d r body else answers d r []) (if t then log_actions d r body whole else [])
+            go true = taken_by r.stage refl f.stage h.at
+            go false = h
+
+      -- ---- any answer
+
+      gets_reply_left : (u : ReqNo) (body : Body) → Leaves (gets_reply d r u body) []
+      gets_reply_left u (bodies.Read body) = bytes_by body
         where
-          go : (t : Bool) → Leaves (if t then log_taken d r body else answers d r [])
-          go true = taken_by r.stage refl f.stage h.at
-          go false = h
+          bytes_by : (body : ReadBody) → Leaves (bytes_reply d r u body) []
+          bytes_by (reads.Bytes k e offset bytes) = bytes_keep range w i m.stand.state l.stand.state v.history d r u (place_of e offset bytes) bytes h
+          bytes_by body = h
+      gets_reply_left u (bodies.Append body) = refused_left body
+      gets_reply_left u body = h
 
-    -- ---- any answer
+      module _ (empty : IsEmpty i m.stand.state) (u : ReqNo) (body : Body) (number : answered_number body ≡ Some u) (means : Meant body) (shows : Shows (log_of range) w l.sent body) where
+        -- where the actions are those of any outcome
+        by_job : (whole : RangeOutcome) → Leaves (answer_rule d r u body) (answered_actions d r u body whole)
+        by_job whole = first (load_awaits r.load.phase u) refl
+          where
+            log_part : List StreamAction
+            log_part = if is_taken r body then log_actions d r body whole else []
 
-    gets_reply_left : (v : ReqNo) (body : Body) → Leaves (gets_reply d r v body)
-    gets_reply_left v (bodies.Read body) = bytes_by body
-      where
-        bytes_by : (body : ReadBody) → Leaves (bytes_reply d r v body)
-        bytes_by (reads.Bytes u e offset bytes) = bytes_left range w i l.stand.state d r v (place_of e offset bytes) bytes h
-        bytes_by body = h
-    gets_reply_left v (bodies.Append body) = refused_left body
-    gets_reply_left v body = h
+            third : (t : Bool) → Leaves (if t then log_reply d r body else gets_reply d r u body) (if t then log_part else [])
+            third true = log_reply_left body shows means.1 whole
+            third false = gets_reply_left u body
 
-    -- what an answer leaves of what was read
-    pub answer_left : IsEmpty i m.stand.state → IsSpelled range w i l.stand.state → (v : ReqNo) (body : Body) → answered_number body ≡ Some v → Meant body →
-        Shows range w i l.stand.state l.sent body → Leaves (answer_rule d r v body)
-    answer_left empty spelled v body number means shows = first (load_awaits r.load.phase v) refl
-      where
-        third : (t : Bool) → Leaves (if t then log_reply d r body else gets_reply d r v body)
-        third true = log_reply_left spelled body shows means.1
-        third false = gets_reply_left v body
+            second : (t : Bool) →
+                Leaves (if t then metadata_reply d r body else (if awaits r.log.job u then log_reply d r body else gets_reply d r u body))
+                (if t then metadata_actions d r body else (if awaits r.log.job u then log_part else []))
+            second true = metadata_reply_left generation range w i both m l d v r h body empty f means.0
+            second false = third (awaits r.log.job u)
 
-        second : (t : Bool) → Leaves (if t then metadata_reply d r body else (if awaits r.log.job v then log_reply d r body else gets_reply d r v body))
-        second true = metadata_reply_left generation range w i both m l d r h body empty f means.0
-        second false = third (awaits r.log.job v)
+            first : (t : Bool) → load_awaits r.load.phase u ≡ t →
+                Leaves (if t then load_reply d r body else (if awaits r.metadata.job u then metadata_reply d r body else (if awaits r.log.job u then log_reply d r body else gets_reply d r u body)))
+                (if t then load_actions r body else (if awaits r.metadata.job u then metadata_actions d r body else (if awaits r.log.job u then log_part else [])))
+            first true e = load_reply_left u e body number means
+            first false e = second (awaits r.metadata.job u)
 
-        first : (t : Bool) → load_awaits r.load.phase v ≡ t →
-            Leaves (if t then load_reply d r body else (if awaits r.metadata.job v then metadata_reply d r body else (if awaits r.log.job v then log_reply d r body else gets_reply d r v body)))
-        first true e = load_reply_left v e body number means
-        first false e = second (awaits r.metadata.job v)
+        -- what an answer leaves of what was read
+        pub answer_left : Leaves (answer_rule d r u body) (answer_actions d r u body (answer_rule d r u body))
+        answer_left = if_there (answer_rule d r u body).after (by_job (answer_rule d r u body))
+          where
+            actions : List StreamAction
+            actions = answered_actions d r u body (answer_rule d r u body)
+
+            if_there : (o : Option RangeState) → HasReadIf range w i m.stand.state l.stand.state (view_after_all (generation i) v actions).history o →
+                HasReadIf range w i m.stand.state l.stand.state (view_after_all (generation i) v (if is_some o then actions else [])).history o
+            if_there None b = tt
+            if_there (Some k) b = b

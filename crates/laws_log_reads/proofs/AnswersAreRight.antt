@@ -27,15 +27,19 @@ module _ (generation : ℕ → ℕ) (name : StreamName) (w : StreamSystem) (i : 
     IsStood : (found : ℕ) (is : known.length ≡ None) (checked : c.checked ≡ Some found) (stood : List (Copy Group))
         (fact : machine.In (machine.Checked i position stood (machine.base position + found)) x.state.facts) (same : groups ≡ groups_in stood) → Rightly c position known groups
 
-  module _ (c : ClientState) (told : Tells generation name w x.state sent (record { base = c.base; extents = c.extents })) (e upto : ℕ) (r : ReqNo) (position : ℕ) (groups : List Group) where
+  module _ (c : ClientState) (told : Tells generation name w x.state sent (record { base = c.base; extents = c.extents })) (from_start : c.base ≡ 0) (e upto : ℕ) (r : ReqNo) (position : ℕ) (groups : List Group) where
+    place : c.base + position ≡ position
+    place = omega (arith, from_start)
+
     pub index_is : (sealed : Bool) (b : ReadingIs generation name w i x sent c e upto sealed r) → ReadsAt c e upto sealed position → b.index ≡ position
-    index_is sealed b at = listed.once b.index position e b.at (subst (λ z. IsAt w name position z) at.extent (told.are position at.known at.at))
+    index_is sealed b at = listed.once b.index position e b.at (subst (λ k. IsAt w name k e) place (subst (λ z. IsAt w name (c.base + position) z) at.extent (told.are position at.known at.at)))
 
     rightly_by : (sealed : Bool) (b : ReadingIs generation name w i x sent c e upto sealed r) (at : ReadsAt c e upto sealed position) →
         ReadsRightly generation name w x.state sent position upto groups → Rightly c position at.known groups
     rightly_by true b at means =
         let y = told.sealed position at.known upto at.at at.far in
-        IsShut upto at.far y.0 y.1 (means.whole y.0 y.1 y.2)
+        let shut : machine.shut_at position x.state.core.shut ≡ Some y.0 = subst (λ k. machine.shut_at k x.state.core.shut ≡ Some y.0) place y.1 in
+        IsShut upto at.far y.0 shut (means.whole y.0 shut (subst (λ k. y.0.end ≡ machine.base k + upto) place y.2))
     rightly_by false b at means =
         let last : LastIs c e b.index = b.is_last refl in
         let f : FoundIs generation name w i x sent c = found_of generation name w i x sent c b.readable (ap is_live last.last) in

@@ -1,62 +1,99 @@
 -- What was read stays read while others go on.
-use Rattle.std.proofs.Common.{ℕ, List, [], ◌∷◌, length, Option, Some, None, inl, inr}
+use Rattle.std.proofs.Common.{ℕ, List, [], ◌∷◌, length, Option, Some, None, Contains, inl, inr}
+use Rattle.wire.specs.declared.note.Note.{Note}
 use Rattle.wire.specs.declared.note.Note.TheVariants.{Content, Seen}
 use Rattle.wire.specs.declared.streams.StreamKind.TheVariants as kinds
+use Rattle.wire.specs.declared.streams.StreamName.{StreamName}
 use Rattle.replica.specs.Groups.{Group, text}
 use Rattle.client.specs.Client.{ClientState}
 use Rattle.model_streams.specs.StreamSystem.{StreamSystem}
 use Rattle.model_partition.specs.declared.stage.Stage.{Stage}
 use Rattle.model_partition.specs.declared.stage.Stage.TheVariants as stages
 use Rattle.model_partition.specs.Range.{RangeState}
+use Rattle.model_partition.specs.ServerRun.{RangeHistory}
+use Rattle.model_partition.specs.StreamActions.{ExtentRead}
 use Rattle.model_partition.specs.StreamMachine as machine
-use Rattle.laws_log_reads.specs.Reads.{ReadExtent, Loads, IsShown, IsSealed, AllSealed, HasStood, AllRead, WereSealed, LastStood, HasReadTo, HasReadAll, HasReadAt, HasRead, HasReadIf, Grown}
+use Rattle.laws_ranges.specs.Serves.{metadata_of, log_of}
+use Rattle.laws_log_reads.specs.Reads.{IsSealed, AllSealed, HasStood, AllRead, WereSealed, LastStood, HasReadTo, IsShown, AllShown, Loads, HasReadMetadataTo, HasReadMetadata, HasReadLogTo, HasReadAll, HasReadAt, HasRead, HasReadIf, Grown, BothGrown}
 
-module _ (range : ℕ) (w v : StreamSystem) (i : ℕ) (s t : machine.MachineState Group) (g : Grown range w v s t) where
-  shown_on : (x : ReadExtent) → IsShown range w i s x → IsShown range v i t x
-  shown_on x (n, inl there) = (n, inl (g.notes (Content x.extent n x.groups) there))
-  shown_on x (n, inr there) = (n, inr (g.notes (Seen x.extent n 0 (text x.groups)) there))
+-- ---- observations
 
-  sealed_on : (index : ℕ) (x : ReadExtent) → IsSealed range w i s index x → IsSealed range v i t index x
-  sealed_on index x b = record { at = g.extents index x.extent b.at; shown = shown_on x b.shown; shut = b.shut; is = g.shut index b.shut b.is; same = b.same }
+module _ (w v : StreamSystem) (notes : (note : Note) → Contains w.notes note → Contains v.notes note) where
+  shown_on : (e : ℕ) (groups : List Group) → IsShown w.notes e groups → IsShown v.notes e groups
+  shown_on e groups (n, inl there) = (n, inl (notes (Content e n groups) there))
+  shown_on e groups (n, inr there) = (n, inr (notes (Seen e n 0 (text groups)) there))
 
-  pub all_on : (reads : List ReadExtent) → AllSealed range w i s reads → AllSealed range v i t reads
+  -- what is shown stays shown
+  pub all_shown_on : (reads : List ExtentRead) → AllShown w reads → AllShown v reads
+  all_shown_on [] b = tt
+  all_shown_on (x ∷ older) b = (shown_on x.extent x.groups b.0, all_shown_on older b.1)
+
+-- ---- a stream
+
+module _ (name : StreamName) (w v : StreamSystem) (i : ℕ) (s t : machine.MachineState Group) (g : Grown name w v s t) where
+  sealed_on : (index : ℕ) (x : ExtentRead) → IsSealed name w i s index x → IsSealed name v i t index x
+  sealed_on index x b = record { at = g.extents index x.extent b.at; index_is = b.index_is; shut = b.shut; is = g.shut index b.shut b.is; same = b.same }
+
+  all_on : (reads : List ExtentRead) → AllSealed name w i s reads → AllSealed name v i t reads
   all_on [] b = tt
   all_on (x ∷ older) b = (sealed_on (length older) x b.0, all_on older b.1)
 
-  stood_on : (index found : ℕ) (x : ReadExtent) → HasStood range w i s index found x → HasStood range v i t index found x
-  stood_on index found x b = record { at = g.extents index x.extent b.at; shown = shown_on x b.shown; stood = b.stood; fact = g.facts _ b.fact; same = b.same }
+  stood_on : (index found : ℕ) (x : ExtentRead) → HasStood name w i s index found x → HasStood name v i t index found x
+  stood_on index found x b = record { at = g.extents index x.extent b.at; index_is = b.index_is; stood = b.stood; fact = g.facts _ b.fact; same = b.same }
 
-  pub every_on : (c : ClientState) (reads : List ReadExtent) → AllRead range w i s c reads → AllRead range v i t c reads
-  every_on c reads (WereSealed live count sealed) = WereSealed live count (all_on reads sealed)
-  every_on c reads (LastStood x older found is live count checked sealed stood) =
-      LastStood x older found is live count checked (all_on older sealed) (stood_on (length older) found x stood)
+  every_on : (c : ClientState) (reads : List ExtentRead) → AllRead name w i s c reads → AllRead name v i t c reads
+  every_on c reads (WereSealed from_start live count sealed) = WereSealed from_start live count (all_on reads sealed)
+  every_on c reads (LastStood from_start x older found is live count checked sealed stood) =
+      LastStood from_start x older found is live count checked (all_on older sealed) (stood_on (length older) found x stood)
 
+  to_on : (c : ClientState) (reads : List ExtentRead) (position : ℕ) → HasReadTo name w i s c reads position → HasReadTo name v i t c reads position
+  to_on c reads position b = record { from_start = b.from_start; count = b.count; inside = b.inside; sealed = all_on reads b.sealed; job = b.job }
+
+-- ---- a range
+
+module _ (range : ℕ) (w v : StreamSystem) (i : ℕ) (m n l k : machine.MachineState Group) (g : BothGrown range w v m n l k) (h : RangeHistory) where
   loads_on : (r : RangeState) (A B : Type 0) → (A → B) → Loads r A → Loads r B
-  loads_on r A B f b = record { said = b.said; fixed = b.fixed; metadata = b.metadata; log = f b.log }
+  loads_on r A B f b = record { said = b.said; fixed = b.fixed; streams = f b.streams }
 
-  to_on : (r : RangeState) (position : ℕ) → HasReadTo range w i s r position → HasReadTo range v i t r position
-  to_on r position b = record { reads = b.reads; count = b.count; inside = b.inside; sealed = all_on b.reads b.sealed; table = b.table; job = b.job }
+  metadata_to : (r : RangeState) (position : ℕ) → HasReadMetadataTo range w i m l h r position → HasReadMetadataTo range v i n k h r position
+  metadata_to r position b = record { metadata = to_on (metadata_of range) w v i m n g.metadata r.metadata (h.reads kinds.Metadata) position b.metadata; log = b.log }
 
-  read_on : (r : RangeState) → HasReadAll range w i s r → HasReadAll range v i t r
-  read_on r b = record { reads = b.reads; all = every_on r.log b.reads b.all; table = b.table }
+  metadata_all : (r : RangeState) → HasReadMetadata range w i m l h r → HasReadMetadata range v i n k h r
+  metadata_all r b = record { metadata = every_on (metadata_of range) w v i m n g.metadata r.metadata (h.reads kinds.Metadata) b.metadata; log = b.log; regions = b.regions }
 
-  at_on : (r : RangeState) (stage : Stage) → HasReadAt range w i s r stage → HasReadAt range v i t r stage
-  at_on r stages.Opening b = b
-  at_on r (stages.Checking kinds.Metadata) b = b
-  at_on r (stages.Checking kinds.Log) b = b
+  log_to : (r : RangeState) (position : ℕ) → HasReadLogTo range w i m l h r position → HasReadLogTo range v i n k h r position
+  log_to r position b =
+      record {
+        metadata = every_on (metadata_of range) w v i m n g.metadata r.metadata (h.reads kinds.Metadata) b.metadata;
+        log = to_on (log_of range) w v i l k g.log r.log (h.reads kinds.Log) position b.log;
+        shown = all_shown_on w v g.notes (h.reads kinds.Log) b.shown;
+      }
+
+  both_all : (r : RangeState) → HasReadAll range w i m l h r → HasReadAll range v i n k h r
+  both_all r b =
+      record {
+        metadata = every_on (metadata_of range) w v i m n g.metadata r.metadata (h.reads kinds.Metadata) b.metadata;
+        log = every_on (log_of range) w v i l k g.log r.log (h.reads kinds.Log) b.log;
+        shown = all_shown_on w v g.notes (h.reads kinds.Log) b.shown;
+      }
+
+  at_on : (r : RangeState) (stage : Stage) → HasReadAt range w i m l h r stage → HasReadAt range v i n k h r stage
+  at_on r stages.Opening b = record { said = b.said; fixed = b.fixed; streams = record { metadata = b.streams.metadata; log = b.streams.log } }
+  at_on r (stages.Checking kinds.Metadata) b = record { said = b.said; fixed = b.fixed; streams = record { metadata = b.streams.metadata; log = b.streams.log } }
+  at_on r (stages.Checking kinds.Log) b = loads_on r (HasReadMetadata range w i m l h r) (HasReadMetadata range v i n k h r) (metadata_all r) b
   at_on r (stages.Checking kinds.RowData) b = absurd b
   at_on r (stages.Checking kinds.BlobData) b = absurd b
-  at_on r (stages.Reading kinds.Metadata position) b = b
-  at_on r (stages.Reading kinds.Log position) b = loads_on r (HasReadTo range w i s r position) (HasReadTo range v i t r position) (to_on r position) b
+  at_on r (stages.Reading kinds.Metadata position) b = loads_on r (HasReadMetadataTo range w i m l h r position) (HasReadMetadataTo range v i n k h r position) (metadata_to r position) b
+  at_on r (stages.Reading kinds.Log position) b = loads_on r (HasReadLogTo range w i m l h r position) (HasReadLogTo range v i n k h r position) (log_to r position) b
   at_on r (stages.Reading kinds.RowData position) b = absurd b
   at_on r (stages.Reading kinds.BlobData position) b = absurd b
-  at_on r stages.Confirming b = loads_on r (HasReadAll range w i s r) (HasReadAll range v i t r) (read_on r) b
+  at_on r stages.Confirming b = loads_on r (HasReadAll range w i m l h r) (HasReadAll range v i n k h r) (both_all r) b
   at_on r stages.Serving b = tt
 
   -- whatever others do, the range has read what it has read
-  pub has_read_on : (r : RangeState) → HasRead range w i s r → HasRead range v i t r
-  has_read_on r h = record { at = at_on r r.stage h.at }
+  pub has_read_on : (r : RangeState) → HasRead range w i m l h r → HasRead range v i n k h r
+  has_read_on r b = record { at = at_on r r.stage b.at }
 
-  pub has_read_if_on : (o : Option RangeState) → HasReadIf range w i s o → HasReadIf range v i t o
-  has_read_if_on None h = tt
-  has_read_if_on (Some r) h = has_read_on r h
+  pub has_read_if_on : (o : Option RangeState) → HasReadIf range w i m l h o → HasReadIf range v i n k h o
+  has_read_if_on None b = tt
+  has_read_if_on (Some r) b = has_read_on r b

@@ -1,15 +1,17 @@
--- What stood in an extent up to an end is told in one way: all that is told of it begins one script.
-use Rattle.std.proofs.Common.{◌≡◌, ℕ, ◌<◌, ◌≤◌, List, [], ◌∷◌, ◌++◌, Option, Some, refl, sym, ap, ◌∙◌, subst, arith}
+-- What stood in an extent up to an end is told in one way, since all that is told of it begins one script, and each copy is as long
+-- as it is said to be.
+use Rattle.std.proofs.Common.{◌≡◌, ℕ, suc, ◌+◌, ◌<◌, ◌≤◌, List, [], ◌∷◌, ◌++◌, length, Option, Some, slice_get, get_or, refl, sym, ap, ◌∙◌, subst, arith}
+use Rattle.std.proofs.lemmas.Option.{slice_get-get_or}
 use Rattle.replica.specs.Groups.{Group, size}
 use Rattle.streams.specs.Streams.{Stream}
-use Rattle.model_streams.specs.StreamSystem.{StreamSystem}
 use Rattle.model_partition.specs.Story.{Copy}
 use Rattle.model_partition.specs.StreamMachine as machine
 use Rattle.laws_streams.proofs.Ground.{Ground}
-use Rattle.laws_stream_machine.specs.Refinement.{Sent}
+use Rattle.laws_stream_machine.specs.Refinement.{Sent, extents_of}
 use Rattle.laws_stream_machine.proofs.ExtentSteps.{Sized, chain_le}
-use Rattle.laws_stream_machine.proofs.MachineCore.{StoodThere, Settled}
-use Rattle.laws_log_reads.specs.Reads.{groups_in, StandsOnce}
+use Rattle.laws_stream_machine.proofs.MachineCore.{StoodThere, ShutThere, Settled}
+use Rattle.laws_ranges.proofs.MachineSteps.{is_within}
+use Rattle.laws_log_reads.specs.Reads.{groups_in, StandsOnce, IsSized}
 
 -- two lists of copies between the same places, which begin the same groups
 one_way : (from end : ℕ) (xs ys : List (Copy Group)) (a b : List Group) → machine.Chain from xs end → Sized xs → machine.Chain from ys end → Sized ys →
@@ -32,11 +34,26 @@ one_way from end (x ∷ xs) (y ∷ ys) a b c s d t e =
     ∙ ap (λ zs. y.group ∷ zs) (one_way x.to end xs ys a b c.2 s.1 (subst (λ k. machine.Chain k ys end) place d.2) t.1 tail)
 
 -- where all that was checked is known of the nodes
-pub stands_once : (o : Option Stream) (g : Ground) (s : machine.MachineState Group) (sent : List Sent) → Settled o g s sent → (range : ℕ) (w : StreamSystem) (i : ℕ) → StandsOnce range w i s
-stands_once o g s sent settled range w i index end stood other a b =
-    let one : StoodThere o g index stood end = settled.checked i index stood end a in
-    let two : StoodThere o g index other end = settled.checked i index other end b in
-    let both : Some one.extent ≡ Some two.extent = sym one.at ∙ two.at in
-    let same : one.extent ≡ two.extent = cc in
-    one_way (machine.base index) end stood other one.begins.rest two.begins.rest one.chain one.sized two.chain two.sized
-    (sym one.begins.is ∙ ap (λ e. g.script e) same ∙ two.begins.is)
+module _ (o : Option Stream) (g : Ground) (s : machine.MachineState Group) (sent : List Sent) (settled : Settled o g s sent) (i : ℕ) where
+  pub stands_once : StandsOnce i s
+  stands_once index end stood other a b =
+      let one : StoodThere o g index stood end = settled.checked i index stood end a in
+      let two : StoodThere o g index other end = settled.checked i index other end b in
+      let both : Some one.extent ≡ Some two.extent = sym one.at ∙ two.at in
+      let same : one.extent ≡ two.extent = cc in
+      one_way (machine.base index) end stood other one.begins.rest two.begins.rest one.chain one.sized two.chain two.sized
+      (sym one.begins.is ∙ ap (λ e. g.script e) same ∙ two.begins.is)
+
+  -- and all that stands in an extent is as long as it is said to be
+  pub all_sized : IsSized i s
+  all_sized = record { sealed = shut_sized; stood = λ index end copies fact. (let k : StoodThere o g index copies end = settled.checked i index copies end fact in (k.chain, k.sized)) }
+    where
+      shut_sized : (index : ℕ) (y : machine.SealedExtent Group) → machine.shut_at index s.core.shut ≡ Some y → machine.Chain (machine.base index) y.copies y.end × Sized y.copies
+      shut_sized index y is =
+          let inside : suc index ≤ length s.core.shut = is_within index s.core.shut y is in
+          let counted : length (extents_of o) ≡ length s.core.shut + machine.one_if_live s.core.live = settled.counts in
+          let at : slice_get (extents_of o) index ≡ Some (get_or (extents_of o) index 0) = slice_get-get_or (extents_of o) index 0 (omega (arith, inside, counted)) in
+          let there : ShutThere g sent s (get_or (extents_of o) index 0) index = settled.shut index (get_or (extents_of o) index 0) at (omega (arith, inside)) in
+          let both : Some there.shut ≡ Some y = sym there.is ∙ is in
+          let same : there.shut ≡ y = cc in
+          subst (λ (z : machine.SealedExtent Group). machine.Chain (machine.base index) z.copies z.end × Sized z.copies) same (there.tied.chain, there.tied.sized)

@@ -4,25 +4,15 @@ use Rattle.wire.specs.declared.actor.ReqNo.{ReqNo}
 use Rattle.wire.specs.declared.streams.StreamExtent.{StreamExtent}
 use Rattle.client.specs.declared.job.Job.{Job}
 use Rattle.client.specs.declared.job.Job.TheVariants as jobs
-use Rattle.client.specs.Client.{ClientState, Outcome, last_extent, check_at, check_behind, check_rule, read_at, read_whole, read_checked_at, read_open, give_up_job}
+use Rattle.client.specs.Client.{ClientState, Outcome, last_extent, read_at, read_whole, read_checked_at, read_open, give_up_job}
 use Rattle.model_partition.specs.declared.server_context.ServerContext.{ServerContext}
 use Rattle.model_partition.specs.Range.{request, given, picking}
 use Rattle.model_partition.specs.Loading.{read_by, read_of}
-use Rattle.laws_log_reads.specs.Reads.{ReadsAt, ReadsBy, ReadsSome}
+use Rattle.laws_log_reads.specs.Reads.{ReadsAt, ReadsBy}
 
 -- only the last extent that is known may be open
 abbrev pub LastOpen : ClientState → Type 0
 LastOpen c = (index : ℕ) (x : StreamExtent) → slice_get c.extents index ≡ Some x → x.length ≡ None → suc index ≡ length c.extents
-
--- what is asked at some position
-pub some_of : (c : ClientState) (position : ℕ) (j : Job) → ReadsBy c position j → ReadsSome c j
-some_of c position jobs.Idle b = tt
-some_of c position (jobs.Sent e q) b = tt
-some_of c position (jobs.Closing e q) b = tt
-some_of c position (jobs.Growing last q) b = tt
-some_of c position (jobs.Checking e q) b = tt
-some_of c position (jobs.Shutting e q) b = tt
-some_of c position (jobs.Reading e places upto sealed place q) b = (position, b)
 
 -- a client that knows the same extents, and asks for the same
 module _ (c k : ClientState) (extents : k.extents ≡ c.extents) (checked : k.checked ≡ c.checked) where
@@ -41,22 +31,16 @@ module _ (c k : ClientState) (extents : k.extents ≡ c.extents) (checked : k.ch
   by_same position (jobs.Shutting e q) b = tt
   by_same position (jobs.Reading e places upto sealed place q) b = at_same e upto sealed position b
 
-  pub some_same : (j : Job) → ReadsSome c j → ReadsSome k j
-  some_same jobs.Idle b = tt
-  some_same (jobs.Sent e q) b = tt
-  some_same (jobs.Closing e q) b = tt
-  some_same (jobs.Growing last q) b = tt
-  some_same (jobs.Checking e q) b = tt
-  some_same (jobs.Shutting e q) b = tt
-  some_same (jobs.Reading e places upto sealed place q) b = (b.0, at_same e upto sealed b.0 b.1)
-
 -- ---- what a step keeps
 
 -- the extents that are known, and where the last of them was checked
 pub record Keeps (c k : ClientState) : Type 0 where
+  pub base : k.base ≡ c.base
   pub extents : k.extents ≡ c.extents
   pub checked : k.checked ≡ c.checked
-  pub base : k.base ≡ c.base
+
+pub keeps_all : (c : ClientState) → Keeps c c
+keeps_all c = record { base = refl; extents = refl; checked = refl }
 
 -- ---- an extent is asked for
 
@@ -72,7 +56,7 @@ module _ (d : ServerContext) (before : ClientState) (position : ℕ) (open_last 
   sealed_there z m at e =
       subst (λ s. AsksThere (given Reader (read_at Reader (request d) s))) (sym at)
       (subst (λ k. AsksThere (given Reader (read_whole Reader (request d) z k))) (sym e)
-      (record { extents = refl; checked = refl; base = refl }, record { known = z; at = at; extent = refl; far = e }))
+      (record { base = refl; extents = refl; checked = refl }, record { known = z; at = at; extent = refl; far = e }))
 
   open_there : (z : StreamExtent) → slice_get before.extents position ≡ Some z → z.length ≡ None → AsksThere (given Reader (read_checked_at Reader (request d) (last_extent before.extents)))
   open_there z at e =
@@ -84,11 +68,11 @@ module _ (d : ServerContext) (before : ClientState) (position : ℕ) (open_last 
       (go before.checked refl))
     where
       go : (o : Option ℕ) → before.checked ≡ o → AsksThere (given Reader (read_open Reader (request d) z None o))
-      go (Some found) checked = (record { extents = refl; checked = refl; base = refl }, record { known = z; at = at; extent = refl; far = (e, checked) })
-      go None checked = (record { extents = refl; checked = refl; base = refl }, tt)
+      go (Some found) checked = (record { base = refl; extents = refl; checked = refl }, record { known = z; at = at; extent = refl; far = (e, checked) })
+      go None checked = (record { base = refl; extents = refl; checked = refl }, tt)
 
   there_by : (o : Option StreamExtent) → slice_get before.extents position ≡ o → AsksThere (read_by d Reader position o)
-  there_by None at = (record { extents = refl; checked = refl; base = refl }, tt)
+  there_by None at = (record { base = refl; extents = refl; checked = refl }, tt)
   there_by (Some z) at = go z.length refl
     where
       go : (k : Option ℕ) → z.length ≡ k →
@@ -103,39 +87,18 @@ module _ (d : ServerContext) (before : ClientState) (position : ℕ) (open_last 
   pub read_there : before.job ≡ jobs.Idle → AsksThere (read_of d (picking d before) position)
   read_there idle = subst (λ j. AsksThere (read_of d (record before { pick = d.pick; job = j }) position)) (sym idle) idle_there
 
--- ---- a length is asked for
-
-module _ (d : ServerContext) (before : ClientState) where
-  abbrev Checker : ClientState
-  Checker = record before { pick = d.pick; job = jobs.Idle }
-
-  abbrev pub AsksNone : Outcome → Type 0
-  AsksNone o = Keeps before o.after × ReadsSome o.after o.after.job
-
-  behind_none : (x : StreamExtent) (o : Option ℕ) → AsksNone (given Checker (check_behind Checker (request d) x o))
-  behind_none x None = (record { extents = refl; checked = refl; base = refl }, tt)
-  behind_none x (Some l) = (record { extents = refl; checked = refl; base = refl }, tt)
-
-  check_none : (o : Option StreamExtent) → AsksNone (given Checker (check_at Checker (request d) o))
-  check_none None = (record { extents = refl; checked = refl; base = refl }, tt)
-  check_none (Some x) = behind_none x x.length
-
-  -- a client that waits for nothing has the length of its last extent checked
-  pub check_there : before.job ≡ jobs.Idle → AsksNone (given (picking d before) (check_rule (picking d before) (request d)))
-  check_there idle = subst (λ j. AsksNone (given (record before { pick = d.pick; job = j }) (check_rule (record before { pick = d.pick; job = j }) (request d)))) (sym idle) (check_none (last_extent before.extents))
-
 -- ---- giving up
 
 -- the same extent is asked for, or none
 pub gives_up_there : (c : ClientState) (q : ReqNo) (j : Job) → Keeps c (give_up_job c q j).after
-gives_up_there c q jobs.Idle = record { extents = refl; checked = refl; base = refl }
-gives_up_there c q (jobs.Sent e w) = record { extents = refl; checked = refl; base = refl }
-gives_up_there c q (jobs.Closing e w) = record { extents = refl; checked = refl; base = refl }
-gives_up_there c q (jobs.Growing last w) = record { extents = refl; checked = refl; base = refl }
-gives_up_there c q (jobs.Checking e w) = record { extents = refl; checked = refl; base = refl }
-gives_up_there c q (jobs.Shutting e w) = record { extents = refl; checked = refl; base = refl }
-gives_up_there c q (jobs.Reading e places upto true place w) = record { extents = refl; checked = refl; base = refl }
-gives_up_there c q (jobs.Reading e places upto false place w) = record { extents = refl; checked = refl; base = refl }
+gives_up_there c q jobs.Idle = record { base = refl; extents = refl; checked = refl }
+gives_up_there c q (jobs.Sent e w) = record { base = refl; extents = refl; checked = refl }
+gives_up_there c q (jobs.Closing e w) = record { base = refl; extents = refl; checked = refl }
+gives_up_there c q (jobs.Growing last w) = record { base = refl; extents = refl; checked = refl }
+gives_up_there c q (jobs.Checking e w) = record { base = refl; extents = refl; checked = refl }
+gives_up_there c q (jobs.Shutting e w) = record { base = refl; extents = refl; checked = refl }
+gives_up_there c q (jobs.Reading e places upto true place w) = record { base = refl; extents = refl; checked = refl }
+gives_up_there c q (jobs.Reading e places upto false place w) = record { base = refl; extents = refl; checked = refl }
 
 pub gives_up_by : (c : ClientState) (q : ReqNo) (position : ℕ) (j : Job) → c.job ≡ j → ReadsBy c position j → ReadsBy (give_up_job c q j).after position (give_up_job c q j).after.job
 gives_up_by c q position jobs.Idle is b = subst (λ k. ReadsBy c position k) (sym is) tt
@@ -146,13 +109,3 @@ gives_up_by c q position (jobs.Checking e w) is b = tt
 gives_up_by c q position (jobs.Shutting e w) is b = tt
 gives_up_by c q position (jobs.Reading e places upto true place w) is b = record { known = b.known; at = b.at; extent = b.extent; far = b.far }
 gives_up_by c q position (jobs.Reading e places upto false place w) is b = tt
-
-pub gives_up_some : (c : ClientState) (q : ReqNo) (j : Job) → c.job ≡ j → ReadsSome c j → ReadsSome (give_up_job c q j).after (give_up_job c q j).after.job
-gives_up_some c q jobs.Idle is b = subst (λ k. ReadsSome c k) (sym is) tt
-gives_up_some c q (jobs.Sent e w) is b = tt
-gives_up_some c q (jobs.Closing e w) is b = tt
-gives_up_some c q (jobs.Growing last w) is b = tt
-gives_up_some c q (jobs.Checking e w) is b = tt
-gives_up_some c q (jobs.Shutting e w) is b = tt
-gives_up_some c q (jobs.Reading e places upto true place w) is b = (b.0, record { known = b.1.known; at = b.1.at; extent = b.1.extent; far = b.1.far })
-gives_up_some c q (jobs.Reading e places upto false place w) is b = tt

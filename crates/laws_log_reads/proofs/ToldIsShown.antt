@@ -1,5 +1,5 @@
 -- Groups that a node tells are shown: its observation comes with its answer.
-use Rattle.std.proofs.Common.{◌≡◌, ◌⊎◌, ℕ, zero, suc, Bool, true, false, List, [], ◌∷◌, Option, Some, None, Contains, refl, sym, ap, ◌∙◌, subst, inl, inr, arith, if◌then◌else◌, ◌&&◌, ◌==◌}
+use Rattle.std.proofs.Common.{◌≡◌, ℕ, zero, suc, Bool, true, false, List, [], ◌∷◌, Option, Some, None, Contains, refl, sym, ap, ◌∙◌, subst, inl, inr, arith, if◌then◌else◌, ◌&&◌, ◌==◌}
 use Rattle.std.proofs.lemmas.List.Elements.{Contains-append_right}
 use Rattle.wire.specs.declared.actor.ActorId.{ActorId}
 use Rattle.wire.specs.declared.actor.ActorId.TheVariants.{Node, Server}
@@ -13,6 +13,7 @@ use Rattle.wire.specs.declared.note.Note.TheVariants.{Content, Seen}
 use Rattle.wire.specs.declared.packet.Packet.{Packet}
 use Rattle.wire.specs.declared.refusal.Refusal.{Refusal}
 use Rattle.wire.specs.declared.refusal.Refusal.TheVariants.{PastEnd}
+use Rattle.wire.specs.declared.streams.StreamName.{StreamName}
 use Rattle.replica.specs.Groups.{Group, text, text_length}
 use Rattle.replica.specs.Reading.{groups_to}
 use Rattle.model_streams.specs.Node.{Replica, is_sealed, extent_of, node_rule, groups_note, groups_taken, groups_refusal, groups_rule}
@@ -25,15 +26,9 @@ use Rattle.laws_streams.proofs.NodeAnswers as node
 use Rattle.laws_streams.proofs.DecisionAnswers as decision
 use Rattle.laws_streams.proofs.PacketSources.{NodeSends, SentIn, sent_first, notes_stay}
 use Rattle.model_partition.specs.StreamMachine as machine
-use Rattle.laws_stream_machine.specs.Refinement.{Purpose, Sent, Reads, purpose_of, IsAt, extents_in, AsksToRead}
+use Rattle.laws_stream_machine.specs.Refinement.{Purpose, Sent, Reads, purpose_of, IsAt}
 use Rattle.laws_stream_machine.proofs.Refines.{Follows}
-use Rattle.laws_stream_machine.proofs.NodeSteps.{is_in_or}
-use Rattle.laws_ranges.specs.Serves.{log_of}
-use Rattle.laws_log_reads.specs.Reads.{ReadShows, Shows}
-
--- an observation shows all of these groups
-abbrev pub IsNoted : List Note → ℕ → List Group → Type 0
-IsNoted notes e groups = (n : ℕ) × (Contains notes (Content e n groups) ⊎ Contains notes (Seen e n 0 (text groups)))
+use Rattle.laws_log_reads.specs.Reads.{IsShown, ReadShows, Shows}
 
 only : {A : Type 0} (x y : A) → Contains (x ∷ []) y → x ≡ y
 only x y (zero, l, e) = e
@@ -46,9 +41,9 @@ module _ (n : ℕ) (r : Replica) (p : Packet) (e upto : ℕ) (q : ReqNo) (from t
   reading = packet from to (bodies.Read (answers.Groups v k groups))
 
   abbrev ShowsIf : Outcome (Option Replica) → Type 0
-  ShowsIf o = Contains o.packets reading → IsNoted o.notes k groups
+  ShowsIf o = Contains o.packets reading → IsShown o.notes k groups
 
-  note_shows : (found : List Group) (b : Bool) → IsNoted ((if b then Content e n found else Seen e n 0 (text found)) ∷ []) e found
+  note_shows : (found : List Group) (b : Bool) → IsShown ((if b then Content e n found else Seen e n 0 (text found)) ∷ []) e found
   note_shows found true = (n, inl (0, omega arith, refl))
   note_shows found false = (n, inr (0, omega arith, refl))
 
@@ -58,8 +53,8 @@ module _ (n : ℕ) (r : Replica) (p : Packet) (e upto : ℕ) (q : ReqNo) (from t
       let z : bodies.Read (answers.Groups q e found) ≡ bodies.Read (answers.Groups v k groups) = ap (λ (x : Packet). x.body) (only _ reading c) in
       let here : e ≡ k = cc in
       let same : found ≡ groups = cc in
-      subst (λ j. IsNoted (groups_note n r e upto found ∷ []) j groups) here
-      (subst (λ gs. IsNoted (groups_note n r e upto found ∷ []) e gs) same (note_shows found (is_sealed r.content.phase && (upto == text_length r.content.groups))))
+      subst (λ j. IsShown (groups_note n r e upto found ∷ []) j groups) here
+      (subst (λ gs. IsShown (groups_note n r e upto found ∷ []) e gs) same (note_shows found (is_sealed r.content.phase && (upto == text_length r.content.groups))))
 
   rule_shows : (sealed : Bool) → ShowsIf (groups_rule n r p e upto sealed q)
   rule_shows sealed = by (groups_refusal r sealed)
@@ -79,7 +74,7 @@ module _ (nodes target : ℕ) (moves : List Move) where
     abbrev told : Packet
     told = packet from to (bodies.Read (answers.Groups q e groups))
 
-    by_node : (a : SentIn moves first told) → NodeSends (run_moves a.past first) a.move (moved (run_moves a.past first) a.move) told → IsNoted w.notes e groups
+    by_node : (a : SentIn moves first told) → NodeSends (run_moves a.past first) a.move (moved (run_moves a.past first) a.move) told → IsShown w.notes e groups
     by_node a m =
         let v = run_moves a.past first in
         let k = extent_of m.taken.body in
@@ -87,13 +82,13 @@ module _ (nodes target : ℕ) (moves : List Move) where
         let (teller, f) = each-contains (node.NodeTells m.node (v.replica m.node k) k m.taken rule.notes) _ told (node.node_tells m.node (v.replica m.node k) m.taken) m.rule in
         let there : v.replica m.node e ≡ Some f.replica = ap (λ j. v.replica m.node j) f.extent ∙ f.there in
         let by_body : Contains (node_rule m.node (v.replica m.node e) m.taken (bodies.Read (answers.ReadGroups e f.upto f.sealed q))).packets told →
-        IsNoted (node_rule m.node (v.replica m.node e) m.taken (bodies.Read (answers.ReadGroups e f.upto f.sealed q))).notes e groups =
+        IsShown (node_rule m.node (v.replica m.node e) m.taken (bodies.Read (answers.ReadGroups e f.upto f.sealed q))).notes e groups =
         subst (λ s. Contains (node_rule m.node s m.taken (bodies.Read (answers.ReadGroups e f.upto f.sealed q))).packets told →
-        IsNoted (node_rule m.node s m.taken (bodies.Read (answers.ReadGroups e f.upto f.sealed q))).notes e groups) (sym there)
+        IsShown (node_rule m.node s m.taken (bodies.Read (answers.ReadGroups e f.upto f.sealed q))).notes e groups) (sym there)
         (rule_shows m.node f.replica m.taken e f.upto q from to q e groups f.sealed) in
-        let whole : Contains rule.packets told → IsNoted rule.notes e groups =
+        let whole : Contains rule.packets told → IsShown rule.notes e groups =
         subst (λ (b : Body). Contains (node_rule m.node (v.replica m.node (extent_of b)) m.taken b).packets told →
-        IsNoted (node_rule m.node (v.replica m.node (extent_of b)) m.taken b).notes e groups) (sym f.body) by_body in
+        IsShown (node_rule m.node (v.replica m.node (extent_of b)) m.taken b).notes e groups) (sym f.body) by_body in
         last a m (whole m.rule)
       where
         stays : (a : SentIn moves first told) (m : NodeSends (run_moves a.past first) a.move (moved (run_moves a.past first) a.move) told) (x : Note) →
@@ -105,11 +100,11 @@ module _ (nodes target : ℕ) (moves : List Move) where
             rw (a.split, run_more a.past (a.move ∷ a.rest) first) (notes_stay a.rest (moved v a.move) x now)
 
         last : (a : SentIn moves first told) (m : NodeSends (run_moves a.past first) a.move (moved (run_moves a.past first) a.move) told) →
-            IsNoted (node_rule m.node ((run_moves a.past first).replica m.node (extent_of m.taken.body)) m.taken m.taken.body).notes e groups → IsNoted w.notes e groups
+            IsShown (node_rule m.node ((run_moves a.past first).replica m.node (extent_of m.taken.body)) m.taken m.taken.body).notes e groups → IsShown w.notes e groups
         last a m (n, inl c) = (n, inl (stays a m (Content e n groups) c))
         last a m (n, inr c) = (n, inr (stays a m (Seen e n 0 (text groups)) c))
 
-    noted_by : SentIn moves first told → IsNoted w.notes e groups
+    noted_by : SentIn moves first told → IsShown w.notes e groups
     noted_by a = elim a.sends [
       | inl x ↦ elim x [ inl t ↦ absurd cc | inr t ↦ elim t [ inl y ↦ absurd cc | inr y ↦ absurd cc ] ]
       | inr x ↦ elim x [
@@ -122,34 +117,30 @@ module _ (nodes target : ℕ) (moves : List Move) where
     ]
 
     -- groups that were told are shown
-    pub groups_noted : Contains w.post told → IsNoted w.notes e groups
+    pub groups_noted : Contains w.post told → IsShown w.notes e groups
     groups_noted c = noted_by (sent_first nodes target moves told c)
 
   -- ---- as those of the extent that was asked for
 
-  module _ (generation : ℕ → ℕ) (range i : ℕ) (s : machine.MachineState Group) (sent : List Sent) (a : Follows generation (log_of range) w s sent) (from : ActorId) (server : ℕ) where
+  module _ (generation : ℕ → ℕ) (name : StreamName) (s : machine.MachineState Group) (sent : List Sent) (a : Follows generation name w s sent) (from : ActorId) (server : ℕ) where
     groups_show : (q : ReqNo) (e : ℕ) (groups : List Group) → Contains w.post (packet from (Server server) (bodies.Read (answers.Groups q e groups))) →
-        ReadShows range w i s (purpose_of sent q) (answers.Groups q e groups)
+        ReadShows name w (purpose_of sent q) (answers.Groups q e groups)
     groups_show q e groups c = go (purpose_of sent q) refl
       where
-        go : (z : Option Purpose) → purpose_of sent q ≡ z → ReadShows range w i s z (answers.Groups q e groups)
+        go : (z : Option Purpose) → purpose_of sent q ≡ z → ReadShows name w z (answers.Groups q e groups)
         go (Some (Reads j index upto)) for = λ other at.
             let r = a.read from server q e groups c in
             let x = a.asked server from (bodies.Read (answers.ReadGroups e r.upto r.sealed q)) r.asked in
-            elim (is_in_or (extents_in w (log_of range)) e) [
-              | inl m ↦
-                  let y : AsksToRead generation (log_of range) w s sent e m.0 r.upto q = x.here m.0 m.1 in
-                  let d : Some (Reads y.i m.0 r.upto) ≡ Some (Reads j index upto) = sym y.for ∙ for in
-                  let place : m.0 ≡ index = cc in
-                  let here : IsAt w (log_of range) index e = subst (λ k. IsAt w (log_of range) k e) place m.1 in
-                  let both : Some e ≡ Some other = sym here ∙ at in
-                  let same : e ≡ other = cc in
-                  subst (λ k. IsNoted w.notes k groups) same (groups_noted from (Server server) q e groups c)
-              | inr none ↦ absurd (let d : None ≡ Some (Reads j index upto) = sym (x.elsewhere none) ∙ for in cc)
-            ]
+            let (place, there, y) = x.known (Reads j index upto) for in
+            let d : Some (Reads y.i place r.upto) ≡ Some (Reads j index upto) = sym y.for ∙ for in
+            let where_is : place ≡ index = cc in
+            let here : IsAt w name index e = subst (λ k. IsAt w name k e) where_is there in
+            let both : Some e ≡ Some other = sym here ∙ at in
+            let same : e ≡ other = cc in
+            subst (λ k. IsShown w.notes k groups) same (groups_noted from (Server server) q e groups c)
         go z for = tt
 
     -- what a server was answered is shown
-    pub shows_now : (body : Body) → Contains w.post (packet from (Server server) body) → Shows range w i s sent body
+    pub shows_now : (body : Body) → Contains w.post (packet from (Server server) body) → Shows name w sent body
     shows_now (bodies.Read (answers.Groups q e groups)) c = groups_show q e groups c
     shows_now body c = tt

@@ -12,15 +12,11 @@ use Rattle.model_streams.specs.StreamSystem.{StreamSystem}
 use Rattle.model_partition.specs.StreamMachine as machine
 use Rattle.model_partition.specs.ServerTurns as turns
 use Rattle.laws_stream_machine.specs.Refinement.{Purpose, Sent, purpose_of, Seals, Appends, Extends}
-use Rattle.laws_ranges.specs.Serves.{Stand, after_turns, LastIs, is_live, number_of, IsTold, SentIs, ClosingIs, GrowingIs, ServesBy, ServingIs, Listed, sent_with, Goes}
+use Rattle.laws_ranges.specs.Serves.{Stand, after_turns, known, LastIs, is_live, number_of, IsTold, SentIs, ClosingIs, GrowingIs, ServesBy, ServingIs, Listed, sent_with, Goes}
 use Rattle.laws_ranges.specs.Quiet.{Quietly, FormsOnly}
 use Rattle.laws_ranges.proofs.MoreKnown.{told_on}
 use Rattle.laws_ranges.proofs.MachineSteps.{newest, wider_turns}
 use Rattle.laws_ranges.proofs.ClientAsks.{none_last, some_last, at_last, append_asked, seal_asked, extend_asked}
-
--- the same extents
-abbrev Alike : ClientState → ClientState → Type 0
-Alike c d = (d.stream ≡ c.stream) × (d.generation ≡ c.generation) × (d.base ≡ c.base) × (d.extents ≡ c.extents)
 
 module _ (generation : ℕ → ℕ) (name : StreamName) (w : StreamSystem) (i : ℕ) where
   -- the place does not matter, only the state
@@ -60,6 +56,13 @@ module _ (generation : ℕ → ℕ) (name : StreamName) (w : StreamSystem) (i : 
   pub rests_by : (x : Stand) (sent : List Sent) (q : ReqNo) (Then : Stand → List Sent → Type 0) → Then x sent → GoesBy x sent q Then None Quietly
   rests_by x sent q Then t = (record { list = []; allowed = tt; purpose = None; then = t; asked = tt }, tt)
 
+  -- where no extent is known, none was there before
+  none_known : {x : Stand} {sent : List Sent} (c : ClientState) → IsTold generation name w i x sent c → last_extent c.extents ≡ None → known c ≡ 0
+  none_known {x} {sent} c told e =
+      let none : length c.extents ≡ 0 = none_last c.extents e in
+      let first = told.tells.ends none in
+      omega (arith, none, first)
+
   module _ (listed : Listed w name) (sent : List Sent) (q : ReqNo) (fresh : purpose_of sent q ≡ None) where
     -- ---- a group is formed
 
@@ -75,11 +78,11 @@ module _ (generation : ℕ → ℕ) (name : StreamName) (w : StreamSystem) (i : 
       form_none (Some y) e absent told = absurd (cc)
       form_none None e absent told =
           let ts : List (turns.Turn Group) = turns.Forms c.group ∷ [] in
-          let zero_is : length c.extents ≡ 0 = none_last c.extents e in
-          let p : Purpose = Extends i (length c.extents) in
+          let zero_is : known c ≡ 0 = none_known c told e in
+          let p : Purpose = Extends i (known c) in
           let y : Stand = Formed (turns.Serving 0 false) in
           let more : List Sent = record { request = q; purpose = p } ∷ sent in
-          let fact : machine.In (machine.AsksExtend i (length c.extents)) y.state.facts = subst (λ z. machine.In (machine.AsksExtend i z) y.state.facts) (sym zero_is) (inl refl) in
+          let fact : machine.In (machine.AsksExtend i (known c)) y.state.facts = subst (λ z. machine.In (machine.AsksExtend i z) y.state.facts) (sym zero_is) (inl refl) in
           let here : IsTold generation name w i y more c = told_after (Stood (turns.Serving 0 false)) ts sent q (Some p) fresh c told in (
             record {
               list = ts;
@@ -101,7 +104,7 @@ module _ (generation : ℕ → ℕ) (name : StreamName) (w : StreamSystem) (i : 
             refl,
           )
 
-      form_open : (index : ℕ) (z : StreamExtent) → last_extent c.extents ≡ Some z → z.length ≡ None → suc index ≡ length c.extents →
+      form_open : (index : ℕ) (z : StreamExtent) → last_extent c.extents ≡ Some z → z.length ≡ None → suc index ≡ known c →
           IsTold generation name w i (Stood (turns.Serving (suc index) true)) sent c →
           GoesBy (Stood (turns.Serving (suc index) true)) sent q (Serves (append_at c q (Some (record z { length = None }))).after) (append_at c q (Some (record z { length = None }))).packet (FormsOnly c.group)
       form_open index z e unsealed at told =
@@ -131,15 +134,15 @@ module _ (generation : ℕ → ℕ) (name : StreamName) (w : StreamSystem) (i : 
             refl,
           )
 
-      form_shut : (index : ℕ) (z : StreamExtent) (l : ℕ) → last_extent c.extents ≡ Some z → z.length ≡ Some l → suc index ≡ length c.extents →
+      form_shut : (index : ℕ) (z : StreamExtent) (l : ℕ) → last_extent c.extents ≡ Some z → z.length ≡ Some l → suc index ≡ known c →
           IsTold generation name w i (Stood (turns.Serving (suc index) false)) sent c →
           GoesBy (Stood (turns.Serving (suc index) false)) sent q (Serves (append_at c q (Some (record z { length = Some l }))).after) (append_at c q (Some (record z { length = Some l }))).packet (FormsOnly c.group)
       form_shut index z l e sealed at told =
           let ts : List (turns.Turn Group) = turns.Forms c.group ∷ [] in
-          let p : Purpose = Extends i (length c.extents) in
+          let p : Purpose = Extends i (known c) in
           let y : Stand = Formed (turns.Serving (suc index) false) in
           let more : List Sent = record { request = q; purpose = p } ∷ sent in
-          let fact : machine.In (machine.AsksExtend i (length c.extents)) y.state.facts = subst (λ n. machine.In (machine.AsksExtend i n) y.state.facts) at (inl refl) in
+          let fact : machine.In (machine.AsksExtend i (known c)) y.state.facts = subst (λ n. machine.In (machine.AsksExtend i n) y.state.facts) at (inl refl) in
           let here : IsTold generation name w i y more c = told_after (Stood (turns.Serving (suc index) false)) ts sent q (Some p) fresh c told in
           let closed : last_extent c.extents ≡ Some (record z { length = Some l }) = e ∙ ap (λ k. Some (record z { length = k })) sealed in (
             record {
@@ -245,24 +248,24 @@ module _ (generation : ℕ → ℕ) (name : StreamName) (w : StreamSystem) (i : 
 
       -- ---- a group is formed, wherever the last extent stands
 
-      live_goes : (z : StreamExtent) (o : Option ℕ) → last_extent c.extents ≡ Some z → z.length ≡ o → x.phase ≡ turns.Serving (length c.extents) (is_live (Some z)) →
+      live_goes : (z : StreamExtent) (o : Option ℕ) → last_extent c.extents ≡ Some z → z.length ≡ o → x.phase ≡ turns.Serving (known c) (is_live (Some z)) →
           GoesBy x sent q (Serves (append_at c q (Some (record z { length = o }))).after) (append_at c q (Some (record z { length = o }))).packet (FormsOnly c.group)
       live_goes z None e l idle =
           let inside : 0 < length c.extents = some_last c z e in
-          let at : suc (length c.extents - 1) ≡ length c.extents = omega (arith, inside) in
-          let p : turns.Phase Group = turns.Serving (suc (length c.extents - 1)) true in
-          at_phase_by x p sent q _ _ (FormsOnly c.group) (idle ∙ ap (λ k. turns.Serving (length c.extents) (is_live (Some (record z { length = k })))) l ∙ ap (λ k. turns.Serving k true) (sym at))
-          (form_open x.state c (length c.extents - 1) z e l at (told_here x p sent c told))
+          let at : suc (known c - 1) ≡ known c = omega (arith, inside) in
+          let p : turns.Phase Group = turns.Serving (suc (known c - 1)) true in
+          at_phase_by x p sent q _ _ (FormsOnly c.group) (idle ∙ ap (λ k. turns.Serving (known c) (is_live (Some (record z { length = k })))) l ∙ ap (λ k. turns.Serving k true) (sym at))
+          (form_open x.state c (known c - 1) z e l at (told_here x p sent c told))
       live_goes z (Some l) e s idle =
           let inside : 0 < length c.extents = some_last c z e in
-          let at : suc (length c.extents - 1) ≡ length c.extents = omega (arith, inside) in
-          let p : turns.Phase Group = turns.Serving (suc (length c.extents - 1)) false in
-          at_phase_by x p sent q _ _ (FormsOnly c.group) (idle ∙ ap (λ k. turns.Serving (length c.extents) (is_live (Some (record z { length = k })))) s ∙ ap (λ k. turns.Serving k false) (sym at))
-          (form_shut x.state c (length c.extents - 1) z l e s at (told_here x p sent c told))
+          let at : suc (known c - 1) ≡ known c = omega (arith, inside) in
+          let p : turns.Phase Group = turns.Serving (suc (known c - 1)) false in
+          at_phase_by x p sent q _ _ (FormsOnly c.group) (idle ∙ ap (λ k. turns.Serving (known c) (is_live (Some (record z { length = k })))) s ∙ ap (λ k. turns.Serving k false) (sym at))
+          (form_shut x.state c (known c - 1) z l e s at (told_here x p sent c told))
 
-      pub append_goes : (o : Option StreamExtent) → last_extent c.extents ≡ o → x.phase ≡ turns.Serving (length c.extents) (is_live o) →
+      pub append_goes : (o : Option StreamExtent) → last_extent c.extents ≡ o → x.phase ≡ turns.Serving (known c) (is_live o) →
           GoesBy x sent q (Serves (append_at c q o).after) (append_at c q o).packet (FormsOnly c.group)
       append_goes None e idle =
-          let none : length c.extents ≡ 0 = none_last c.extents e in
+          let none : known c ≡ 0 = none_known c told e in
           at_phase_by x (turns.Serving 0 false) sent q _ _ (FormsOnly c.group) (idle ∙ ap (λ k. turns.Serving k false) none) (form_none x.state c None e refl (told_here x (turns.Serving 0 false) sent c told))
       append_goes (Some z) e idle = live_goes z z.length e refl idle

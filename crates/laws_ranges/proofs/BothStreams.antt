@@ -20,8 +20,9 @@ use Rattle.model_partition.specs.declared.waiting.WaitingGet.{WaitingGet}
 use Rattle.model_partition.specs.declared.table_note.TableNote.{TableNote}
 use Rattle.model_partition.specs.Range.{RangeState, request, goes}
 use Rattle.model_partition.specs.StreamMachine as machine
-use Rattle.laws_stream_machine.specs.Refinement.{Purpose, Sent, purpose_of, IsAsked}
-use Rattle.laws_ranges.specs.Serves.{Stand, Side, after_turns, metadata_of, log_of, sent_with, IsOwn, AreAsked, Goes, StageIs, LoadsMetadata, LoadsLog, Follows, FollowsIf, Apart, BothListed, IsSentBy, AskedOfBoth, RuleGoes, RuleTells}
+use Rattle.laws_stream_machine.specs.Refinement.{Purpose, Sent, purpose_of, IsAt, AsksToAppend, AsksToCheck, AsksToRead, AsksToSeal, OfExtent, IsAsked}
+use Rattle.laws_ranges.specs.Serves.{Stand, Side, after_turns, metadata_of, log_of, sent_with, IsNumbered, IsOwn, AreAsked, Goes, StageIs, LoadsMetadata, LoadsLog, Follows, FollowsIf, Apart, BothListed, IsSentBy, AskedOfBoth, RuleGoes}
+use Rattle.laws_ranges.specs.Quiet.{GoesQuietly}
 use Rattle.laws_ranges.proofs.MachineSteps.{purposes_on}
 use Rattle.laws_ranges.proofs.LogRules.{asked_if}
 use Rattle.laws_ranges.proofs.ServedRules.{kinds_differ, unused_on, apart_on, asked_of_both, own_known}
@@ -74,18 +75,26 @@ module _ (generation : ℕ → ℕ) (range : ℕ) (w : StreamSystem) (i : ℕ) (
 module _ (generation : ℕ → ℕ) (range : ℕ) (w : StreamSystem) (i : ℕ) (both : BothListed w range) where
   -- ---- what is asked of the metadata alone says nothing of the log
 
+  other_extent : (s : machine.MachineState Group) (m l : List Sent) → Apart m l → (e : ℕ) (q : ReqNo) (Asks : ℕ → Type 0) → (index : ℕ) × IsAt w (metadata_of range) index e →
+      IsNumbered generation (metadata_of range) w i m q → OfExtent generation (log_of range) w s l e q Asks
+  other_extent s m l a e q Asks here number = record {
+    made = both.metadata.made here.0 e here.1;
+    unsealed = λ k at. absurd (both.apart here.0 k e here.1 at.0 at.1);
+    known = λ p for. let c : None ≡ Some p = sym (a.here q number.0 number.1 number.2) ∙ for in absurd cc;
+  }
+
   metadata_elsewhere : (s : machine.MachineState Group) (m l : List Sent) → Apart m l → (body : Body) → IsOwn generation (metadata_of range) w i m body → IsAsked generation (log_of range) w s l body
   metadata_elsewhere s m l a (bodies.Append (appends.Append e g blocks q)) b =
-      record { made = both.metadata.made b.0.0 e b.0.1; here = λ k at. absurd (both.apart b.0.0 k e b.0.1 at); elsewhere = λ no_index. a.here q b.1.0 b.1.1 b.1.2 }
+      other_extent s m l a e q (λ index. AsksToAppend generation (log_of range) w s l g e index blocks q) b.0 b.1
   metadata_elsewhere s m l a (bodies.Append body) b = absurd b
   metadata_elsewhere s m l a (bodies.Check (checks.Check e g q)) b =
-      record { made = both.metadata.made b.0.0 e b.0.1; here = λ k at. absurd (both.apart b.0.0 k e b.0.1 at); elsewhere = λ no_index. a.here q b.1.0 b.1.1 b.1.2 }
+      other_extent s m l a e q (λ index. AsksToCheck generation (log_of range) w s l g e index q) b.0 b.1
   metadata_elsewhere s m l a (bodies.Check body) b = absurd b
   metadata_elsewhere s m l a (bodies.Read (reads.ReadGroups e upto sealed q)) b =
-      record { made = both.metadata.made b.0.0 e b.0.1; here = λ k at. absurd (both.apart b.0.0 k e b.0.1 at); elsewhere = λ no_index. a.here q b.1.0 b.1.1 b.1.2 }
+      other_extent s m l a e q (λ index. AsksToRead generation (log_of range) w s l e index upto q) b.0 b.1
   metadata_elsewhere s m l a (bodies.Read body) b = absurd b
   metadata_elsewhere s m l a (bodies.Seal (seals.SealExtent e q)) b =
-      record { made = both.metadata.made b.0.0 e b.0.1; here = λ k at. absurd (both.apart b.0.0 k e b.0.1 at); elsewhere = λ no_index. a.here q b.1.0 b.1.1 b.1.2 }
+      other_extent s m l a e q (λ index. AsksToSeal generation (log_of range) w s l e index q) b.0 b.1
   metadata_elsewhere s m l a (bodies.Seal body) b = absurd b
   metadata_elsewhere s m l a (bodies.Stream (streams.Extend stream g last pick q)) b =
       record { here = λ same. absurd (kinds_differ range (sym b.0 ∙ same)); elsewhere = λ other. a.here q b.1.0 b.1.1 b.1.2 }
@@ -127,9 +136,9 @@ module _ (generation : ℕ → ℕ) (range : ℕ) (w : StreamSystem) (i : ℕ) (
 
     -- ---- a step that turns neither
 
-    unfoldable pub still_tells : (after : Option RangeState) (count : ℕ) (packets : List Packet) → FollowsIf generation range w i after m l → d.count ≤ count →
-        AreAsked generation range w i (log_of range) l.stand l.sent packets → RuleTells generation range w i m l d (record { after = after; count = count; packets = packets; notes = [] })
-    still_tells after count packets follows more asked =
+    pub still_quietly : (after : Option RangeState) (count : ℕ) (packets : List Packet) → FollowsIf generation range w i after m l → d.count ≤ count →
+        AreAsked generation range w i (log_of range) l.stand l.sent packets → GoesQuietly generation range w i m l d (record { after = after; count = count; packets = packets; notes = [] })
+    still_quietly after count packets follows more asked =
         record {
           goes = record {
             metadata_turns = [];
@@ -148,14 +157,13 @@ module _ (generation : ℕ → ℕ) (range : ℕ) (w : StreamSystem) (i : ℕ) (
             then = follows;
             asked = asked_of_both generation range w i both m l by.apart packets asked;
           };
-          unformed = tt;
-          fit = tt;
-          shown = refl;
+          metadata = tt;
+          log = tt;
         }
 
     pub still_both : (after : RangeState) (count : ℕ) (packets : List Packet) → Follows generation range w i m l after → d.count ≤ count →
         AreAsked generation range w i (log_of range) l.stand l.sent packets → RuleGoes generation range w i m l d (record { after = Some after; count = count; packets = packets; notes = [] })
-    still_both after count packets follows more asked = (still_tells (Some after) count packets follows more asked).goes
+    still_both after count packets follows more asked = (still_quietly (Some after) count packets follows more asked).goes
 
 -- ---- what the lease and the Gets of a range do not matter for
 
@@ -181,7 +189,7 @@ module _ (generation : ℕ → ℕ) (range : ℕ) (w : StreamSystem) (i : ℕ) (
     same_stage (stages.Reading kinds.RowData position) b = absurd b
     same_stage (stages.Reading kinds.BlobData position) b = absurd b
     same_stage stages.Confirming b = record { q = b.q; phase = b.phase; metadata = b.metadata; log = b.log }
-    same_stage stages.Serving b = record { phase = b.phase; metadata = b.metadata; metadata_idle = b.metadata_idle; log = b.log; out = b.out; next = b.next }
+    same_stage stages.Serving b = record { phase = b.phase; metadata = b.metadata; metadata_idle = b.metadata_idle; log = b.log; out = b.out }
 
     pub follows_same : Follows generation range w i m l r → Follows generation range w i m l (kept_but r until gets held)
     follows_same b = record { range_is = b.range_is; under = b.under; stage = same_stage r.stage b.stage }

@@ -1,5 +1,5 @@
 -- What a client sends is asked.
-use Rattle.std.proofs.Common.{◌≡◌, ℕ, suc, ◌-◌, ◌<◌, List, [], ◌∷◌, length, Bool, true, false, Option, Some, None, refl, sym, ◌∙◌, subst, arith, slice_get, if◌then◌else◌, ◌==◌}
+use Rattle.std.proofs.Common.{◌≡◌, ℕ, suc, ◌+◌, ◌-◌, ◌<◌, List, [], ◌∷◌, length, Bool, true, false, Option, Some, None, refl, sym, ◌∙◌, subst, arith, slice_get, if◌then◌else◌, ◌==◌}
 use Rattle.std.proofs.lemmas.Option.{slice_get_within}
 use Rattle.std.proofs.lemmas.Bool.Decides.{nat_tests}
 use Rattle.block_types.specs.declared.record.Nodes.{Nodes}
@@ -16,11 +16,7 @@ use Rattle.client.specs.Client.{ClientState, last_extent}
 use Rattle.model_streams.specs.StreamSystem.{StreamSystem}
 use Rattle.model_partition.specs.StreamMachine as machine
 use Rattle.laws_stream_machine.specs.Refinement.{Sent, purpose_of, Checks, Seals, Reads, Appends, Extends, IsAt, extents_in, last_known, IsAsked}
-use Rattle.laws_ranges.specs.Serves.{Stand, LastIs, number_of, IsTold, Listed, IsOwn}
-
--- the last of a list is that of its last index
-pub last_at : {A : Type 0} (xs : List A) (index : ℕ) (y : A) → suc index ≡ length xs → slice_get xs (length xs - 1) ≡ Some y → slice_get xs index ≡ Some y
-last_at {A} xs index y e q = let same : length xs - 1 ≡ index = omega (arith, e) in subst (λ z. slice_get xs z ≡ Some y) same q
+use Rattle.laws_ranges.specs.Serves.{Stand, known, LastIs, number_of, IsTold, Listed, IsOwn}
 
 pub none_last : {A : Type 0} (xs : List A) → slice_get xs (length xs - 1) ≡ None → length xs ≡ 0
 none_last {A} [] q = refl
@@ -39,16 +35,29 @@ some_last c y q = let z : length c.extents - 1 < length c.extents = slice_get_wi
 module _ (generation : ℕ → ℕ) (name : StreamName) (w : StreamSystem) (i : ℕ) (x : Stand) (sent : List Sent) where
   -- the last extent is that of its index
   pub at_last : (c : ClientState) (e index : ℕ) → IsTold generation name w i x sent c → LastIs c e index → IsAt w name index e
-  at_last c e index told last = told.tells.are index _ (last_at c.extents index _ last.index_is last.last)
+  at_last c e index told last =
+      let inside : 0 < length c.extents = some_last c _ last.last in
+      let place : c.base + (length c.extents - 1) ≡ index = omega (arith, inside, last.index_is) in
+      subst (λ k. IsAt w name k e) place (told.tells.are (length c.extents - 1) _ last.last)
 
   known_last : (c : ClientState) → IsTold generation name w i x sent c → (o : Option StreamExtent) → last_extent c.extents ≡ o →
-      number_of o ≡ last_known (extents_in w name) (length c.extents)
-  known_last c told None q = let none : length c.extents ≡ 0 = none_last c.extents q in subst (λ z. None ≡ last_known (extents_in w name) z) (sym none) refl
-  known_last c told (Some y) q = go (length c.extents == 0) refl
+      number_of o ≡ last_known (extents_in w name) (known c)
+  known_last c told None q =
+      let none : length c.extents ≡ 0 = none_last c.extents q in
+      let first = told.tells.ends none in
+      let count : known c ≡ 0 = omega (arith, none, first) in
+      subst (λ z. None ≡ last_known (extents_in w name) z) (sym count) refl
+  known_last c told (Some y) q = go (known c == 0) refl
     where
-      go : (b : Bool) → (length c.extents == 0) ≡ b → Some y.extent ≡ (if b then None else slice_get (extents_in w name) (length c.extents - 1))
-      go true t = let z : 0 < length c.extents = some_last c y q in let k : length c.extents ≡ 0 = grind (arith, nat_tests) in absurd (omega (arith, z, k))
-      go false t = sym (told.tells.are (length c.extents - 1) y q)
+      inside : 0 < length c.extents
+      inside = some_last c y q
+
+      place : c.base + (length c.extents - 1) ≡ known c - 1
+      place = omega (arith, inside)
+
+      go : (b : Bool) → (known c == 0) ≡ b → Some y.extent ≡ (if b then None else slice_get (extents_in w name) (known c - 1))
+      go true t = let k : known c ≡ 0 = grind (arith, nat_tests) in absurd (omega (arith, inside, k))
+      go false t = sym (subst (λ k. IsAt w name k y.extent) place (told.tells.are (length c.extents - 1) y q))
 
   module _ (listed : Listed w name) (c : ClientState) (told : IsTold generation name w i x sent c) (q : ReqNo) where
     pub append_asked : (e index append : ℕ) → LastIs c e index → purpose_of sent q ≡ Some (Appends i index append c.group) →
@@ -57,8 +66,8 @@ module _ (generation : ℕ → ℕ) (name : StreamName) (w : StreamSystem) (i : 
     append_asked e index append last for fact = (
       record {
         made = listed.made index e (at_last c e index told last);
-        here = λ k at.
-            (let same : index ≡ k = listed.once index k e (at_last c e index told last) at in
+        unsealed = λ k at.
+            (let same : index ≡ k = listed.once index k e (at_last c e index told last) at.0 in
             record {
               i = i;
               append = append;
@@ -66,7 +75,7 @@ module _ (generation : ℕ → ℕ) (name : StreamName) (w : StreamSystem) (i : 
               under = sym told.under;
               fact = subst (λ z. machine.In (machine.AsksAppend i z append c.group) x.state.facts) same fact;
             });
-        elsewhere = λ no. absurd (no index (at_last c e index told last));
+        known = λ p is. (index, at_last c e index told last, record { i = i; append = append; for = for; under = sym told.under; fact = fact });
       },
       ((index, at_last c e index told last), (Appends i index append c.group, for, refl)),
     )
@@ -76,15 +85,15 @@ module _ (generation : ℕ → ℕ) (name : StreamName) (w : StreamSystem) (i : 
     check_asked e index last for fact = (
       record {
         made = listed.made index e (at_last c e index told last);
-        here = λ k at.
-            (let same : index ≡ k = listed.once index k e (at_last c e index told last) at in
+        unsealed = λ k at.
+            (let same : index ≡ k = listed.once index k e (at_last c e index told last) at.0 in
             record {
               i = i;
               for = subst (λ z. purpose_of sent q ≡ Some (Checks i z)) same for;
               under = sym told.under;
               fact = subst (λ z. machine.In (machine.AsksCheck i z) x.state.facts) same fact;
             });
-        elsewhere = λ no. absurd (no index (at_last c e index told last));
+        known = λ p is. (index, at_last c e index told last, record { i = i; for = for; under = sym told.under; fact = fact });
       },
       ((index, at_last c e index told last), (Checks i index, for, refl)),
     )
@@ -93,8 +102,8 @@ module _ (generation : ℕ → ℕ) (name : StreamName) (w : StreamSystem) (i : 
     seal_asked e index here for = (
       record {
         made = listed.made index e here;
-        here = λ k at. record { i = i; for = subst (λ z. purpose_of sent q ≡ Some (Seals i z)) (listed.once index k e here at) for };
-        elsewhere = λ no. absurd (no index here);
+        unsealed = λ k at. record { i = i; for = subst (λ z. purpose_of sent q ≡ Some (Seals i z)) (listed.once index k e here at.0) for };
+        known = λ p is. (index, here, record { i = i; for = for });
       },
       ((index, here), (Seals i index, for, refl)),
     )
@@ -104,20 +113,20 @@ module _ (generation : ℕ → ℕ) (name : StreamName) (w : StreamSystem) (i : 
     read_asked e index upto sealed here for = (
       record {
         made = listed.made index e here;
-        here = λ k at. record { i = i; for = subst (λ z. purpose_of sent q ≡ Some (Reads i z upto)) (listed.once index k e here at) for };
-        elsewhere = λ no. absurd (no index here);
+        unsealed = λ k at. record { i = i; for = subst (λ z. purpose_of sent q ≡ Some (Reads i z upto)) (listed.once index k e here at.0) for };
+        known = λ p is. (index, here, record { i = i; for = for });
       },
       ((index, here), (Reads i index upto, for, refl)),
     )
 
-    pub extend_asked : (last : Option ℕ) (pick : Nodes) → last ≡ number_of (last_extent c.extents) → purpose_of sent q ≡ Some (Extends i (length c.extents)) →
-        machine.In (machine.AsksExtend i (length c.extents)) x.state.facts →
+    pub extend_asked : (last : Option ℕ) (pick : Nodes) → last ≡ number_of (last_extent c.extents) → purpose_of sent q ≡ Some (Extends i (known c)) →
+        machine.In (machine.AsksExtend i (known c)) x.state.facts →
         IsAsked generation name w x.state sent (bodies.Stream (streams.Extend c.stream c.generation last pick q)) × IsOwn generation name w i sent (bodies.Stream (streams.Extend c.stream c.generation last pick q))
     extend_asked last pick is for fact = (
       record {
         here = λ same. record {
           i = i;
-          n = length c.extents;
+          n = known c;
           for = for;
           under = sym told.under;
           known = told.tells.known;
@@ -126,5 +135,5 @@ module _ (generation : ℕ → ℕ) (name : StreamName) (w : StreamSystem) (i : 
         };
         elsewhere = λ no. absurd (no told.stream);
       },
-      (told.stream, (Extends i (length c.extents), for, refl)),
+      (told.stream, (Extends i (known c), for, refl)),
     )

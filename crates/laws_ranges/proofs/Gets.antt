@@ -1,5 +1,5 @@
 -- Gets, and transactions that are refused, turn no stream: they send what says nothing of any extent of a stream.
-use Rattle.std.proofs.Common.{◌≡◌, ℕ, ◌≤◌, List, [], ◌∷◌, ◌++◌, map, Bool, true, false, not, Option, Some, None, refl, subst, inl, arith, if◌then◌else◌}
+use Rattle.std.proofs.Common.{ℕ, ◌≤◌, List, [], ◌∷◌, ◌++◌, map, Bool, true, false, Option, Some, None, inl, arith, if◌then◌else◌}
 use Rattle.block_types.specs.declared.record.Nodes.{Nodes}
 use Rattle.wire.specs.declared.actor.ActorId.{ActorId}
 use Rattle.wire.specs.declared.actor.ReqNo.{ReqNo}
@@ -12,22 +12,20 @@ use Rattle.wire.specs.declared.body.Body.TheVariants as bodies
 use Rattle.wire.specs.declared.refusal.Refusal.{Refusal}
 use Rattle.wire.specs.declared.refusal.Refusal.TheVariants as refusals
 use Rattle.wire.specs.declared.streams.StreamName.{StreamName}
-use Rattle.wire.specs.declared.transaction.Change.{Change}
 use Rattle.memtable.specs.declared.cell.Place.{Place}
 use Rattle.model_streams.specs.StreamSystem.{StreamSystem}
 use Rattle.model_partition.specs.declared.server_context.ServerContext.{ServerContext}
-use Rattle.model_partition.specs.declared.stage.Stage.{Stage}
-use Rattle.model_partition.specs.declared.stage.Stage.TheVariants as stages
 use Rattle.model_partition.specs.declared.waiting.WaitingGet.{WaitingGet}
-use Rattle.model_partition.specs.Range.{RangeState, refuses, answers, is_serving}
-use Rattle.model_partition.specs.Serving.{transact_fault, transacts, transact_rule, lease_ended}
+use Rattle.model_partition.specs.Range.{RangeState, refuses, answers}
+use Rattle.model_partition.specs.Serving.{lease_ended}
 use Rattle.model_partition.specs.Getting.{Lookup, Is, Needs, Tried, asks_place, answered, try, try_all, get_fault, gets, get_rule, bytes_rule, came, place_of, places_of, look, read_at, standing, used, without}
 use Rattle.model_partition.specs.Answering.{bytes_reply, gets_reply, load_refused}
 use Rattle.laws_stream_machine.specs.Refinement.{Sent}
-use Rattle.laws_ranges.specs.Serves.{Stand, Side, log_of, AreAsked, Follows, BothListed, IsSentBy, RuleTells}
+use Rattle.laws_ranges.specs.Serves.{Stand, Side, log_of, AreAsked, Follows, BothListed, IsSentBy}
+use Rattle.laws_ranges.specs.Quiet.{GoesQuietly}
 use Rattle.laws_ranges.proofs.LogRules.{asked_both}
-use Rattle.laws_ranges.proofs.BothStreams.{still_tells, follows_same}
-use Rattle.laws_ranges.proofs.Confirmed.{dropped_tells}
+use Rattle.laws_ranges.proofs.BothStreams.{still_quietly, follows_same}
+use Rattle.laws_ranges.proofs.Confirmed.{dropped_quietly}
 
 -- ---- what is tried
 
@@ -66,69 +64,44 @@ module _ (generation : ℕ → ℕ) (range : ℕ) (w : StreamSystem) (i : ℕ) (
 
 module _ (generation : ℕ → ℕ) (range : ℕ) (w : StreamSystem) (i : ℕ) (both : BothListed w range) (m l : Side) (d : ServerContext) (by : IsSentBy d d.count m.sent l.sent)
     (r : RangeState) (f : Follows generation range w i m l r) where
-  refused : (from : ActorId) (v : ReqNo) (why : Refusal) → RuleTells generation range w i m l d (answers d r (refuses d from v why ∷ []))
-  refused from v why = still_tells generation range w i both m l d by (Some r) d.count (refuses d from v why ∷ []) f (omega arith) (inl (λ n s z. tt), tt)
+  pub refused_quietly : (from : ActorId) (v : ReqNo) (why : Refusal) → GoesQuietly generation range w i m l d (answers d r (refuses d from v why ∷ []))
+  refused_quietly from v why = still_quietly generation range w i both m l d by (Some r) d.count (refuses d from v why ∷ []) f (omega arith) (inl (λ n s z. tt), tt)
 
-  gets_tells : (from : ActorId) (v : ReqNo) (key : List ℕ) (fault : Option Refusal) → RuleTells generation range w i m l d (gets d r from v key fault)
-  gets_tells from v key (Some why) = refused from v why
-  gets_tells from v key None =
+  gets_quietly : (from : ActorId) (v : ReqNo) (key : List ℕ) (fault : Option Refusal) → GoesQuietly generation range w i m l d (gets d r from v key fault)
+  gets_quietly from v key (Some why) = refused_quietly from v why
+  gets_quietly from v key None =
       let g : WaitingGet = record { from = from; request = v; key = key; reads = [] } in
       let t : Tried = try d r g in
       let is : IsTry generation range w i (log_of range) l.stand l.sent d t = one_try generation range w i (log_of range) l.stand l.sent d r g in
-      still_tells generation range w i both m l d by (Some (record r { gets = r.gets ++ t.waiting; held = used r.held (standing r key) })) t.count t.packets
+      still_quietly generation range w i both m l d by (Some (record r { gets = r.gets ++ t.waiting; held = used r.held (standing r key) })) t.count t.packets
       (follows_same generation range w i m l r r.until (r.gets ++ t.waiting) (used r.held (standing r key)) f) is.0 is.1
 
   -- a Get
-  pub get_tells : (from : ActorId) (v : ReqNo) (key : List ℕ) → RuleTells generation range w i m l d (get_rule d r from v key)
-  get_tells from v key = gets_tells from v key (get_fault d r key)
+  pub get_quietly : (from : ActorId) (v : ReqNo) (key : List ℕ) → GoesQuietly generation range w i m l d (get_rule d r from v key)
+  get_quietly from v key = gets_quietly from v key (get_fault d r key)
 
   -- the bytes of a value
-  bytes_tells : (v : ReqNo) (place : Place) (bytes : List ℕ) → RuleTells generation range w i m l d (bytes_rule d r v place bytes)
-  bytes_tells v place bytes =
+  bytes_quietly : (v : ReqNo) (place : Place) (bytes : List ℕ) → GoesQuietly generation range w i m l d (bytes_rule d r v place bytes)
+  bytes_quietly v place bytes =
       let now : RangeState = record r { held = came r.held (read_at r.gets v) place bytes } in
       let t : Tried = try_all d now (map (without v) r.gets) in
       let is : IsTry generation range w i (log_of range) l.stand l.sent d t = all_try generation range w i (log_of range) l.stand l.sent d now (map (without v) r.gets) in
-      still_tells generation range w i both m l d by (Some (record r { gets = t.waiting; held = now.held })) t.count t.packets
+      still_quietly generation range w i both m l d by (Some (record r { gets = t.waiting; held = now.held })) t.count t.packets
       (follows_same generation range w i m l r r.until t.waiting now.held f) is.0 is.1
 
-  rested : RuleTells generation range w i m l d (answers d r [])
-  rested = still_tells generation range w i both m l d by (Some r) d.count [] f (omega arith) tt
+  rested : GoesQuietly generation range w i m l d (answers d r [])
+  rested = still_quietly generation range w i both m l d by (Some r) d.count [] f (omega arith) tt
 
-  read_tells : (v : ReqNo) (body : ReadBody) → RuleTells generation range w i m l d (bytes_reply d r v body)
-  read_tells v (reads.Bytes u e offset bytes) = bytes_tells v (place_of e offset bytes) bytes
-  read_tells v body = rested
+  read_quietly : (v : ReqNo) (body : ReadBody) → GoesQuietly generation range w i m l d (bytes_reply d r v body)
+  read_quietly v (reads.Bytes u e offset bytes) = bytes_quietly v (place_of e offset bytes) bytes
+  read_quietly v body = rested
 
   -- the refusal of a read
-  refused_tells : (body : AppendBody) → RuleTells generation range w i m l d (load_refused d r body)
-  refused_tells (appends.Refused u refusals.Stale) = dropped_tells generation range w i both m l d by r
-  refused_tells body = rested
+  refused_read : (body : AppendBody) → GoesQuietly generation range w i m l d (load_refused d r body)
+  refused_read (appends.Refused u refusals.Stale) = dropped_quietly generation range w i both m l d by r
+  refused_read body = rested
 
-  pub gets_reply_tells : (v : ReqNo) (body : Body) → RuleTells generation range w i m l d (gets_reply d r v body)
-  gets_reply_tells v (bodies.Read body) = read_tells v body
-  gets_reply_tells v (bodies.Append body) = refused_tells body
-  gets_reply_tells v body = rested
-
-  -- ---- transactions
-
-  -- where the range is not served they are refused
-  unserved_fault : (t : Bool) (other : Option Refusal) → (if not t then Some refusals.Loading else other) ≡ None → t ≡ true
-  unserved_fault true other e = refl
-  unserved_fault false other e = absurd (cc)
-
-  is_served : (s : Stage) → is_serving s ≡ true → s ≡ stages.Serving
-  is_served stages.Serving e = refl
-  is_served stages.Opening e = absurd (cc)
-  is_served (stages.Checking kind) e = absurd (cc)
-  is_served (stages.Reading kind position) e = absurd (cc)
-  is_served stages.Confirming e = absurd (cc)
-
-  transacts_by : (from : ActorId) (v : ReqNo) (changes : List Change) → (r.stage ≡ stages.Serving → RuleTells generation range w i m l d (transact_rule d r from v changes)) →
-      (fault : Option Refusal) → transact_fault d r changes ≡ fault → RuleTells generation range w i m l d (transacts d r from v changes fault)
-  transacts_by from v changes served (Some why) e = refused from v why
-  transacts_by from v changes served None e =
-      subst (λ o. RuleTells generation range w i m l d (transacts d r from v changes o)) e (served (is_served r.stage (unserved_fault (is_serving r.stage) _ e)))
-
-  -- a transaction, whatever the stage; where the range is served that is another's
-  pub transact_by : (from : ActorId) (v : ReqNo) (changes : List Change) → (r.stage ≡ stages.Serving → RuleTells generation range w i m l d (transact_rule d r from v changes)) →
-      RuleTells generation range w i m l d (transact_rule d r from v changes)
-  transact_by from v changes served = transacts_by from v changes served (transact_fault d r changes) refl
+  pub gets_reply_quietly : (v : ReqNo) (body : Body) → GoesQuietly generation range w i m l d (gets_reply d r v body)
+  gets_reply_quietly v (bodies.Read body) = read_quietly v body
+  gets_reply_quietly v (bodies.Append body) = refused_read body
+  gets_reply_quietly v body = rested

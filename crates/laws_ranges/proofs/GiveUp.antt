@@ -10,17 +10,16 @@ use Rattle.model_partition.specs.declared.server_context.ServerContext.{ServerCo
 use Rattle.model_partition.specs.declared.stage.Stage.TheVariants as stages
 use Rattle.model_partition.specs.declared.waiting.PlaceRead.{PlaceRead}
 use Rattle.model_partition.specs.declared.waiting.WaitingGet.{WaitingGet}
-use Rattle.model_partition.specs.Range.{RangeState, request, used}
+use Rattle.model_partition.specs.Range.{RangeState, request}
 use Rattle.model_partition.specs.Getting.{asks_again, gives_up_read, gives_up_get, places_of, moved_on}
 use Rattle.model_partition.specs.Answering.{give_up_all}
 use Rattle.laws_stream_machine.specs.Refinement.{Sent, purpose_of}
-use Rattle.laws_ranges.specs.Serves.{Stand, Side, after_turns, sent_with, metadata_of, log_of, Apart, ServingIs, ServesBy, AreAsked, IsServing, StageIs, Follows, BothListed, IsSentBy, RuleGoes, RuleTells}
-use Rattle.laws_ranges.specs.Quiet.{Quietly}
-use Rattle.laws_ranges.proofs.QuietTurns.{quiet_fit, quiet_shown}
+use Rattle.laws_ranges.specs.Serves.{Stand, Side, after_turns, sent_with, metadata_of, log_of, Apart, ServingIs, ServesBy, AreAsked, IsServing, StageIs, Follows, BothListed, IsSentBy, RuleGoes}
+use Rattle.laws_ranges.specs.Quiet.{GoesQuietly, Quietly}
 use Rattle.laws_ranges.proofs.MachineSteps.{purposes_on}
 use Rattle.laws_ranges.proofs.AppendJob.{GoesBy, give_up_goes}
 use Rattle.laws_ranges.proofs.OutGroup.{give_up_out}
-use Rattle.laws_ranges.proofs.LogRules.{asked_both, asked_if, picked_serving, next_quiet}
+use Rattle.laws_ranges.proofs.LogRules.{asked_both, asked_if, picked_serving}
 use Rattle.laws_ranges.proofs.ServedRules.{unused_on, apart_on, asked_of_both}
 
 module _ (generation : ℕ → ℕ) (range : ℕ) (w : StreamSystem) (i : ℕ) where
@@ -42,7 +41,7 @@ module _ (generation : ℕ → ℕ) (range : ℕ) (w : StreamSystem) (i : ℕ) w
 
   module _ (both : BothListed w range) (m l : Side) (d : ServerContext) (by : IsSentBy d d.count m.sent l.sent) where
     at_idle : (r : RangeState) → r.metadata.job ≡ jobs.Idle → r.load.phase ≡ phases.Confirmed → Follows generation range w i m l r → IsServing generation range w i m l r → r.stage ≡ stages.Serving →
-        RuleTells generation range w i m l d (give_up_all d (record r { metadata = record r.metadata { job = jobs.Idle }; load = record r.load { phase = phases.Confirmed } }))
+        GoesQuietly generation range w i m l d (give_up_all d (record r { metadata = record r.metadata { job = jobs.Idle }; load = record r.load { phase = phases.Confirmed } }))
     at_idle r idle phase f b stage =
         record {
           goes = record {
@@ -54,51 +53,50 @@ module _ (generation : ℕ → ℕ) (range : ℕ) (w : StreamSystem) (i : ℕ) w
             metadata_sent = m.sent;
             log_sent = more;
             metadata_keeps = λ q p e. e;
-            log_keeps = purposes_on (request (used d)) went.0.purpose l.sent fresh;
+            log_keeps = purposes_on (request d) went.0.purpose l.sent fresh;
             rises = omega arith;
             metadata_adds = record { number = d.count; from = omega arith; purpose = None; is = refl };
-            log_adds = record { number = suc d.count; from = omega arith; purpose = went.0.purpose; is = refl };
+            log_adds = record { number = d.count; from = omega arith; purpose = went.0.purpose; is = refl };
             sent_by = record {
               apart = apart;
               metadata = λ k le. by.metadata k (omega (arith, le));
-              log = unused_on (used d) (suc (suc d.count)) went.0.purpose l.sent (λ k le. by.log k (omega (arith, le))) (inl refl);
+              log = λ k le. unused_on d (suc d.count) went.0.purpose l.sent by.log (inl refl) k (omega (arith, le));
             };
             then = record { range_is = f.range_is; under = f.under; stage = subst (λ z. StageIs generation range w i m k after z) (sym stage) serving };
             asked = asked_of_both generation range w i both m k apart (option_to_list o.packet ++ flat_map (λ g. (gives_up_get d now g).1) r.gets)
                 (asked_both generation range w i (log_of range) k.stand more (option_to_list o.packet) (flat_map (λ g. (gives_up_get d now g).1) r.gets)
                 (asked_if generation range w i (log_of range) k.stand more o.packet went.0.asked) (gets_plain (log_of range) k.stand more d now r.gets));
           };
-          unformed = tt;
-          fit = quiet_fit generation i l.stand went.0.list went.1;
-          shown = quiet_shown generation i range l.stand went.0.list went.1;
+          metadata = tt;
+          log = went.1;
         }
       where
         now : RangeState
         now = record r { metadata = record r.metadata { job = jobs.Idle }; load = record r.load { phase = phases.Confirmed } }
 
-        fresh : purpose_of l.sent (request (used d)) ≡ None
-        fresh = by.log (suc d.count) (omega arith)
+        fresh : purpose_of l.sent (request d) ≡ None
+        fresh = by.log d.count (omega arith)
 
         c : ClientState
         c = record r.log { pick = d.pick }
 
         o : Outcome
-        o = give_up_job c (request (used d)) r.log.job
+        o = give_up_job c (request d) r.log.job
 
         picked : ServingIs generation (log_of range) w i l.stand l.sent c
         picked = picked_serving generation range w i both.log d l.sent (by.log d.count (omega arith)) l.stand r.log d.pick b.log
 
-        went : GoesBy generation (log_of range) w i l.stand l.sent (request (used d)) (λ y more. ServingIs generation (log_of range) w i y more o.after) o.packet Quietly
-        went = give_up_goes generation (log_of range) w i both.log l.sent (request (used d)) fresh l.stand c picked.told r.log.job refl picked.job
+        went : GoesBy generation (log_of range) w i l.stand l.sent (request d) (λ y more. ServingIs generation (log_of range) w i y more o.after) o.packet Quietly
+        went = give_up_goes generation (log_of range) w i both.log l.sent (request d) fresh l.stand c picked.told r.log.job refl picked.job
 
         more : List Sent
-        more = sent_with (request (used d)) went.0.purpose l.sent
+        more = sent_with (request d) went.0.purpose l.sent
 
         k : Side
         k = record { stand = after_turns generation i l.stand went.0.list; sent = more }
 
         apart : Apart m.sent more
-        apart = apart_on m.sent l.sent (request (used d)) went.0.purpose by.apart (by.metadata (suc d.count) (omega arith))
+        apart = apart_on m.sent l.sent (request d) went.0.purpose by.apart (by.metadata d.count (omega arith))
 
         after : RangeState
         after = record now { metadata = record r.metadata { job = jobs.Idle; pick = d.pick }; log = o.after; gets = map (λ g. (gives_up_get d now g).0) r.gets }
@@ -112,15 +110,14 @@ module _ (generation : ℕ → ℕ) (range : ℕ) (w : StreamSystem) (i : ℕ) w
           };
           metadata_idle = refl;
           log = went.0.then;
-          out = give_up_out r.out (request (used d)) c b.out;
-          next = b.next ∙ sym (next_quiet generation range w i l.stand went.0.list went.1);
+          out = give_up_out r.out (request d) c b.out;
         }
 
     -- a range that is served gives up: its append job seals its extent, or asks again
-    pub give_up_tells : (r : RangeState) → Follows generation range w i m l r → r.stage ≡ stages.Serving → RuleTells generation range w i m l d (give_up_all d r)
-    give_up_tells r f stage =
+    pub give_up_quietly : (r : RangeState) → Follows generation range w i m l r → r.stage ≡ stages.Serving → GoesQuietly generation range w i m l d (give_up_all d r)
+    give_up_quietly r f stage =
         let b : IsServing generation range w i m l r = subst (λ z. StageIs generation range w i m l r z) stage f.stage in
-        subst (λ z. RuleTells generation range w i m l d (give_up_all d z)) (whole r b.metadata_idle b.phase) (at_idle r b.metadata_idle b.phase f b stage)
+        subst (λ z. GoesQuietly generation range w i m l d (give_up_all d z)) (whole r b.metadata_idle b.phase) (at_idle r b.metadata_idle b.phase f b stage)
       where
         whole : (r : RangeState) → r.metadata.job ≡ jobs.Idle → r.load.phase ≡ phases.Confirmed → record r { metadata = record r.metadata { job = jobs.Idle }; load = record r.load { phase = phases.Confirmed } } ≡ r
         whole r idle phase =
@@ -128,4 +125,4 @@ module _ (generation : ℕ → ℕ) (range : ℕ) (w : StreamSystem) (i : ℕ) w
             ∙ ap (λ p. record r { load = record r.load { phase = p } }) (sym phase)
 
     pub give_up_both : (r : RangeState) → Follows generation range w i m l r → r.stage ≡ stages.Serving → RuleGoes generation range w i m l d (give_up_all d r)
-    give_up_both r f stage = (give_up_tells r f stage).goes
+    give_up_both r f stage = (give_up_quietly r f stage).goes

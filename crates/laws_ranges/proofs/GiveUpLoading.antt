@@ -41,35 +41,35 @@ module _ (generation : ℕ → ℕ) (range : ℕ) (w : StreamSystem) (i : ℕ) (
   gave a b first =
       record {
         after = Some (gave_up a b);
-        count = suc (suc d.count);
-        packets = option_to_list first ++ (option_to_list a.packet ++ (option_to_list b.packet ++ flat_map (λ g. (gives_up_get d r g).1) r.gets));
+        count = (used (used d)).count;
+        packets = option_to_list first ++ (option_to_list b.packet ++ (option_to_list a.packet ++ flat_map (λ g. (gives_up_get d r g).1) r.gets));
         notes = [];
       }
 
-  metadata_fresh : purpose_of m.sent (request d) ≡ None
-  metadata_fresh = by.metadata d.count (omega arith)
+  metadata_fresh : purpose_of m.sent (request (used d)) ≡ None
+  metadata_fresh = by.metadata (suc d.count) (omega arith)
 
-  log_fresh : purpose_of l.sent (request (used d)) ≡ None
-  log_fresh = by.log (suc d.count) (omega arith)
+  log_fresh : purpose_of l.sent (request d) ≡ None
+  log_fresh = by.log d.count (omega arith)
 
   module _ (One Two : Stand → List Sent → Type 0) (a b : Outcome) (first : Option Packet)
-      (one : Goes generation (metadata_of range) w i m.stand m.sent (request d) One a.packet) (two : Goes generation (log_of range) w i l.stand l.sent (request (used d)) Two b.packet) where
+      (one : Goes generation (metadata_of range) w i m.stand m.sent (request (used d)) One a.packet) (two : Goes generation (log_of range) w i l.stand l.sent (request d) Two b.packet) where
     abbrev first_side : Side
-    first_side = record { stand = after_turns generation i m.stand one.list; sent = sent_with (request d) one.purpose m.sent }
+    first_side = record { stand = after_turns generation i m.stand one.list; sent = sent_with (request (used d)) one.purpose m.sent }
 
     abbrev second_side : Side
-    second_side = record { stand = after_turns generation i l.stand two.list; sent = sent_with (request (used d)) two.purpose l.sent }
+    second_side = record { stand = after_turns generation i l.stand two.list; sent = sent_with (request d) two.purpose l.sent }
 
     gave_both : Follows generation range w i first_side second_side (gave_up a b) → AskedOfBoth generation range w i first_side second_side (option_to_list first) → RuleGoes generation range w i m l d (gave a b first)
     gave_both follows asked_first =
-        let one_sent : List Sent = sent_with (request d) one.purpose m.sent in
-        let two_sent : List Sent = sent_with (request (used d)) two.purpose l.sent in
+        let one_sent : List Sent = sent_with (request (used d)) one.purpose m.sent in
+        let two_sent : List Sent = sent_with (request d) two.purpose l.sent in
         let n : Side = record { stand = after_turns generation i m.stand one.list; sent = one_sent } in
         let k : Side = record { stand = after_turns generation i l.stand two.list; sent = two_sent } in
         let again_asked : List Packet = flat_map (λ g. (gives_up_get d r g).1) r.gets in
-        let unused : AreUnused d (suc d.count) one_sent = unused_on d (suc d.count) one.purpose m.sent by.metadata (inl refl) in
-        let apart_one : Apart one_sent l.sent = apart_first m.sent l.sent (request d) one.purpose by.apart (by.log d.count (omega arith)) in
-        let apart : Apart one_sent two_sent = apart_on one_sent l.sent (request (used d)) two.purpose apart_one (unused (suc d.count) (omega arith)) in
+        let unused : AreUnused d (suc d.count) two_sent = unused_on d (suc d.count) two.purpose l.sent by.log (inl refl) in
+        let apart_two : Apart m.sent two_sent = apart_on m.sent l.sent (request d) two.purpose by.apart (by.metadata d.count (omega arith)) in
+        let apart : Apart one_sent two_sent = apart_first m.sent two_sent (request (used d)) one.purpose apart_two (unused (suc d.count) (omega arith)) in
         record {
           metadata_turns = one.list;
           log_turns = two.list;
@@ -78,32 +78,32 @@ module _ (generation : ℕ → ℕ) (range : ℕ) (w : StreamSystem) (i : ℕ) (
           none = λ e. absurd cc;
           metadata_sent = one_sent;
           log_sent = two_sent;
-          metadata_keeps = purposes_on (request d) one.purpose m.sent metadata_fresh;
-          log_keeps = purposes_on (request (used d)) two.purpose l.sent log_fresh;
+          metadata_keeps = purposes_on (request (used d)) one.purpose m.sent metadata_fresh;
+          log_keeps = purposes_on (request d) two.purpose l.sent log_fresh;
           rises = omega arith;
-          metadata_adds = record { number = d.count; from = omega arith; purpose = one.purpose; is = refl };
-          log_adds = record { number = suc d.count; from = omega arith; purpose = two.purpose; is = refl };
+          metadata_adds = record { number = suc d.count; from = omega arith; purpose = one.purpose; is = refl };
+          log_adds = record { number = d.count; from = omega arith; purpose = two.purpose; is = refl };
           sent_by = record {
             apart = apart;
-            metadata = λ j le. unused j (omega (arith, le));
-            log = unused_on (used d) (suc (suc d.count)) two.purpose l.sent (λ j le. by.log j (omega (arith, le))) (inl refl);
+            metadata = unused_on (used d) (suc (suc d.count)) one.purpose m.sent (λ j le. by.metadata j (omega (arith, le))) (inl refl);
+            log = λ j le. unused j (omega (arith, le));
           };
           then = follows;
-          asked = asked_joined generation range w i both n k (option_to_list first) (option_to_list a.packet ++ (option_to_list b.packet ++ again_asked)) asked_first
-              (asked_joined generation range w i both n k (option_to_list a.packet) (option_to_list b.packet ++ again_asked)
-              (asked_of_metadata generation range w i both n k apart (option_to_list a.packet) (asked_if generation range w i (metadata_of range) n.stand one_sent a.packet one.asked))
-              (asked_joined generation range w i both n k (option_to_list b.packet) again_asked
+          asked = asked_joined generation range w i both n k (option_to_list first) (option_to_list b.packet ++ (option_to_list a.packet ++ again_asked)) asked_first
+              (asked_joined generation range w i both n k (option_to_list b.packet) (option_to_list a.packet ++ again_asked)
               (asked_of_both generation range w i both n k apart (option_to_list b.packet) (asked_if generation range w i (log_of range) k.stand two_sent b.packet two.asked))
+              (asked_joined generation range w i both n k (option_to_list a.packet) again_asked
+              (asked_of_metadata generation range w i both n k apart (option_to_list a.packet) (asked_if generation range w i (metadata_of range) n.stand one_sent a.packet one.asked))
               (asked_of_both generation range w i both n k apart again_asked (gets_plain generation range w i (log_of range) k.stand two_sent d r r.gets))));
         }
 
   -- ---- the jobs of both
 
   abbrev metadata_gives : Job → Outcome
-  metadata_gives j = give_up_job (record r.metadata { pick = d.pick }) (request d) j
+  metadata_gives j = give_up_job (record r.metadata { pick = d.pick }) (request (used d)) j
 
   abbrev log_gives : Job → Outcome
-  log_gives j = give_up_job (record r.log { pick = d.pick }) (request (used d)) j
+  log_gives j = give_up_job (record r.log { pick = d.pick }) (request d) j
 
   -- where the range stands
   abbrev GivesUp : Job → Job → LoadPhase → Type 0
@@ -148,17 +148,17 @@ module _ (generation : ℕ → ℕ) (range : ℕ) (w : StreamSystem) (i : ℕ) (
         Two : Stand → List Sent → Type 0
         Two = λ y more. OpeningIs generation (log_of range) w i y more b.q
 
-        one : Goes generation (metadata_of range) w i m.stand m.sent (request d) One None
-        one = rests generation (metadata_of range) w i m.stand m.sent (request d) One b.metadata
+        one : Goes generation (metadata_of range) w i m.stand m.sent (request (used d)) One None
+        one = rests generation (metadata_of range) w i m.stand m.sent (request (used d)) One b.metadata
 
-        two : Goes generation (log_of range) w i l.stand l.sent (request (used d)) Two None
-        two = rests generation (log_of range) w i l.stand l.sent (request (used d)) Two b.log
+        two : Goes generation (log_of range) w i l.stand l.sent (request d) Two None
+        two = rests generation (log_of range) w i l.stand l.sent (request d) Two b.log
 
         n : Side
-        n = record { stand = after_turns generation i m.stand one.list; sent = sent_with (request d) one.purpose m.sent }
+        n = record { stand = after_turns generation i m.stand one.list; sent = sent_with (request (used d)) one.purpose m.sent }
 
         k : Side
-        k = record { stand = after_turns generation i l.stand two.list; sent = sent_with (request (used d)) two.purpose l.sent }
+        k = record { stand = after_turns generation i l.stand two.list; sent = sent_with (request d) two.purpose l.sent }
 
         known : (v : ReqNo) → Some b.q ≡ Some v → purpose_of n.sent v ≡ None → ⊥
         known v is none = let same : b.q ≡ v = cc in let t : Some (Opens i) ≡ None = sym one.then.for ∙ ap (purpose_of n.sent) same ∙ none in cc
@@ -191,17 +191,17 @@ module _ (generation : ℕ → ℕ) (range : ℕ) (w : StreamSystem) (i : ℕ) (
         Two : Stand → List Sent → Type 0
         Two = λ y more. ConfirmingIs generation (log_of range) w i y more z.after b.q
 
-        one : Goes generation (metadata_of range) w i m.stand m.sent (request d) One None
-        one = rests generation (metadata_of range) w i m.stand m.sent (request d) One (picked_confirming generation (metadata_of range) w i m.stand m.sent r.metadata d.pick b.q b.metadata)
+        one : Goes generation (metadata_of range) w i m.stand m.sent (request (used d)) One None
+        one = rests generation (metadata_of range) w i m.stand m.sent (request (used d)) One (picked_confirming generation (metadata_of range) w i m.stand m.sent r.metadata d.pick b.q b.metadata)
 
-        two : Goes generation (log_of range) w i l.stand l.sent (request (used d)) Two None
-        two = rests generation (log_of range) w i l.stand l.sent (request (used d)) Two (picked_confirming generation (log_of range) w i l.stand l.sent r.log d.pick b.q b.log)
+        two : Goes generation (log_of range) w i l.stand l.sent (request d) Two None
+        two = rests generation (log_of range) w i l.stand l.sent (request d) Two (picked_confirming generation (log_of range) w i l.stand l.sent r.log d.pick b.q b.log)
 
         n : Side
-        n = record { stand = after_turns generation i m.stand one.list; sent = sent_with (request d) one.purpose m.sent }
+        n = record { stand = after_turns generation i m.stand one.list; sent = sent_with (request (used d)) one.purpose m.sent }
 
         k : Side
-        k = record { stand = after_turns generation i l.stand two.list; sent = sent_with (request (used d)) two.purpose l.sent }
+        k = record { stand = after_turns generation i l.stand two.list; sent = sent_with (request d) two.purpose l.sent }
 
         known : (v : ReqNo) → Some b.q ≡ Some v → purpose_of n.sent v ≡ None → ⊥
         known v is none = let same : b.q ≡ v = cc in let t : Some (Confirms i one.then.read one.then.end) ≡ None = sym one.then.for ∙ ap (purpose_of n.sent) same ∙ none in cc
@@ -235,17 +235,17 @@ module _ (generation : ℕ → ℕ) (range : ℕ) (w : StreamSystem) (i : ℕ) (
         picked : LoadingIs generation (metadata_of range) w i m.stand m.sent (record r.metadata { pick = d.pick })
         picked = picked_loading generation (metadata_of range) w i m.stand m.sent r.metadata d.pick b.metadata
 
-        one : Goes generation (metadata_of range) w i m.stand m.sent (request d) One a.packet
-        one = give_up_loading generation (metadata_of range) w i both.metadata m.sent (request d) metadata_fresh m.stand (record r.metadata { pick = d.pick }) r.metadata.job refl picked.told picked.opened picked.job
+        one : Goes generation (metadata_of range) w i m.stand m.sent (request (used d)) One a.packet
+        one = give_up_loading generation (metadata_of range) w i both.metadata m.sent (request (used d)) metadata_fresh m.stand (record r.metadata { pick = d.pick }) r.metadata.job refl picked.told picked.opened picked.job
 
-        two : Goes generation (log_of range) w i l.stand l.sent (request (used d)) Two None
-        two = rests generation (log_of range) w i l.stand l.sent (request (used d)) Two (picked_unread generation (log_of range) w i l.stand l.sent r.log d.pick b.log)
+        two : Goes generation (log_of range) w i l.stand l.sent (request d) Two None
+        two = rests generation (log_of range) w i l.stand l.sent (request d) Two (picked_unread generation (log_of range) w i l.stand l.sent r.log d.pick b.log)
 
         n : Side
-        n = record { stand = after_turns generation i m.stand one.list; sent = sent_with (request d) one.purpose m.sent }
+        n = record { stand = after_turns generation i m.stand one.list; sent = sent_with (request (used d)) one.purpose m.sent }
 
         k : Side
-        k = record { stand = after_turns generation i l.stand two.list; sent = sent_with (request (used d)) two.purpose l.sent }
+        k = record { stand = after_turns generation i l.stand two.list; sent = sent_with (request d) two.purpose l.sent }
 
     -- ---- the log is checked or read
 
@@ -276,17 +276,17 @@ module _ (generation : ℕ → ℕ) (range : ℕ) (w : StreamSystem) (i : ℕ) (
         picked : LoadingIs generation (log_of range) w i l.stand l.sent (record r.log { pick = d.pick })
         picked = picked_loading generation (log_of range) w i l.stand l.sent r.log d.pick b.log
 
-        one : Goes generation (metadata_of range) w i m.stand m.sent (request d) One None
-        one = rests generation (metadata_of range) w i m.stand m.sent (request d) One (picked_loading generation (metadata_of range) w i m.stand m.sent r.metadata d.pick b.metadata)
+        one : Goes generation (metadata_of range) w i m.stand m.sent (request (used d)) One None
+        one = rests generation (metadata_of range) w i m.stand m.sent (request (used d)) One (picked_loading generation (metadata_of range) w i m.stand m.sent r.metadata d.pick b.metadata)
 
-        two : Goes generation (log_of range) w i l.stand l.sent (request (used d)) Two z.packet
-        two = give_up_loading generation (log_of range) w i both.log l.sent (request (used d)) log_fresh l.stand (record r.log { pick = d.pick }) r.log.job refl picked.told picked.opened picked.job
+        two : Goes generation (log_of range) w i l.stand l.sent (request d) Two z.packet
+        two = give_up_loading generation (log_of range) w i both.log l.sent (request d) log_fresh l.stand (record r.log { pick = d.pick }) r.log.job refl picked.told picked.opened picked.job
 
         n : Side
-        n = record { stand = after_turns generation i m.stand one.list; sent = sent_with (request d) one.purpose m.sent }
+        n = record { stand = after_turns generation i m.stand one.list; sent = sent_with (request (used d)) one.purpose m.sent }
 
         k : Side
-        k = record { stand = after_turns generation i l.stand two.list; sent = sent_with (request (used d)) two.purpose l.sent }
+        k = record { stand = after_turns generation i l.stand two.list; sent = sent_with (request d) two.purpose l.sent }
 
 -- ---- whatever the stage
 

@@ -1,4 +1,5 @@
 pub mod SealedCopies
+pub mod ReadEnds
 pub mod MoreKnown
 pub mod MachineSteps
 pub mod ClientAsks
@@ -8,7 +9,7 @@ pub mod ClientReplies
 pub mod AppendReplies
 pub mod OutGroup
 pub mod QuietTurns
-pub mod Decoded
+pub mod SeenTurns
 pub mod LogRules
 pub mod LoadTurns
 pub mod OpenAndConfirm
@@ -29,4 +30,6 @@ pub mod Gets
 pub mod GiveUpLoading
 pub mod AnswerRules
 pub mod UnservedRules
-pub mod ShownByRules
+pub mod Stages
+pub mod SeenLoads
+pub mod SeenRules

@@ -16,7 +16,7 @@ use Rattle.model_partition.specs.declared.server_context.ServerContext.{ServerCo
 use Rattle.model_partition.specs.declared.stage.Stage.TheVariants as stages
 use Rattle.model_partition.specs.Range.{RangeState, dropped, given, picking, request}
 use Rattle.model_partition.specs.Loading.{read_of, metadata_goes, log_goes, reads_log_from, checks_log, begins_log, reads_metadata, begins_metadata, opens, first_position, open_region}
-use Rattle.laws_stream_machine.specs.Refinement.{purpose_of, Means, StreamMeans}
+use Rattle.laws_stream_machine.specs.Refinement.{Opens, purpose_of, Means, StreamMeans}
 use Rattle.laws_stream_machine.proofs.ServerRequests.{same_request}
 use Rattle.laws_ranges.specs.Serves.{Side, is_live, metadata_of, log_of, LoadingIs, UnreadIs, IsOpening, Goes, BothListed, IsSentBy, RuleGoes}
 use Rattle.laws_ranges.proofs.OpenAndConfirm.{readable_goes}
@@ -157,8 +157,10 @@ module _ (generation : ℕ → ℕ) (range : ℕ) (w : StreamSystem) (i : ℕ) (
       Means generation (log_of range) w l.stand.state l.sent (bodies.Stream (streams.Opened v lists)) → RuleGoes generation range w i m l d (opens d r lists)
   opens_both r range_is under b v lists same one two =
       let e : b.q ≡ v = same_request b.q v same in
-      let metadata_means = subst (λ z. StreamMeans generation (metadata_of range) w m.stand.state m.sent z (streams.Opened v lists)) (ap (λ k. purpose_of m.sent k) (sym e) ∙ b.metadata.for) one in
-      let log_means = subst (λ z. StreamMeans generation (log_of range) w l.stand.state l.sent z (streams.Opened v lists)) (ap (λ k. purpose_of l.sent k) (sym e) ∙ b.log.for) two in
+      let metadata_means : StreamMeans generation (metadata_of range) w m.stand.state m.sent (Some (Opens i)) (streams.Opened v lists) =
+      subst (λ z. StreamMeans generation (metadata_of range) w m.stand.state m.sent z (streams.Opened v lists)) (ap (λ k. purpose_of m.sent k) (sym e) ∙ b.metadata.for) one in
+      let log_means : StreamMeans generation (log_of range) w l.stand.state l.sent (Some (Opens i)) (streams.Opened v lists) =
+      subst (λ z. StreamMeans generation (log_of range) w l.stand.state l.sent z (streams.Opened v lists)) (ap (λ k. purpose_of l.sent k) (sym e) ∙ b.log.for) two in
       begins_metadata_both
       (record r {
         load = record r.load { phase = phases.Opened };
@@ -177,7 +179,9 @@ module _ (generation : ℕ → ℕ) (range : ℕ) (w : StreamSystem) (i : ℕ) (
             stream = ap metadata_of range_is;
             under = under;
             tells = record {
-              base = metadata_means.1.base;
+              left = metadata_means.1.left;
+              whole = metadata_means.1.whole;
+              ends = metadata_means.1.ends;
               known = metadata_means.1.known;
               are = metadata_means.1.are;
               sealed = metadata_means.1.sealed;
@@ -193,7 +197,9 @@ module _ (generation : ℕ → ℕ) (range : ℕ) (w : StreamSystem) (i : ℕ) (
             stream = ap log_of range_is;
             under = under;
             tells = record {
-              base = log_means.1.base;
+              left = log_means.1.left;
+              whole = log_means.1.whole;
+              ends = log_means.1.ends;
               known = log_means.1.known;
               are = log_means.1.are;
               sealed = log_means.1.sealed;

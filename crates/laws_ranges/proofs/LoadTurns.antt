@@ -1,5 +1,5 @@
 -- The load of a stream is turns of its incarnation.
-use Rattle.std.proofs.Common.{◌≡◌, ℕ, ◌+◌, List, [], ◌∷◌, length, Bool, true, false, Option, Some, None, refl, sym, ap, ◌∙◌, subst, inl, inr, arith}
+use Rattle.std.proofs.Common.{◌≡◌, ℕ, ◌+◌, List, [], ◌∷◌, Bool, true, false, Option, Some, None, refl, sym, ap, ◌∙◌, subst, inl, inr, arith}
 use Rattle.block_types.specs.declared.record.Nodes.{Nodes}
 use Rattle.wire.specs.declared.actor.ReqNo.{ReqNo}
 use Rattle.wire.specs.declared.packet.Packet.{Packet}
@@ -15,7 +15,7 @@ use Rattle.model_partition.specs.Story.{Copy}
 use Rattle.model_partition.specs.StreamMachine as machine
 use Rattle.model_partition.specs.ServerTurns as turns
 use Rattle.laws_stream_machine.specs.Refinement.{Purpose, Sent, purpose_of, Checks, Seals, Reads, IsAt}
-use Rattle.laws_ranges.specs.Serves.{Stand, after_turns, LastIs, is_live, IsTold, CheckingIs, ShuttingIs, FoundIs, Readable, WasSealed, WasFound, WasShut, ReadingIs, LoadsBy, LoadingIs, UnreadIs, Listed, Goes}
+use Rattle.laws_ranges.specs.Serves.{Stand, after_turns, known, LastIs, is_live, IsTold, CheckingIs, ShuttingIs, FoundIs, Readable, WasSealed, WasFound, WasShut, ReadingIs, LoadsBy, LoadingIs, UnreadIs, Listed, Goes}
 use Rattle.laws_ranges.proofs.MachineSteps.{newest}
 use Rattle.laws_ranges.proofs.ClientAsks.{at_last, check_asked, seal_asked, read_asked}
 use Rattle.laws_ranges.proofs.ToldExtents.{sealed_length, sealed_end, told_sealed}
@@ -97,7 +97,7 @@ module _ (generation : ℕ → ℕ) (name : StreamName) (w : StreamSystem) (i : 
       }
 
   -- it fails: the extent is sealed
-  pub shuts_goes : (c : ClientState) (e index : ℕ) → IsTold generation name w i x sent c → machine.In (machine.Opened i (length c.extents)) x.state.facts → LastIs c e index → x.phase ≡ turns.Checking index →
+  pub shuts_goes : (c : ClientState) (e index : ℕ) → IsTold generation name w i x sent c → machine.In (machine.Opened i (known c)) x.state.facts → LastIs c e index → x.phase ≡ turns.Checking index →
       Goes generation name w i x sent q (Loads (record c { job = jobs.Shutting e q })) (shuts c e q).packet
   shuts_goes c e index told opened last stands =
       let ts : List (turns.Turn Group) = turns.Fails ∷ [] in
@@ -133,8 +133,8 @@ module _ (generation : ℕ → ℕ) (name : StreamName) (w : StreamSystem) (i : 
         silent = refl;
         loading = record {
           told = record { stream = now.stream; under = now.under; tells = now.tells };
-          opened = subst (λ n. machine.In (machine.Opened i n) x.state.facts) (sym (sealed_length c e b.index l b.last)) a.opened;
-          job = WasShut b.index (b.last.index_is ∙ sym (sealed_length c e b.index l b.last)) (ap is_live (sealed_end c e b.index l b.last)) b.stands;
+          opened = subst (λ n. machine.In (machine.Opened i (c.base + n)) x.state.facts) (sym (sealed_length c e b.index l b.last)) a.opened;
+          job = WasShut b.index (b.last.index_is ∙ ap (λ k. c.base + k) (sym (sealed_length c e b.index l b.last))) (ap is_live (sealed_end c e b.index l b.last)) b.stands;
         };
       }
 
@@ -163,7 +163,7 @@ module _ (generation : ℕ → ℕ) (name : StreamName) (w : StreamSystem) (i : 
 
   -- groups are asked for
   pub reads_goes : (c : ClientState) (e index upto : ℕ) (places : Nodes) (sealed : Bool) (place : Place) → IsTold generation name w i x sent c →
-      machine.In (machine.Opened i (length c.extents)) x.state.facts → Readable generation name w i x sent c → IsAt w name index e → (sealed ≡ false → LastIs c e index) →
+      machine.In (machine.Opened i (known c)) x.state.facts → Readable generation name w i x sent c → IsAt w name index e → (sealed ≡ false → LastIs c e index) →
       Goes generation name w i x sent q (Loads (record c { job = jobs.Reading e places upto sealed place q })) (reads_groups c e places upto sealed place q).packet
   reads_goes c e index upto places sealed place told opened readable at is_last =
       let o : Purpose = Reads i index upto in
@@ -205,7 +205,7 @@ module _ (generation : ℕ → ℕ) (name : StreamName) (w : StreamSystem) (i : 
   -- ---- giving up
 
   give_up_reading : (c : ClientState) (e upto : ℕ) (places : Nodes) (sealed : Bool) (place : Place) (r : ReqNo) → IsTold generation name w i x sent c →
-      machine.In (machine.Opened i (length c.extents)) x.state.facts → ReadingIs generation name w i x sent c e upto sealed r →
+      machine.In (machine.Opened i (known c)) x.state.facts → ReadingIs generation name w i x sent c e upto sealed r →
       Goes generation name w i x sent q (Loads (give_up_job c q (jobs.Reading e places upto sealed place r)).after) (give_up_job c q (jobs.Reading e places upto sealed place r)).packet
   give_up_reading c e upto places true place r told opened b =
       let j : Job = jobs.Reading e places upto true (next_place place) r in
@@ -226,7 +226,7 @@ module _ (generation : ℕ → ℕ) (name : StreamName) (w : StreamSystem) (i : 
       let same : f.index ≡ b.index = omega (arith, f.last.index_is, last.index_is) in
       shuts_goes c e b.index told opened last (f.stands ∙ ap turns.Checking same)
 
-  pub give_up_loading : (c : ClientState) (j : Job) → c.job ≡ j → IsTold generation name w i x sent c → machine.In (machine.Opened i (length c.extents)) x.state.facts → LoadsBy generation name w i x sent c j →
+  pub give_up_loading : (c : ClientState) (j : Job) → c.job ≡ j → IsTold generation name w i x sent c → machine.In (machine.Opened i (known c)) x.state.facts → LoadsBy generation name w i x sent c j →
       Goes generation name w i x sent q (Loads (give_up_job c q j).after) (give_up_job c q j).packet
   give_up_loading c jobs.Idle e told opened b = rests generation name w i x sent q _ (record { told = told; opened = opened; job = subst (λ j. LoadsBy generation name w i x sent c j) (sym e) b })
   give_up_loading c (jobs.Sent n r) e told opened b = absurd b

@@ -1,5 +1,5 @@
 -- What the rules of a range that is served do to its log is turns of its incarnation.
-use Rattle.std.proofs.Common.{◌≡◌, ◌⊎◌, ⊎_elim, ℕ, suc, ◌+◌, ◌-◌, ◌^◌, List, [], ◌∷◌, ◌++◌, length, map, take, flat_map, Bool, true, false, not, ◌&&◌, nat_lt, Option, Some, None, is_some, option_to_list, refl, sym, ap, ◌∙◌, subst, inl, inr, arith, if◌then◌else◌}
+use Rattle.std.proofs.Common.{◌≡◌, ◌⊎◌, ⊎_elim, ℕ, suc, ◌+◌, ◌-◌, ◌^◌, List, [], ◌∷◌, ◌++◌, length, map, take, flat_map, Bool, true, false, not, ◌&&◌, nat_lt, Option, Some, None, is_some, option_to_list, refl, sym, ap, ◌∙◌, subst, inl, inr, if◌then◌else◌}
 use Rattle.wire.specs.declared.actor.ActorId.{ActorId}
 use Rattle.wire.specs.declared.actor.ReqNo.{ReqNo}
 use Rattle.wire.specs.declared.body.Body.{Body}
@@ -7,7 +7,9 @@ use Rattle.wire.specs.declared.packet.Packet.{Packet}
 use Rattle.wire.specs.declared.refusal.Refusal.{Refusal}
 use Rattle.wire.specs.declared.refusal.Refusal.TheVariants as refusals
 use Rattle.wire.specs.declared.transaction.Change.{Change}
+use Rattle.wire.specs.declared.streams.StreamKind.TheVariants as kinds
 use Rattle.wire.specs.declared.streams.StreamName.{StreamName}
+use Rattle.block_types.specs.Limits.{group_size}
 use Rattle.replica.specs.Groups.{Group}
 use Rattle.client.specs.declared.job.Job.{Job}
 use Rattle.client.specs.declared.job.Job.TheVariants as jobs
@@ -17,40 +19,73 @@ use Rattle.client.specs.Client.{ClientState, Outcome, last_extent, append_at, re
 use Rattle.commitlog.specs.Record.{spelling}
 use Rattle.model_streams.specs.StreamSystem.{StreamSystem}
 use Rattle.model_partition.specs.declared.server_context.ServerContext.{ServerContext}
+use Rattle.model_partition.specs.declared.stage.Stage.{Stage}
 use Rattle.model_partition.specs.declared.table_note.TableNote.{TableNote}
 use Rattle.model_partition.specs.declared.waiting.WaitingGet.{WaitingGet}
 use Rattle.model_partition.specs.declared.waiting.WaitingTransaction.{WaitingTransaction}
-use Rattle.model_partition.specs.Range.{OutGroup, RangeState, RangeOutcome, request, refuses, goes, answers, picking, waiting_out}
-use Rattle.model_partition.specs.Serving.{record_of, group_count, began, dones, appends, forms, transact_fault, transacts, transact_rule, committed, after_these, applies, log_done, out_size}
-use Rattle.model_partition.specs.Lines.{next_after}
-use Rattle.model_partition.specs.Log.{next_number}
-use Rattle.model_partition.specs.Past.{Transaction}
-use Rattle.commitlog.specs.Replay.{Numbered}
-use Rattle.model_partition.specs.Renaming.{renamed, decoded}
+use Rattle.model_partition.specs.Range.{OutGroup, RangeState, RangeOutcome, request, refuses, goes, answers, picking, if_there, waiting_out, is_serving}
+use Rattle.model_partition.specs.Serving.{record_of, group_count, dones, appends, forms, transact_fault, transacts, transact_rule, committed, after_these, applies, log_done, out_size}
 use Rattle.commitlog.specs.Places.{kept}
 use Rattle.memtable.specs.Entries.{put_all}
 use Rattle.model_partition.specs.Loading.{log_news}
-use Rattle.model_partition.specs.Range.{is_serving}
 use Rattle.model_partition.specs.Answering.{serving_news, log_taken, log_reply, is_taken, groups_of}
 use Rattle.model_partition.specs.ServerTurns as turns
+use Rattle.model_partition.specs.StreamActions as actions
+use Rattle.model_partition.specs.StreamActions.{StreamAction}
 use Rattle.laws_stream_machine.specs.Refinement.{Sent, purpose_of, Means}
-use Rattle.laws_ranges.specs.Serves.{Stand, after_turns, AreTurns, begun_notes, done_notes, group_in, AreFit, AreShown, is_live, IsTold, ServesBy, ServingIs, Listed, sent_with, IsAskedIf, Goes, ServesAfter, IsCounted, OutIs, log_of, AreAsked, ServesLog, ServesLogIf, LogRule}
-use Rattle.laws_loads.specs.Sound.{OutFits, IsSound}
-use Rattle.laws_ranges.specs.Quiet.{AreQuiet, IsSent, AppendsOnly, FormsOnly, MadeBy, OutStands}
-use Rattle.laws_ranges.proofs.QuietTurns.{quiet_fit, quiet_shown, quiet_story, turns_after, turns_allowed, turns_fit, turns_shown}
-use Rattle.laws_ranges.proofs.Decoded.{group_of, decoded_is, began_is, dones_are, next_formed, next_answered}
-use Rattle.laws_loads.proofs.WaitingIsSound.{IsNext, is_next, pushed_sound}
+use Rattle.laws_ranges.specs.Serves.{Stand, after_turns, AreTurns, group_in, known, is_live, IsTold, ServesBy, ServingIs, Listed, sent_with, IsAskedIf, Goes, ServesAfter, IsCounted, OutIs, log_of, AreAsked, ServesLog, ServesLogIf}
+use Rattle.laws_ranges.specs.Seen.{AreSeen, LogRule}
+use Rattle.laws_loads.specs.RangeView.{RangeView, view_after_all}
+use Rattle.laws_ranges.specs.Quiet.{AreQuiet, AreReads, IsSent, AppendsOnly, FormsOnly, MadeBy, OutStands}
+use Rattle.laws_ranges.proofs.QuietTurns.{turns_after, turns_allowed}
+use Rattle.laws_ranges.proofs.SeenTurns.{quiet_seen, joined_seen, forms_seen, stands_seen}
+use Rattle.std.proofs.lemmas.Bool.{and_parts}
+use Rattle.laws_loads.proofs.WaitingIsSound.{none_there}
 use Rattle.laws_ranges.proofs.AppendJob.{GoesBy, append_goes}
 use Rattle.laws_ranges.proofs.AppendReplies.{reply_goes}
 use Rattle.laws_ranges.proofs.OutGroup.{reply_out, append_out, none_idle, OutAfter}
 
+-- where none is formed
+pub none_formed : (o : Option OutGroup) → AreReads (if is_some o then [] else map (λ out. actions.Forms kinds.Log (actions.group_of out)) (if_there o))
+none_formed None = tt
+none_formed (Some out) = tt
+
+-- the actions of a step that leaves a range
+actions_there : (o : Option RangeState) → (o ≡ None → ⊥) → (done : List StreamAction) → (if is_some o then done else []) ≡ done
+actions_there None there done = absurd (there refl)
+actions_there (Some r) there done = refl
+
+-- what news of the log's client leads to, unless the range is dropped
+abbrev told_actions : RangeState → Option News → RangeOutcome → List StreamAction
+told_actions r told o = if is_some o.after then actions.serving_actions r told o else []
+
+-- what an answer to the log leads to
+abbrev taken_actions : ServerContext → RangeState → Body → RangeOutcome → List StreamAction
+taken_actions d r body o = if is_some o.after then actions.log_actions d r body o else []
+
+abbrev pub reply_actions : ServerContext → RangeState → Body → RangeOutcome → List StreamAction
+reply_actions d r body o = if is_some o.after then (if is_taken r body then actions.log_actions d r body o else []) else []
+
+-- the same in a stage
+abbrev taken_at : ServerContext → RangeState → Body → Stage → RangeOutcome
+taken_at d r body stage =
+    if is_serving stage then serving_news d (record r { log = (reply_rule (picking d r.log) (request d) body).after }) (reply_rule (picking d r.log) (request d) body).news (option_to_list (reply_rule (picking d r.log) (request d) body).packet)
+    else log_news d (record r { log = (reply_rule (picking d r.log) (request d) body).after }) (groups_of body) stage (reply_rule (picking d r.log) (request d) body).news (option_to_list (reply_rule (picking d r.log) (request d) body).packet)
+
+abbrev actions_at : ServerContext → RangeState → Body → Stage → List StreamAction
+actions_at d r body stage =
+    if is_some (taken_at d r body stage).after then
+    if is_serving stage then actions.serving_actions r (reply_rule (picking d r.log) (request d) body).news (taken_at d r body stage)
+    else actions.loading_actions kinds.Log r.log stage (groups_of body) (reply_rule (picking d r.log) (request d) body).news
+    else []
+
 -- an append job that has sent its group is of the transactions that are out
 module _ (generation : ℕ → ℕ) (name : StreamName) (w : StreamSystem) (i : ℕ) (x : Stand) (sent : List Sent) (c : ClientState) where
   out_stands : (j : Job) (out : Option OutGroup) → ServesBy generation name w i x sent c j → OutIs j c.group out → IsSent x.phase → OutStands x out
-  out_stands jobs.Idle out b o s = absurd (let z : turns.Serving (length c.extents) (is_live (last_extent c.extents)) ≡ turns.Sent s.n s.append s.group = sym b ∙ s.is in cc)
+  out_stands jobs.Idle out b o s = absurd (let z : turns.Serving (known c) (is_live (last_extent c.extents)) ≡ turns.Sent s.n s.append s.group = sym b ∙ s.is in cc)
   out_stands (jobs.Sent e q) out b o s = record { group = o.0; is = o.1; spelled = ap group_in b.stands ∙ o.2 }
   out_stands (jobs.Closing e q) out b o s = absurd (let z : turns.Closing (suc b.index) b.append c.group ≡ turns.Sent s.n s.append s.group = sym b.stands ∙ s.is in cc)
-  out_stands (jobs.Growing last q) out b o s = absurd (let z : turns.Growing (length c.extents) b.append c.group ≡ turns.Sent s.n s.append s.group = sym b.stands ∙ s.is in cc)
+  out_stands (jobs.Growing last q) out b o s = absurd (let z : turns.Growing (known c) b.append c.group ≡ turns.Sent s.n s.append s.group = sym b.stands ∙ s.is in cc)
   out_stands (jobs.Checking e q) out b o s = absurd b
   out_stands (jobs.Shutting e q) out b o s = absurd b
   out_stands (jobs.Reading e places upto sealed place q) out b o s = absurd b
@@ -76,24 +111,15 @@ module _ (generation : ℕ → ℕ) (range : ℕ) (w : StreamSystem) (i : ℕ) w
   committed_plain name x sent d s [] = tt
   committed_plain name x sent d s (t ∷ ts) = (inl (λ n z m. tt), committed_plain name x sent d (suc s) ts)
 
-  -- the next number of the log's story
-  abbrev Next : Stand → ℕ
-  Next x = next_number (renamed decoded x.state.story) (generation i)
-
-  -- quiet turns keep it
-  pub next_quiet : (x : Stand) (ts : List (turns.Turn Group)) → AreQuiet ts → Next (after_turns generation i x ts) ≡ Next x
-  next_quiet x ts quiet = ap (λ s. next_number (renamed decoded s) (generation i)) (quiet_story generation i x ts quiet)
-
   module _ (listed : Listed w (log_of range)) (d : ServerContext) where
-    -- nothing is asked and shown, and the range is served as before
-    calm : (x : Stand) (sent : List Sent) (r : RangeState) → ServesLog generation range w i x sent r → (o : RangeOutcome) → o.after ≡ Some r → (o.count ≡ suc d.count) ⊎ (o.count ≡ d.count) → o.notes ≡ [] →
-        AreAsked generation range w i (log_of range) x sent o.packets → LogRule generation range w i x sent d o
-    calm x sent r b o e counts none asked =
+    -- nothing is asked, and the range is served as before
+    calm : (x : Stand) (sent : List Sent) (r : RangeState) → ServesLog generation range w i x sent r → (o : RangeOutcome) → o.after ≡ Some r → (o.count ≡ suc d.count) ⊎ (o.count ≡ d.count) →
+        AreAsked generation range w i (log_of range) x sent o.packets → (done : List StreamAction) → AreReads done → LogRule generation range w i x sent d o done
+    calm x sent r b o e counts asked done quiet =
         record {
           list = [];
           allowed = tt;
-          fit = tt;
-          shown = none;
+          seen = λ v m. quiet_seen generation i v m x [] [] done tt tt quiet;
           purpose = None;
           counts = ⊎_elim {C = (o.count ≡ suc d.count) ⊎ ((o.count ≡ d.count) × (None ≡ None))} (λ e. inl e) (λ e. inr (e, refl)) counts;
           none = λ z. refl;
@@ -104,8 +130,10 @@ module _ (generation : ℕ → ℕ) (range : ℕ) (w : StreamSystem) (i : ℕ) w
     -- ---- a group is formed
 
     module _ (x : Stand) (sent : List Sent) (fresh : purpose_of sent (request d) ≡ None) where
-      appends_rule : (r : RangeState) (n : ℕ) → ServesLog generation range w i x sent r → r.log.job ≡ jobs.Idle → IsNext r n → LogRule generation range w i x sent d (appends d r n)
-      appends_rule r n b idle next = subst (λ j. LogRule generation range w i x sent d (appends d (record r { log = record r.log { job = j } }) n)) (sym idle) at_idle
+      appends_rule : (r : RangeState) (n : ℕ) → ServesLog generation range w i x sent r → r.log.job ≡ jobs.Idle → r.out ≡ None → LogRule generation range w i x sent d (appends d r n) (actions.transact_actions r (appends d r n))
+      appends_rule r n b idle none =
+          subst (λ o. LogRule generation range w i x sent d (appends d r n) (if is_some o then [] else actions.Forms kinds.Log group ∷ [])) (sym none)
+          (subst (λ j. LogRule generation range w i x sent d (appends d (record r { log = record r.log { job = j } }) n) (actions.Forms kinds.Log group ∷ [])) (sym idle) at_idle)
         where
           group : Group
           group = spelling (record_of r.next (take n r.queue))
@@ -116,7 +144,7 @@ module _ (generation : ℕ → ℕ) (range : ℕ) (w : StreamSystem) (i : ℕ) w
           told : IsTold generation (log_of range) w i x sent c
           told = record { stream = b.client.told.stream; under = b.client.told.under; tells = b.client.told.tells }
 
-          stands : x.phase ≡ turns.Serving (length r.log.extents) (is_live (last_extent r.log.extents))
+          stands : x.phase ≡ turns.Serving (known r.log) (is_live (last_extent r.log.extents))
           stands = subst (λ j. ServesBy generation (log_of range) w i x sent r.log j) idle b.client.job
 
           o : Outcome
@@ -128,36 +156,12 @@ module _ (generation : ℕ → ℕ) (range : ℕ) (w : StreamSystem) (i : ℕ) w
           out : OutGroup
           out = record { first = r.next; transactions = take n r.queue }
 
-          spelled : decoded group ≡ group_of r.next (take n r.queue)
-          spelled = decoded_is r.next (take n r.queue) next.fits
-
-          formed : List (turns.Turn Group)
-          formed = turns.Forms group ∷ []
-
-          fit : AreFit generation i x formed
-          fit = ((ap (λ (z : Numbered Transaction). z.first) spelled ∙ b.next, record { written = record_of r.next (take n r.queue); fits = next.fits; is = refl }), tt)
-
-          shows : began r.load.range r.load.generation r.next (take n r.queue) ≡ begun_notes range (generation i) (decoded group).first (decoded group).items
-          shows =
-              began_is r.load.range r.load.generation r.next (take n r.queue)
-              ∙ ap (λ z. begun_notes z r.load.generation r.next (map (λ t. t.changes) (take n r.queue))) b.range_is
-              ∙ ap (λ z. begun_notes range z r.next (map (λ t. t.changes) (take n r.queue))) b.under
-              ∙ ap (λ (z : Numbered Transaction). begun_notes range (generation i) z.first z.items) (sym spelled)
-
-          shown : AreShown generation i range x formed (began r.load.range r.load.generation r.next (take n r.queue))
-          shown = ([], began r.load.range r.load.generation r.next (take n r.queue), refl, refl, shows)
-
-          behind : Next (after_turns generation i x formed) ≡ r.next + n
-          behind =
-              next_formed generation i x (length r.log.extents) (is_live (last_extent r.log.extents)) group stands
-              ∙ ap (λ (z : Numbered Transaction). next_after z) spelled ∙ ap (λ z. r.next + z) next.size
-
-          at_idle : LogRule generation range w i x sent d (appends d (record r { log = record r.log { job = jobs.Idle } }) n)
+          at_idle : LogRule generation range w i x sent d (appends d (record r { log = record r.log { job = jobs.Idle } }) n) (actions.Forms kinds.Log group ∷ [])
           at_idle = record {
             list = went.0.list;
             allowed = went.0.allowed;
-            fit = subst (λ ts. AreFit generation i x ts) (sym went.1) fit;
-            shown = subst (λ ts. AreShown generation i range x ts (began r.load.range r.load.generation r.next (take n r.queue))) (sym went.1) shown;
+            seen = λ v m. subst (λ ts. AreSeen generation i v m x [] ts (actions.Forms kinds.Log group ∷ [])) (sym went.1)
+                (forms_seen generation i v m x (known r.log) (is_live (last_extent r.log.extents)) group stands);
             purpose = went.0.purpose;
             counts = inl refl;
             none = λ e. absurd cc;
@@ -167,49 +171,48 @@ module _ (generation : ℕ → ℕ) (range : ℕ) (w : StreamSystem) (i : ℕ) w
               client = went.0.then;
               out = append_out (Some out) (request d) c (last_extent r.log.extents) (out, refl, refl);
               stage = b.stage;
-              next = subst (λ ts. r.next + n ≡ Next (after_turns generation i x ts)) (sym went.1) (sym behind);
             };
             asked = asked_if (log_of range) (after_turns generation i x went.0.list) (sent_with (request d) went.0.purpose sent) o.packet went.0.asked;
           }
 
-      pub forms_rule : (r : RangeState) → ServesLog generation range w i x sent r → IsSound r → LogRule generation range w i x sent d (forms d r)
-      forms_rule r b sound = go (not (is_some r.out) && (nat_lt 0 (group_count d r) && nat_lt (r.next + group_count d r) (2 ^ 64))) refl
+      pub forms_rule : (r : RangeState) → ServesLog generation range w i x sent r → LogRule generation range w i x sent d (forms d r) (actions.transact_actions r (forms d r))
+      forms_rule r b = go (not (is_some r.out) && (nat_lt 0 (group_count d r) && nat_lt (r.next + group_count d r) (2 ^ 64))) refl
         where
           go : (t : Bool) → (not (is_some r.out) && (nat_lt 0 (group_count d r) && nat_lt (r.next + group_count d r) (2 ^ 64))) ≡ t →
-              LogRule generation range w i x sent d (if t then appends d r (group_count d r) else goes d r [] [])
+              LogRule generation range w i x sent d (if t then appends d r (group_count d r) else goes d r [] []) (actions.transact_actions r (if t then appends d r (group_count d r) else goes d r [] []))
           go true e =
-              let next : IsNext r (group_count d r) = is_next d r sound e in
-              appends_rule r (group_count d r) b (none_idle r.log.job r.log.group (subst (λ z. OutIs r.log.job r.log.group z) next.none b.out)) next
-          go false e = calm x sent r b (goes d r [] []) refl (inl refl) refl tt
+              let none : r.out ≡ None = none_there r.out (and_parts (not (is_some r.out)) (nat_lt 0 (group_count d r) && nat_lt (r.next + group_count d r) (2 ^ 64)) e).0 in
+              appends_rule r (group_count d r) b (none_idle r.log.job r.log.group (subst (λ z. OutIs r.log.job r.log.group z) none b.out)) none
+          go false e = calm x sent r b (goes d r [] []) refl (inl refl) tt (actions.transact_actions r (goes d r [] [])) (none_formed r.out)
 
       -- ---- a transaction
 
-      transacts_rule : (r : RangeState) (from : ActorId) (v : ReqNo) (changes : List Change) (fault : Option Refusal) → transact_fault d r changes ≡ fault → ServesLog generation range w i x sent r → IsSound r →
-          LogRule generation range w i x sent d (transacts d r from v changes fault)
-      transacts_rule r from v changes (Some refusal) e b sound = calm x sent r b (transacts d r from v changes (Some refusal)) refl (inr refl) refl (inl (λ n s m. tt), tt)
-      transacts_rule r from v changes None e b sound =
+      transacts_rule : (r : RangeState) (from : ActorId) (v : ReqNo) (changes : List Change) (fault : Option Refusal) → ServesLog generation range w i x sent r →
+          LogRule generation range w i x sent d (transacts d r from v changes fault) (actions.transact_actions r (transacts d r from v changes fault))
+      transacts_rule r from v changes (Some refusal) b =
+          calm x sent r b (transacts d r from v changes (Some refusal)) refl (inr refl) (inl (λ n s m. tt), tt) (actions.transact_actions r (transacts d r from v changes (Some refusal))) (none_formed r.out)
+      transacts_rule r from v changes None b =
           forms_rule (record r { queue = r.queue ++ record { from = from; request = v; changes = changes } ∷ [] })
-          (record { range_is = b.range_is; under = b.under; client = b.client; out = b.out; stage = b.stage; next = b.next }) (pushed_sound d r from v changes e sound)
+          (record { range_is = b.range_is; under = b.under; client = b.client; out = b.out; stage = b.stage })
 
-      pub transact_goes : (r : RangeState) (from : ActorId) (v : ReqNo) (changes : List Change) → ServesLog generation range w i x sent r → IsSound r →
-          LogRule generation range w i x sent d (transact_rule d r from v changes)
-      transact_goes r from v changes b sound = transacts_rule r from v changes (transact_fault d r changes) refl b sound
+      pub transact_goes : (r : RangeState) (from : ActorId) (v : ReqNo) (changes : List Change) → ServesLog generation range w i x sent r →
+          LogRule generation range w i x sent d (transact_rule d r from v changes) (actions.transact_actions r (transact_rule d r from v changes))
+      transact_goes r from v changes b = transacts_rule r from v changes (transact_fault d r changes) b
 
   -- ---- turns after turns
 
-  -- a rule after turns that have shown these observations
+  -- a rule after turns that have done this
   join : (x : Stand) (sent : List Sent) (d : ServerContext) (o : RangeOutcome) (before : List (turns.Turn Group)) (packets : List Packet) (shown : List TableNote) → (o.after ≡ None → ⊥) → AreTurns generation i x before →
-      AreFit generation i x before → AreShown generation i range x before shown →
       ((y : Stand) (more : List Sent) → AreAsked generation range w i (log_of range) y more packets) →
-      LogRule generation range w i (after_turns generation i x before) sent d o → LogRule generation range w i x sent d (after_these packets shown o)
-  join x sent d o before packets shown there allowed fit shows plain rule =
+      (first later : List StreamAction) → ((v : RangeView) (m : Stand) → AreSeen generation i v m x [] before first) →
+      LogRule generation range w i (after_turns generation i x before) sent d o later → LogRule generation range w i x sent d (after_these packets shown o) (later ++ first)
+  join x sent d o before packets shown there allowed plain first later seen rule =
       let same : after_turns generation i (after_turns generation i x before) rule.list ≡ after_turns generation i x (rule.list ++ before) = turns_after generation i x before rule.list in
       let more : List Sent = sent_with (request d) rule.purpose sent in
       record {
         list = rule.list ++ before;
         allowed = turns_allowed generation i x before rule.list allowed rule.allowed;
-        fit = turns_fit generation i x before rule.list fit rule.fit;
-        shown = turns_shown generation i range x before rule.list shown o.notes shows rule.shown;
+        seen = λ v m. joined_seen generation i v m x before rule.list first later (seen v m) (rule.seen (view_after_all (generation i) v first) m);
         purpose = rule.purpose;
         counts = rule.counts;
         none = λ e. absurd (there e);
@@ -236,36 +239,33 @@ module _ (generation : ℕ → ℕ) (range : ℕ) (w : StreamSystem) (i : ℕ) w
         go true n = cc
         go false n = cc
 
-    applies_rule : (x : Stand) (r : RangeState) (c : ClientState) (out : OutGroup) (e offset : ℕ) (p : Option Packet) → ServesLog generation range w i x sent r → IsSound r → r.out ≡ Some out →
+    applies_rule : (x : Stand) (r : RangeState) (c : ClientState) (out : OutGroup) (e offset : ℕ) (p : Option Packet) → ServesLog generation range w i x sent r →
         group_in x.phase ≡ spelling (record_of out.first out.transactions) →
-        (g : Goes generation (log_of range) w i x sent (request d) (ServesAfter generation (log_of range) w i sent (Some (news.Appended e offset)) c) p) → AppendsOnly x g.list →
-        OutIs c.job c.group None → LogRule generation range w i x sent d (applies d (record r { log = c }) out e offset)
-    applies_rule x r c out e offset p b sound is group g only idle =
-        join x sent d (forms d after) g.list (committed d out.first out.transactions) shown_here (forms_stays after) g.allowed
-        (subst (λ ts. AreFit generation i x ts) (sym only.only) (tt, tt))
-        (subst (λ ts. AreShown generation i range x ts shown_here) (sym only.only) ([], shown_here, refl, refl, shows))
-        (λ z more. committed_plain (log_of range) z more d out.first out.transactions)
-        (forms_rule listed d y sent fresh after stays
-        (record { queue_fits = sound.queue_fits; out_fits = tt; counted = omega (arith, sound.counted); numbered = sound.numbered }))
+        (g : Goes generation (log_of range) w i x sent (request d) (ServesAfter generation (log_of range) w i sent (Some (news.Appended e offset)) c) p) → AppendsOnly (picking d r.log) offset x g.list →
+        OutIs c.job c.group None → LogRule generation range w i x sent d (applies d (record r { log = c }) out e offset) (if is_some (applies d (record r { log = c }) out e offset).after then actions.stood r (Some out) e offset (applies d (record r { log = c }) out e offset) else [])
+    applies_rule x r c out e offset p b group g only idle =
+        subst (λ done. LogRule generation range w i x sent d (applies d (record r { log = c }) out e offset) done) (sym (actions_there (forms d after).after (forms_stays after) (actions.transact_actions after (forms d after) ++ stands_here)))
+        (join x sent d (forms d after) g.list (committed d out.first out.transactions) (dones r.load.range r.load.generation out.first out.transactions) (forms_stays after) g.allowed
+        (λ z more. committed_plain (log_of range) z more d out.first out.transactions) stands_here (actions.transact_actions after (forms d after)) seen
+        (forms_rule listed d y sent fresh after stays))
       where
+        stands_here : List StreamAction
+        stands_here = actions.Stands kinds.Log e (actions.last_position r.log offset) (actions.group_of out) ∷ []
+
+        same : only.sent.group ≡ actions.group_of out
+        same = sym (ap group_in only.sent.is) ∙ group
+
+        seen : (v : RangeView) (m : Stand) → AreSeen generation i v m x [] g.list stands_here
+        seen v m =
+            subst (λ ts. AreSeen generation i v m x [] ts stands_here) (sym only.only)
+            (stands_seen generation i v m x only.sent.n only.sent.append only.from only.to (actions.group_of out) e (actions.last_position r.log offset)
+            (only.sent.is ∙ ap (λ z. turns.Sent only.sent.n only.sent.append z) same) only.begins (only.ends ∙ ap (λ z. only.from + group_size z) same))
+
         after : RangeState
         after = applied (record r { log = c }) out e offset
 
         y : Stand
         y = after_turns generation i x g.list
-
-        shown_here : List TableNote
-        shown_here = dones r.load.range r.load.generation out.first out.transactions
-
-        spelled : decoded (group_in x.phase) ≡ group_of out.first out.transactions
-        spelled = ap decoded group ∙ decoded_is out.first out.transactions (subst (λ z. OutFits z) is sound.out_fits)
-
-        shows : shown_here ≡ done_notes range (generation i) (decoded (group_in x.phase)).first (decoded (group_in x.phase)).items
-        shows =
-            dones_are r.load.range r.load.generation out.first out.transactions
-            ∙ ap (λ z. done_notes z r.load.generation out.first (map (λ t. t.changes) out.transactions)) b.range_is
-            ∙ ap (λ z. done_notes range z out.first (map (λ t. t.changes) out.transactions)) b.under
-            ∙ ap (λ (z : Numbered Transaction). done_notes range (generation i) z.first z.items) (sym spelled)
 
         stays : ServesLog generation range w i y sent after
         stays = record {
@@ -274,19 +274,16 @@ module _ (generation : ℕ → ℕ) (range : ℕ) (w : StreamSystem) (i : ℕ) w
           client = subst (λ z. ServingIs generation (log_of range) w i y z c) g.then.1 g.then.0;
           out = idle;
           stage = b.stage;
-          next = b.next ∙ sym (subst (λ ts. Next (after_turns generation i x ts) ≡ Next x) (sym only.only)
-              (next_answered generation i x only.sent.n only.sent.append only.from only.to only.sent.group only.sent.is));
         }
 
     quiet_rule : (x : Stand) (r : RangeState) (c : ClientState) (p : Option Packet) → ServesLog generation range w i x sent r →
         (g : Goes generation (log_of range) w i x sent (request d) (λ y more. ServingIs generation (log_of range) w i y more c) p) → AreQuiet g.list → OutIs c.job c.group r.out →
-        LogRule generation range w i x sent d (goes d (record r { log = c }) (option_to_list p) [])
+        LogRule generation range w i x sent d (goes d (record r { log = c }) (option_to_list p) []) []
     quiet_rule x r c p b g quiet out =
         record {
           list = g.list;
           allowed = g.allowed;
-          fit = quiet_fit generation i x g.list quiet;
-          shown = quiet_shown generation i range x g.list quiet;
+          seen = λ v m. quiet_seen generation i v m x [] g.list [] tt quiet tt;
           purpose = g.purpose;
           counts = inl refl;
           none = λ e. absurd cc;
@@ -296,35 +293,34 @@ module _ (generation : ℕ → ℕ) (range : ℕ) (w : StreamSystem) (i : ℕ) w
             client = g.then;
             out = out;
             stage = b.stage;
-            next = b.next ∙ sym (next_quiet x g.list quiet);
           };
           asked = asked_if (log_of range) (after_turns generation i x g.list) (sent_with (request d) g.purpose sent) p g.asked;
         }
 
     -- what is told while the range is served
-    news_rule : (x : Stand) (r : RangeState) (c : ClientState) (told : Option News) (p : Option Packet) → ServesLog generation range w i x sent r → IsSound r → (IsSent x.phase → OutStands x r.out) →
-        GoesBy generation (log_of range) w i x sent (request d) (ServesAfter generation (log_of range) w i sent told c) p (MadeBy told) → OutAfter told c r.out →
-        LogRule generation range w i x sent d (serving_news d (record r { log = c }) told (option_to_list p))
-    news_rule x r c None p b sound stands g out = quiet_rule x r c p b g.0 g.1 out
-    news_rule x r c (Some news.Fenced) p b sound stands g out =
+    news_rule : (x : Stand) (r : RangeState) (c : ClientState) (told : Option News) (p : Option Packet) → ServesLog generation range w i x sent r → (IsSent x.phase → OutStands x r.out) →
+        GoesBy generation (log_of range) w i x sent (request d) (ServesAfter generation (log_of range) w i sent told c) p (MadeBy (picking d r.log) told) → OutAfter told c r.out →
+        LogRule generation range w i x sent d (serving_news d (record r { log = c }) told (option_to_list p)) (told_actions r told (serving_news d (record r { log = c }) told (option_to_list p)))
+    news_rule x r c None p b stands g out = quiet_rule x r c p b g.0 g.1 out
+    news_rule x r c (Some news.Fenced) p b stands g out =
         record {
           list = [];
           allowed = tt;
-          fit = tt;
-          shown = refl;
+          seen = λ v m s. s;
           purpose = None;
           counts = inl refl;
           none = λ e. refl;
           then = tt;
           asked = refused_plain (log_of range) x sent d (waiting_out r.out ++ r.queue) r.gets refusals.NotOwner;
         }
-    news_rule x r c (Some (news.Appended e offset)) p b sound stands g out =
+    news_rule x r c (Some (news.Appended e offset)) p b stands g out =
         let s : OutStands x r.out = stands g.1.sent in
-        subst (λ z. LogRule generation range w i x sent d (log_done d (record r { log = c }) z e offset)) (sym s.is)
-        (applies_rule x r c s.group e offset p b sound s.is s.spelled g.0 g.1 out)
-    news_rule x r c (Some (news.Checked e found)) p b sound stands g out = quiet_rule x r c p b g.0 g.1 out
-    news_rule x r c (Some (news.Sealed e l)) p b sound stands g out = quiet_rule x r c p b g.0 g.1 out
-    news_rule x r c (Some (news.Content e upto)) p b sound stands g out = quiet_rule x r c p b g.0 g.1 out
+        subst (λ z. LogRule generation range w i x sent d (log_done d (record r { log = c }) z e offset)
+        (if is_some (log_done d (record r { log = c }) z e offset).after then actions.stood r z e offset (log_done d (record r { log = c }) z e offset) else [])) (sym s.is)
+        (applies_rule x r c s.group e offset p b s.spelled g.0 g.1 out)
+    news_rule x r c (Some (news.Checked e found)) p b stands g out = quiet_rule x r c p b g.0 g.1 out
+    news_rule x r c (Some (news.Sealed e l)) p b stands g out = quiet_rule x r c p b g.0 g.1 out
+    news_rule x r c (Some (news.Content e upto)) p b stands g out = quiet_rule x r c p b g.0 g.1 out
 
     -- the client with the server's pick
     picked : (x : Stand) (c : ClientState) (j : Job) (pick : _) → IsTold generation (log_of range) w i x sent c → ServesBy generation (log_of range) w i x sent c j →
@@ -340,22 +336,23 @@ module _ (generation : ℕ → ℕ) (range : ℕ) (w : StreamSystem) (i : ℕ) w
     pub picked_serving : (x : Stand) (c : ClientState) (pick : _) → ServingIs generation (log_of range) w i x sent c → ServingIs generation (log_of range) w i x sent (record c { pick = pick })
     picked_serving x c pick b = record { told = record { stream = b.told.stream; under = b.told.under; tells = b.told.tells }; job = picked x c c.job pick b.told b.job }
 
-    taken_rule : (x : Stand) (r : RangeState) (counted : IsCounted i x) → ServesLog generation range w i x sent r → IsSound r → (body : Body) → Means generation (log_of range) w x.state sent body →
-        LogRule generation range w i x sent d (log_taken d r body)
-    taken_rule x r counted b sound body m =
-        let o : Outcome = reply_rule (picking d r.log) (request d) body in
-        subst (λ z. LogRule generation range w i x sent d
-        (if is_serving z then serving_news d (record r { log = o.after }) o.news (option_to_list o.packet)
-        else log_news d (record r { log = o.after }) (groups_of body) z o.news (option_to_list o.packet))) (sym b.stage)
-        (news_rule x r o.after o.news o.packet b sound (out_stands generation (log_of range) w i x sent r.log r.log.job r.out b.client.job b.out)
+    taken_rule : (x : Stand) (r : RangeState) (counted : IsCounted i x) → ServesLog generation range w i x sent r → (body : Body) → Means generation (log_of range) w x.state sent body →
+        LogRule generation range w i x sent d (log_taken d r body) (taken_actions d r body (log_taken d r body))
+    taken_rule x r counted b body m =
+        subst (λ z. LogRule generation range w i x sent d (taken_at d r body z) (actions_at d r body z)) (sym b.stage)
+        (news_rule x r o.after o.news o.packet b (out_stands generation (log_of range) w i x sent r.log r.log.job r.out b.client.job b.out)
         (reply_goes generation (log_of range) w i listed sent (request d) fresh x (picking d r.log) counted (picked_serving x r.log d.pick b.client) body m)
         (reply_out r.out (request d) (picking d r.log) b.out body))
+      where
+        o : Outcome
+        o = reply_rule (picking d r.log) (request d) body
 
     -- what a range that is served does with an answer to its log
-    pub log_reply_goes : (x : Stand) (r : RangeState) (counted : IsCounted i x) → ServesLog generation range w i x sent r → IsSound r → (body : Body) → Means generation (log_of range) w x.state sent body →
-        LogRule generation range w i x sent d (log_reply d r body)
-    log_reply_goes x r counted b sound body m = go (is_taken r body)
+    pub log_reply_goes : (x : Stand) (r : RangeState) (counted : IsCounted i x) → ServesLog generation range w i x sent r → (body : Body) → Means generation (log_of range) w x.state sent body →
+        LogRule generation range w i x sent d (log_reply d r body) (reply_actions d r body (log_reply d r body))
+    log_reply_goes x r counted b body m = go (is_taken r body)
       where
         go : (t : Bool) → LogRule generation range w i x sent d (if t then log_taken d r body else answers d r [])
-        go true = taken_rule x r counted b sound body m
-        go false = calm listed d x sent r b (answers d r []) refl (inr refl) refl tt
+            (if is_some (if t then log_taken d r body else answers d r []).after then (if t then actions.log_actions d r body (if t then log_taken d r body else answers d r []) else []) else [])
+        go true = taken_rule x r counted b body m
+        go false = calm listed d x sent r b (answers d r []) refl (inr refl) tt [] tt

@@ -13,7 +13,7 @@ use Rattle.model_partition.specs.ServerTurns.{Turn, Whole, Move, Above, moved}
 use Rattle.model_partition.specs.ServerTurns as turns
 use Rattle.laws_stream_machine.specs.Refinement.{Purpose, Sent, purpose_of}
 use Rattle.laws_stream_machine.proofs.ServerRequests.{same_request}
-use Rattle.laws_stream_machine.proofs.StepSequences.{Onward, onward_refl, onward_trans, next_onward, all_onward, shut_within}
+use Rattle.laws_stream_machine.proofs.StepSequences.{Onward, onward_refl, onward_trans, all_onward, shut_within}
 use Rattle.laws_ranges.specs.Serves.{Stand, Wider, after_turns, sent_with}
 
 -- ---- numbers of requests
@@ -71,12 +71,3 @@ module _ (generation : ℕ → ℕ) where
           known = omega arith;
           purposes = purposes_on q o sent fresh;
         }
-
-  -- so does each move of the machine
-  pub wider_move : (name : StreamName) (w : StreamSystem) (x : Whole Group generation) (m : Move Group generation) (sent : List Sent) →
-      Wider name w w x.state (moved Group generation x m).state sent sent
-  wider_move name w x m sent = record { facts = (on m).facts; shut = (on m).shut; extents = λ index e m. m; known = omega arith; purposes = λ q p e. e }
-    where
-      on : (m : Move Group generation) → Onward x.state (moved Group generation x m).state
-      on (turns.Below step) = next_onward generation x.state step
-      on (turns.Above i t) = all_onward generation x.state (turns.does Group generation x.state i (x.phase i) t)

@@ -1,5 +1,5 @@
 -- What a client has to do with an incarnation is kept while others go on.
-use Rattle.std.proofs.Common.{◌≡◌, refl, ℕ, List, ◌++◌, length, sym, ap, ◌∙◌, arith}
+use Rattle.std.proofs.Common.{◌≡◌, ℕ, ◌+◌, List, ◌++◌, ap, ◌∙◌, arith}
 use Rattle.wire.specs.declared.actor.ReqNo.{ReqNo}
 use Rattle.wire.specs.declared.streams.StreamName.{StreamName}
 use Rattle.wire.specs.declared.streams.StreamKind.TheVariants as kinds
@@ -12,10 +12,8 @@ use Rattle.model_partition.specs.declared.stage.Stage.TheVariants as stages
 use Rattle.model_partition.specs.Range.{RangeState}
 use Rattle.replica.specs.Groups.{Group}
 use Rattle.model_partition.specs.Story.{Copy}
-use Rattle.model_partition.specs.Log.{next_number}
-use Rattle.model_partition.specs.Renaming.{renamed, decoded}
 use Rattle.laws_stream_machine.specs.Refinement.{Sent, Tells}
-use Rattle.laws_ranges.specs.Serves.{Stand, Side, Wider, IsTold, ServesBy, FoundIs, Readable, WasSealed, WasFound, WasShut, LoadsBy, LoadingIs, OpeningIs, ConfirmingIs, LoadOf, OfSealed, OfStood, ServingIs, UnreadIs, metadata_of, log_of, LoadsMetadata, LoadsLog, StageIs, Follows}
+use Rattle.laws_ranges.specs.Serves.{Stand, Side, Wider, known, IsTold, ServesBy, FoundIs, Readable, WasSealed, WasFound, WasShut, LoadsBy, LoadingIs, OpeningIs, ConfirmingIs, LoadOf, OfSealed, OfStood, ServingIs, UnreadIs, metadata_of, log_of, LoadsMetadata, LoadsLog, StageIs, Follows}
 use Rattle.laws_ranges.proofs.SealedCopies.{first_grown, grown_within}
 
 -- what the incarnation of a stream knows is wider, and it stands where it stood
@@ -25,10 +23,12 @@ module _ (generation : ℕ → ℕ) (name : StreamName) (w v : StreamSystem) (i 
       Tells generation name v y.state more (record { base = c.base; extents = c.extents })
   tells_on c t =
       record {
-        base = t.base;
+        left = λ index below. (let z = t.left index below in (z.0, g.shut index z.0 z.1));
+        whole = t.whole;
+        ends = t.ends;
         known = omega (arith, t.known, g.known);
-        are = λ index e at. g.extents index e.extent (t.are index e at);
-        sealed = λ index e l at is. (let z = t.sealed index e l at is in (z.0, g.shut index z.0 z.1, z.2));
+        are = λ k e at. g.extents (c.base + k) e.extent (t.are k e at);
+        sealed = λ k e l at is. (let z = t.sealed k e l at is in (z.0, g.shut (c.base + k) z.0 z.1, z.2));
         unsealed = t.unsealed;
       }
 
@@ -73,13 +73,13 @@ module _ (generation : ℕ → ℕ) (name : StreamName) (w v : StreamSystem) (i 
 
     load_on : (c : ClientState) (read : List (Copy Group)) → LoadOf i x.state c read → LoadOf i y.state c read
     load_on c read (OfSealed live within is) =
-        OfSealed live (grown_within x.state.core.shut y.state.core.shut g.shut (length c.extents) within) (is ∙ first_grown x.state.core.shut y.state.core.shut g.shut (length c.extents) within)
+        OfSealed live (grown_within x.state.core.shut y.state.core.shut g.shut (known c) within) (is ∙ first_grown x.state.core.shut y.state.core.shut g.shut (known c) within)
     load_on c read (OfStood index found stood live count checked fact within is) =
         OfStood index found stood live count checked (g.facts _ fact) (grown_within x.state.core.shut y.state.core.shut g.shut index within)
         (is ∙ ap (λ cs. cs ++ stood) (first_grown x.state.core.shut y.state.core.shut g.shut index within))
 
     pub confirming_on : (c : ClientState) (q : ReqNo) → ConfirmingIs generation name w i x sent c q → ConfirmingIs generation name v i y more c q
-    confirming_on c q b = record { told = told_on c b.told; idle = b.idle; read = b.read; end = b.end; of = load_on c b.read b.of; stands = same ∙ b.stands; for = g.purposes q _ b.for; fact = g.facts _ b.fact }
+    confirming_on c q b = record { told = told_on c b.told; idle = b.idle; read = b.read; end = b.end; of = load_on c b.read b.of; stands = same ∙ b.stands; for = g.purposes q _ b.for; fact = g.facts _ b.fact; ends = b.ends }
 
     pub serving_on : (c : ClientState) → ServingIs generation name w i x sent c → ServingIs generation name v i y more c
     serving_on c b = record { told = told_on c b.told; job = serves_on c c.job b.job }
@@ -88,10 +88,6 @@ module _ (generation : ℕ → ℕ) (name : StreamName) (w v : StreamSystem) (i 
 module _ (generation : ℕ → ℕ) (range : ℕ) (w v : StreamSystem) (i : ℕ) (m n l k : Side)
     (gm : Wider (metadata_of range) w v m.stand.state n.stand.state m.sent n.sent) (sm : n.stand.phase ≡ m.stand.phase)
     (gl : Wider (log_of range) w v l.stand.state k.stand.state l.sent k.sent) (sl : k.stand.phase ≡ l.stand.phase) where
-  -- its next number is the same
-  abbrev pub SameNext : Type 0
-  SameNext = next_number (renamed decoded k.stand.state.story) (generation i) ≡ next_number (renamed decoded l.stand.state.story) (generation i)
-
   on_metadata : (c : ClientState) → LoadingIs generation (metadata_of range) w i m.stand m.sent c → LoadingIs generation (metadata_of range) v i n.stand n.sent c
   on_metadata c b = loading_on generation (metadata_of range) w v i m.stand n.stand m.sent n.sent gm sm c b
 
@@ -110,8 +106,8 @@ module _ (generation : ℕ → ℕ) (range : ℕ) (w v : StreamSystem) (i : ℕ)
     log = loading_on generation (log_of range) w v i l.stand k.stand l.sent k.sent gl sl r.log b.log;
   }
 
-  stage_on : (r : RangeState) (stage : Stage) → (stage ≡ stages.Serving → SameNext) → StageIs generation range w i m l r stage → StageIs generation range v i n k r stage
-  stage_on r stages.Opening sn b = record {
+  stage_on : (r : RangeState) (stage : Stage) → StageIs generation range w i m l r stage → StageIs generation range v i n k r stage
+  stage_on r stages.Opening b = record {
     q = b.q;
     phase = b.phase;
     metadata = opening_on generation (metadata_of range) w v i m.stand n.stand m.sent n.sent gm sm b.q b.metadata;
@@ -119,29 +115,28 @@ module _ (generation : ℕ → ℕ) (range : ℕ) (w v : StreamSystem) (i : ℕ)
     metadata_idle = b.metadata_idle;
     log_idle = b.log_idle;
   }
-  stage_on r (stages.Checking kinds.Metadata) sn b = loads_metadata_on r b
-  stage_on r (stages.Checking kinds.Log) sn b = loads_log_on r b
-  stage_on r (stages.Checking kinds.RowData) sn b = absurd b
-  stage_on r (stages.Checking kinds.BlobData) sn b = absurd b
-  stage_on r (stages.Reading kinds.Metadata position) sn b = loads_metadata_on r b
-  stage_on r (stages.Reading kinds.Log position) sn b = loads_log_on r b
-  stage_on r (stages.Reading kinds.RowData position) sn b = absurd b
-  stage_on r (stages.Reading kinds.BlobData position) sn b = absurd b
-  stage_on r stages.Confirming sn b = record {
+  stage_on r (stages.Checking kinds.Metadata) b = loads_metadata_on r b
+  stage_on r (stages.Checking kinds.Log) b = loads_log_on r b
+  stage_on r (stages.Checking kinds.RowData) b = absurd b
+  stage_on r (stages.Checking kinds.BlobData) b = absurd b
+  stage_on r (stages.Reading kinds.Metadata position) b = loads_metadata_on r b
+  stage_on r (stages.Reading kinds.Log position) b = loads_log_on r b
+  stage_on r (stages.Reading kinds.RowData position) b = absurd b
+  stage_on r (stages.Reading kinds.BlobData position) b = absurd b
+  stage_on r stages.Confirming b = record {
     q = b.q;
     phase = b.phase;
     metadata = confirming_on generation (metadata_of range) w v i m.stand n.stand m.sent n.sent gm sm r.metadata b.q b.metadata;
     log = confirming_on generation (log_of range) w v i l.stand k.stand l.sent k.sent gl sl r.log b.q b.log;
   }
-  stage_on r stages.Serving sn b = record {
+  stage_on r stages.Serving b = record {
     phase = b.phase;
     metadata = serving_on generation (metadata_of range) w v i m.stand n.stand m.sent n.sent gm sm r.metadata b.metadata;
     metadata_idle = b.metadata_idle;
     log = serving_on generation (log_of range) w v i l.stand k.stand l.sent k.sent gl sl r.log b.log;
     out = b.out;
-    next = b.next ∙ sym (sn refl);
   }
 
-  -- whatever others do, the range is where it was, as long as it has the same next number while it is served
-  pub follows_on : (r : RangeState) → (r.stage ≡ stages.Serving → SameNext) → Follows generation range w i m l r → Follows generation range v i n k r
-  follows_on r sn b = record { range_is = b.range_is; under = b.under; stage = stage_on r r.stage sn b.stage }
+  -- whatever others do, the range is where it was
+  pub follows_on : (r : RangeState) → Follows generation range w i m l r → Follows generation range v i n k r
+  follows_on r b = record { range_is = b.range_is; under = b.under; stage = stage_on r r.stage b.stage }

@@ -1,24 +1,23 @@
 -- The opening and the confirmation of a range are turns of its incarnation on each stream.
 use Rattle.std.proofs.Common.{◌≡◌, ℕ, zero, suc, ◌+◌, ◌-◌, ◌<◌, ◌≤◌, List, [], ◌∷◌, ◌++◌, length, true, false, Option, Some, None, refl, sym, ap, ◌∙◌, subst, inl, inr, slice_get, arith}
 use Rattle.std.proofs.lemmas.Option.{slice_get_cases}
-use Rattle.block_types.specs.declared.record.Nodes.{Nodes}
 use Rattle.wire.specs.declared.actor.ReqNo.{ReqNo}
 use Rattle.wire.specs.declared.body.Body.TheVariants as bodies
 use Rattle.wire.specs.declared.body.StreamBody.TheVariants as streams
 use Rattle.wire.specs.declared.streams.StreamExtent.{StreamExtent}
-use Rattle.wire.specs.declared.streams.StreamList.{StreamList}
 use Rattle.wire.specs.declared.streams.StreamName.{StreamName}
 use Rattle.replica.specs.Groups.{Group}
 use Rattle.client.specs.declared.job.Job.TheVariants as jobs
-use Rattle.client.specs.Client.{ClientState, last_extent, new_client}
+use Rattle.client.specs.Client.{ClientState, last_extent}
 use Rattle.model_streams.specs.StreamSystem.{StreamSystem}
 use Rattle.model_partition.specs.StreamMachine as machine
 use Rattle.model_partition.specs.ServerTurns as turns
-use Rattle.laws_stream_machine.specs.Refinement.{Sent, purpose_of, Opens, Confirms, Tells, IsAsked}
-use Rattle.laws_ranges.specs.Serves.{Stand, after_turns, is_live, IsTold, Readable, WasSealed, WasFound, WasShut, LoadsBy, LoadingIs, UnreadIs, OpeningIs, ConfirmingIs, OfSealed, OfStood, ServingIs, ServesBy, Goes}
+use Rattle.laws_stream_machine.specs.Refinement.{Sent, purpose_of, Opens, Confirms, IsAsked}
+use Rattle.laws_ranges.specs.Serves.{Stand, known, is_live, IsTold, Readable, WasSealed, WasFound, WasShut, LoadsBy, LoadingIs, UnreadIs, OpeningIs, ConfirmingIs, OfSealed, OfStood, Goes}
 use Rattle.laws_ranges.proofs.MachineSteps.{newest, is_within}
 use Rattle.laws_ranges.proofs.ClientAsks.{none_last, some_last}
-use Rattle.laws_ranges.proofs.AppendJob.{turn_told, at_phase, rests}
+use Rattle.laws_ranges.proofs.ReadEnds.{sealed_ends, found_ends}
+use Rattle.laws_ranges.proofs.AppendJob.{turn_told, at_phase}
 
 none_past : {A : Type 0} (xs : List A) (k : ℕ) → slice_get xs k ≡ None → length xs ≤ k
 none_past xs k none = elim (slice_get_cases xs k).1 [ inl there ↦ absurd (let z : None ≡ Some there.0 = sym none ∙ there.2 in cc) | inr past ↦ past.0 ]
@@ -36,18 +35,6 @@ module _ (generation : ℕ → ℕ) (name : StreamName) (w : StreamSystem) (i : 
         asked = tt;
       })
 
-  -- its streams are opened
-  pub opened_goes : (server : ℕ) (list : StreamList) (pick : Nodes) (r : ReqNo) → OpeningIs generation name w i x sent r → machine.In (machine.Opened i (length list.extents)) x.state.facts →
-      Tells generation name w x.state sent list → Goes generation name w i x sent q (λ y more. UnreadIs generation name w i y more (new_client server name (generation i) list pick)) None
-  opened_goes server list pick r b opened tells =
-      rests generation name w i x sent q _
-      (record {
-        told = record { stream = refl; under = refl; tells = record { base = tells.base; known = tells.known; are = tells.are; sealed = tells.sealed; unsealed = tells.unsealed } };
-        opened = opened;
-        idle = refl;
-        stands = b.stands;
-      })
-
   -- a stream whose last extent is sealed, or that has none, can be read at once
   pub readable_goes : (c : ClientState) → UnreadIs generation name w i x sent c → is_live (last_extent c.extents) ≡ false → LoadingIs generation name w i x sent c
   readable_goes c b live = record { told = b.told; opened = b.opened; job = subst (λ j. LoadsBy generation name w i x sent c j) (sym b.idle) (WasSealed live b.stands) }
@@ -55,30 +42,48 @@ module _ (generation : ℕ → ℕ) (name : StreamName) (w : StreamSystem) (i : 
   -- ---- all is read
 
   -- where the last extent that the client knows is sealed, all that it knows are
-  all_shut : (c : ClientState) → IsTold generation name w i x sent c → (o : Option StreamExtent) → last_extent c.extents ≡ o → is_live o ≡ false → length c.extents ≤ length x.state.core.shut
-  all_shut c told None e live = let none : length c.extents ≡ 0 = none_last c.extents e in omega (arith, none)
+  all_shut : (c : ClientState) → IsTold generation name w i x sent c → (o : Option StreamExtent) → last_extent c.extents ≡ o → is_live o ≡ false → known c ≤ length x.state.core.shut
+  all_shut c told None e live =
+      let none : length c.extents ≡ 0 = none_last c.extents e in
+      let first = told.tells.ends none in
+      omega (arith, none, first)
   all_shut c told (Some z) e live = go z.length refl
     where
-      go : (o : Option ℕ) → z.length ≡ o → length c.extents ≤ length x.state.core.shut
+      go : (o : Option ℕ) → z.length ≡ o → known c ≤ length x.state.core.shut
       go None l = absurd (let t : is_live (Some (record z { length = None })) ≡ false = subst (λ k. is_live (Some (record z { length = k })) ≡ false) l live in cc)
       go (Some m) l =
           let inside : 0 < length c.extents = some_last c z e in
           let at = told.tells.sealed (length c.extents - 1) z m e l in
-          let within : suc (length c.extents - 1) ≤ length x.state.core.shut = is_within (length c.extents - 1) x.state.core.shut at.0 at.1 in
+          let within : suc (c.base + (length c.extents - 1)) ≤ length x.state.core.shut = is_within (c.base + (length c.extents - 1)) x.state.core.shut at.0 at.1 in
           omega (arith, inside, within)
 
-  -- all extents before an open last one are sealed
-  shut_before : (c : ClientState) → IsTold generation name w i x sent c → (index : ℕ) → suc index ≡ length c.extents → index ≤ length x.state.core.shut
-  shut_before c told zero at = omega arith
-  shut_before c told (suc k) at = by_extent (slice_get c.extents k) refl
+  -- what has left the list of a stream is sealed
+  left_shut : (c : ClientState) → IsTold generation name w i x sent c → c.base ≤ length x.state.core.shut
+  left_shut c told = go c.base refl
     where
-      by_length : (z : StreamExtent) → slice_get c.extents k ≡ Some z → (o : Option ℕ) → z.length ≡ o → suc k ≤ length x.state.core.shut
-      by_length z e None l = let n : suc k ≡ length c.extents = told.tells.unsealed k z e l in absurd (omega (arith, at, n))
-      by_length z e (Some m) l = let s = told.tells.sealed k z m e l in is_within k x.state.core.shut s.0 s.1
+      go : (n : ℕ) → c.base ≡ n → n ≤ length x.state.core.shut
+      go zero is = omega arith
+      go (suc n) is = let y = told.tells.left n (omega (arith, is)) in is_within n x.state.core.shut y.0 y.1
 
-      by_extent : (o : Option StreamExtent) → slice_get c.extents k ≡ o → suc k ≤ length x.state.core.shut
-      by_extent None e = let past : length c.extents ≤ k = none_past c.extents k e in absurd (omega (arith, at, past))
-      by_extent (Some z) e = by_length z e z.length refl
+  -- all extents before an open last one are sealed
+  shut_before : (c : ClientState) → IsTold generation name w i x sent c → (index : ℕ) → suc index ≡ known c → index ≤ length x.state.core.shut
+  shut_before c told index at = by_count (length c.extents) refl
+    where
+      by_length : (k : ℕ) → length c.extents ≡ suc (suc k) → (z : StreamExtent) → slice_get c.extents k ≡ Some z → (o : Option ℕ) → z.length ≡ o → index ≤ length x.state.core.shut
+      by_length k count z e None l = let n : suc k ≡ length c.extents = told.tells.unsealed k z e l in absurd (omega (arith, count, n))
+      by_length k count z e (Some m) l =
+          let s = told.tells.sealed k z m e l in
+          let within : suc (c.base + k) ≤ length x.state.core.shut = is_within (c.base + k) x.state.core.shut s.0 s.1 in
+          omega (arith, at, count, within)
+
+      by_extent : (k : ℕ) → length c.extents ≡ suc (suc k) → (o : Option StreamExtent) → slice_get c.extents k ≡ o → index ≤ length x.state.core.shut
+      by_extent k count None e = let past : length c.extents ≤ k = none_past c.extents k e in absurd (omega (arith, count, past))
+      by_extent k count (Some z) e = by_length k count z e z.length refl
+
+      by_count : (n : ℕ) → length c.extents ≡ n → index ≤ length x.state.core.shut
+      by_count zero count = let first = told.tells.ends count in absurd (omega (arith, at, count, first))
+      by_count (suc zero) count = let left = left_shut c told in omega (arith, at, count, left)
+      by_count (suc (suc k)) count = by_extent k count (slice_get c.extents k) refl
 
   -- Confirm is the only request that is new
   abbrev pub ConfirmsNow : ClientState → Stand → List Sent → Type 0
@@ -88,7 +93,7 @@ module _ (generation : ℕ → ℕ) (name : StreamName) (w : StreamSystem) (i : 
   confirms_goes c b idle = go (subst (λ j. LoadsBy generation name w i x sent c j) idle b.job)
     where
       n : ℕ
-      n = length c.extents
+      n = known c
 
       go : Readable generation name w i x sent c → Goes generation name w i x sent q (ConfirmsNow c) None
       go (WasSealed live stands) =
@@ -110,6 +115,7 @@ module _ (generation : ℕ → ℕ) (name : StreamName) (w : StreamSystem) (i : 
                 stands = ap (λ v. turns.Confirming n v) (sym live);
                 for = newest q (Confirms i read end) sent;
                 fact = inl refl;
+                ends = sealed_ends generation name w i x sent c b.told live;
               },
               refl,
             );
@@ -134,6 +140,7 @@ module _ (generation : ℕ → ℕ) (name : StreamName) (w : StreamSystem) (i : 
                 stands = ap (λ v. turns.Confirming v true) f.last.index_is ∙ ap (λ v. turns.Confirming n (is_live v)) (sym f.last.last);
                 for = newest q (Confirms i read end) sent;
                 fact = inl refl;
+                ends = found_ends generation name w i x sent c b.told f;
               },
               refl,
             );
@@ -159,33 +166,12 @@ module _ (generation : ℕ → ℕ) (name : StreamName) (w : StreamSystem) (i : 
                 stands = ap (λ v. turns.Confirming v false) index_is ∙ ap (λ v. turns.Confirming n v) (sym live);
                 for = newest q (Confirms i read end) sent;
                 fact = inl refl;
+                ends = ap (λ k. machine.last_end (machine.first k x.state.core.shut)) index_is ∙ sealed_ends generation name w i x sent c b.told live;
               },
               refl,
             );
             asked = tt;
           })
-
-  -- the generation is confirmed: the range is served, and shows all that was read
-  pub confirmed_goes : (c : ClientState) (r : ReqNo) (b : ConfirmingIs generation name w i x sent c r) → machine.In (machine.Confirmed i b.read b.end) x.state.facts →
-      Goes generation name w i x sent q (λ y more. ServingIs generation name w i y more c × (more ≡ sent)) None
-  confirmed_goes c r b fact =
-      let p : turns.Phase Group = turns.Confirming (length c.extents) (is_live (last_extent c.extents)) in
-      let ts : List (turns.Turn Group) = turns.ConfirmedIs 0 b.end b.read ∷ [] in
-      let y : Stand = after_turns generation i (record { state = x.state; phase = p }) ts in
-      at_phase generation name w i x p sent q _ None b.stands
-      (record {
-        list = ts;
-        allowed = (fact, tt);
-        purpose = None;
-        then = (
-          record {
-            told = turn_told generation name w i sent q fresh x p ts None c b.told;
-            job = subst (λ j. ServesBy generation name w i y sent c j) (sym b.idle) refl;
-          },
-          refl,
-        );
-        asked = tt;
-      })
 
 -- ---- what is asked
 

@@ -29,9 +29,6 @@ OutAfter (Some (news.Checked e found)) c out = OutIs c.job c.group out
 OutAfter (Some (news.Sealed e l)) c out = OutIs c.job c.group out
 OutAfter (Some (news.Content e upto)) c out = OutIs c.job c.group out
 
-with_job : ClientState → Job → ClientState
-with_job c j = record c { job = j }
-
 module _ (out : Option OutGroup) (q : ReqNo) where
   abbrev Kept : Outcome → Type 0
   Kept o = OutAfter o.news o.after out

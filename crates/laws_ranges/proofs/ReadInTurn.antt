@@ -1,5 +1,5 @@
 -- The extents of a stream are read in turn: no turn of the incarnation, and one request.
-use Rattle.std.proofs.Common.{◌≡◌, ℕ, suc, ◌-◌, List, length, true, false, Option, Some, None, is_some, refl, sym, ap, ◌∙◌, subst, arith, slice_get, if◌then◌else◌}
+use Rattle.std.proofs.Common.{◌≡◌, ℕ, suc, ◌+◌, ◌-◌, List, length, true, false, Option, Some, None, is_some, refl, sym, ap, ◌∙◌, subst, arith, slice_get, if◌then◌else◌}
 use Rattle.wire.specs.declared.streams.StreamExtent.{StreamExtent}
 use Rattle.wire.specs.declared.streams.StreamName.{StreamName}
 use Rattle.client.specs.declared.job.Job.TheVariants as jobs
@@ -26,19 +26,19 @@ module _ (generation : ℕ → ℕ) (name : StreamName) (w : StreamSystem) (i : 
   sealed_read z m at e =
       subst (λ s. Reads (given Reader (read_at Reader (request d) s))) (sym at)
       (subst (λ k. Reads (given Reader (read_whole Reader (request d) z k))) (sym e)
-      (reads_goes generation name w i listed sent (request d) fresh x Reader z.extent position m z.places true First l.told l.opened l.job (l.told.tells.are position z at) (λ u. absurd (cc))))
+      (reads_goes generation name w i listed sent (request d) fresh x Reader z.extent (before.base + position) m z.places true First l.told l.opened l.job (l.told.tells.are position z at) (λ u. absurd (cc))))
 
   open_read : (z : StreamExtent) → slice_get before.extents position ≡ Some z → z.length ≡ None → Reads (given Reader (read_checked_at Reader (request d) (last_extent before.extents)))
   open_read z at e =
       let index_is : suc position ≡ length before.extents = l.told.tells.unsealed position z at e in
       let back : length before.extents - 1 ≡ position = omega (arith, index_is) in
       let end : last_extent before.extents ≡ Some z = subst (λ k. slice_get before.extents k ≡ Some z) (sym back) at in
-      let last : LastIs Reader z.extent position = record { places = z.places; last = end ∙ ap (λ k. Some (record z { length = k })) e; index_is = index_is } in
-      let f : FoundIs generation name w i x sent Reader = found_of generation name w i x sent Reader l.job (live_last Reader z.extent position last) in
+      let last : LastIs Reader z.extent (before.base + position) = record { places = z.places; last = end ∙ ap (λ k. Some (record z { length = k })) e; index_is = omega (arith, index_is) } in
+      let f : FoundIs generation name w i x sent Reader = found_of generation name w i x sent Reader l.job (live_last Reader z.extent (before.base + position) last) in
       subst (λ s. Reads (given Reader (read_checked_at Reader (request d) s))) (sym end)
       (subst (λ k. Reads (given Reader (read_open Reader (request d) z k before.checked))) (sym e)
       (subst (λ k. Reads (given Reader (read_open Reader (request d) z None k))) (sym f.checked)
-      (reads_goes generation name w i listed sent (request d) fresh x Reader z.extent position f.found z.places false First l.told l.opened l.job (l.told.tells.are position z at) (λ u. last))))
+      (reads_goes generation name w i listed sent (request d) fresh x Reader z.extent (before.base + position) f.found z.places false First l.told l.opened l.job (l.told.tells.are position z at) (λ u. last))))
 
   read_case : (o : Option StreamExtent) → slice_get before.extents position ≡ o → Reads (read_by d Reader position o)
   read_case None at = rests generation name w i x sent (request d) _ l

@@ -1,9 +1,9 @@
--- The copies of the first extents of a stream, one extent at a time.
+-- The copies of the first extents of a stream, one extent at a time, and where these end.
 use Rattle.std.proofs.Common.{◌≡◌, ℕ, zero, suc, ◌<◌, ◌≤◌, List, [], ◌∷◌, ◌++◌, length, Bool, true, false, Some, nat_le, refl, sym, ap, ◌∙◌, arith, ◌==◌, if◌then◌else◌}
 use Rattle.std.proofs.lemmas.Bool.Decides.{nat_tests}
 use Rattle.std.proofs.lemmas.Bool.{leb-true, leb-false, eqb-true}
 use Rattle.replica.specs.Groups.{Group}
-use Rattle.model_partition.specs.StreamMachine.{SealedExtent, shut_at, first, all_shut}
+use Rattle.model_partition.specs.StreamMachine.{SealedExtent, shut_at, first, all_shut, last_end}
 use Rattle.laws_ranges.proofs.MachineSteps.{is_within}
 
 -- all of a list is its first so many
@@ -46,6 +46,18 @@ first_more (x ∷ older) n y e = go (n == length older) refl e (λ k. first_more
     go false t k more =
         let inside : suc n ≤ length older = is_within n older y k in
         ap all_shut (first_older x older (suc n) inside) ∙ more k ∙ ap (λ zs. all_shut zs ++ y.copies) (sym (first_older x older n (omega (arith, inside))))
+
+-- they end where the last of them ends
+pub first_end : (xs : List (SealedExtent Group)) (n : ℕ) (y : SealedExtent Group) → shut_at n xs ≡ Some y → last_end (first (suc n) xs) ≡ y.end
+first_end [] n y e = absurd cc
+first_end (x ∷ older) n y e = go (n == length older) refl e (λ k. first_end older n y k)
+  where
+    newest : n ≡ length older → x ≡ y → last_end (first (suc n) (x ∷ older)) ≡ y.end
+    newest here same = ap last_end (first_all (x ∷ older) (suc n) (omega (arith, here))) ∙ ap (λ (z : SealedExtent Group). z.end) same
+
+    go : (b : Bool) → (n == length older) ≡ b → (if b then Some x else shut_at n older) ≡ Some y → (shut_at n older ≡ Some y → last_end (first (suc n) older) ≡ y.end) → last_end (first (suc n) (x ∷ older)) ≡ y.end
+    go true t k more = newest (eqb-true n (length older) t) (let z : x ≡ y = cc in z)
+    go false t k more = ap last_end (first_older x older (suc n) (is_within n older y k)) ∙ more k
 
 -- each extent below their count is there
 there : (n : ℕ) (xs : List (SealedExtent Group)) → suc n ≤ length xs → (y : SealedExtent Group) × (shut_at n xs ≡ Some y)

@@ -28,14 +28,16 @@ use Rattle.model_partition.specs.Serving.{group_count, appends as appending, for
 use Rattle.commitlog.specs.Places.{kept}
 use Rattle.memtable.specs.Entries.{put_all}
 use Rattle.model_partition.specs.Answering.{serving_news, log_taken, log_reply, is_taken, groups_of}
+use Rattle.model_partition.specs.StreamActions.{StreamAction, transact_actions}
 use Rattle.model_partition.specs.StreamMachine as machine
 use Rattle.replica.specs.Groups.{Group}
-use Rattle.laws_stream_machine.specs.Refinement.{Purpose, Sent, purpose_of, asked_number, Opens, Checks, Seals, Reads, Confirms, Appends, Extends, IsAsked, Means}
+use Rattle.laws_stream_machine.specs.Refinement.{Purpose, Sent, purpose_of, asked_number, Opens, Checks, Seals, Reads, Confirms, Appends, Extends, IsAt, AsksToAppend, AsksToCheck, AsksToRead, AsksToSeal, OfExtent, IsAsked, Means}
 use Rattle.laws_stream_machine.proofs.ServerRequests.{same_request}
-use Rattle.laws_ranges.specs.Serves.{Side, IsPlain, after_turns, metadata_of, log_of, is_alone, sent_with, IsOwn, AreAsked, ServingIs, IsCounted, ServesLog, ServesLogIf, LogRule, IsServing, StageIs, Follows, Apart, BothListed, AreUnused, IsSentBy, FollowsIf, AskedOfBoth, RuleGoes, RuleTells}
-use Rattle.laws_loads.specs.Sound.{IsSound}
+use Rattle.laws_ranges.specs.Serves.{Side, IsPlain, after_turns, metadata_of, log_of, is_alone, sent_with, IsNumbered, IsOwn, AreAsked, ServingIs, IsCounted, ServesLog, ServesLogIf, IsServing, StageIs, Follows, Apart, BothListed, AreUnused, IsSentBy, FollowsIf, AskedOfBoth}
+use Rattle.laws_loads.specs.RangeView.{RangeView}
+use Rattle.laws_ranges.specs.Seen.{LogRule, RuleSees}
 use Rattle.laws_ranges.proofs.MachineSteps.{purposes_on, newest}
-use Rattle.laws_ranges.proofs.LogRules.{transact_goes, log_reply_goes}
+use Rattle.laws_ranges.proofs.LogRules.{reply_actions, transact_goes, log_reply_goes}
 
 -- ---- numbers
 
@@ -80,19 +82,27 @@ pub kinds_differ : (range : ℕ) → metadata_of range ≡ log_of range → ⊥
 kinds_differ range e = let z : kinds.Metadata ≡ kinds.Log = ap (λ (n : StreamName). n.kind) e in cc
 
 module _ (generation : ℕ → ℕ) (range : ℕ) (w : StreamSystem) (i : ℕ) (both : BothListed w range) where
-  -- a request about the log alone, as the metadata's machine sees it
+  -- a request about an extent of the log alone, and any about the log alone, as the metadata's machine sees it
+  other_extent : (s : machine.MachineState Group) (m l : List Sent) → Apart m l → (e : ℕ) (q : ReqNo) (Asks : ℕ → Type 0) → (index : ℕ) × IsAt w (log_of range) index e →
+      IsNumbered generation (log_of range) w i l q → OfExtent generation (metadata_of range) w s m e q Asks
+  other_extent s m l a e q Asks here number = record {
+    made = both.log.made here.0 e here.1;
+    unsealed = λ k at. absurd (both.apart k here.0 e at.0 here.1 at.1);
+    known = λ p for. let c : None ≡ Some p = sym (a.there q number.0 number.1 number.2) ∙ for in absurd cc;
+  }
+
   log_elsewhere : (s : machine.MachineState Group) (m l : List Sent) → Apart m l → (body : Body) → IsOwn generation (log_of range) w i l body → IsAsked generation (metadata_of range) w s m body
   log_elsewhere s m l a (bodies.Append (appends.Append e g blocks q)) b =
-      record { made = both.log.made b.0.0 e b.0.1; here = λ k at. absurd (both.apart k b.0.0 e at b.0.1); elsewhere = λ no_index. a.there q b.1.0 b.1.1 b.1.2 }
+      other_extent s m l a e q (λ index. AsksToAppend generation (metadata_of range) w s m g e index blocks q) b.0 b.1
   log_elsewhere s m l a (bodies.Append body) b = absurd b
   log_elsewhere s m l a (bodies.Check (checks.Check e g q)) b =
-      record { made = both.log.made b.0.0 e b.0.1; here = λ k at. absurd (both.apart k b.0.0 e at b.0.1); elsewhere = λ no_index. a.there q b.1.0 b.1.1 b.1.2 }
+      other_extent s m l a e q (λ index. AsksToCheck generation (metadata_of range) w s m g e index q) b.0 b.1
   log_elsewhere s m l a (bodies.Check body) b = absurd b
   log_elsewhere s m l a (bodies.Read (reads.ReadGroups e upto sealed q)) b =
-      record { made = both.log.made b.0.0 e b.0.1; here = λ k at. absurd (both.apart k b.0.0 e at b.0.1); elsewhere = λ no_index. a.there q b.1.0 b.1.1 b.1.2 }
+      other_extent s m l a e q (λ index. AsksToRead generation (metadata_of range) w s m e index upto q) b.0 b.1
   log_elsewhere s m l a (bodies.Read body) b = absurd b
   log_elsewhere s m l a (bodies.Seal (seals.SealExtent e q)) b =
-      record { made = both.log.made b.0.0 e b.0.1; here = λ k at. absurd (both.apart k b.0.0 e at b.0.1); elsewhere = λ no_index. a.there q b.1.0 b.1.1 b.1.2 }
+      other_extent s m l a e q (λ index. AsksToSeal generation (metadata_of range) w s m e index q) b.0 b.1
   log_elsewhere s m l a (bodies.Seal body) b = absurd b
   log_elsewhere s m l a (bodies.Stream (streams.Extend stream g last pick q)) b =
       record { here = λ same. absurd (kinds_differ range (sym same ∙ b.0)); elsewhere = λ other. a.there q b.1.0 b.1.1 b.1.2 }
@@ -129,20 +139,32 @@ module _ (generation : ℕ → ℕ) (range : ℕ) (w : StreamSystem) (i : ℕ) (
       go : (body : Body) → p.body ≡ body → asked_number body ≡ Some q → ⊥
       go (bodies.Append (appends.Append e g blocks v)) b t =
           let a = subst (IsAsked generation (log_of range) w s (Marked q (Opens i))) b (plain (log_of range) s (Marked q (Opens i))) in
-          let none = a.elsewhere (λ index there. (let y = a.here index there in let same : v ≡ q = cc in let k : Some (Opens i) ≡ Some (Appends y.i index y.append blocks) = sym (at (Opens i)) ∙ ap (purpose_of (Marked q (Opens i))) (sym same) ∙ y.for in cc)) in
-          let same : v ≡ q = cc in let k : Some (Opens i) ≡ None = sym (at (Opens i)) ∙ ap (purpose_of (Marked q (Opens i))) (sym same) ∙ none in cc
+          let same : v ≡ q = cc in
+          let here : purpose_of (Marked q (Opens i)) v ≡ Some (Opens i) = ap (purpose_of (Marked q (Opens i))) same ∙ at (Opens i) in
+          let (index, there, y) = a.known (Opens i) here in
+          let k : Some (Opens i) ≡ Some (Appends y.i index y.append blocks) = sym here ∙ y.for in
+          cc
       go (bodies.Check (checks.Check e g v)) b t =
           let a = subst (IsAsked generation (log_of range) w s (Marked q (Opens i))) b (plain (log_of range) s (Marked q (Opens i))) in
-          let none = a.elsewhere (λ index there. (let y = a.here index there in let same : v ≡ q = cc in let k : Some (Opens i) ≡ Some (Checks y.i index) = sym (at (Opens i)) ∙ ap (purpose_of (Marked q (Opens i))) (sym same) ∙ y.for in cc)) in
-          let same : v ≡ q = cc in let k : Some (Opens i) ≡ None = sym (at (Opens i)) ∙ ap (purpose_of (Marked q (Opens i))) (sym same) ∙ none in cc
+          let same : v ≡ q = cc in
+          let here : purpose_of (Marked q (Opens i)) v ≡ Some (Opens i) = ap (purpose_of (Marked q (Opens i))) same ∙ at (Opens i) in
+          let (index, there, y) = a.known (Opens i) here in
+          let k : Some (Opens i) ≡ Some (Checks y.i index) = sym here ∙ y.for in
+          cc
       go (bodies.Read (reads.ReadGroups e upto sealed v)) b t =
           let a = subst (IsAsked generation (log_of range) w s (Marked q (Opens i))) b (plain (log_of range) s (Marked q (Opens i))) in
-          let none = a.elsewhere (λ index there. (let y = a.here index there in let same : v ≡ q = cc in let k : Some (Opens i) ≡ Some (Reads y.i index upto) = sym (at (Opens i)) ∙ ap (purpose_of (Marked q (Opens i))) (sym same) ∙ y.for in cc)) in
-          let same : v ≡ q = cc in let k : Some (Opens i) ≡ None = sym (at (Opens i)) ∙ ap (purpose_of (Marked q (Opens i))) (sym same) ∙ none in cc
+          let same : v ≡ q = cc in
+          let here : purpose_of (Marked q (Opens i)) v ≡ Some (Opens i) = ap (purpose_of (Marked q (Opens i))) same ∙ at (Opens i) in
+          let (index, there, y) = a.known (Opens i) here in
+          let k : Some (Opens i) ≡ Some (Reads y.i index upto) = sym here ∙ y.for in
+          cc
       go (bodies.Seal (seals.SealExtent e v)) b t =
           let a = subst (IsAsked generation (log_of range) w s (Marked q (Opens i))) b (plain (log_of range) s (Marked q (Opens i))) in
-          let none = a.elsewhere (λ index there. (let y = a.here index there in let same : v ≡ q = cc in let k : Some (Opens i) ≡ Some (Seals y.i index) = sym (at (Opens i)) ∙ ap (purpose_of (Marked q (Opens i))) (sym same) ∙ y.for in cc)) in
-          let same : v ≡ q = cc in let k : Some (Opens i) ≡ None = sym (at (Opens i)) ∙ ap (purpose_of (Marked q (Opens i))) (sym same) ∙ none in cc
+          let same : v ≡ q = cc in
+          let here : purpose_of (Marked q (Opens i)) v ≡ Some (Opens i) = ap (purpose_of (Marked q (Opens i))) same ∙ at (Opens i) in
+          let (index, there, y) = a.known (Opens i) here in
+          let k : Some (Opens i) ≡ Some (Seals y.i index) = sym here ∙ y.for in
+          cc
       go (bodies.Stream (streams.OpenStreams r g v)) b t =
           let a = subst (IsAsked generation (log_of range) w s (Marked q (Checks i 0))) b (plain (log_of range) s (Marked q (Checks i 0))) in
           let none = a.elsewhere (λ here. (let y = a.here here in let same : v ≡ q = cc in let k : Some (Checks i 0) ≡ Some (Opens y.i) = sym (at (Checks i 0)) ∙ ap (purpose_of (Marked q (Checks i 0))) (sym same) ∙ y.for in cc)) in
@@ -180,7 +202,6 @@ module _ (generation : ℕ → ℕ) (range : ℕ) (w : StreamSystem) (i : ℕ) (
         metadata_idle = ap (λ z. z.job) same.1 ∙ b.metadata_idle;
         log = served.client;
         out = served.out;
-        next = served.next;
       } in
       record {
         range_is = ap (λ z. z.range) same.0 ∙ f.range_is;
@@ -188,9 +209,9 @@ module _ (generation : ℕ → ℕ) (range : ℕ) (w : StreamSystem) (i : ℕ) (
         stage = subst (λ z. StageIs generation range w i m k after z) (sym served.stage) serving;
       }
 
-  pub tells_of_log : (m l : Side) (d : ServerContext) (r : RangeState) (o : RangeOutcome) → IsSentBy d d.count m.sent l.sent → Follows generation range w i m l r → IsServing generation range w i m l r → Keeps r o.after →
-      LogRule generation range w i l.stand l.sent d o → RuleTells generation range w i m l d o
-  tells_of_log m l d r o by f b keeps rule =
+  pub sees_of_log : (v : RangeView) (m l : Side) (d : ServerContext) (r : RangeState) (o : RangeOutcome) (done : List StreamAction) → IsSentBy d d.count m.sent l.sent → Follows generation range w i m l r → IsServing generation range w i m l r → Keeps r o.after →
+      LogRule generation range w i l.stand l.sent d o done → RuleSees generation i range w v m l d o done
+  sees_of_log v m l d r o done by f b keeps rule =
       let sent : List Sent = sent_with (request d) rule.purpose l.sent in
       let k : Side = record { stand = after_turns generation i l.stand rule.list; sent = sent } in
       let apart : Apart m.sent sent = apart_on m.sent l.sent (request d) rule.purpose by.apart (by.metadata d.count (omega arith)) in
@@ -213,13 +234,8 @@ module _ (generation : ℕ → ℕ) (range : ℕ) (w : StreamSystem) (i : ℕ) (
           asked = asked_of_both m k apart o.packets rule.asked;
         };
         unformed = tt;
-        fit = rule.fit;
-        shown = rule.shown;
+        seen = rule.seen v m.stand;
       }
-
-  pub rule_of_log : (m l : Side) (d : ServerContext) (r : RangeState) (o : RangeOutcome) → IsSentBy d d.count m.sent l.sent → Follows generation range w i m l r → IsServing generation range w i m l r → Keeps r o.after →
-      LogRule generation range w i l.stand l.sent d o → RuleGoes generation range w i m l d o
-  rule_of_log m l d r o by f b keeps rule = (tells_of_log m l d r o by f b keeps rule).goes
 
   keeps_some : (r after : RangeState) → after.load ≡ r.load → after.metadata ≡ r.metadata → Keeps r (Some after)
   keeps_some r after a b = record { keeps = λ z e. (let same : after ≡ z = cc in (subst (λ v. v.load ≡ r.load) same a, subst (λ v. v.metadata ≡ r.metadata) same b)) }
@@ -277,19 +293,19 @@ module _ (generation : ℕ → ℕ) (range : ℕ) (w : StreamSystem) (i : ℕ) (
     is_served = subst (λ z. StageIs generation range w i m l r z) stage f.stage
 
     served_log : ServesLog generation range w i l.stand l.sent r
-    served_log = record { range_is = f.range_is; under = f.under; client = is_served.log; out = is_served.out; stage = stage; next = is_served.next }
+    served_log = record { range_is = f.range_is; under = f.under; client = is_served.log; out = is_served.out; stage = stage }
 
-    -- a transaction
-    pub transact_tells : IsSound r → (from : ActorId) (v : ReqNo) (changes : List Change) → RuleTells generation range w i m l d (transact_rule d r from v changes)
-    transact_tells sound from v changes =
-        tells_of_log m l d r (transact_rule d r from v changes) by f is_served (transacts_keep d r from v changes (transact_fault d r changes))
-        (transact_goes generation range w i both.log d l.stand l.sent (by.log d.count (omega arith)) r from v changes served_log sound)
+    module _ (view : RangeView) where
+      -- a transaction
+      pub transact_served : (from : ActorId) (v : ReqNo) (changes : List Change) →
+          RuleSees generation i range w view m l d (transact_rule d r from v changes) (transact_actions r (transact_rule d r from v changes))
+      transact_served from v changes =
+          sees_of_log view m l d r (transact_rule d r from v changes) (transact_actions r (transact_rule d r from v changes)) by f is_served (transacts_keep d r from v changes (transact_fault d r changes))
+          (transact_goes generation range w i both.log d l.stand l.sent (by.log d.count (omega arith)) r from v changes served_log)
 
-    -- an answer to its log, which means what it says
-    pub log_reply_tells : IsSound r → IsCounted i l.stand → (body : Body) → Means generation (log_of range) w l.stand.state l.sent body → RuleTells generation range w i m l d (log_reply d r body)
-    log_reply_tells sound counted body means =
-        tells_of_log m l d r (log_reply d r body) by f is_served (reply_keeps d r body stage)
-        (log_reply_goes generation range w i both.log d l.sent (by.log d.count (omega arith)) l.stand r counted served_log sound body means)
-
-    pub log_reply_both : IsSound r → IsCounted i l.stand → (body : Body) → Means generation (log_of range) w l.stand.state l.sent body → RuleGoes generation range w i m l d (log_reply d r body)
-    log_reply_both sound counted body means = (log_reply_tells sound counted body means).goes
+      -- an answer to its log, which means what it says
+      pub log_reply_served : IsCounted i l.stand → (body : Body) → Means generation (log_of range) w l.stand.state l.sent body →
+          RuleSees generation i range w view m l d (log_reply d r body) (reply_actions d r body (log_reply d r body))
+      log_reply_served counted body means =
+          sees_of_log view m l d r (log_reply d r body) (reply_actions d r body (log_reply d r body)) by f is_served (reply_keeps d r body stage)
+          (log_reply_goes generation range w i both.log d l.sent (by.log d.count (omega arith)) l.stand r counted served_log body means)

@@ -15,7 +15,7 @@ use Rattle.model_partition.specs.StreamMachine as machine
 use Rattle.model_partition.specs.Story.{Copy}
 use Rattle.model_partition.specs.Loading.{read_of}
 use Rattle.laws_stream_machine.specs.Refinement.{Sent, purpose_of}
-use Rattle.laws_ranges.specs.Serves.{Stand, LastIs, Readable, WasSealed, WasFound, WasShut, LoadsBy, LoadingIs, UnreadIs, ConfirmingIs, LoadOf, OfSealed, OfStood, Listed, Goes}
+use Rattle.laws_ranges.specs.Serves.{Stand, known, LastIs, Readable, WasSealed, WasFound, WasShut, LoadsBy, LoadingIs, UnreadIs, ConfirmingIs, LoadOf, OfSealed, OfStood, Listed, Goes}
 use Rattle.laws_ranges.proofs.ClientAsks.{some_last}
 use Rattle.laws_ranges.proofs.LoadTurns.{checks_goes}
 use Rattle.laws_ranges.proofs.ReadInTurn.{read_goes}
@@ -79,6 +79,7 @@ module _ (generation : ℕ → ℕ) (name : StreamName) (w : StreamSystem) (i : 
         stands = b.stands;
         for = b.for;
         fact = b.fact;
+        ends = b.ends;
       }
 
   -- a client that has no job is the one with no job
@@ -101,10 +102,10 @@ module _ (generation : ℕ → ℕ) (name : StreamName) (w : StreamSystem) (i : 
       let before : ClientState = record c { pick = d.pick; job = jobs.Idle } in
       let unread : UnreadIs generation name w i x sent before = picked_unread generation name w i x sent (record c { job = jobs.Idle }) d.pick (idle_unread generation name w i x sent c b.idle b) in
       let inside : 0 < length c.extents = some_last c z e in
-      let last : LastIs before z.extent (length c.extents - 1) =
+      let last : LastIs before z.extent (known c - 1) =
       record { places = z.places; last = e ∙ ap (λ k. Some (record z { length = k })) none; index_is = omega (arith, inside) } in
       let went : LoadsTo (checks_last before z.extent z.places (request d)) =
-      checks_goes generation name w i listed sent (request d) fresh x before z.extent (length c.extents - 1) z.places unread last in
+      checks_goes generation name w i listed sent (request d) fresh x before z.extent (known c - 1) z.places unread last in
       subst (λ j. LoadsTo (given (record c { pick = d.pick; job = j }) (check_rule (record c { pick = d.pick; job = j }) (request d)))) (sym b.idle)
       (subst (λ o. LoadsTo (given before (check_at before (request d) o))) (sym e)
       (subst (λ k. LoadsTo (given before (check_behind before (request d) z k))) (sym none) went))

@@ -11,7 +11,8 @@ use Rattle.replica.specs.Groups.{Group}
 use Rattle.laws_loads.proofs.Renaming.{more_length}
 use Rattle.laws_stream_machine.specs.Refinement.{Sent, IsAt, extents_in}
 use Rattle.laws_stream_machine.proofs.MachineCore.{pushed_get}
-use Rattle.laws_ranges.specs.Serves.{Stand, LastIs, is_live, IsTold}
+use Rattle.laws_ranges.specs.Serves.{Stand, known, LastIs, is_live, IsTold}
+use Rattle.laws_ranges.proofs.ClientAsks.{some_last}
 
 set_length : {A : Type 0} (xs : List A) (k : ℕ) (y : A) → length (slice_set xs k y) ≡ length xs
 set_length {A} [] k y = refl
@@ -52,7 +53,8 @@ module _ (c : ClientState) (e index l : ℕ) (last : LastIs c e index) where
 
   pub sealed_end : last_extent (sealed_last c.extents l) ≡ Some (closed e last.places l)
   sealed_end =
-      let inside : length c.extents - 1 < length c.extents = omega (arith, last.index_is) in
+      let some : 0 < length c.extents = some_last c _ last.last in
+      let inside : length c.extents - 1 < length c.extents = omega (arith, some) in
       subst (λ k. slice_get (sealed_last c.extents l) (k - 1) ≡ Some (closed e last.places l)) (sym sealed_length)
       (subst (λ zs. slice_get zs (length c.extents - 1) ≡ Some (closed e last.places l)) (sym sealed_is) (set_at c.extents (length c.extents - 1) (closed e last.places l) inside))
 
@@ -65,8 +67,10 @@ module _ (generation : ℕ → ℕ) (name : StreamName) (w : StreamSystem) (i : 
         stream = told.stream;
         under = told.under;
         tells = record {
-          base = told.tells.base;
-          known = subst (λ k. k ≤ length (extents_in w name)) (sym (sealed_length c e index l last)) told.tells.known;
+          left = told.tells.left;
+          whole = told.tells.whole;
+          ends = λ none. told.tells.ends (sym (sealed_length c e index l last) ∙ none);
+          known = subst (λ k. c.base + k ≤ length (extents_in w name)) (sym (sealed_length c e index l last)) told.tells.known;
           are = are;
           sealed = lengths;
           unsealed = open_ones;
@@ -76,22 +80,25 @@ module _ (generation : ℕ → ℕ) (name : StreamName) (w : StreamSystem) (i : 
       k : ℕ
       k = length c.extents - 1
 
-      k_is : k ≡ index
-      k_is = omega (arith, last.index_is)
+      inside : 0 < length c.extents
+      inside = some_last c _ last.last
+
+      k_is : c.base + k ≡ index
+      k_is = omega (arith, inside, last.index_is)
 
       found : (j : ℕ) (z : StreamExtent) → slice_get (sealed_last c.extents l) j ≡ Some z → ((j ≡ k) × (z ≡ closed e last.places l)) ⊎ (slice_get c.extents j ≡ Some z)
       found j z t = set_get c.extents k (closed e last.places l) j z (subst (λ zs. slice_get zs j ≡ Some z) (sealed_is c e index l last) t)
 
-      are : (j : ℕ) (z : StreamExtent) → slice_get (sealed_last c.extents l) j ≡ Some z → IsAt w name j z.extent
-      are j z t = ⊎_elim {C = IsAt w name j z.extent}
-          (λ p. subst (λ v. IsAt w name j v.extent) (sym p.1) (subst (λ v. IsAt w name v e) (sym p.0) (told.tells.are k _ last.last)))
+      are : (j : ℕ) (z : StreamExtent) → slice_get (sealed_last c.extents l) j ≡ Some z → IsAt w name (c.base + j) z.extent
+      are j z t = ⊎_elim {C = IsAt w name (c.base + j) z.extent}
+          (λ p. subst (λ v. IsAt w name (c.base + j) v.extent) (sym p.1) (subst (λ v. IsAt w name (c.base + v) e) (sym p.0) (told.tells.are k _ last.last)))
           (λ p. told.tells.are j z p) (found j z t)
 
       lengths : (j : ℕ) (z : StreamExtent) (m : ℕ) → slice_get (sealed_last c.extents l) j ≡ Some z → z.length ≡ Some m →
-          (v : machine.SealedExtent Group) × (machine.shut_at j x.state.core.shut ≡ Some v) × (v.end ≡ machine.base j + m)
-      lengths j z m t is = ⊎_elim {C = (v : machine.SealedExtent Group) × (machine.shut_at j x.state.core.shut ≡ Some v) × (v.end ≡ machine.base j + m)}
+          (v : machine.SealedExtent Group) × (machine.shut_at (c.base + j) x.state.core.shut ≡ Some v) × (v.end ≡ machine.base (c.base + j) + m)
+      lengths j z m t is = ⊎_elim {C = (v : machine.SealedExtent Group) × (machine.shut_at (c.base + j) x.state.core.shut ≡ Some v) × (v.end ≡ machine.base (c.base + j) + m)}
           (λ p.
-          (let at : j ≡ index = p.0 ∙ k_is in
+          (let at : c.base + j ≡ index = ap (λ v. c.base + v) p.0 ∙ k_is in
           let same : Some l ≡ Some m = sym (ap (λ (v : StreamExtent). v.length) p.1) ∙ is in
           let lm : l ≡ m = (cc) in
           (y, subst (λ v. machine.shut_at v x.state.core.shut ≡ Some y) (sym at) shut, subst (λ v. y.end ≡ machine.base v + m) (sym at) (subst (λ v. y.end ≡ machine.base index + v) lm end))))
@@ -103,15 +110,17 @@ module _ (generation : ℕ → ℕ) (name : StreamName) (w : StreamSystem) (i : 
           (λ p. told.tells.unsealed j z p none ∙ sym (sealed_length c e index l last)) (found j z t)
 
   -- where no extent is open, one more is told
-  pub told_more : (c : ClientState) (e : ℕ) (places : Nodes) → IsTold generation name w i x sent c → is_live (last_extent c.extents) ≡ false → IsAt w name (length c.extents) e →
+  pub told_more : (c : ClientState) (e : ℕ) (places : Nodes) → IsTold generation name w i x sent c → is_live (last_extent c.extents) ≡ false → IsAt w name (known c) e →
       IsTold generation name w i x sent (record c { extents = c.extents ++ record { extent = e; places = places; length = None } ∷ []; checked = None })
   told_more c e places told all_sealed at =
       record {
         stream = told.stream;
         under = told.under;
         tells = record {
-          base = told.tells.base;
-          known = (let inside : length c.extents < length (extents_in w name) = slice_get_within (extents_in w name) (length c.extents) e at in omega (arith, more_length c.extents new, inside));
+          left = told.tells.left;
+          whole = told.tells.whole;
+          ends = λ none. absurd (omega (arith, none, more_length c.extents new));
+          known = (let inside : known c < length (extents_in w name) = slice_get_within (extents_in w name) (known c) e at in omega (arith, more_length c.extents new, inside));
           are = are;
           sealed = lengths;
           unsealed = open_ones;
@@ -121,14 +130,14 @@ module _ (generation : ℕ → ℕ) (name : StreamName) (w : StreamSystem) (i : 
       new : StreamExtent
       new = record { extent = e; places = places; length = None }
 
-      are : (j : ℕ) (z : StreamExtent) → slice_get (c.extents ++ new ∷ []) j ≡ Some z → IsAt w name j z.extent
-      are j z t = ⊎_elim {C = IsAt w name j z.extent}
+      are : (j : ℕ) (z : StreamExtent) → slice_get (c.extents ++ new ∷ []) j ≡ Some z → IsAt w name (c.base + j) z.extent
+      are j z t = ⊎_elim {C = IsAt w name (c.base + j) z.extent}
           (λ p. told.tells.are j z p)
-          (λ p. subst (λ v. IsAt w name j v.extent) (sym p.1) (subst (λ v. IsAt w name v e) (sym p.0) at)) (pushed_get c.extents new j z t)
+          (λ p. subst (λ v. IsAt w name (c.base + j) v.extent) (sym p.1) (subst (λ v. IsAt w name (c.base + v) e) (sym p.0) at)) (pushed_get c.extents new j z t)
 
       lengths : (j : ℕ) (z : StreamExtent) (m : ℕ) → slice_get (c.extents ++ new ∷ []) j ≡ Some z → z.length ≡ Some m →
-          (v : machine.SealedExtent Group) × (machine.shut_at j x.state.core.shut ≡ Some v) × (v.end ≡ machine.base j + m)
-      lengths j z m t is = ⊎_elim {C = (v : machine.SealedExtent Group) × (machine.shut_at j x.state.core.shut ≡ Some v) × (v.end ≡ machine.base j + m)}
+          (v : machine.SealedExtent Group) × (machine.shut_at (c.base + j) x.state.core.shut ≡ Some v) × (v.end ≡ machine.base (c.base + j) + m)
+      lengths j z m t is = ⊎_elim {C = (v : machine.SealedExtent Group) × (machine.shut_at (c.base + j) x.state.core.shut ≡ Some v) × (v.end ≡ machine.base (c.base + j) + m)}
           (λ p. told.tells.sealed j z m p is)
           (λ p. (let same : None ≡ Some m = sym (ap (λ (v : StreamExtent). v.length) p.1) ∙ is in absurd (cc))) (pushed_get c.extents new j z t)
 

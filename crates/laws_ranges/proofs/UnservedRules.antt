@@ -1,5 +1,5 @@
--- Rows that leave a range unserved show nothing, and their turns are quiet.
-use Rattle.std.proofs.Common.{◌≡◌, ℕ, List, [], false, Option, Some, None, refl, sym, subst}
+-- The turns of rules that leave a range unserved are quiet.
+use Rattle.std.proofs.Common.{◌≡◌, ℕ, List, false, Option, Some, None, refl, sym, subst}
 use Rattle.wire.specs.declared.streams.StreamKind.TheVariants as kinds
 use Rattle.wire.specs.declared.streams.StreamName.{StreamName}
 use Rattle.replica.specs.Groups.{Group}
@@ -13,10 +13,10 @@ use Rattle.model_partition.specs.declared.stage.Stage.TheVariants as stages
 use Rattle.model_partition.specs.Range.{RangeState, RangeOutcome, is_serving}
 use Rattle.model_partition.specs.ServerTurns as turns
 use Rattle.laws_stream_machine.specs.Refinement.{Sent}
-use Rattle.laws_ranges.specs.Serves.{Stand, Side, after_turns, AreShown, AreUnformed, metadata_of, log_of, Readable, WasSealed, WasFound, WasShut, LoadsBy, StageIs, Follows, FollowsIf, RuleGoes, RuleTells}
-use Rattle.laws_ranges.specs.Quiet.{IsLoading, AreQuiet}
+use Rattle.laws_ranges.specs.Serves.{Stand, Side, after_turns, metadata_of, log_of, Readable, WasSealed, WasFound, WasShut, LoadsBy, StageIs, Follows, FollowsIf, RuleGoes}
+use Rattle.laws_ranges.specs.Quiet.{IsLoading, AreQuiet, GoesQuietly}
 use Rattle.laws_loads.specs.StaysLoading.{Stays, IsUnserved}
-use Rattle.laws_ranges.proofs.QuietTurns.{quiet_fit, quiet_shown, quiet_unformed, loading_quiet}
+use Rattle.laws_ranges.proofs.QuietTurns.{loading_quiet}
 use Rattle.laws_loads.proofs.WaitingStays.{stays_unserved}
 
 -- ---- a range that is not served stands in its load
@@ -76,30 +76,10 @@ module _ (generation : ℕ → ℕ) (range : ℕ) (w : StreamSystem) (i : ℕ) w
 
   -- ---- rules
 
-  module _ (m l : Side) (d : ServerContext) (o : RangeOutcome) (goes : RuleGoes generation range w i m l d o) (silent : o.notes ≡ []) where
-    -- turns that are quiet show nothing
-    pub quiet_tells : AreQuiet goes.log_turns → AreUnformed goes.metadata_turns → RuleTells generation range w i m l d o
-    quiet_tells quiet unformed =
-        record {
-          goes = goes;
-          unformed = unformed;
-          fit = quiet_fit generation i l.stand goes.log_turns quiet;
-          shown = subst (λ z. AreShown generation i range l.stand goes.log_turns z) (sym silent) (quiet_shown generation i range l.stand goes.log_turns quiet);
-        }
-
-    -- where there is no turn, nothing is shown
-    pub no_turn_tells : goes.metadata_turns ≡ [] → goes.log_turns ≡ [] → RuleTells generation range w i m l d o
-    no_turn_tells one none = quiet_tells (subst (λ ts. AreQuiet ts) (sym none) tt) (subst (λ ts. AreUnformed ts) (sym one) tt)
-
-    -- up to where the incarnation is in its load, nothing is shown
-    pub loading_tells : IsLoading (after_turns generation i m.stand goes.metadata_turns).phase → IsLoading (after_turns generation i l.stand goes.log_turns).phase → RuleTells generation range w i m l d o
-    loading_tells metadata loading =
-        quiet_tells (loading_quiet generation i l.stand goes.log_turns goes.log_allowed loading)
-        (quiet_unformed goes.metadata_turns (loading_quiet generation i m.stand goes.metadata_turns goes.metadata_allowed metadata))
-
-    -- a rule that drops the range or leaves it unserved shows nothing
-    pub unserved_tells : IsUnserved o.after → RuleTells generation range w i m l d o
-    unserved_tells unserved = go o.after refl unserved
+  module _ (m l : Side) (d : ServerContext) (o : RangeOutcome) where
+    -- the turns of a rule that drops the range or leaves it unserved are quiet
+    pub unserved_quietly : RuleGoes generation range w i m l d o → IsUnserved o.after → GoesQuietly generation range w i m l d o
+    unserved_quietly goes unserved = go o.after refl unserved
       where
         n : Side
         n = record { stand = after_turns generation i m.stand goes.metadata_turns; sent = goes.metadata_sent }
@@ -107,12 +87,21 @@ module _ (generation : ℕ → ℕ) (range : ℕ) (w : StreamSystem) (i : ℕ) w
         k : Side
         k = record { stand = after_turns generation i l.stand goes.log_turns; sent = goes.log_sent }
 
-        go : (a : Option RangeState) → o.after ≡ a → IsUnserved a → RuleTells generation range w i m l d o
-        go None e u = no_turn_tells ((goes.none e).0) ((goes.none e).1)
+        go : (a : Option RangeState) → o.after ≡ a → IsUnserved a → GoesQuietly generation range w i m l d o
+        go None e u =
+            record {
+              goes = goes;
+              metadata = subst (λ ts. AreQuiet ts) (sym (goes.none e).0) tt;
+              log = subst (λ ts. AreQuiet ts) (sym (goes.none e).1) tt;
+            }
         go (Some r) e u =
             let f : Follows generation range w i n k r = subst (λ z. FollowsIf generation range w i z n k) e goes.then in
-            loading_tells (unserved_metadata n k r f u) (unserved_loading n k r f u)
+            record {
+              goes = goes;
+              metadata = loading_quiet generation i m.stand goes.metadata_turns goes.metadata_allowed (unserved_metadata n k r f u);
+              log = loading_quiet generation i l.stand goes.log_turns goes.log_allowed (unserved_loading n k r f u);
+            }
 
-  -- a rule that leaves a range unserved, or drops it, and shows nothing
-  pub stays_tells : (m l : Side) (d : ServerContext) (r : RangeState) (o : RangeOutcome) → RuleGoes generation range w i m l d o → is_serving r.stage ≡ false → Stays r o → RuleTells generation range w i m l d o
-  stays_tells m l d r o goes unserved s = unserved_tells m l d o goes s.1 (stays_unserved r o unserved s)
+  -- so are those of a rule that leaves a range unserved, or drops it, and shows nothing
+  pub stays_quietly : (m l : Side) (d : ServerContext) (r : RangeState) (o : RangeOutcome) → RuleGoes generation range w i m l d o → is_serving r.stage ≡ false → Stays r o → GoesQuietly generation range w i m l d o
+  stays_quietly m l d r o goes unserved s = unserved_quietly m l d o goes (stays_unserved r o unserved s)

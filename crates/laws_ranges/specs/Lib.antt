@@ -1,2 +1,3 @@
 pub mod Serves
 pub mod Quiet
+pub mod Seen

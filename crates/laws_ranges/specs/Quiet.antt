@@ -1,14 +1,21 @@
--- Turns that no user of a stream sees, and steps of a client that make no others but for its append.
-use Rattle.std.specs.Prelude.{◌≡◌, ℕ, List, [], ◌∷◌, Option, Some, None}
+-- Turns that no user of a stream sees, actions that add nothing to its story, and steps of a client that make no other turns but
+-- for its append.
+use Rattle.std.specs.Prelude.{◌≡◌, ℕ, ◌+◌, List, [], ◌∷◌, Option, Some, None}
+use Rattle.block_types.specs.Limits.{group_size}
 use Rattle.replica.specs.Groups.{Group}
 use Rattle.client.specs.declared.job.News.{News}
 use Rattle.client.specs.declared.job.News.TheVariants as news
 use Rattle.commitlog.specs.Record.{spelling}
-use Rattle.model_partition.specs.Range.{OutGroup}
+use Rattle.client.specs.Client.{ClientState}
+use Rattle.model_streams.specs.StreamSystem.{StreamSystem}
+use Rattle.model_partition.specs.declared.server_context.ServerContext.{ServerContext}
+use Rattle.model_partition.specs.Range.{OutGroup, RangeOutcome}
+use Rattle.model_partition.specs.ServerRun.{place_number}
 use Rattle.model_partition.specs.Serving.{record_of}
 use Rattle.model_partition.specs.Story.{Copy}
+use Rattle.model_partition.specs.StreamActions.{StreamAction, Reads, Forms, Stands, Shows, last_position}
 use Rattle.model_partition.specs.ServerTurns as turns
-use Rattle.laws_ranges.specs.Serves.{Stand, group_in}
+use Rattle.laws_ranges.specs.Serves.{Stand, Side, group_in, RuleGoes}
 
 abbrev pub IsQuiet : turns.Turn Group → Type 0
 IsQuiet turns.Assigned = Unit {0}
@@ -26,6 +33,23 @@ abbrev pub AreQuiet : List (turns.Turn Group) → Type 0
 AreQuiet [] = Unit {0}
 AreQuiet (t ∷ earlier) = IsQuiet t × AreQuiet earlier
 
+-- a rule whose turns are quiet, on both streams of a range
+pub record GoesQuietly (generation : ℕ → ℕ) (range : ℕ) (w : StreamSystem) (i : ℕ) (m l : Side) (d : ServerContext) (o : RangeOutcome) : Type 0 where
+  pub goes : RuleGoes generation range w i m l d o
+  pub metadata : AreQuiet goes.metadata_turns
+  pub log : AreQuiet goes.log_turns
+
+-- nothing but an extent is read
+abbrev pub IsRead : StreamAction → Type 0
+IsRead (Reads kind read) = Unit {0}
+IsRead (Forms kind group) = ⊥
+IsRead (Stands kind extent at group) = ⊥
+IsRead (Shows start log_end metadata_end) = ⊥
+
+abbrev pub AreReads : List StreamAction → Type 0
+AreReads [] = Unit {0}
+AreReads (action ∷ earlier) = IsRead action × AreReads earlier
+
 -- an Append is out
 pub record IsSent (phase : turns.Phase Group) : Type 0 where
   pub n : ℕ
@@ -33,12 +57,14 @@ pub record IsSent (phase : turns.Phase Group) : Type 0 where
   pub group : Group
   pub is : phase ≡ turns.Sent n append group
 
--- the group that is out is answered, and nothing else happens
-pub record AppendsOnly (x : Stand) (list : List (turns.Turn Group)) : Type 0 where
+-- the group that is out is answered, at an offset of the last extent that the client knows, and nothing else happens
+pub record AppendsOnly (c : ClientState) (offset : ℕ) (x : Stand) (list : List (turns.Turn Group)) : Type 0 where
   pub from : ℕ
   pub to : ℕ
   pub only : list ≡ turns.AppendedAt from to ∷ []
   pub sent : IsSent x.phase
+  pub begins : from ≡ place_number (last_position c offset)
+  pub ends : to ≡ from + group_size sent.group
 
 -- a group is formed, and nothing else happens
 abbrev pub FormsOnly : Group → Stand → List (turns.Turn Group) → Type 0
@@ -52,13 +78,13 @@ abbrev pub Quietly : Stand → List (turns.Turn Group) → Type 0
 Quietly = λ x list. AreQuiet list
 
 -- the turns of a step of a client, by what it tells
-abbrev pub MadeBy : Option News → Stand → List (turns.Turn Group) → Type 0
-MadeBy None = λ x list. AreQuiet list
-MadeBy (Some news.Fenced) = λ x list. AreQuiet list
-MadeBy (Some (news.Appended e offset)) = λ x list. AppendsOnly x list
-MadeBy (Some (news.Checked e found)) = λ x list. AreQuiet list
-MadeBy (Some (news.Sealed e l)) = λ x list. AreQuiet list
-MadeBy (Some (news.Content e upto)) = λ x list. AreQuiet list
+abbrev pub MadeBy : ClientState → Option News → Stand → List (turns.Turn Group) → Type 0
+MadeBy c None = λ x list. AreQuiet list
+MadeBy c (Some news.Fenced) = λ x list. AreQuiet list
+MadeBy c (Some (news.Appended e offset)) = λ x list. AppendsOnly c offset x list
+MadeBy c (Some (news.Checked e found)) = λ x list. AreQuiet list
+MadeBy c (Some (news.Sealed e l)) = λ x list. AreQuiet list
+MadeBy c (Some (news.Content e upto)) = λ x list. AreQuiet list
 
 -- the group whose Append is out is that of the transactions that are out
 pub record OutStands (x : Stand) (out : Option OutGroup) : Type 0 where

@@ -1,6 +1,6 @@
 -- What a server's client of one stream has to do with one incarnation of the machine of the stream: where it stands in the
 -- load, and in its append job.
-use Rattle.std.specs.Prelude.{◌≡◌, ◌⊎◌, ℕ, suc, ◌+◌, ◌≤◌, Bool, true, false, not, List, [], ◌∷◌, ◌++◌, length, map, Option, Some, None, is_some}
+use Rattle.std.specs.Prelude.{◌≡◌, ◌⊎◌, ℕ, suc, ◌+◌, ◌≤◌, Bool, true, false, not, List, [], ◌∷◌, ◌++◌, length, Option, Some, None, is_some}
 use Rattle.block_types.specs.declared.record.Nodes.{Nodes}
 use Rattle.wire.specs.declared.actor.ReqNo.{ReqNo}
 use Rattle.wire.specs.declared.actor.ReqNo.TheVariants as requests
@@ -22,24 +22,19 @@ use Rattle.client.specs.declared.job.News.{News}
 use Rattle.client.specs.declared.job.News.TheVariants as news
 use Rattle.client.specs.declared.load.LoadPhase.TheVariants as phases
 use Rattle.client.specs.Client.{ClientState, last_extent}
-use Rattle.commitlog.specs.declared.log_record.LogRecord.{LogRecord}
-use Rattle.commitlog.specs.Record.{spelling, Fits}
-use Rattle.memtable.specs.Entries.{Entries}
-use Rattle.metadata.specs.declared.record.IndexRange.{IndexRange}
+use Rattle.commitlog.specs.Record.{spelling}
+use Rattle.model_streams.specs.Manager.{sealed_lengths}
 use Rattle.model_streams.specs.StreamSystem.{StreamSystem}
 use Rattle.model_partition.specs.declared.server_context.ServerContext.{ServerContext}
 use Rattle.model_partition.specs.declared.stage.Stage.{Stage}
 use Rattle.model_partition.specs.declared.stage.Stage.TheVariants as stages
-use Rattle.model_partition.specs.declared.table_note.TableNote.{TableNote}
-use Rattle.model_partition.specs.declared.table_note.TableNote.TheVariants as notes
-use Rattle.model_partition.specs.Log.{next_number, line_shown}
-use Rattle.model_partition.specs.Past.{Transaction}
-use Rattle.model_partition.specs.Range.{OutGroup, RangeState, RangeOutcome, request}
+use Rattle.model_partition.specs.Range.{OutGroup, RangeState, RangeOutcome}
+use Rattle.model_partition.specs.ServerRun.{place_number}
 use Rattle.model_partition.specs.Serving.{record_of}
-use Rattle.model_partition.specs.Story.{Copy, placed}
+use Rattle.model_partition.specs.Story.{Copy}
+use Rattle.model_partition.specs.StreamActions.{read_end}
 use Rattle.model_partition.specs.StreamMachine as machine
 use Rattle.model_partition.specs.ServerTurns as turns
-use Rattle.model_partition.specs.Renaming.{renamed, renamed_copy, decoded}
 use Rattle.laws_stream_machine.specs.Refinement.{Purpose, Sent, purpose_of, asked_number, extents_in, Opens, Checks, Seals, Reads, Confirms, Appends, Extends, Tells, IsAt, IsAsked}
 
 -- ---- turns of one incarnation
@@ -67,37 +62,10 @@ module _ (generation : ℕ → ℕ) (i : ℕ) where
   AreTurns x (t ∷ earlier) =
       turns.IsTurn Group generation (after_turns x earlier).state i (after_turns x earlier).phase t × AreTurns x earlier
 
--- ---- what the turns of a log show
-
--- transactions that begin, and that are acknowledged, from a number on
-abbrev pub begun_notes : ℕ → ℕ → ℕ → List Transaction → List TableNote
-begun_notes range g s [] = []
-begun_notes range g s (t ∷ ts) = notes.Began range g s t ∷ begun_notes range g (suc s) ts
-
-abbrev pub done_notes : ℕ → ℕ → ℕ → List Transaction → List TableNote
-done_notes range g s [] = []
-done_notes range g s (t ∷ ts) = notes.Done range g s ∷ done_notes range g (suc s) ts
-
 -- the group whose Append is out
 abbrev pub group_in : turns.Phase Group → Group
 group_in (turns.Sent n append group) = group
 group_in phase = []
-
--- one loaded table, with this next number
-pub record IsLoaded (range g next : ℕ) (shown : List TableNote) : Type 0 where
-  pub entries : Entries
-  pub indexes : List IndexRange
-  pub is : shown ≡ notes.Loaded range g entries indexes next ∷ []
-
--- the number after the line that a load makes of these copies
-abbrev pub next_behind : List (Copy Group) → ℕ
-next_behind read = suc (length (line_shown (map placed (map (renamed_copy decoded) read))))
-
--- the blocks are a record's
-pub record IsSpelled (group : Group) : Type 0 where
-  pub written : LogRecord
-  pub fits : Fits written
-  pub is : group ≡ spelling written
 
 -- no group is formed
 abbrev pub IsUnformed : turns.Turn Group → Type 0
@@ -107,30 +75,6 @@ IsUnformed turn = Unit {0}
 abbrev pub AreUnformed : List (turns.Turn Group) → Type 0
 AreUnformed [] = Unit {0}
 AreUnformed (turn ∷ earlier) = IsUnformed turn × AreUnformed earlier
-
-module _ (generation : ℕ → ℕ) (i : ℕ) where
-  -- a group is a record with the numbers that come next, and a load shows all that stands
-  abbrev pub IsFit : Stand → turns.Turn Group → Type 0
-  IsFit x (turns.Forms group) = ((decoded group).first ≡ next_number (renamed decoded x.state.story) (generation i)) × IsSpelled group
-  IsFit x (turns.ConfirmedIs start end read) = start ≡ 0
-  IsFit x turn = Unit {0}
-
-  abbrev pub AreFit : Stand → List (turns.Turn Group) → Type 0
-  AreFit x [] = Unit {0}
-  AreFit x (t ∷ earlier) = IsFit (after_turns generation i x earlier) t × AreFit x earlier
-
-  abbrev pub IsShown : ℕ → Stand → turns.Turn Group → List TableNote → Type 0
-  IsShown range x (turns.Forms group) shown = shown ≡ begun_notes range (generation i) (decoded group).first (decoded group).items
-  IsShown range x (turns.AppendedAt from to) shown = shown ≡ done_notes range (generation i) (decoded (group_in x.phase)).first (decoded (group_in x.phase)).items
-  IsShown range x (turns.ConfirmedIs start end read) shown = IsLoaded range (generation i) (next_behind read) shown
-  IsShown range x turn shown = shown ≡ []
-
-  -- the observations are those of the turns, in order
-  abbrev pub AreShown : ℕ → Stand → List (turns.Turn Group) → List TableNote → Type 0
-  AreShown range x [] shown = shown ≡ []
-  AreShown range x (t ∷ earlier) shown =
-      (front : List TableNote) × (back : List TableNote) × (shown ≡ front ++ back) × AreShown range x earlier front
-      × IsShown range (after_turns generation i x earlier) t back
 
 -- ---- a client
 
@@ -143,16 +87,20 @@ abbrev pub number_of : Option StreamExtent → Option ℕ
 number_of None = None
 number_of (Some x) = Some x.extent
 
+-- how many extents the stream has, up to the last one that the client knows
+abbrev pub known : ClientState → ℕ
+known c = c.base + length c.extents
+
 -- the last extent that the client knows is not sealed, and has this number and this index
 pub record LastIs (c : ClientState) (e index : ℕ) : Type 0 where
   pub places : Nodes
   pub last : last_extent c.extents ≡ Some (record { extent = e; places = places; length = None })
-  pub index_is : suc index ≡ length c.extents
+  pub index_is : suc index ≡ known c
 
 -- what a load reads of the extents that its client knows: all that are sealed, and what stood in an open last one
 pub data LoadOf (i : ℕ) (s : machine.MachineState Group) (c : ClientState) (read : List (Copy Group)) : Type 0 where
-  OfSealed : (live : is_live (last_extent c.extents) ≡ false) (within : length c.extents ≤ length s.core.shut) (is : read ≡ machine.all_shut (machine.first (length c.extents) s.core.shut)) → LoadOf i s c read
-  OfStood : (index found : ℕ) (stood : List (Copy Group)) (live : is_live (last_extent c.extents) ≡ true) (count : suc index ≡ length c.extents) (checked : c.checked ≡ Some found)
+  OfSealed : (live : is_live (last_extent c.extents) ≡ false) (within : known c ≤ length s.core.shut) (is : read ≡ machine.all_shut (machine.first (known c) s.core.shut)) → LoadOf i s c read
+  OfStood : (index found : ℕ) (stood : List (Copy Group)) (live : is_live (last_extent c.extents) ≡ true) (count : suc index ≡ known c) (checked : c.checked ≡ Some found)
       (fact : machine.In (machine.Checked i index stood (machine.base index + found)) s.facts) (within : index ≤ length s.core.shut)
       (is : read ≡ machine.all_shut (machine.first index s.core.shut) ++ stood) → LoadOf i s c read
 
@@ -183,14 +131,14 @@ module _ (generation : ℕ → ℕ) (name : StreamName) (w : StreamSystem) (i : 
   pub record GrowingIs (c : ClientState) (last : Option ℕ) (q : ReqNo) : Type 0 where
     pub append : ℕ
     pub all_sealed : is_live (last_extent c.extents) ≡ false
-    pub stands : x.phase ≡ turns.Growing (length c.extents) append c.group
-    pub for : purpose_of sent q ≡ Some (Extends i (length c.extents))
+    pub stands : x.phase ≡ turns.Growing (known c) append c.group
+    pub for : purpose_of sent q ≡ Some (Extends i (known c))
     pub last_is : last ≡ number_of (last_extent c.extents)
-    pub fact : machine.In (machine.AsksExtend i (length c.extents)) x.state.facts
+    pub fact : machine.In (machine.AsksExtend i (known c)) x.state.facts
 
   -- no append job; whether the last extent is open
   abbrev pub IsIdle : ClientState → Type 0
-  IsIdle c = x.phase ≡ turns.Serving (length c.extents) (is_live (last_extent c.extents))
+  IsIdle c = x.phase ≡ turns.Serving (known c) (is_live (last_extent c.extents))
 
   -- a job of a client of a range that is served
   abbrev pub ServesBy : ClientState → Job → Type 0
@@ -234,7 +182,7 @@ module _ (generation : ℕ → ℕ) (name : StreamName) (w : StreamSystem) (i : 
     WasSealed : (live : is_live (last_extent c.extents) ≡ false) (stands : x.phase ≡ turns.Opening) → Readable c
     WasFound : (found : FoundIs c) → Readable c
     -- the last was sealed by this load
-    WasShut : (index : ℕ) (index_is : suc index ≡ length c.extents) (live : is_live (last_extent c.extents) ≡ false)
+    WasShut : (index : ℕ) (index_is : suc index ≡ known c) (live : is_live (last_extent c.extents) ≡ false)
         (stands : x.phase ≡ turns.Sealing index) → Readable c
 
   pub record ReadingIs (c : ClientState) (e upto : ℕ) (sealed : Bool) (q : ReqNo) : Type 0 where
@@ -256,7 +204,7 @@ module _ (generation : ℕ → ℕ) (name : StreamName) (w : StreamSystem) (i : 
 
   pub record LoadingIs (c : ClientState) : Type 0 where
     pub told : IsTold c
-    pub opened : machine.In (machine.Opened i (length c.extents)) x.state.facts
+    pub opened : machine.In (machine.Opened i (known c)) x.state.facts
     pub job : LoadsBy c c.job
 
   -- OpenStreams is out
@@ -272,9 +220,11 @@ module _ (generation : ℕ → ℕ) (name : StreamName) (w : StreamSystem) (i : 
     pub read : List (Copy Group)
     pub end : ℕ
     pub of : LoadOf i x.state c read
-    pub stands : x.phase ≡ turns.Confirming (length c.extents) (is_live (last_extent c.extents))
+    pub stands : x.phase ≡ turns.Confirming (known c) (is_live (last_extent c.extents))
     pub for : purpose_of sent q ≡ Some (Confirms i read end)
     pub fact : machine.In (machine.AsksConfirm i read end) x.state.facts
+    -- it ends where the server says
+    pub ends : end ≡ place_number (read_end c (record { index = c.base; offset = 0 }))
 
   -- the range is served
   pub record ServingIs (c : ClientState) : Type 0 where
@@ -284,7 +234,7 @@ module _ (generation : ℕ → ℕ) (name : StreamName) (w : StreamSystem) (i : 
   -- this stream waits until another is read
   pub record UnreadIs (c : ClientState) : Type 0 where
     pub told : IsTold c
-    pub opened : machine.In (machine.Opened i (length c.extents)) x.state.facts
+    pub opened : machine.In (machine.Opened i (known c)) x.state.facts
     pub idle : c.job ≡ jobs.Idle
     pub stands : x.phase ≡ turns.Opening
 
@@ -355,8 +305,6 @@ module _ (generation : ℕ → ℕ) (range : ℕ) (w : StreamSystem) (i : ℕ) (
     pub metadata_idle : r.metadata.job ≡ jobs.Idle
     pub log : ServingIs generation (log_of range) w i l.stand l.sent r.log
     pub out : OutIs r.log.job r.log.group r.out
-    -- its next number is that of the log's story
-    pub next : r.next ≡ next_number (renamed decoded l.stand.state.story) (generation i)
 
   abbrev pub StageIs : RangeState → Stage → Type 0
   StageIs r stages.Opening = IsOpening r
@@ -439,7 +387,7 @@ module _ (generation : ℕ → ℕ) (name : StreamName) (w : StreamSystem) (i : 
 abbrev pub IsCounted : ℕ → Stand → Type 0
 IsCounted i x = (n m append : ℕ) (group : Group) → x.phase ≡ turns.Growing n append group → machine.In (machine.Extended i n m) x.state.facts → m ≡ suc n
 
--- ---- what a rule of a range that is served does to its log
+-- ---- a range that is served, as its log has it
 
 module _ (generation : ℕ → ℕ) (range : ℕ) (w : StreamSystem) (i : ℕ) where
   -- it says nothing of any stream's extents: what users are told, and reads of values
@@ -456,26 +404,11 @@ module _ (generation : ℕ → ℕ) (range : ℕ) (w : StreamSystem) (i : ℕ) w
     pub client : ServingIs generation (log_of range) w i x sent r.log
     pub out : OutIs r.log.job r.log.group r.out
     pub stage : r.stage ≡ stages.Serving
-    pub next : r.next ≡ next_number (renamed decoded x.state.story) (generation i)
 
   -- a range that is dropped makes no turn any more
   abbrev pub ServesLogIf : Option RangeState → Stand → List Sent → Type 0
   ServesLogIf None = λ x sent. Unit {0}
   ServesLogIf (Some r) = λ x sent. ServesLog x sent r
-
-  -- Turns of the log's machine, each allowed and fit, and at most one more request, under the server's next number, which is
-  -- then used; the observations are those of the turns.
-  pub record LogRule (x : Stand) (sent : List Sent) (d : ServerContext) (o : RangeOutcome) : Type 0 where
-    pub list : List (turns.Turn Group)
-    pub allowed : AreTurns generation i x list
-    pub fit : AreFit generation i x list
-    pub shown : AreShown generation i range x list o.notes
-    pub purpose : Option Purpose
-    pub counts : (o.count ≡ suc d.count) ⊎ ((o.count ≡ d.count) × (purpose ≡ None))
-    -- a range that is dropped makes no turn
-    pub none : o.after ≡ None → list ≡ []
-    pub then : ServesLogIf o.after (after_turns generation i x list) (sent_with (request d) purpose sent)
-    pub asked : AreAsked (log_of range) (after_turns generation i x list) (sent_with (request d) purpose sent) o.packets
 
 -- ---- both streams of a range
 
@@ -484,11 +417,11 @@ pub record Apart (one other : List Sent) : Type 0 where
   pub here : (q : ReqNo) (p : Purpose) → purpose_of one q ≡ Some p → is_alone p ≡ true → purpose_of other q ≡ None
   pub there : (q : ReqNo) (p : Purpose) → purpose_of other q ≡ Some p → is_alone p ≡ true → purpose_of one q ≡ None
 
--- what the manager's lists of both keep: no extent stands in both
+-- what the manager's lists of both keep: no extent stands in both while it is not sealed
 pub record BothListed (w : StreamSystem) (range : ℕ) : Type 0 where
   pub metadata : Listed w (metadata_of range)
   pub log : Listed w (log_of range)
-  pub apart : (j k e : ℕ) → IsAt w (metadata_of range) j e → IsAt w (log_of range) k e → ⊥
+  pub apart : (j k e : ℕ) → IsAt w (metadata_of range) j e → IsAt w (log_of range) k e → sealed_lengths w.catalog e ≡ None → ⊥
 
 -- the server's numbers from its count on are not used
 abbrev pub AreUnused : ServerContext → ℕ → List Sent → Type 0
@@ -542,11 +475,3 @@ module _ (generation : ℕ → ℕ) (range : ℕ) (w : StreamSystem) (i : ℕ) w
     pub sent_by : IsSentBy d o.count metadata_sent log_sent
     pub then : FollowsIf o.after (record { stand = after_turns generation i m.stand metadata_turns; sent = metadata_sent }) (record { stand = after_turns generation i l.stand log_turns; sent = log_sent })
     pub asked : AskedOfBoth (record { stand = after_turns generation i m.stand metadata_turns; sent = metadata_sent }) (record { stand = after_turns generation i l.stand log_turns; sent = log_sent }) o.packets
-
-  -- What a rule does and shows: its groups have the numbers that come next, and its observations are those of the log's turns.
-  pub record RuleTells (m l : Side) (d : ServerContext) (o : RangeOutcome) : Type 0 where
-    pub goes : RuleGoes m l d o
-    -- nothing is appended to the metadata
-    pub unformed : AreUnformed goes.metadata_turns
-    pub fit : AreFit generation i l.stand goes.log_turns
-    pub shown : AreShown generation i range l.stand goes.log_turns o.notes

@@ -2,6 +2,6 @@
 //!
 //! This crate has no code, and touches nothing. Its lemmas lead from the rules of a server (`model_partition`) to the turns of one
 //! incarnation of the range on the machines of its metadata and of its log: each rule that is treated here makes turns that are
-//! allowed, asks what those turns ask, under numbers that were not used, and leaves the range standing where they lead. What it
-//! shows is what the turns of the log show, and the transactions of each group that it forms have the numbers that come next.
+//! allowed, asks what those turns ask, under numbers that were not used, and leaves the range standing where they lead. What
+//! servers see of it, as actions on both streams, adds to their stories what those turns add to the stories of the machines.
 #![tactic(auto)]

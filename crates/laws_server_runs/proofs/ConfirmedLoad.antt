@@ -18,7 +18,7 @@ use Rattle.laws_loads.proofs.Renaming.{made_at, showed_from}
 use Rattle.laws_loads.proofs.Replaying.{AreRead, After}
 use Rattle.laws_tables.proofs.Range.{newest, bound, older}
 use Rattle.laws_server_runs.specs.RangeInvariant.{groups_read, replayed_all, ReadsLog, IsShownUnder, AllSpelled, IsUnmade, StreamsKept, InOrder}
-use Rattle.laws_server_runs.specs.RangeView.{RangeView, view_after, log_of, metadata_of}
+use Rattle.laws_loads.specs.RangeView.{RangeView, view_after, log_of, metadata_of}
 use Rattle.laws_server_runs.proofs.LoadedLine.{line_read, reads_groups, behind_first, shown_line, first_stand, extents_replayed, the_region}
 use Rattle.laws_server_runs.proofs.Order.{groups_shown, unmade_shows_nothing, shown_spelled, IsLoaded, made_was_shown, made_before}
 

@@ -42,22 +42,22 @@ use Rattle.model_partition.specs.TableContents.{value_of}
 use Rattle.laws_loads.proofs.Replaying.{After}
 use Rattle.laws_tables.proofs.Range.{eq_test}
 use Rattle.laws_server_runs.specs.RangeInvariant.{ReadsLog, Serves, PhaseIs, StageIs, RangeKept, StreamsKept, InOrder, AreObserved, Rests, Adds, StepKept}
-use Rattle.laws_server_runs.specs.RangeView.{RangeView, view_after_all, log_of}
+use Rattle.laws_loads.specs.RangeView.{RangeView, view_after_all, log_of}
 use Rattle.laws_server_runs.proofs.ConfirmedLoad.{start_of, shows, shown_groups, log_load, view_shown, unmade_still, start_is, place_is, line_is, load_stands, spelled_still, loaded, region_is, first_load, served_still, none_made}
 use Rattle.laws_server_runs.proofs.LoadedLine.{line_read}
 use Rattle.laws_server_runs.proofs.ObservedLoad.{load_observed}
 
-module _ (texts : ℕ → Bytes) (v : RangeView) (r : RangeState) (kept : RangeKept texts v r) (streams : StreamsKept texts v) (d : ServerContext) where
+module _ (texts : ℕ → Bytes) (subject : ℕ) (v : RangeView) (r : RangeState) (kept : RangeKept texts subject v r) (streams : StreamsKept texts v) (d : ServerContext) where
   -- ---- nothing is done
 
-  nothing_seen : (before later : List Note) → AreObserved texts (log_of v) before → AreSeenAs texts [] later → AreObserved texts (log_of v) (before ++ later)
-  nothing_seen before [] o s = subst (λ (l : List Note). AreObserved texts (log_of v) l) (sym (append-nil before)) o
+  nothing_seen : (before later : List Note) → AreObserved texts subject (log_of v) before → AreSeenAs texts [] later → AreObserved texts subject (log_of v) (before ++ later)
+  nothing_seen before [] o s = subst (λ (l : List Note). AreObserved texts subject (log_of v) l) (sym (append-nil before)) o
   nothing_seen before (note ∷ later) o s = absurd s
 
-  calm : StepKept texts v r [] (answers d r [])
+  calm : StepKept texts subject v r [] (answers d r [])
   calm = record { kept = (kept, refl); streams = streams; goes = Rests; longer = ([], refl); anew = λ s. inl s; seen = nothing_seen }
 
-  gone : StepKept texts v r [] (dropped d r)
+  gone : StepKept texts subject v r [] (dropped d r)
   gone = record { kept = tt; streams = streams; goes = Rests; longer = ([], refl); anew = tt; seen = nothing_seen }
 
   -- ---- the range is served
@@ -138,7 +138,7 @@ module _ (texts : ℕ → Bytes) (v : RangeView) (r : RangeState) (kept : RangeK
       line = λ stand. at_line;
     }
 
-    kept_now : RangeKept texts (view_shown v r) served
+    kept_now : RangeKept texts subject (view_shown v r) served
     kept_now = record {
       range = kept.range;
       phase = refl;
@@ -153,20 +153,20 @@ module _ (texts : ℕ → Bytes) (v : RangeView) (r : RangeState) (kept : RangeK
       unmade = unmade_still texts v r h streams order;
     }
 
-    seen_now : (before later : List Note) → AreObserved texts (log_of v) before →
-        AreSeenAs texts (tables.Loaded r.load.range r.load.generation r.live r.said.indexes region.next ∷ []) later → AreObserved texts (log_load v r ∷ log_of v) (before ++ later)
+    seen_now : (before later : List Note) → AreObserved texts subject (log_of v) before →
+        AreSeenAs texts (tables.Loaded r.load.range r.load.generation r.live r.said.indexes region.next ∷ []) later → AreObserved texts subject (log_load v r ∷ log_of v) (before ++ later)
     seen_now before [] o s = absurd s
     seen_now before (note ∷ (other ∷ later)) o s = absurd s.1
     seen_now before (note ∷ []) o s =
         let rows = s.0.0 in
         let number : region.next ≡ suc (length (line_shown (map (renamed_placed decoded) (shown_groups v r)))) = next_is ∙ ap (λ (l : List Transaction). suc (length l)) (sym shown_is) in
-        let note_is : note ≡ Loaded 1 r.load.generation rows (suc (length (line_shown (map (renamed_placed decoded) (shown_groups v r))))) =
+        let note_is : note ≡ Loaded subject r.load.generation rows (suc (length (line_shown (map (renamed_placed decoded) (shown_groups v r))))) =
         s.0.1 ∙ (λ i. Loaded (kept.range i) r.load.generation rows (number i)) in
-        subst (λ (n : Note). AreObserved texts (log_load v r ∷ log_of v) (before ++ n ∷ [])) (sym note_is)
-        (load_observed texts (log_of v) r.load.generation (place_number (start_of r)) end (shown_groups v r) rows before
+        subst (λ (n : Note). AreObserved texts subject (log_load v r ∷ log_of v) (before ++ n ∷ [])) (sym note_is)
+        (load_observed texts subject (log_of v) r.load.generation (place_number (start_of r)) end (shown_groups v r) rows before
         (λ key. s.0.2 key ∙ made.has.says key ∙ ap (λ (l : List Transaction). after_line l empty_table key) (sym shown_is)) o)
 
-    region_kept : StepKept texts v r (shows r ∷ []) (serves_region d r region)
+    region_kept : StepKept texts subject v r (shows r ∷ []) (serves_region d r region)
     region_kept = record {
       kept = (kept_now, refl);
       streams = streams_now;
@@ -181,11 +181,11 @@ module _ (texts : ℕ → Bytes) (v : RangeView) (r : RangeState) (kept : RangeK
   -- what a step leaves, with what it did unless the range is dropped
   abbrev LoadStep : RangeOutcome → List StreamAction → Type 0
   LoadStep o actions =
-      InOrder texts (view_after_all r.load.generation v (if is_some o.after then actions else [])) → StepKept texts v r (if is_some o.after then actions else []) o
+      InOrder texts (view_after_all r.load.generation v (if is_some o.after then actions else [])) → StepKept texts subject v r (if is_some o.after then actions else []) o
 
   -- nothing is done either way
-  no_action : (o : RangeOutcome) → StepKept texts v r [] o → LoadStep o []
-  no_action o s order = if_elim (λ (actions : List StreamAction). StepKept texts v r actions o) (is_some o.after) [] [] (λ t. s) (λ f. s)
+  no_action : (o : RangeOutcome) → StepKept texts subject v r [] o → LoadStep o []
+  no_action o s order = if_elim (λ (actions : List StreamAction). StepKept texts subject v r actions o) (is_some o.after) [] [] (λ t. s) (λ f. s)
 
   confirmation_kept : ReadsLog v.history r → LoadStep (serves d r) (shows r ∷ [])
   confirmation_kept h =
@@ -198,7 +198,7 @@ module _ (texts : ℕ → Bytes) (v : RangeView) (r : RangeState) (kept : RangeK
           if_elim (λ (o : RangeOutcome). LoadStep o (shows r ∷ [])) (nat_lt 0 region.next) (serves_region d r region) (dropped d r)
           (λ t order. region_kept h order region e (ltb-true 0 region.next t)) (λ f order. gone)
 
-  refused_kept : (body : AppendBody) → StepKept texts v r [] (load_refused d r body)
+  refused_kept : (body : AppendBody) → StepKept texts subject v r [] (load_refused d r body)
   refused_kept (appends.Refused w refusals.Stale) = gone
   refused_kept body = calm
 
@@ -218,7 +218,7 @@ module _ (texts : ℕ → Bytes) (v : RangeView) (r : RangeState) (kept : RangeK
   is_confirming stages.Confirming phase q is e = refl
   is_confirming stages.Serving phase q is e = absurd cc
 
-  module _ (opened : r.stage ≡ stages.Opening → (lists : StreamLists) → StepKept texts v r [] (opens d r lists)) where
+  module _ (opened : r.stage ≡ stages.Opening → (lists : StreamLists) → StepKept texts subject v r [] (opens d r lists)) where
     told_kept : (phase : LoadPhase) → r.load.phase ≡ phase → (body : StreamBody) → LoadStep (load_told d r phase body) (confirmed_actions r phase body)
     told_kept (phases.Opening q) e (stream_bodies.Opened w lists) = no_action (opens d r lists) (opened (is_opening r.stage r.load.phase q kept.phase e) lists)
     told_kept (phases.Confirming q) e (stream_bodies.Confirmed w) =
@@ -233,5 +233,5 @@ module _ (texts : ℕ → Bytes) (v : RangeView) (r : RangeState) (kept : RangeK
     -- the answer to the opening or the confirmation
     pub load_kept : (w : ReqNo) (body : Body) → load_awaits r.load.phase w ≡ true →
         InOrder texts (view_after_all r.load.generation v (if is_some (load_reply d r body).after then load_actions r body else [])) →
-        StepKept texts v r (if is_some (load_reply d r body).after then load_actions r body else []) (load_reply d r body)
+        StepKept texts subject v r (if is_some (load_reply d r body).after then load_actions r body else []) (load_reply d r body)
     load_kept w body awaited order = answer_kept body order

@@ -12,7 +12,7 @@ use Rattle.model_partition.specs.StreamActions.{StreamAction, Reads, Forms, Stan
 use Rattle.model_partition.specs.ServerRun.{PlacedBytes, is_kind}
 use Rattle.model_partition.specs.ServedTables.{AllStand, AreSeenAs, LoadsOnce}
 use Rattle.laws_tables.proofs.Range.{older, bound, event_cases}
-use Rattle.laws_server_runs.specs.RangeView.{RangeView, view_after, view_after_all, with_kind, log_of, metadata_of}
+use Rattle.laws_loads.specs.RangeView.{RangeView, view_after, view_after_all, with_kind, log_of, metadata_of}
 use Rattle.laws_server_runs.specs.RangeInvariant.{InOrder, IsLonger}
 
 -- ---- one event less
@@ -53,8 +53,8 @@ module _ (A : Type 0) where
   order_front [] story order = order
   order_front (e ∷ more) story order = order_front more story (order_before e (more ++ story) order)
 
-  pub order_shorter : (texts : ℕ → Bytes) (story longer : Story A) → IsLonger texts story longer → KeepsOrder longer → KeepsOrder story
-  order_shorter texts story longer is order = order_front is.0 story (subst (λ z. KeepsOrder z) is.1 order)
+  pub order_shorter : (story longer : Story A) → IsLonger story longer → KeepsOrder longer → KeepsOrder story
+  order_shorter story longer is order = order_front is.0 story (subst (λ z. KeepsOrder z) is.1 order)
 
   once_front : (more story : Story A) → LoadsOnce (more ++ story) → LoadsOnce story
   once_front [] story once = once
@@ -63,8 +63,16 @@ module _ (A : Type 0) where
       (λ l m g start end start' end' groups groups' one two.
       once l m g start end start' end' groups groups' (older A e (more ++ story) l (Showed g start end groups) one) (older A e (more ++ story) m (Showed g start' end' groups') two))
 
-  pub once_shorter : (texts : ℕ → Bytes) (story longer : Story A) → IsLonger texts story longer → LoadsOnce longer → LoadsOnce story
-  once_shorter texts story longer is once = once_front is.0 story (subst (λ z. LoadsOnce z) is.1 once)
+  pub once_shorter : (story longer : Story A) → IsLonger story longer → LoadsOnce longer → LoadsOnce story
+  once_shorter story longer is once = once_front is.0 story (subst (λ z. LoadsOnce z) is.1 once)
+
+-- ---- longer lists
+
+pub longer_same : {A : Type 0} (xs : List A) → IsLonger xs xs
+longer_same {A} xs = ([], refl)
+
+pub longer_twice : {A : Type 0} (xs ys zs : List A) → IsLonger xs ys → IsLonger ys zs → IsLonger xs zs
+longer_twice {A} xs ys zs (more, is) (others, are) = (others ++ more, are ∙ ap (λ z. others ++ z) is ∙ sym (append_assoc others more xs))
 
 -- ---- bytes and observations
 
@@ -73,7 +81,7 @@ module _ (texts : ℕ → Bytes) where
   stand_front [] old stand = stand
   stand_front (p ∷ more) old stand = stand_front more old stand.1
 
-  pub stand_shorter : (old new : List PlacedBytes) → IsLonger texts old new → AllStand texts new → AllStand texts old
+  pub stand_shorter : (old new : List PlacedBytes) → IsLonger old new → AllStand texts new → AllStand texts old
   stand_shorter old new is stand = stand_front is.0 old (subst (λ z. AllStand texts z) is.1 stand)
 
   -- those of the first list, and those of the second
@@ -93,39 +101,33 @@ module _ (texts : ℕ → Bytes) where
 
   -- ---- views
 
-  pub longer_same : {A : Type 0} (xs : List A) → IsLonger texts xs xs
-  longer_same {A} xs = ([], refl)
-
-  pub longer_twice : {A : Type 0} (xs ys zs : List A) → IsLonger texts xs ys → IsLonger texts ys zs → IsLonger texts xs zs
-  longer_twice {A} xs ys zs (more, is) (others, are) = (others ++ more, are ∙ ap (λ z. others ++ z) is ∙ sym (append_assoc others more xs))
-
-  longer_kind : (stories : StreamKind → Story Group) (kind k : StreamKind) (e : StreamEvent Group) → IsLonger texts (stories k) (with_kind stories kind e k)
+  longer_kind : (stories : StreamKind → Story Group) (kind k : StreamKind) (e : StreamEvent Group) → IsLonger (stories k) (with_kind stories kind e k)
   longer_kind stories kind k e = go (is_kind k kind)
     where
-      go : (b : Bool) → IsLonger texts (stories k) (if b then e ∷ stories k else stories k)
+      go : (b : Bool) → IsLonger (stories k) (if b then e ∷ stories k else stories k)
       go true = (e ∷ [], refl)
       go false = ([], refl)
 
   module _ (g : ℕ) where
-    action_longer : (v : RangeView) (action : StreamAction) (k : StreamKind) → IsLonger texts (v.story k) ((view_after g v action).story k)
+    action_longer : (v : RangeView) (action : StreamAction) (k : StreamKind) → IsLonger (v.story k) ((view_after g v action).story k)
     action_longer v (Reads kind read) k = longer_same (v.story k)
     action_longer v (Forms kind group) k = longer_kind v.story kind k (Made g group)
     action_longer v (Stands kind extent at group) k = longer_kind v.story kind k _
     action_longer v (Shows start log_end metadata_end) k =
         longer_twice (v.story k) (with_kind v.story kinds.Metadata _ k) _ (longer_kind v.story kinds.Metadata k _) (longer_kind (with_kind v.story kinds.Metadata _) kinds.Log k _)
 
-    action_shown : (v : RangeView) (action : StreamAction) → IsLonger texts v.shown (view_after g v action).shown
+    action_shown : (v : RangeView) (action : StreamAction) → IsLonger v.shown (view_after g v action).shown
     action_shown v (Reads kind read) = longer_same v.shown
     action_shown v (Forms kind group) = longer_same v.shown
     action_shown v (Stands kind extent at group) = longer_same v.shown
     action_shown v (Shows start log_end metadata_end) = (_, refl)
 
-    actions_longer : (v : RangeView) (actions : List StreamAction) (k : StreamKind) → IsLonger texts (v.story k) ((view_after_all g v actions).story k)
+    actions_longer : (v : RangeView) (actions : List StreamAction) (k : StreamKind) → IsLonger (v.story k) ((view_after_all g v actions).story k)
     actions_longer v [] k = longer_same (v.story k)
     actions_longer v (a ∷ earlier) k =
         longer_twice (v.story k) ((view_after_all g v earlier).story k) ((view_after_all g v (a ∷ earlier)).story k) (actions_longer v earlier k) (action_longer (view_after_all g v earlier) a k)
 
-    actions_shown : (v : RangeView) (actions : List StreamAction) → IsLonger texts v.shown (view_after_all g v actions).shown
+    actions_shown : (v : RangeView) (actions : List StreamAction) → IsLonger v.shown (view_after_all g v actions).shown
     actions_shown v [] = longer_same v.shown
     actions_shown v (a ∷ earlier) =
         longer_twice v.shown (view_after_all g v earlier).shown (view_after_all g v (a ∷ earlier)).shown (actions_shown v earlier) (action_shown (view_after_all g v earlier) a)
@@ -135,8 +137,8 @@ module _ (texts : ℕ → Bytes) where
     order_before_actions v actions o =
         let w : RangeView = view_after_all g v actions in
         record {
-          log = order_shorter Group texts (log_of v) (log_of w) (actions_longer v actions kinds.Log) o.log;
-          metadata = order_shorter Group texts (metadata_of v) (metadata_of w) (actions_longer v actions kinds.Metadata) o.metadata;
-          once = once_shorter Group texts (log_of v) (log_of w) (actions_longer v actions kinds.Log) o.once;
+          log = order_shorter Group (log_of v) (log_of w) (actions_longer v actions kinds.Log) o.log;
+          metadata = order_shorter Group (metadata_of v) (metadata_of w) (actions_longer v actions kinds.Metadata) o.metadata;
+          once = once_shorter Group (log_of v) (log_of w) (actions_longer v actions kinds.Log) o.once;
           shown = stand_shorter v.shown w.shown (actions_shown v actions) o.shown;
         }

@@ -1,7 +1,5 @@
 pub mod Fronts
 pub mod Steps
-pub mod Cells
-pub mod Events
 pub mod Loads
 pub mod LoadsSteps
 pub mod LoadsAnswers
@@ -21,3 +19,15 @@ pub mod Theorem
 pub mod Worked
 pub mod Unconfirmed
 pub mod NeededPremises
+pub mod RecordSizes
+pub mod LaidLayers
+pub mod LaidSteps
+pub mod RangeLists
+pub mod RunSteps
+pub mod Actions
+pub mod LaidRuns
+pub mod OwnNotes
+pub mod Beside
+pub mod Kept
+pub mod FirstAlone
+pub mod WorkedRanges

@@ -33,12 +33,12 @@ use Rattle.model_partition.specs.Server.{new_range}
 use Rattle.model_partition.specs.ServerRun.{first_history}
 use Rattle.model_partition.specs.ServedTables.{AreSeenAs, IsAtLine}
 use Rattle.laws_loads.proofs.WaitingStays.{new_sound}
-use Rattle.laws_server_runs.specs.RangeView.{RangeView, log_of}
+use Rattle.laws_loads.specs.RangeView.{RangeView, log_of}
 use Rattle.laws_server_runs.specs.RangeInvariant.{ReadsMetadata, ReadsLog, StageIs, RangeKept, StreamsKept, AreObserved, Rests, StepKept}
 
 -- ---- the same range, but for what nothing is kept of
 
-module _ (texts : ℕ → Bytes) (v : RangeView) (r : RangeState) (until : ℕ) (metadata log : ClientState) (row_data blob_data : StreamList) (gets : List WaitingGet) (held : List (Place × List ℕ))
+module _ (texts : ℕ → Bytes) (subject : ℕ) (v : RangeView) (r : RangeState) (until : ℕ) (metadata log : ClientState) (row_data blob_data : StreamList) (gets : List WaitingGet) (held : List (Place × List ℕ))
     (metadata_idle : r.metadata.job ≡ jobs.Idle → metadata.job ≡ jobs.Idle) (log_idle : r.log.job ≡ jobs.Idle → log.job ≡ jobs.Idle) where
   abbrev other : RangeState
   other = record r { until = until; metadata = metadata; log = log; row_data = row_data; blob_data = blob_data; gets = gets; held = held }
@@ -66,75 +66,75 @@ module _ (texts : ℕ → Bytes) (v : RangeView) (r : RangeState) (until : ℕ) 
   stage_same stages.Serving h = record { shown = h.shown; groups = h.groups; out = h.out; next = h.next; fixed = h.fixed; line = λ all. line_same (h.line all) }
 
   -- the end of the lease, what the clients know, the other streams and the Gets may be others
-  pub same_kept : RangeKept texts v r → RangeKept texts v other
+  pub same_kept : RangeKept texts subject v r → RangeKept texts subject v other
   same_kept kept = record { range = kept.range; phase = kept.phase; sound = kept.sound; stage = stage_same r.stage kept.stage }
 
 -- the lease of a range is renewed
-pub renewed_kept : (texts : ℕ → Bytes) (v : RangeView) (r : RangeState) → RangeKept texts v r → (until : ℕ) → RangeKept texts v (record r { until = until })
-renewed_kept texts v r kept until = same_kept texts v r until r.metadata r.log r.row_data r.blob_data r.gets r.held (λ e. e) (λ e. e) kept
+pub renewed_kept : (texts : ℕ → Bytes) (subject : ℕ) (v : RangeView) (r : RangeState) → RangeKept texts subject v r → (until : ℕ) → RangeKept texts subject v (record r { until = until })
+renewed_kept texts subject v r kept until = same_kept texts subject v r until r.metadata r.log r.row_data r.blob_data r.gets r.held (λ e. e) (λ e. e) kept
 
 -- a range whose load begins
-pub new_kept : (texts : ℕ → Bytes) (v : RangeView) (d : ServerContext) → v.history ≡ first_history → (range generation until : ℕ) → range ≡ 1 → RangeKept texts v (new_range d range generation until)
-new_kept texts v d first range generation until one =
+pub new_kept : (texts : ℕ → Bytes) (subject : ℕ) (v : RangeView) (d : ServerContext) → v.history ≡ first_history → (generation until : ℕ) → RangeKept texts subject v (new_range d subject generation until)
+new_kept texts subject v d first generation until =
     record {
-      range = one;
+      range = refl;
       phase = (request d, refl);
-      sound = new_sound d range generation until;
+      sound = new_sound d subject generation until;
       stage = record { metadata = ap (λ h. h.reads kinds.Metadata) first; log = ap (λ h. h.reads kinds.Log) first; live = refl; fixed = refl };
     }
 
 -- ---- a step that shows nothing
 
 -- where nothing is shown the observations are as they were
-pub silent_seen : (texts : ℕ → Bytes) (story : Story Group) (before later : List Note) → AreObserved texts story before → AreSeenAs texts [] later → AreObserved texts story (before ++ later)
-silent_seen texts story before [] old told = subst (λ notes. AreObserved texts story notes) (sym (append-nil before)) old
-silent_seen texts story before (note ∷ later) old told = absurd told
+pub silent_seen : (texts : ℕ → Bytes) (subject : ℕ) (story : Story Group) (before later : List Note) → AreObserved texts subject story before → AreSeenAs texts [] later → AreObserved texts subject story (before ++ later)
+silent_seen texts subject story before [] old told = subst (λ notes. AreObserved texts subject story notes) (sym (append-nil before)) old
+silent_seen texts subject story before (note ∷ later) old told = absurd told
 
-module _ (texts : ℕ → Bytes) (v : RangeView) (r : RangeState) (kept : RangeKept texts v r) (streams : StreamsKept texts v) (d : ServerContext) where
+module _ (texts : ℕ → Bytes) (subject : ℕ) (v : RangeView) (r : RangeState) (kept : RangeKept texts subject v r) (streams : StreamsKept texts v) (d : ServerContext) where
   -- nothing is done with a stream, and the range stays at its stage
   pub rests_kept : (until : ℕ) (metadata log : ClientState) (gets : List WaitingGet) (held : List (Place × List ℕ)) (count : ℕ) (packets : List Packet) →
       (r.metadata.job ≡ jobs.Idle → metadata.job ≡ jobs.Idle) → (r.log.job ≡ jobs.Idle → log.job ≡ jobs.Idle) →
-      StepKept texts v r []
+      StepKept texts subject v r []
       (record { after = Some (record r { until = until; metadata = metadata; log = log; gets = gets; held = held }); count = count; packets = packets; notes = [] })
   rests_kept until metadata log gets held count packets metadata_idle log_idle =
       record {
-        kept = (same_kept texts v r until metadata log r.row_data r.blob_data gets held metadata_idle log_idle kept, refl);
+        kept = (same_kept texts subject v r until metadata log r.row_data r.blob_data gets held metadata_idle log_idle kept, refl);
         streams = streams;
         goes = Rests;
         longer = ([], refl);
         anew = λ serves. inl serves;
-        seen = λ before later old told. silent_seen texts (log_of v) before later old told;
+        seen = λ before later old told. silent_seen texts subject (log_of v) before later old told;
       }
 
-  gets_kept : (from : ActorId) (q : ReqNo) (key : List ℕ) (fault : Option Refusal) → StepKept texts v r [] (gets d r from q key fault)
+  gets_kept : (from : ActorId) (q : ReqNo) (key : List ℕ) (fault : Option Refusal) → StepKept texts subject v r [] (gets d r from q key fault)
   gets_kept from q key (Some refusal) = rests_kept r.until r.metadata r.log r.gets r.held _ _ (λ e. e) (λ e. e)
   gets_kept from q key None = rests_kept r.until r.metadata r.log _ _ _ _ (λ e. e) (λ e. e)
 
   -- a Get
-  pub get_kept : (from : ActorId) (q : ReqNo) (key : List ℕ) → StepKept texts v r [] (get_rule d r from q key)
+  pub get_kept : (from : ActorId) (q : ReqNo) (key : List ℕ) → StepKept texts subject v r [] (get_rule d r from q key)
   get_kept from q key = gets_kept from q key (get_fault d r key)
 
-  bytes_kept : (w : ReqNo) (body : ReadBody) → StepKept texts v r [] (bytes_reply d r w body)
+  bytes_kept : (w : ReqNo) (body : ReadBody) → StepKept texts subject v r [] (bytes_reply d r w body)
   bytes_kept w (reads.Bytes n e offset bytes) = rests_kept r.until r.metadata r.log _ _ _ _ (λ e. e) (λ e. e)
   bytes_kept w body = rests_kept r.until r.metadata r.log r.gets r.held _ _ (λ e. e) (λ e. e)
 
   -- a range of an old generation is dropped
-  dropped_kept : StepKept texts v r [] (dropped d r)
+  dropped_kept : StepKept texts subject v r [] (dropped d r)
   dropped_kept = record {
     kept = tt;
     streams = streams;
     goes = Rests;
     longer = ([], refl);
     anew = tt;
-    seen = λ before later old told. silent_seen texts (log_of v) before later old told;
+    seen = λ before later old told. silent_seen texts subject (log_of v) before later old told;
   }
 
-  refused_kept : (body : AppendBody) → StepKept texts v r [] (load_refused d r body)
+  refused_kept : (body : AppendBody) → StepKept texts subject v r [] (load_refused d r body)
   refused_kept (appends.Refused n refusals.Stale) = dropped_kept
   refused_kept body = rests_kept r.until r.metadata r.log r.gets r.held _ _ (λ e. e) (λ e. e)
 
   -- an answer to a Get's read
-  pub gets_reply_kept : (w : ReqNo) (body : Body) → StepKept texts v r [] (gets_reply d r w body)
+  pub gets_reply_kept : (w : ReqNo) (body : Body) → StepKept texts subject v r [] (gets_reply d r w body)
   gets_reply_kept w (bodies.Read body) = bytes_kept w body
   gets_reply_kept w (bodies.Append body) = refused_kept body
   gets_reply_kept w body = rests_kept r.until r.metadata r.log r.gets r.held _ _ (λ e. e) (λ e. e)
@@ -144,5 +144,5 @@ module _ (texts : ℕ → Bytes) (v : RangeView) (r : RangeState) (kept : RangeK
   idle_rests c q pick idle = subst (λ j. (give_up_job (record c { pick = pick }) q j).after.job ≡ jobs.Idle) (sym idle) idle
 
   -- the jobs of the range give up
-  pub give_up_kept : StepKept texts v r [] (give_up_all d r)
-  give_up_kept = rests_kept r.until _ _ _ r.held _ _ (idle_rests (picking d r.metadata) (request d) d.pick) (idle_rests (picking d r.log) (request (used d)) d.pick)
+  pub give_up_kept : StepKept texts subject v r [] (give_up_all d r)
+  give_up_kept = rests_kept r.until _ _ _ r.held _ _ (idle_rests (picking d r.metadata) (request (used d)) d.pick) (idle_rests (picking d r.log) (request d) d.pick)

@@ -18,18 +18,18 @@ use Rattle.model_partition.specs.Loading.{said_after, confirms, reads_log, open_
 use Rattle.model_partition.specs.ServerRun.{RangeHistory}
 use Rattle.model_partition.specs.StreamActions.{StreamAction}
 use Rattle.laws_loads.specs.Sound.{IsSound}
-use Rattle.laws_server_runs.specs.RangeView.{RangeView, view_after_all, log_of}
+use Rattle.laws_loads.specs.RangeView.{RangeView, view_after_all, log_of}
 use Rattle.laws_server_runs.specs.RangeInvariant.{groups_read, replayed_all, HasReadNothing, ReadsMetadata, ReadsLog, StageIs, RangeKept, StreamsKept, AreObserved, GoesOn, Rests, IsLonger, KeptIf, StepKept}
 use Rattle.laws_server_runs.proofs.Loads.{silent_seen}
 
 -- Actions of a load, which leave the streams as they were.
-module _ (texts : ℕ → Bytes) (v : RangeView) (r : RangeState) (streams : StreamsKept texts v) (d : ServerContext) (actions : List StreamAction) (h : RangeHistory)
+module _ (texts : ℕ → Bytes) (subject : ℕ) (v : RangeView) (r : RangeState) (streams : StreamsKept texts v) (d : ServerContext) (actions : List StreamAction) (h : RangeHistory)
     (same : view_after_all r.load.generation v actions ≡ record v { history = h }) where
   abbrev pub view : RangeView
   view = record v { history = h }
 
   abbrev pub Left : RangeOutcome → Type 0
-  Left o = StepKept texts v r (if is_some o.after then actions else []) o
+  Left o = StepKept texts subject v r (if is_some o.after then actions else []) o
 
   -- the range is dropped
   pub drops_left : (count : ℕ) (packets : List Packet) → Left (record { after = None; count = count; packets = packets; notes = [] })
@@ -40,25 +40,25 @@ module _ (texts : ℕ → Bytes) (v : RangeView) (r : RangeState) (streams : Str
         goes = Rests;
         longer = ([], refl);
         anew = tt;
-        seen = λ before later old told. silent_seen texts (log_of v) before later old told;
+        seen = λ before later old told. silent_seen texts subject (log_of v) before later old told;
       }
 
   -- the load goes on
-  pub goes_left : (next : RangeState) (count : ℕ) (packets : List Packet) → RangeKept texts view next → next.load.generation ≡ r.load.generation →
+  pub goes_left : (next : RangeState) (count : ℕ) (packets : List Packet) → RangeKept texts subject view next → next.load.generation ≡ r.load.generation →
       (is_serving next.stage ≡ true → is_serving r.stage ≡ true) → Left (record { after = Some next; count = count; packets = packets; notes = [] })
   goes_left next count packets kept generation served =
       record {
-        kept = subst (λ w. KeptIf texts w r.load.generation (Some next)) (sym same) (kept, generation);
+        kept = subst (λ w. KeptIf texts subject w r.load.generation (Some next)) (sym same) (kept, generation);
         streams = subst (λ w. StreamsKept texts w) (sym same) (record { served = streams.served; spelled = streams.spelled; unmade = streams.unmade });
         goes = subst (λ w. GoesOn texts r.load.generation (log_of v) (log_of w)) (sym same) Rests;
-        longer = subst (λ w. IsLonger texts v.answered w.answered) (sym same) ([], refl);
+        longer = subst (λ w. IsLonger v.answered w.answered) (sym same) ([], refl);
         anew = λ serves. inl (served serves);
-        seen = λ before later old told. subst (λ w. AreObserved texts (log_of w) (before ++ later)) (sym same) (silent_seen texts (log_of v) before later old told);
+        seen = λ before later old told. subst (λ w. AreObserved texts subject (log_of w) (before ++ later)) (sym same) (silent_seen texts subject (log_of v) before later old told);
       }
 
   -- a state of the load, as of this range
   pub record IsLoading (s : RangeState) : Type 0 where
-    pub range : s.load.range ≡ 1
+    pub range : s.load.range ≡ subject
     pub generation : s.load.generation ≡ r.load.generation
     pub opened : s.load.phase ≡ phases.Opened
     pub sound : IsSound s
@@ -66,10 +66,10 @@ module _ (texts : ℕ → Bytes) (v : RangeView) (r : RangeState) (streams : Str
   -- ---- the log
 
   -- a request of the log's client is out
-  log_reads : (s : RangeState) → IsLoading s → (c : ClientState) → ReadsLog h s → (position : ℕ) → RangeKept texts view (record s { stage = stages.Reading kinds.Log position; log = c })
+  log_reads : (s : RangeState) → IsLoading s → (c : ClientState) → ReadsLog h s → (position : ℕ) → RangeKept texts subject view (record s { stage = stages.Reading kinds.Log position; log = c })
   log_reads s b c reads position = record { range = b.range; phase = b.opened; sound = b.sound; stage = record { said = reads.said; made = reads.made; fixed = reads.fixed; idle = reads.idle } }
 
-  log_checks : (s : RangeState) → IsLoading s → (c : ClientState) → ReadsLog h s → RangeKept texts view (record s { stage = stages.Checking kinds.Log; log = c })
+  log_checks : (s : RangeState) → IsLoading s → (c : ClientState) → ReadsLog h s → RangeKept texts subject view (record s { stage = stages.Checking kinds.Log; log = c })
   log_checks s b c reads = record { range = b.range; phase = b.opened; sound = b.sound; stage = record { said = reads.said; made = reads.made; fixed = reads.fixed; idle = reads.idle } }
 
   confirms_left : (s : RangeState) → IsLoading s → ReadsLog h s → Left (confirms d s)
@@ -108,10 +108,10 @@ module _ (texts : ℕ → Bytes) (v : RangeView) (r : RangeState) (streams : Str
       made = ap (λ read. replayed_all s.said.keys read (s.said.regions, [])) reads.log ∙ ap (λ live. Some (s.said.regions, live)) (sym reads.live)
 
   -- a request of the metadata's client is out
-  metadata_reads : (s : RangeState) → IsLoading s → (c : ClientState) → ReadsMetadata h s → (position : ℕ) → RangeKept texts view (record s { stage = stages.Reading kinds.Metadata position; metadata = c })
+  metadata_reads : (s : RangeState) → IsLoading s → (c : ClientState) → ReadsMetadata h s → (position : ℕ) → RangeKept texts subject view (record s { stage = stages.Reading kinds.Metadata position; metadata = c })
   metadata_reads s b c reads position = record { range = b.range; phase = b.opened; sound = b.sound; stage = record { said = reads.said; log = reads.log; live = reads.live; fixed = reads.fixed; idle = reads.idle } }
 
-  metadata_checks : (s : RangeState) → IsLoading s → (c : ClientState) → ReadsMetadata h s → RangeKept texts view (record s { stage = stages.Checking kinds.Metadata; metadata = c })
+  metadata_checks : (s : RangeState) → IsLoading s → (c : ClientState) → ReadsMetadata h s → RangeKept texts subject view (record s { stage = stages.Checking kinds.Metadata; metadata = c })
   metadata_checks s b c reads = record { range = b.range; phase = b.opened; sound = b.sound; stage = record { said = reads.said; log = reads.log; live = reads.live; fixed = reads.fixed; idle = reads.idle } }
 
   pub reads_metadata_left : (s : RangeState) → IsLoading s → ReadsMetadata h s → s.metadata.job ≡ jobs.Idle → (position : ℕ) → Left (reads_metadata d s position)
@@ -144,17 +144,17 @@ module _ (texts : ℕ → Bytes) (v : RangeView) (r : RangeState) (streams : Str
       refl (last_extent lists.metadata.extents)
 
 -- a step without actions
-pub without_actions : (texts : ℕ → Bytes) (v : RangeView) (r : RangeState) (o : RangeOutcome) → StepKept texts v r (if is_some o.after then [] else []) o → StepKept texts v r [] o
-without_actions texts v r o step = subst (λ actions. StepKept texts v r actions o) (none (is_some o.after) []) step
+pub without_actions : (texts : ℕ → Bytes) (subject : ℕ) (v : RangeView) (r : RangeState) (o : RangeOutcome) → StepKept texts subject v r (if is_some o.after then [] else []) o → StepKept texts subject v r [] o
+without_actions texts subject v r o step = subst (λ actions. StepKept texts subject v r actions o) (none (is_some o.after) []) step
   where
     none : (t : Bool) (actions : List StreamAction) → (if t then actions else actions) ≡ actions
     none true actions = refl
     none false actions = refl
 
-module _ (texts : ℕ → Bytes) (v : RangeView) (r : RangeState) (kept : RangeKept texts v r) (streams : StreamsKept texts v) (d : ServerContext) where
+module _ (texts : ℕ → Bytes) (subject : ℕ) (v : RangeView) (r : RangeState) (kept : RangeKept texts subject v r) (streams : StreamsKept texts v) (d : ServerContext) where
   -- the streams of the range are opened
-  pub opens_kept : r.stage ≡ stages.Opening → (lists : StreamLists) → StepKept texts v r [] (opens d r lists)
+  pub opens_kept : r.stage ≡ stages.Opening → (lists : StreamLists) → StepKept texts subject v r [] (opens d r lists)
   opens_kept opening lists =
-      without_actions texts v r (opens d r lists)
-      (opens_left texts v r streams d [] v.history refl (record { range = kept.range; generation = refl; opened = refl; sound = kept.sound })
+      without_actions texts subject v r (opens d r lists)
+      (opens_left texts subject v r streams d [] v.history refl (record { range = kept.range; generation = refl; opened = refl; sound = kept.sound })
       (subst (λ stage. StageIs texts v r stage) opening kept.stage) lists)

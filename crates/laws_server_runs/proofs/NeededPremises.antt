@@ -17,7 +17,7 @@ use Rattle.wire.specs.declared.note.Note.{Note}
 use Rattle.wire.specs.declared.note.Note.TheVariants.{Began, Merged, Loaded}
 use Rattle.wire.specs.declared.rows.Row.{Row}
 use Rattle.model_partition.specs.declared.table_note.TableNote.TheVariants as tables
-use Rattle.model_partition.specs.Past.{Bytes, Transaction, Past, From_nothing, From_pair, AllBegan, IsPastOf, Replays, line_of, owners, table_notes}
+use Rattle.model_partition.specs.Past.{Bytes, Transaction, Past, From_nothing, From_pair, AllBegan, IsPastOf, Replays, line_of, owners, table_notes, first_range}
 use Rattle.model_partition.specs.Loading.{Group}
 use Rattle.model_partition.specs.Story.{StreamEvent, Showed, KeepsOrder}
 use Rattle.model_partition.specs.ServerRun.{ServerRun, ServerEvent, run_of, log_name, metadata_name}
@@ -46,8 +46,8 @@ invented = comes 1 Manager (bodies.Stream (streams.Confirmed (asked 1 4))) ∷ u
 abbrev texts : ℕ → Bytes
 texts e = joined group
 
-invented_makes : ((run_of 1 1 invented).notes ≡ tables.Loaded 1 1 loaded [] 2 ∷ []) × ((run_of 1 1 invented).story log_name ≡ Showed 1 0 24 (record { from = 0; to = 24; group = group } ∷ []) ∷ [])
-    × ((run_of 1 1 invented).story metadata_name ≡ Showed 1 0 0 [] ∷ []) × ((run_of 1 1 invented).shown ≡ record { extent = 7; offset = 0; bytes = joined group } ∷ [])
+invented_makes : ((run_of 1 1 invented).notes ≡ tables.Loaded 1 1 loaded [] 2 ∷ []) × ((run_of 1 1 invented).story (log_name first_range) ≡ Showed 1 0 24 (record { from = 0; to = 24; group = group } ∷ []) ∷ [])
+    × ((run_of 1 1 invented).story (metadata_name first_range) ≡ Showed 1 0 0 [] ∷ []) × ((run_of 1 1 invented).shown first_range ≡ record { extent = 7; offset = 0; bytes = joined group } ∷ [])
 unfolding numbers.number reading.record_at reading.joined_at reading.text_at reading.body_at reading.transactions_at reading.transaction_at reading.change_at reading.counted_at reading.cell_at reading.fields_at reading.transactions_of
 invented_makes = (refl, refl, refl, refl)
 
@@ -64,7 +64,7 @@ lied =
     ∷ comes 1 Map (bodies.Map (maps.Assign 1 1 100))
     ∷ []
 
-lied_makes : ((run_of 1 1 lied).notes ≡ tables.Loaded 1 1 [] [] 2 ∷ []) × ((run_of 1 1 lied).story log_name ≡ Showed 1 0 0 [] ∷ []) × ((run_of 1 1 lied).shown ≡ [])
+lied_makes : ((run_of 1 1 lied).notes ≡ tables.Loaded 1 1 [] [] 2 ∷ []) × ((run_of 1 1 lied).story (log_name first_range) ≡ Showed 1 0 0 [] ∷ []) × ((run_of 1 1 lied).shown first_range ≡ [])
 unfolding numbers.number metadata_reading.record_at metadata_reading.next_at metadata_reading.item_at metadata_reading.regions_at metadata_reading.counted_at metadata_reading.region_at metadata_reading.position_at metadata_reading.end_at metadata_reading.end_behind metadata_reading.keys_at metadata_reading.text_at metadata_reading.high_at metadata_reading.high_behind
 lied_makes = (refl, refl, refl)
 
@@ -79,8 +79,8 @@ server_load server =
 abbrev twice : List ServerEvent
 twice = server_load 2 ++ server_load 1
 
-twice_makes : ((run_of 1 2 twice).notes ≡ tables.Loaded 1 1 [] [] 1 ∷ tables.Loaded 1 1 [] [] 1 ∷ []) × ((run_of 1 2 twice).story log_name ≡ Showed 1 0 0 [] ∷ Showed 1 0 0 [] ∷ [])
-    × ((run_of 1 2 twice).story metadata_name ≡ Showed 1 0 0 [] ∷ Showed 1 0 0 [] ∷ []) × ((run_of 1 2 twice).shown ≡ [])
+twice_makes : ((run_of 1 2 twice).notes ≡ tables.Loaded 1 1 [] [] 1 ∷ tables.Loaded 1 1 [] [] 1 ∷ []) × ((run_of 1 2 twice).story (log_name first_range) ≡ Showed 1 0 0 [] ∷ Showed 1 0 0 [] ∷ [])
+    × ((run_of 1 2 twice).story (metadata_name first_range) ≡ Showed 1 0 0 [] ∷ Showed 1 0 0 [] ∷ []) × ((run_of 1 2 twice).shown first_range ≡ [])
 twice_makes = (refl, refl, refl, refl)
 
 -- a range that no split made
@@ -91,8 +91,8 @@ second_range =
     ∷ comes 1 Map (bodies.Map (maps.Assign 2 1 100))
     ∷ []
 
-second_makes : ((run_of 1 1 second_range).notes ≡ tables.Loaded 2 1 [] [] 1 ∷ []) × ((run_of 1 1 second_range).story log_name ≡ []) × ((run_of 1 1 second_range).story metadata_name ≡ [])
-    × ((run_of 1 1 second_range).shown ≡ [])
+second_makes : ((run_of 1 1 second_range).notes ≡ tables.Loaded 2 1 [] [] 1 ∷ []) × ((run_of 1 1 second_range).story (log_name first_range) ≡ []) × ((run_of 1 1 second_range).story (metadata_name first_range) ≡ [])
+    × ((run_of 1 1 second_range).shown first_range ≡ [])
 second_makes = (refl, refl, refl, refl)
 
 -- ---- none of them replays
@@ -127,14 +127,14 @@ not_second r = by (r.past 2 1) (r.of [] [] 2 1 [] 1 refl)
 -- ---- so each of these premises is needed
 
 module _ (A : Type 0) where
-  one_keeps : KeepsOrder {A = A} (Showed 1 0 0 [] ∷ [])
+  pub one_keeps : KeepsOrder {A = A} (Showed 1 0 0 [] ∷ [])
   one_keeps = keeps_order A (Seen (Showed 1 0 0 []) ∷ Fenced 1 0 ∷ []) (([], [], refl, refl), ((omega arith, omega arith), tt))
 
   two_keep : KeepsOrder {A = A} (Showed 1 0 0 [] ∷ Showed 1 0 0 [] ∷ [])
   two_keep =
       keeps_order A (Seen (Showed 1 0 0 []) ∷ Seen (Showed 1 0 0 []) ∷ Fenced 1 0 ∷ []) (([], Seen (Showed 1 0 0 []) ∷ [], refl, refl), (([], [], refl, refl), ((omega arith, omega arith), tt)))
 
-  one_once : (event : StreamEvent A) → LoadsOnce {A = A} (event ∷ [])
+  pub one_once : (event : StreamEvent A) → LoadsOnce {A = A} (event ∷ [])
   one_once event l m g start end start' end' groups groups' one two = grind (arith, bound A (event ∷ []) l _ one, bound A (event ∷ []) m _ two)
 
 stands : StandsAt (joined group) 0 (joined group)
@@ -142,16 +142,16 @@ stands = record { before = []; behind = []; is = sym (append-nil (joined group))
 
 module _ (texts : ℕ → Bytes) (x : ServerRun) where
   abbrev WithoutOrder : List ServerEvent → Type 0
-  WithoutOrder events = AreFirst events × KeepsOrder (x.story metadata_name) × LoadsOnce (x.story log_name) × AllStand texts x.shown
+  WithoutOrder events = AreFirst events × KeepsOrder (x.story (metadata_name first_range)) × LoadsOnce (x.story (log_name first_range)) × AllStand texts (x.shown first_range)
 
   abbrev WithoutMetadata : List ServerEvent → Type 0
-  WithoutMetadata events = AreFirst events × KeepsOrder (x.story log_name) × LoadsOnce (x.story log_name) × AllStand texts x.shown
+  WithoutMetadata events = AreFirst events × KeepsOrder (x.story (log_name first_range)) × LoadsOnce (x.story (log_name first_range)) × AllStand texts (x.shown first_range)
 
   abbrev WithoutOnce : List ServerEvent → Type 0
-  WithoutOnce events = AreFirst events × KeepsOrder (x.story metadata_name) × KeepsOrder (x.story log_name) × AllStand texts x.shown
+  WithoutOnce events = AreFirst events × KeepsOrder (x.story (metadata_name first_range)) × KeepsOrder (x.story (log_name first_range)) × AllStand texts (x.shown first_range)
 
   abbrev WithoutFirst : List ServerEvent → Type 0
-  WithoutFirst events = StreamsInOrder texts x
+  WithoutFirst events = StreamsInOrder texts first_range x
 
 pub order_is_needed : Law WithoutOrder → ⊥
 order_is_needed law = not_invented rows (law 1 1 texts invented h

@@ -18,18 +18,18 @@ use Rattle.laws_server_runs.specs.RangeInvariant.{AreObserved}
 abbrev AgreeBelow : ℕ → (ℕ → List Row) → (ℕ → List Row) → Type 0
 AgreeBelow n rows others = (l : ℕ) → l < n → rows l ≡ others l
 
-observed_same : (rows others : ℕ → List Row) (story : Story (Numbered Transaction)) → AgreeBelow (length story) rows others → observed rows story ≡ observed others story
-observed_same rows others [] agree = refl
-observed_same rows others (Made g group ∷ earlier) agree = ap (λ l. l ++ notes rows earlier (Made g group)) (observed_same rows others earlier (λ l less. agree l (omega (arith, less))))
-observed_same rows others (Answered a from to ∷ earlier) agree = ap (λ l. l ++ notes rows earlier (Answered a from to)) (observed_same rows others earlier (λ l less. agree l (omega (arith, less))))
-observed_same rows others (Showed g start end groups ∷ earlier) agree =
-    (λ j. observed_same rows others earlier (λ l less. agree l (omega (arith, less))) j ++ Loaded 1 g (agree (length earlier) (omega arith) j) (suc (length (line_shown groups))) ∷ [])
+observed_same : (subject : ℕ) (rows others : ℕ → List Row) (story : Story (Numbered Transaction)) → AgreeBelow (length story) rows others → observed subject rows story ≡ observed subject others story
+observed_same subject rows others [] agree = refl
+observed_same subject rows others (Made g group ∷ earlier) agree = ap (λ l. l ++ notes subject rows earlier (Made g group)) (observed_same subject rows others earlier (λ l less. agree l (omega (arith, less))))
+observed_same subject rows others (Answered a from to ∷ earlier) agree = ap (λ l. l ++ notes subject rows earlier (Answered a from to)) (observed_same subject rows others earlier (λ l less. agree l (omega (arith, less))))
+observed_same subject rows others (Showed g start end groups ∷ earlier) agree =
+    (λ j. observed_same subject rows others earlier (λ l less. agree l (omega (arith, less))) j ++ Loaded subject g (agree (length earlier) (omega arith) j) (suc (length (line_shown groups))) ∷ [])
 
 -- the rows of one load more
 abbrev rows_with : (ℕ → List Row) → ℕ → List Row → ℕ → List Row
 rows_with rows n new l = if l == n then new else rows l
 
-module _ (story : Story (Numbered Transaction)) (g start end : ℕ) (shown : List (Placed (Numbered Transaction))) (rows : ℕ → List Row) (new : List Row) where
+module _ (subject : ℕ) (story : Story (Numbered Transaction)) (g start end : ℕ) (shown : List (Placed (Numbered Transaction))) (rows : ℕ → List Row) (new : List Row) where
   abbrev new_rows : ℕ → List Row
   new_rows = rows_with rows (length story) new
 
@@ -40,8 +40,8 @@ module _ (story : Story (Numbered Transaction)) (g start end : ℕ) (shown : Lis
   new_below l less = let other : (l == length story) ≡ false = grind (arith, nat_tests) in ap (λ (b : Bool). if b then new else rows l) other
 
   -- what is observed of the load comes behind what was observed before
-  load_told : observed rows story ++ Loaded 1 g new (suc (length (line_shown shown))) ∷ [] ≡ observed new_rows (Showed g start end shown ∷ story)
-  load_told = (λ j. observed_same rows new_rows story (λ l less. sym (new_below l less)) j ++ Loaded 1 g (sym new_here j) (suc (length (line_shown shown))) ∷ [])
+  load_told : observed subject rows story ++ Loaded subject g new (suc (length (line_shown shown))) ∷ [] ≡ observed subject new_rows (Showed g start end shown ∷ story)
+  load_told = (λ j. observed_same subject rows new_rows story (λ l less. sym (new_below l less)) j ++ Loaded subject g (sym new_here j) (suc (length (line_shown shown))) ∷ [])
 
   -- and its rows are the table of the line that it shows
   load_shows : ((key : Bytes) → stored new key ≡ after_line (line_shown shown) empty_table key) → ShowsTables rows story → ShowsTables new_rows (Showed g start end shown ∷ story)
@@ -57,13 +57,13 @@ module _ (story : Story (Numbered Transaction)) (g start end : ℕ) (shown : Lis
           ap (λ z. stored z key) (new_below l less) ∙ shows l h s e groups old key
 
 -- one load more is observed, where its rows are the table of the line that it shows
-pub load_observed : (texts : ℕ → Bytes) (story : Story Group) (g start end : ℕ) (shown : List (Placed Group)) (new : List Row) (before : List Note) →
-    ((key : Bytes) → stored new key ≡ after_line (line_shown (map (renamed_placed decoded) shown)) empty_table key) → AreObserved texts story before →
-    AreObserved texts (Showed g start end shown ∷ story) (before ++ Loaded 1 g new (suc (length (line_shown (map (renamed_placed decoded) shown)))) ∷ [])
-load_observed texts story g start end shown new before says (rows, shows, is) =
+pub load_observed : (texts : ℕ → Bytes) (subject : ℕ) (story : Story Group) (g start end : ℕ) (shown : List (Placed Group)) (new : List Row) (before : List Note) →
+    ((key : Bytes) → stored new key ≡ after_line (line_shown (map (renamed_placed decoded) shown)) empty_table key) → AreObserved texts subject story before →
+    AreObserved texts subject (Showed g start end shown ∷ story) (before ++ Loaded subject g new (suc (length (line_shown (map (renamed_placed decoded) shown)))) ∷ [])
+load_observed texts subject story g start end shown new before says (rows, shows, is) =
     let story' : Story (Numbered Transaction) = renamed decoded story in
     let shown' : List (Placed (Numbered Transaction)) = map (renamed_placed decoded) shown in (
-      new_rows story' g start end shown' rows new,
-      load_shows story' g start end shown' rows new says shows,
-      ap (λ (l : List Note). l ++ Loaded 1 g new (suc (length (line_shown shown'))) ∷ []) is ∙ load_told story' g start end shown' rows new,
+      new_rows subject story' g start end shown' rows new,
+      load_shows subject story' g start end shown' rows new says shows,
+      ap (λ (l : List Note). l ++ Loaded subject g new (suc (length (line_shown shown'))) ∷ []) is ∙ load_told subject story' g start end shown' rows new,
     )

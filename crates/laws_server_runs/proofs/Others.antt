@@ -15,7 +15,7 @@ use Rattle.model_partition.specs.ServerRun.{PlacedBytes, RangeHistory}
 use Rattle.model_partition.specs.ServedTables.{AllStand, IsAtLine, items_under, is_under, line_to, end_to}
 use Rattle.laws_loads.proofs.Renaming.{made_at}
 use Rattle.laws_tables.proofs.Range.{older, event_cases}
-use Rattle.laws_server_runs.specs.RangeView.{RangeView, log_of}
+use Rattle.laws_loads.specs.RangeView.{RangeView, log_of}
 use Rattle.laws_server_runs.specs.RangeInvariant.{HasReadNothing, ReadsMetadata, ReadsLog, IsShownUnder, IsAnswered, Serves, StageIs, RangeKept, IsUnder, GoesOn, Rests, Adds, IsLonger}
 
 -- ---- one event more
@@ -32,7 +32,7 @@ pub stood_before : (texts : ℕ → Bytes) (more old : List PlacedBytes) → All
 stood_before texts [] old all = all
 stood_before texts (p ∷ more) old all = stood_before texts more old all.1
 
-module _ (texts : ℕ → Bytes) where
+module _ (texts : ℕ → Bytes) (subject : ℕ) where
   -- ---- what goes on under another generation
 
   module _ (g h : ℕ) (apart : h ≡ g → ⊥) where
@@ -96,7 +96,7 @@ module _ (texts : ℕ → Bytes) where
 
   -- ---- a range that is served
 
-  module _ (v v' : RangeView) (same : v'.history ≡ v.history) (g : ℕ) (goes : GoesOn texts g (log_of v) (log_of v')) (longer : IsLonger texts v.answered v'.answered) (u : RangeState) where
+  module _ (v v' : RangeView) (same : v'.history ≡ v.history) (g : ℕ) (goes : GoesOn texts g (log_of v) (log_of v')) (longer : IsLonger v.answered v'.answered) (u : RangeState) where
     still_serves : (u.load.generation ≡ g → ⊥) → Serves texts v u → Serves texts v' u
     still_serves apart k =
         let s = stays g u.load.generation apart (log_of v) (log_of v') goes in
@@ -133,7 +133,7 @@ module _ (texts : ℕ → Bytes) where
 
   module _ (v : RangeView) where
     -- a range that is not served under that generation keeps what it keeps
-    pub others_kept : (u : RangeState) (v' : RangeView) → v'.history ≡ v.history → RangeKept texts v u → (g : ℕ) → GoesOn texts g (log_of v) (log_of v') → IsLonger texts v.answered v'.answered →
-        (is_serving u.stage ≡ true → u.load.generation ≡ g → ⊥) → RangeKept texts v' u
+    pub others_kept : (u : RangeState) (v' : RangeView) → v'.history ≡ v.history → RangeKept texts subject v u → (g : ℕ) → GoesOn texts g (log_of v) (log_of v') → IsLonger v.answered v'.answered →
+        (is_serving u.stage ≡ true → u.load.generation ≡ g → ⊥) → RangeKept texts subject v' u
     others_kept u v' same k g goes longer apart =
         record { range = k.range; phase = k.phase; sound = k.sound; stage = still_at v v' same g goes longer u u.stage apart k.stage }

@@ -22,7 +22,7 @@ use Rattle.model_partition.specs.declared.stage.Stage.{Stage}
 use Rattle.model_partition.specs.declared.stage.Stage.TheVariants as stages
 use Rattle.model_partition.specs.Loading.{Group}
 use Rattle.model_partition.specs.Past.{Bytes}
-use Rattle.model_partition.specs.Range.{OutGroup, RangeState, if_there, is_serving, request, picking}
+use Rattle.model_partition.specs.Range.{OutGroup, RangeState, RangeOutcome, if_there, is_serving, request, picking}
 use Rattle.model_partition.specs.Serving.{transact_fault, transacts, transact_rule}
 use Rattle.model_partition.specs.Answering.{load_reply, log_reply, metadata_reply, gets_reply, is_taken, groups_of, answer_rule}
 use Rattle.model_partition.specs.Story.{Placed, Showed}
@@ -30,18 +30,17 @@ use Rattle.model_partition.specs.StreamActions.{StreamAction, Forms, group_of, t
 use Rattle.model_partition.specs.ServedTables.{LoadsOnce}
 use Rattle.laws_loads.proofs.WaitingIsSound.{taken_served}
 use Rattle.laws_tables.proofs.Range.{newest, bound, older}
-use Rattle.laws_server_runs.specs.RangeView.{RangeView, view_after_all, log_of}
-use Rattle.laws_server_runs.specs.RangeInvariant.{IsShownUnder, RangeKept, StreamsKept, InOrder, StepKept}
+use Rattle.laws_loads.specs.RangeView.{RangeView, view_after_all, log_of}
+use Rattle.laws_server_runs.specs.RangeInvariant.{IsShownUnder, RangeKept, StreamsKept, InOrder, Rests, StepKept}
 use Rattle.laws_server_runs.proofs.Steps.{IsAlone}
-use Rattle.laws_server_runs.proofs.Events.{Rules}
-use Rattle.laws_server_runs.proofs.Loads.{get_kept, give_up_kept, new_kept, renewed_kept}
+use Rattle.laws_server_runs.specs.Turns.{IsRule, Transacts, Answers, Gets, Yields, Renews}
+use Rattle.laws_server_runs.proofs.Loads.{get_kept, give_up_kept, renewed_kept, silent_seen}
 use Rattle.laws_server_runs.proofs.LoadsSteps.{opens_kept}
 use Rattle.laws_server_runs.proofs.LoadsAnswered.{answer_kept}
 use Rattle.laws_server_runs.proofs.Confirms.{load_kept}
 use Rattle.laws_server_runs.proofs.Served.{transact_kept, log_serving_kept}
-use Rattle.laws_server_runs.proofs.Others.{others_kept}
 
-module _ (texts : ℕ → Bytes) (v : RangeView) (r : RangeState) (d : ServerContext) where
+module _ (texts : ℕ → Bytes) (subject : ℕ) (v : RangeView) (r : RangeState) (d : ServerContext) where
   abbrev after : List StreamAction → RangeView
   after actions = view_after_all r.load.generation v actions
 
@@ -111,12 +110,12 @@ module _ (texts : ℕ → Bytes) (v : RangeView) (r : RangeState) (d : ServerCon
       go false e = inr (inr (refused e (transact_fault d r changes) refl))
 
   -- an answer
-  pub all_answers : RangeKept texts v r → StreamsKept texts v → (w : ReqNo) (body : Body) → InOrder texts (after (answer_actions d r w body (answer_rule d r w body))) →
-      StepKept texts v r (answer_actions d r w body (answer_rule d r w body)) (answer_rule d r w body)
+  pub all_answers : RangeKept texts subject v r → StreamsKept texts v → (w : ReqNo) (body : Body) → InOrder texts (after (answer_actions d r w body (answer_rule d r w body))) →
+      StepKept texts subject v r (answer_actions d r w body (answer_rule d r w body)) (answer_rule d r w body)
   all_answers kept streams w body order =
-      answer_kept texts v r kept streams d w body
-      (λ t. load_kept texts v r kept streams d (opens_kept texts v r kept streams d) w body t (by t))
-      (λ serving waited. log_serving_kept texts v r kept streams d serving w body waited)
+      answer_kept texts subject v r kept streams d w body
+      (λ t. load_kept texts subject v r kept streams d (opens_kept texts subject v r kept streams d) w body t (by t))
+      (λ serving waited. log_serving_kept texts subject v r kept streams d serving w body waited)
     where
       -- what an answer to the load does
       by : load_awaits r.load.phase w ≡ true → InOrder texts (after (if is_some (load_reply d r body).after then load_actions r body else []))
@@ -134,16 +133,34 @@ module _ (texts : ℕ → Bytes) (v : RangeView) (r : RangeState) (d : ServerCon
               else [])
               else []))
 
--- what the rules of one range keep
-pub all_rules : (texts : ℕ → Bytes) → Rules texts
-all_rules texts = record {
-  others = λ v w u same kept g goes longer apart. others_kept texts v u w same kept g goes longer apart;
-  new = λ v cleared d generation until. new_kept texts v d cleared 1 generation until refl;
-  renewed = λ v r kept until. renewed_kept texts v r kept until;
-  get = λ v r kept streams d from q key. get_kept texts v r kept streams d from q key;
-  give_up = λ v r kept streams d. give_up_kept texts v r kept streams d;
-  transact = λ v r kept streams d from q changes. transact_kept texts v r kept streams d from q changes;
-  transact_alone = λ v r d from q changes. transact_alone texts v r d from q changes;
-  answer = λ v r kept streams d w body order. all_answers texts v r d kept streams w body order;
-  answer_alone = λ v r d w body order. answer_alone texts v r d w body order;
+-- ---- all rules
+
+-- a step that shows and does nothing
+renewed_step : (texts : ℕ → Bytes) (subject : ℕ) (v : RangeView) (r : RangeState) → RangeKept texts subject v r → StreamsKept texts v → (until count : ℕ) →
+    StepKept texts subject v r [] (record { after = Some (record r { until = until }); count = count; packets = []; notes = [] })
+renewed_step texts subject v r kept streams until count = record {
+  kept = (renewed_kept texts subject v r kept until, refl);
+  streams = streams;
+  goes = Rests;
+  longer = ([], refl);
+  anew = λ e. inl e;
+  seen = λ before later old seen. silent_seen texts subject (log_of v) before later old seen;
 }
+
+module _ (texts : ℕ → Bytes) (subject : ℕ) (v : RangeView) (r : RangeState) where
+  -- what a rule keeps
+  pub rule_kept : RangeKept texts subject v r → StreamsKept texts v → (actions : List StreamAction) (o : RangeOutcome) → IsRule r actions o →
+      InOrder texts (view_after_all r.load.generation v actions) → StepKept texts subject v r actions o
+  rule_kept kept streams actions o (Transacts d from q changes) order = transact_kept texts subject v r kept streams d from q changes
+  rule_kept kept streams actions o (Answers d w body) order = all_answers texts subject v r d kept streams w body order
+  rule_kept kept streams actions o (Gets d from q key) order = get_kept texts subject v r kept streams d from q key
+  rule_kept kept streams actions o (Yields d) order = give_up_kept texts subject v r kept streams d
+  rule_kept kept streams actions o (Renews until count) order = renewed_step texts subject v r kept streams until count
+
+  -- and what it does to the story of the log
+  pub rule_alone : (actions : List StreamAction) (o : RangeOutcome) → IsRule r actions o → InOrder texts (view_after_all r.load.generation v actions) → IsAlone texts v r (view_after_all r.load.generation v actions)
+  rule_alone actions o (Transacts d from q changes) order = transact_alone texts subject v r d from q changes
+  rule_alone actions o (Answers d w body) order = answer_alone texts subject v r d w body order
+  rule_alone actions o (Gets d from q key) order = inr (inr refl)
+  rule_alone actions o (Yields d) order = inr (inr refl)
+  rule_alone actions o (Renews until count) order = inr (inr refl)

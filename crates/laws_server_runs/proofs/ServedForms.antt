@@ -23,12 +23,12 @@ use Rattle.model_partition.specs.ServedTables.{AreSeenAs, IsAtLine}
 use Rattle.laws_loads.proofs.Renaming.{mapped_length, made_from, answered_at, showed_at}
 use Rattle.laws_loads.proofs.WaitingIsSound.{IsNext, is_next, appends_sound}
 use Rattle.laws_tables.proofs.Range.{newest, event_cases}
-use Rattle.laws_server_runs.specs.RangeView.{RangeView, view_after, log_of}
+use Rattle.laws_loads.specs.RangeView.{RangeView, view_after, log_of}
 use Rattle.laws_server_runs.specs.RangeInvariant.{Serves, RangeKept, StreamsKept, IsAnswered, AreObserved, Rests, Adds, StepKept}
 use Rattle.laws_server_runs.proofs.Others.{shown_on, answered_on}
 use Rattle.laws_server_runs.proofs.ServedNotes.{same_here, begun_seen, observed_made, kept_served, calm_kept}
 
-module _ (texts : ℕ → Bytes) where
+module _ (texts : ℕ → Bytes) (subject : ℕ) where
   -- the first n transactions of the queue are the next group, whatever becomes of the log's client
   module _ (v : RangeView) (r : RangeState) (k : Serves texts v r) (n : ℕ) (is : IsNext r n) (c : ClientState) where
     abbrev out_now : OutGroup
@@ -102,22 +102,22 @@ module _ (texts : ℕ → Bytes) where
       line = λ all. formed_line (k.line all);
     }
 
-    formed_seen : r.load.range ≡ 1 → (before later : List Note) → AreObserved texts (log_of v) before → AreSeenAs texts (began r.load.range r.load.generation r.next (take n r.queue)) later →
-        AreObserved texts (log_of formed_view) (before ++ later)
+    formed_seen : r.load.range ≡ subject → (before later : List Note) → AreObserved texts subject (log_of v) before → AreSeenAs texts (began r.load.range r.load.generation r.next (take n r.queue)) later →
+        AreObserved texts subject (log_of formed_view) (before ++ later)
     formed_seen range before later old seen =
         let g : ℕ = r.load.generation in
-        let here : later ≡ begins_of g r.next (map (λ t. t.changes) (take n r.queue)) =
-        begun_seen texts g r.next (take n r.queue) later (subst (λ z. AreSeenAs texts (began z g r.next (take n r.queue)) later) range seen) in
-        subst (λ (l : List Note). AreObserved texts (log_of formed_view) (before ++ l)) (ap (λ (x : Numbered Transaction). begins_of g x.first x.items) spells ∙ sym here)
-        (observed_made texts (log_of v) g (group_of out_now) before old)
+        let here : later ≡ begins_of subject g r.next (map (λ t. t.changes) (take n r.queue)) =
+        begun_seen texts subject g r.next (take n r.queue) later (subst (λ z. AreSeenAs texts (began z g r.next (take n r.queue)) later) range seen) in
+        subst (λ (l : List Note). AreObserved texts subject (log_of formed_view) (before ++ l)) (ap (λ (x : Numbered Transaction). begins_of subject g x.first x.items) spells ∙ sym here)
+        (observed_made texts subject (log_of v) g (group_of out_now) before old)
 
   -- the next group is formed
-  appends_kept : (v : RangeView) (r : RangeState) (d : ServerContext) → RangeKept texts v r → StreamsKept texts v → is_serving r.stage ≡ true → Serves texts v r → (n : ℕ) (is : IsNext r n) →
-      StepKept texts v r (formed (appends d r n).after) (appends d r n)
+  appends_kept : (v : RangeView) (r : RangeState) (d : ServerContext) → RangeKept texts subject v r → StreamsKept texts v → is_serving r.stage ≡ true → Serves texts v r → (n : ℕ) (is : IsNext r n) →
+      StepKept texts subject v r (formed (appends d r n).after) (appends d r n)
   appends_kept v r d kept streams serving k n is =
       let c : ClientState = (given (picking d r.log) (append_rule (picking d r.log) (request d) (spelling (record_of r.next (take n r.queue))))).after in
       record {
-        kept = (kept_served texts v (formed_view v r k n is c) r (formed_range v r k n is c) kept serving refl refl (appends_sound d r n kept.sound is) (formed_serves v r k n is c), refl);
+        kept = (kept_served texts subject v (formed_view v r k n is c) r (formed_range v r k n is c) kept serving refl refl (appends_sound d r n kept.sound is) (formed_serves v r k n is c), refl);
         streams = formed_streams v r k n is c streams;
         goes = Adds (made v r k n is c) (log_of v) Rests refl;
         longer = ([], refl);
@@ -126,10 +126,10 @@ module _ (texts : ℕ → Bytes) where
       }
 
   -- a group is formed where none is out
-  pub forms_kept : (v : RangeView) (r : RangeState) (d : ServerContext) → RangeKept texts v r → StreamsKept texts v → is_serving r.stage ≡ true → Serves texts v r → r.out ≡ None →
-      StepKept texts v r (formed (forms d r).after) (forms d r)
+  pub forms_kept : (v : RangeView) (r : RangeState) (d : ServerContext) → RangeKept texts subject v r → StreamsKept texts v → is_serving r.stage ≡ true → Serves texts v r → r.out ≡ None →
+      StepKept texts subject v r (formed (forms d r).after) (forms d r)
   forms_kept v r d kept streams serving k none =
-      if_elim (λ (o : RangeOutcome). StepKept texts v r (formed o.after) o) (not (is_some r.out) && (nat_lt 0 (group_count d r) && nat_lt (r.next + group_count d r) (2 ^ 64))) _ _
+      if_elim (λ (o : RangeOutcome). StepKept texts subject v r (formed o.after) o) (not (is_some r.out) && (nat_lt 0 (group_count d r) && nat_lt (r.next + group_count d r) (2 ^ 64))) _ _
       (λ t. appends_kept v r d kept streams serving k (group_count d r) (is_next d r kept.sound t))
-      (λ f. subst (λ (x : Option OutGroup). StepKept texts v r (map (λ out. Forms kinds.Log (group_of out)) (if_there x)) (goes d r [] [])) (sym none)
-      (calm_kept texts v r (goes d r [] []) streams refl (kept, refl) (λ s. inl serving)))
+      (λ f. subst (λ (x : Option OutGroup). StepKept texts subject v r (map (λ out. Forms kinds.Log (group_of out)) (if_there x)) (goes d r [] [])) (sym none)
+      (calm_kept texts subject v r (goes d r [] []) streams refl (kept, refl) (λ s. inl serving)))

@@ -32,7 +32,7 @@ use Rattle.laws_loads.proofs.Cells.{Says, all_transactions}
 use Rattle.laws_loads.proofs.Renaming.{mapped_length, made_at}
 use Rattle.laws_loads.proofs.Replaying.{line_both, values_stand}
 use Rattle.laws_tables.proofs.Range.{bound, newest, event_cases}
-use Rattle.laws_server_runs.specs.RangeView.{RangeView, view_after, log_of}
+use Rattle.laws_loads.specs.RangeView.{RangeView, view_after, log_of}
 use Rattle.laws_server_runs.specs.RangeInvariant.{Serves, RangeKept, StreamsKept, IsAnswered, AreObserved, Rests, Adds, StepKept}
 use Rattle.laws_server_runs.proofs.Others.{shown_on, answered_on}
 use Rattle.laws_server_runs.proofs.ServedNotes.{same_here, dones_seen, observed_answered, kept_served}
@@ -41,7 +41,7 @@ or_none : (x : Option Cell) → or_else x None ≡ x
 or_none None = refl
 or_none (Some cell) = refl
 
-module _ (texts : ℕ → Bytes) (v : RangeView) (r : RangeState) (k : Serves texts v r) (out : OutGroup) (is : r.out ≡ Some out) (fits : OutFits (Some out)) where
+module _ (texts : ℕ → Bytes) (subject : ℕ) (v : RangeView) (r : RangeState) (k : Serves texts v r) (out : OutGroup) (is : r.out ≡ Some out) (fits : OutFits (Some out)) where
   abbrev generation : ℕ
   generation = r.load.generation
 
@@ -154,24 +154,24 @@ module _ (texts : ℕ → Bytes) (v : RangeView) (r : RangeState) (k : Serves te
       unmade = streams.unmade;
     }
 
-    stood_seen : r.load.range ≡ 1 → (before later : List Note) → AreObserved texts (log_of v) before → AreSeenAs texts (dones r.load.range generation out.first out.transactions) later →
-        AreObserved texts (log_of stood_view) (before ++ later)
+    stood_seen : r.load.range ≡ subject → (before later : List Note) → AreObserved texts subject (log_of v) before → AreSeenAs texts (dones r.load.range generation out.first out.transactions) later →
+        AreObserved texts subject (log_of stood_view) (before ++ later)
     stood_seen range before later old seen =
-        let here : later ≡ dones_of generation out.first transactions =
-        dones_seen texts generation out.first out.transactions later (subst (λ z. AreSeenAs texts (dones z generation out.first out.transactions) later) range seen) in
-        subst (λ (l : List Note). AreObserved texts (log_of stood_view) (before ++ l)) (ap (λ (x : Numbered Transaction). dones_of generation x.first x.items) spells ∙ sym here)
-        (observed_answered texts (log_of v) append (place_number at) (place_number at + group_size (group_of out)) generation (group_of out) before made old)
+        let here : later ≡ dones_of subject generation out.first transactions =
+        dones_seen texts subject generation out.first out.transactions later (subst (λ z. AreSeenAs texts (dones z generation out.first out.transactions) later) range seen) in
+        subst (λ (l : List Note). AreObserved texts subject (log_of stood_view) (before ++ l)) (ap (λ (x : Numbered Transaction). dones_of subject generation x.first x.items) spells ∙ sym here)
+        (observed_answered texts subject (log_of v) append (place_number at) (place_number at + group_size (group_of out)) generation (group_of out) before made old)
 
     -- the range after the group is applied
-    pub stood_kept : RangeKept texts v r → is_serving r.stage ≡ true → IsSound stood_range → RangeKept texts stood_view stood_range
-    stood_kept before serving sound = kept_served texts v stood_view r stood_range before serving refl refl sound stood_serves
+    pub stood_kept : RangeKept texts subject v r → is_serving r.stage ≡ true → IsSound stood_range → RangeKept texts subject stood_view stood_range
+    stood_kept before serving sound = kept_served texts subject v stood_view r stood_range before serving refl refl sound stood_serves
 
     -- what is left once the group stands
     abbrev pub stood_outcome : RangeOutcome
     stood_outcome = record { after = Some stood_range; count = 0; packets = []; notes = dones r.load.range generation out.first out.transactions }
 
-    pub stands_kept : RangeKept texts v r → StreamsKept texts v → is_serving r.stage ≡ true → IsSound stood_range →
-        StepKept texts v r (Stands kinds.Log extent at (group_of out) ∷ []) stood_outcome
+    pub stands_kept : RangeKept texts subject v r → StreamsKept texts v → is_serving r.stage ≡ true → IsSound stood_range →
+        StepKept texts subject v r (Stands kinds.Log extent at (group_of out) ∷ []) stood_outcome
     stands_kept before streams serving sound = record {
       kept = (stood_kept before serving sound, refl);
       streams = stood_streams streams;

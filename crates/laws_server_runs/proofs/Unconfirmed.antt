@@ -13,7 +13,7 @@ use Rattle.memtable.specs.Entries.{Entries}
 use Rattle.client.specs.declared.load.LoadPhase.TheVariants as phases
 use Rattle.model_partition.specs.declared.server_context.ServerContext.{ServerContext}
 use Rattle.model_partition.specs.declared.stage.Stage.TheVariants as stages
-use Rattle.model_partition.specs.Past.{Bytes}
+use Rattle.model_partition.specs.Past.{Bytes, first_range}
 use Rattle.model_partition.specs.Loading.{Group, replays, replayed}
 use Rattle.model_partition.specs.Range.{RangeState}
 use Rattle.model_partition.specs.Server.{new_range, started}
@@ -64,16 +64,16 @@ module _ (found : List Group) where
       after_actions 1 1 1 (run_of 1 1 before) (if is_some (replays context is_read 0 x).after then Reads kinds.Log read ∷ [] else [])
 
   -- it shows nothing, and tells no story
-  pub quiet : ((run_of 1 1 unconfirmed).notes ≡ []) × ((run_of 1 1 unconfirmed).story log_name ≡ []) × ((run_of 1 1 unconfirmed).story metadata_name ≡ [])
-      × ((run_of 1 1 unconfirmed).shown ≡ [])
+  pub quiet : ((run_of 1 1 unconfirmed).notes ≡ []) × ((run_of 1 1 unconfirmed).story (log_name first_range) ≡ []) × ((run_of 1 1 unconfirmed).story (metadata_name first_range) ≡ [])
+      × ((run_of 1 1 unconfirmed).shown first_range ≡ [])
   quiet = by made
     where
-      by : (x : Replayed) → ((after x).notes ++ (replays context is_read 0 x).notes ≡ []) × ((after x).story log_name ≡ []) × ((after x).story metadata_name ≡ []) × ((after x).shown ≡ [])
+      by : (x : Replayed) → ((after x).notes ++ (replays context is_read 0 x).notes ≡ []) × ((after x).story (log_name first_range) ≡ []) × ((after x).story (metadata_name first_range) ≡ []) × ((after x).shown first_range ≡ [])
       by None = (refl, refl, refl, refl)
       by (Some x) = (refl, refl, refl, refl)
 
   -- so nothing is owed: no story, and no table
-  pub owes_nothing : (texts : ℕ → Bytes) → StreamsInOrder texts (run_of 1 1 unconfirmed)
+  pub owes_nothing : (texts : ℕ → Bytes) → StreamsInOrder texts first_range (run_of 1 1 unconfirmed)
   owes_nothing texts = record {
     metadata = subst KeepsOrder (sym quiet.2) (keeps_order Group [] tt);
     log = subst KeepsOrder (sym quiet.1) (keeps_order Group [] tt);

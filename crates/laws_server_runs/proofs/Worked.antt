@@ -32,7 +32,7 @@ use Rattle.replica.specs.Groups.{joined}
 use Rattle.model_partition.specs.declared.stage.Stage.TheVariants as stages
 use Rattle.model_partition.specs.declared.table_note.TableNote.{TableNote}
 use Rattle.model_partition.specs.declared.table_note.TableNote.TheVariants as tables
-use Rattle.model_partition.specs.Past.{Bytes, Transaction, Replays, after_line, empty_table, table_notes}
+use Rattle.model_partition.specs.Past.{Bytes, Transaction, Replays, after_line, empty_table, table_notes, first_range}
 use Rattle.model_partition.specs.Loading.{Group}
 use Rattle.model_partition.specs.Range.{RangeState}
 use Rattle.model_partition.specs.Getting.{standing}
@@ -94,7 +94,7 @@ on_time =
     ∷ comes 1 Map (bodies.Map (maps.Assign 1 1 100))
     ∷ []
 
-abbrev events : List ServerEvent
+abbrev pub events : List ServerEvent
 events = appended ∷ on_time
 
 -- ---- what the servers make of it
@@ -102,10 +102,10 @@ events = appended ∷ on_time
 abbrev run : ServerRun
 run = run_of 1 2 events
 
-abbrev log : Story Group
+abbrev pub log : Story Group
 log = Showed 2 0 24 (record { from = 0; to = 24; group = group } ∷ []) ∷ Answered 1 0 24 ∷ Made 1 group ∷ Showed 1 0 0 [] ∷ []
 
-abbrev metadata : Story Group
+abbrev pub metadata : Story Group
 metadata = Showed 2 0 0 [] ∷ Showed 1 0 0 [] ∷ []
 
 -- the layer that the second server loads
@@ -116,11 +116,11 @@ abbrev told : List TableNote
 told = tables.Loaded 1 1 [] [] 1 ∷ tables.Began 1 1 1 put ∷ tables.Done 1 1 1 ∷ tables.Loaded 1 2 loaded [] 2 ∷ []
 
 -- the bytes of the group, at the begin of the extent
-abbrev stands : PlacedBytes
+abbrev pub stands : PlacedBytes
 stands = record { extent = 7; offset = 0; bytes = joined group }
 
 -- what it makes; the late answer changes nothing
-makes : (run.story log_name ≡ log) × (run.story metadata_name ≡ metadata) × (run.notes ≡ told) × (run.shown ≡ stands ∷ []) × (run.answered ≡ stands ∷ [])
+makes : (run.story (log_name first_range) ≡ log) × (run.story (metadata_name first_range) ≡ metadata) × (run.notes ≡ told) × (run.shown first_range ≡ stands ∷ []) × (run.answered first_range ≡ stands ∷ [])
     × (run ≡ run_of 1 2 on_time)
 unfolding numbers.number reading.record_at reading.joined_at reading.text_at reading.body_at reading.transactions_at reading.transaction_at reading.change_at reading.counted_at reading.cell_at reading.fields_at reading.transactions_of
 makes = (refl, refl, refl, refl, refl, refl)
@@ -130,14 +130,14 @@ abbrev client : StreamName → List StreamExtent → Option ℕ → ClientState
 client stream extents checked =
     record { server = 2; stream = stream; generation = 2; base = 0; extents = extents; checked = checked; pick = first_pick; group = []; job = Idle }
 
-abbrev served : RangeState
+abbrev pub served : RangeState
 served =
     record {
       until = 100;
       load = record { server = 2; range = 1; generation = 2; phase = phases.Confirmed };
       stage = stages.Serving;
-      metadata = client metadata_name [] None;
-      log = client log_name (extent ∷ []) (Some 24);
+      metadata = client (metadata_name first_range) [] None;
+      log = client (log_name first_range) (extent ∷ []) (Some 24);
       row_data = nothing;
       blob_data = nothing;
       said = first_metadata;
@@ -188,10 +188,10 @@ module _ (A : Type 0) (block : A) where
     ),
   )
 
-  log_keeps : KeepsOrder (visible fenced)
+  pub log_keeps : KeepsOrder (visible fenced)
   log_keeps = keeps_order A fenced is_fenced
 
-  metadata_keeps : KeepsOrder {A = A} (Showed 2 0 0 [] ∷ Showed 1 0 0 [] ∷ [])
+  pub metadata_keeps : KeepsOrder {A = A} (Showed 2 0 0 [] ∷ Showed 1 0 0 [] ∷ [])
   metadata_keeps = keeps_order A (Seen (Showed 2 0 0 []) ∷ Fenced 2 0 ∷ at_first) ((at_first, [], refl, refl), ((omega arith, omega arith), is_at_first))
 
   -- what a load is of
@@ -221,7 +221,7 @@ module _ (A : Type 0) (block : A) where
       newest (inl q) = let s : 2 ≡ g = cc in inl (q.0, sym s)
       newest (inr older) = answered (event_cases A (Answered 1 0 24) (Made 1 block ∷ Showed 1 0 0 [] ∷ []) l it older)
 
-  once : LoadsOnce (visible fenced)
+  pub once : LoadsOnce (visible fenced)
   once l m g start end start' end' groups groups' one two = grind (arith, loads l g start end groups one, loads m g start' end' groups' two)
 
 are_first : AreFirst events
@@ -230,7 +230,7 @@ are_first = (tt, (tt, (tt, (tt, (tt, (refl, (tt, (tt, (tt, (tt, (tt, (refl, tt))
 -- ---- what follows, over any texts in which the group stands at the begin of its extent
 
 module _ (texts : ℕ → Bytes) (there : StandsAt (texts 7) 0 (joined group)) where
-  in_order : StreamsInOrder texts run
+  in_order : StreamsInOrder texts first_range run
   in_order = record {
     metadata = subst KeepsOrder (sym makes.1) (metadata_keeps Group group);
     log = subst KeepsOrder (sym makes.0) (log_keeps Group group);
@@ -242,7 +242,7 @@ module _ (texts : ℕ → Bytes) (there : StandsAt (texts 7) 0 (joined group)) w
   both_replay h seen = run_replays texts 1 2 events h are_first in_order (subst (λ z. AreSeenAs texts z (table_notes h)) (sym makes.2) seen)
 
   at_line : IsAtLine texts log served
-  at_line = subst (λ z. IsAtLine texts z served) makes.0 (run_at_line texts 1 2 events 2 served are_first in_order (subst (AllStand texts) (sym makes.4) (there, tt)) serves)
+  at_line = subst (λ z. IsAtLine texts z served) makes.0 (run_at_line texts 1 2 events 2 first_range served in_order (subst (AllStand texts) (sym makes.4) (there, tt)) serves)
 
   -- the table of the range at the second server is that of the line with the one transaction
   pub table_is : (key : Bytes) → value_of texts (standing served key) ≡ after_line (put ∷ []) empty_table key

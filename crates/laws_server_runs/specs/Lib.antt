@@ -1,3 +1,4 @@
-pub mod RangeView
 pub mod RangeInvariant
 pub mod RunInvariant
+pub mod Places
+pub mod Turns

@@ -28,7 +28,7 @@ use Rattle.model_partition.specs.StreamActions.{ExtentRead, StreamAction, group_
 use Rattle.model_partition.specs.ServerRun.{RangeHistory}
 use Rattle.model_partition.specs.ServedTables.{AllStand, AreSeenAs, IsAtLine, LoadsOnce}
 use Rattle.laws_loads.specs.Sound.{IsSound}
-use Rattle.laws_server_runs.specs.RangeView.{RangeView, view_after_all, log_of, metadata_of}
+use Rattle.laws_loads.specs.RangeView.{RangeView, view_after_all, log_of, metadata_of}
 
 -- ---- what a load makes of what it reads
 
@@ -74,6 +74,10 @@ IsShownUnder story g = (l : ℕ) × (start : ℕ) × (end : ℕ) × (groups : Li
 abbrev pub IsAnswered : Story Group → ℕ → Type 0
 IsAnswered story a = (k : ℕ) × (from : ℕ) × (to : ℕ) × (a < k) × (event_at story k ≡ Some (Answered a from to))
 
+-- a list with more before it
+abbrev pub IsLonger : {A : Type 0} → List A → List A → Type 0
+IsLonger {A} old new = (more : List A) × (new ≡ more ++ old)
+
 module _ (texts : ℕ → Bytes) where
   pub record Serves (v : RangeView) (r : RangeState) : Type 0 where
     pub shown : IsShownUnder (log_of v) r.load.generation
@@ -107,9 +111,9 @@ module _ (texts : ℕ → Bytes) where
   StageIs v r stages.Confirming = ReadsLog v.history r
   StageIs v r stages.Serving = Serves v r
 
-  -- what is kept of range 1 at a server
-  pub record RangeKept (v : RangeView) (r : RangeState) : Type 0 where
-    pub range : r.load.range ≡ 1
+  -- what is kept of a range of this number at a server
+  pub record RangeKept (subject : ℕ) (v : RangeView) (r : RangeState) : Type 0 where
+    pub range : r.load.range ≡ subject
     pub phase : PhaseIs r.stage r.load.phase
     pub sound : IsSound r
     pub stage : StageIs v r r.stage
@@ -125,10 +129,10 @@ module _ (texts : ℕ → Bytes) where
   IsUnmade story = (a g : ℕ) (group : Group) → event_at story a ≡ Some (Made g group) → ⊥
 
   -- these observations are those of the story, whose loads show tables
-  abbrev pub AreObserved : Story Group → List Note → Type 0
-  AreObserved story notes = (rows : ℕ → List Row) × ShowsTables rows (renamed decoded story) × (notes ≡ observed rows (renamed decoded story))
+  abbrev pub AreObserved : ℕ → Story Group → List Note → Type 0
+  AreObserved subject story notes = (rows : ℕ → List Row) × ShowsTables rows (renamed decoded story) × (notes ≡ observed subject rows (renamed decoded story))
 
-  -- what is kept of the streams of range 1
+  -- what is kept of the streams of a range
   pub record StreamsKept (v : RangeView) : Type 0 where
     pub served : IsServed (renamed decoded (log_of v))
     pub spelled : AllSpelled (log_of v)
@@ -154,13 +158,9 @@ module _ (texts : ℕ → Bytes) where
     Rests : GoesOn g story story
     Adds : (event : StreamEvent Group) (earlier : Story Group) (on : GoesOn g story earlier) (under : IsUnder g earlier event) → GoesOn g story (event ∷ earlier)
 
-  -- more bytes were answered
-  abbrev pub IsLonger : {A : Type 0} → List A → List A → Type 0
-  IsLonger {A} old new = (more : List A) × (new ≡ more ++ old)
-
-  abbrev pub KeptIf : RangeView → ℕ → Option RangeState → Type 0
-  KeptIf v g None = Unit {0}
-  KeptIf v g (Some r) = RangeKept v r × (r.load.generation ≡ g)
+  abbrev pub KeptIf : ℕ → RangeView → ℕ → Option RangeState → Type 0
+  KeptIf subject v g None = Unit {0}
+  KeptIf subject v g (Some r) = RangeKept subject v r × (r.load.generation ≡ g)
 
   -- the range begins to be served where its load is the first of its generation
   abbrev pub ServesAnew : Story Group → RangeState → Option RangeState → Type 0
@@ -168,10 +168,10 @@ module _ (texts : ℕ → Bytes) where
   ServesAnew story r (Some next) = is_serving next.stage ≡ true → (is_serving r.stage ≡ true) ⊎ (IsShownUnder story r.load.generation → ⊥)
 
   -- what a step of a range that did these actions leaves
-  pub record StepKept (v : RangeView) (r : RangeState) (actions : List StreamAction) (o : RangeOutcome) : Type 0 where
-    pub kept : KeptIf (view_after_all r.load.generation v actions) r.load.generation o.after
+  pub record StepKept (subject : ℕ) (v : RangeView) (r : RangeState) (actions : List StreamAction) (o : RangeOutcome) : Type 0 where
+    pub kept : KeptIf subject (view_after_all r.load.generation v actions) r.load.generation o.after
     pub streams : StreamsKept (view_after_all r.load.generation v actions)
     pub goes : GoesOn r.load.generation (log_of v) (log_of (view_after_all r.load.generation v actions))
     pub longer : IsLonger v.answered (view_after_all r.load.generation v actions).answered
     pub anew : ServesAnew (log_of v) r o.after
-    pub seen : (before later : List Note) → AreObserved (log_of v) before → AreSeenAs texts o.notes later → AreObserved (log_of (view_after_all r.load.generation v actions)) (before ++ later)
+    pub seen : (before later : List Note) → AreObserved subject (log_of v) before → AreSeenAs texts o.notes later → AreObserved subject (log_of (view_after_all r.load.generation v actions)) (before ++ later)

@@ -11,7 +11,7 @@ use Rattle.wire.specs.declared.note.Note.{Note}
 use Rattle.wire.specs.declared.packet.Packet.{Packet}
 use Rattle.wire.specs.declared.refusal.Refusal.{Refusal}
 use Rattle.model_streams.specs.declared.event.Event.{Event}
-use Rattle.model_streams.specs.declared.event.Event.TheVariants.{Submit, Deliver, Stop, Restart, Decide, GiveUp, Assign, Renew, Moment}
+use Rattle.model_streams.specs.declared.event.Event.TheVariants.{Submit, Deliver, Stop, Restart, Decide, GiveUp, Assign, Renew, Moment, Checkpoint, Split, Merge}
 use Rattle.model_streams.specs.Honest.{Agree, Kept}
 use Rattle.model_streams.specs.Outcome.{Outcome, packet}
 use Rattle.model_streams.specs.StreamSystem.{StreamSystem, happens, moved, sent_more, stops_in, stands_in, delivered, delivered_if, is_table_note, start, Move, run_moves}
@@ -173,6 +173,9 @@ comes_by c (GiveUp server range pick) =
 comes_by c (Assign range server until) = assigns_by c range server until
 comes_by c (Renew range server until) = renews_by c range server until
 comes_by c (Moment now) = moment_by c now
+comes_by c (Checkpoint server range combine) = one c.stream_layer (Happens (Checkpoint server range combine))
+comes_by c (Split server range key) = one c.stream_layer (Happens (Split server range key))
+comes_by c (Merge server left right) = one c.stream_layer (Happens (Merge server left right))
 
 -- ---- whole runs
 

@@ -23,7 +23,7 @@ use Rattle.client.specs.declared.job.News.{News}
 use Rattle.client.specs.declared.job.News.TheVariants as news
 use Rattle.client.specs.declared.load.LoadPhase.{LoadPhase}
 use Rattle.client.specs.declared.load.LoadPhase.TheVariants as phases
-use Rattle.client.specs.Client.{ClientState, Outcome, append_rule, check_rule, reply_rule, give_up_rule, read_sealed_rule, read_checked_rule, last_extent, awaits, new_client}
+use Rattle.client.specs.Client.{ClientState, Outcome, append_rule, check_rule, reply_rule, read_sealed_rule, read_checked_rule, last_extent, awaits, new_client}
 use Rattle.client.specs.Load.{again, load_awaits}
 use Rattle.memtable.specs.declared.cell.Place.{Place}
 use Rattle.commitlog.specs.Record.{spelling}
@@ -44,7 +44,7 @@ use Rattle.model_partition.specs.Range.{OutGroup, RangeState, RangeOutcome, requ
 use Rattle.model_partition.specs.Serving.{record_of, group_count, began, appends as appends_next, forms, transact_fault, lease_ended, transacts, transact_rule, dones, committed, out_size, after_these, applies, log_done}
 use Rattle.model_partition.specs.Loading.{Group, said_after, replayed, read_by, read_of, reads_log, first_position, reads_log_from, checks_log, begins_log, reads_metadata, begins_metadata, opens, says, metadata_news, replays, log_read, log_news, open_region, serves_from, serves, are_counted}
 use Rattle.model_partition.specs.Getting.{Lookup, Is, Needs, Tried, asks_place, answered, try, try_all, get_fault, gets, get_rule, bytes_rule, came, place_of, gives_up_read, gives_up_get, asks_again, moved_on, places_of, look, read_at, standing, without}
-use Rattle.model_partition.specs.Answering.{load_refused, load_told, load_reply, metadata_reply, serving_news, is_taken, log_taken, log_reply, bytes_reply, gets_reply, answer_rule, give_up_all, groups_of}
+use Rattle.model_partition.specs.Answering.{load_refused, load_told, load_reply, metadata_reply, serving_news, is_taken, log_taken, log_reply, bytes_reply, gets_reply, answer_rule, gives_up_job, give_up_all, groups_of}
 use Rattle.model_partition.specs.Servers.{ArePlain, ShowsLoad}
 use Rattle.laws_servers.specs.Sending.{AllFromServers}
 use Rattle.laws_servers.proofs.ClientPackets.{all_both, all_map, all_flat, listed, Calls, given_calls, append_rule_calls, check_rule_calls, read_sealed_calls, read_checked_calls, reply_calls, give_up_calls, again_calls}
@@ -344,11 +344,11 @@ gives_up_read_all d r g (Some read) = asks_again_all d (moved_on read) (places_o
 
 pub give_up_tidy : (d : ServerContext) (r : RangeState) → IsTidy (give_up_all d r)
 give_up_tidy d r =
-    let m : Outcome = give_up_rule (picking d r.metadata) (request d) d.pick in
-    let l : Outcome = give_up_rule (picking d r.log) (request (used d)) d.pick in (
+    let l : Outcome = gives_up_job d r.log in
+    let m : Outcome = gives_up_job (used d) r.metadata in (
       all_both (option_to_list (again r.load r.load.phase)) _ (listed (again r.load r.load.phase) (again_calls r.load r.load.phase))
-          (all_both (option_to_list m.packet) _ (listed m.packet (give_up_calls (picking d r.metadata) (request d) d.pick))
-          (all_both (option_to_list l.packet) _ (listed l.packet (give_up_calls (picking d r.log) (request (used d)) d.pick))
+          (all_both (option_to_list l.packet) _ (listed l.packet (give_up_calls (picking d r.log) (request d) d.pick))
+          (all_both (option_to_list m.packet) _ (listed m.packet (give_up_calls (picking d r.metadata) (request (used d)) d.pick))
           (all_flat (λ (g : WaitingGet). (gives_up_get d r g).1) (λ g. gives_up_read_all d r g (slice_get g.reads (length g.reads - 1))) r.gets))),
       tt,
     )

@@ -116,7 +116,10 @@ answered_shows s p body is =
     subst (λ (b : Body). Shows (loads s b) (numbered_rule s p (answered_number b))) is (numbered_shows s p (answered_number p.body) refl)
 
 taken_shows : (s : ServerState) (p : Packet) (body : Body) → p.body ≡ body → Shows (loads s body) (taken_rule s p body)
-taken_shows s p (bodies.Map body) is = plainly None (map_rule s p.from body) (map_tidy s p.from body)
+taken_shows s p (bodies.Map (maps.Assign range generation until)) is =
+    plainly None (map_rule s p.from (maps.Assign range generation until)) (map_tidy s p.from (maps.Assign range generation until))
+taken_shows s p (bodies.Map (maps.Renew range generation until)) is =
+    plainly None (map_rule s p.from (maps.Renew range generation until)) (map_tidy s p.from (maps.Renew range generation until))
 taken_shows s p (bodies.Table body) is = plainly None (table_rule s p body) (table_tidy s p body)
 taken_shows s p body is = answered_shows s p body is
 

@@ -1,5 +1,5 @@
 -- Whatever happens, as steps of the machine of one stream; and what the answers in the post mean.
-use Rattle.std.proofs.Common.{◌≡◌, ℕ, suc, ◌+◌, ◌≤◌, Bool, not, ◌||◌, List, [], map, Option, Some, None, slice_get, Contains, refl, sym, ap, ◌∙◌, subst, inl, inr, arith, append-nil, ◌==◌}
+use Rattle.std.proofs.Common.{◌≡◌, ℕ, suc, ◌+◌, ◌≤◌, Bool, not, ◌||◌, List, [], map, Option, Some, None, slice_get, Contains, refl, sym, ap, ◌∙◌, subst, arith, append-nil, ◌==◌}
 use Rattle.wire.specs.declared.actor.ActorId.{ActorId}
 use Rattle.wire.specs.declared.actor.ActorId.TheVariants.{Node, Manager, Map, Server, User}
 use Rattle.wire.specs.declared.actor.ReqNo.{ReqNo}
@@ -11,6 +11,8 @@ use Rattle.wire.specs.declared.body.ReadBody.{ReadBody}
 use Rattle.wire.specs.declared.body.ReadBody.TheVariants.{ReadGroups, Groups}
 use Rattle.wire.specs.declared.body.SealBody.{SealBody}
 use Rattle.wire.specs.declared.body.SealBody.TheVariants.{SealExtent, SealedIs}
+use Rattle.wire.specs.declared.body.StreamBody.{StreamBody}
+use Rattle.wire.specs.declared.body.StreamBody.TheVariants.{Created, Opened, Confirmed, Extended, Trimmed, Modified}
 use Rattle.wire.specs.declared.body.Body.{Body}
 use Rattle.wire.specs.declared.body.Body.TheVariants as bodies
 use Rattle.wire.specs.declared.packet.Packet.{Packet}
@@ -18,7 +20,7 @@ use Rattle.wire.specs.declared.streams.StreamName.{StreamName}
 use Rattle.replica.specs.Groups.{Group, text_length}
 use Rattle.streams.specs.Streams.{Stream, stream_of}
 use Rattle.model_streams.specs.declared.event.Event.{Event}
-use Rattle.model_streams.specs.declared.event.Event.TheVariants.{Submit, Deliver, Stop, Restart, Decide, GiveUp, Assign, Renew, Moment}
+use Rattle.model_streams.specs.declared.event.Event.TheVariants.{Submit, Deliver, Stop, Restart, Decide, GiveUp, Assign, Renew, Moment, Checkpoint, Split, Merge}
 use Rattle.model_streams.specs.Maps.{changed}
 use Rattle.model_streams.specs.Outcome.{packet}
 use Rattle.model_streams.specs.StreamSystem.{StreamSystem, ActorCell, running, armed, node_halted, manager_halted, delivered, delivered_if, node_stops, manager_stops, stop, is_present, restart, happens, start, Move, run_moves}
@@ -33,9 +35,9 @@ use Rattle.laws_streams.proofs.EventSteps.{recelled}
 use Rattle.laws_streams.proofs.ListRules.{Goes}
 use Rattle.laws_streams.proofs.Listings.{moved_goes}
 use Rattle.laws_streams.proofs.SealAnswers.{sealed_known, seals_answered}
-use Rattle.model_partition.specs.Answering.{append_number, check_number, read_number, seal_number}
+use Rattle.model_partition.specs.Answering.{append_number, check_number, read_number, seal_number, stream_number}
 use Rattle.model_partition.specs.StreamMachine.{SealedExtent, MachineState, base}
-use Rattle.laws_stream_machine.specs.Refinement.{Purpose, Seals, Reads, Appends, Checks, Sent, purpose_of, extents_of, extents_in, IsAt, AsksToSeal, AsksToRead, ReadsRightly, AppendMeans, CheckMeans, SealMeans, ReadMeans, AllMean, Means, purpose_if}
+use Rattle.laws_stream_machine.specs.Refinement.{Purpose, Opens, Confirms, Extends, Seals, Reads, Appends, Checks, Sent, purpose_of, extents_of, IsAt, ReadsRightly, AppendMeans, CheckMeans, SealMeans, ReadMeans, StreamMeans, AllMean, Means, purpose_if, stream_meant}
 use Rattle.laws_stream_machine.proofs.ExtentSteps.{group_of, chain_len}
 use Rattle.laws_stream_machine.proofs.FactSources.{Lawful}
 use Rattle.laws_stream_machine.proofs.StepSequences.{onward_refl, Walk, stand, shut_within}
@@ -45,7 +47,7 @@ use Rattle.laws_stream_machine.proofs.Refines.{Follows, submit_follows}
 use Rattle.laws_stream_machine.proofs.SystemSteps.{ahead_goes, next_follows}
 use Rattle.laws_stream_machine.proofs.ToldLists.{sealed_or_last}
 use Rattle.laws_stream_machine.proofs.ManagerSteps.{manager_event, decide_event}
-use Rattle.laws_stream_machine.proofs.NodeSteps.{node_event, is_in_or}
+use Rattle.laws_stream_machine.proofs.NodeSteps.{node_event}
 
 module _ (generation : ℕ → ℕ) (name : StreamName) (sent : List Sent) (w : StreamSystem) (s : MachineState Group) (a : Follows generation name w s sent) where
   abbrev Leads : StreamSystem → Type 0
@@ -58,15 +60,15 @@ module _ (generation : ℕ → ℕ) (name : StreamName) (sent : List Sent) (w : 
   recelled_stays : (cell : ℕ → ActorCell) (manager_cell : ActorCell) → Leads (record w { cell = cell; manager_cell = manager_cell })
   recelled_stays cell manager_cell =
       let v : StreamSystem = record w { cell = cell; manager_cell = manager_cell } in
-      stand generation s _ (next_follows generation name w s sent a v s a.ground (later_refl a.ground) (recelled w cell manager_cell a.ground a.holds) (ahead_same name w s v s refl (onward_refl s)) a.shaped [] (sym (append-nil w.post)) tt)
+      stand generation s _ (next_follows generation name w s sent a v s a.ground (later_refl a.ground) a.appended (recelled w cell manager_cell a.ground a.holds) (ahead_same name w s v s refl (onward_refl s)) a.shaped [] (sym (append-nil w.post)) tt)
 
   halted_stays : (n : ℕ) → Leads (node_halted w n)
   halted_stays n =
-      stand generation s _ (next_follows generation name w s sent a (node_halted w n) s a.ground (later_refl a.ground) (halted_holds w a.ground n a.holds) (ahead_same name w s (node_halted w n) s refl (onward_refl s)) a.shaped [] (sym (append-nil w.post)) tt)
+      stand generation s _ (next_follows generation name w s sent a (node_halted w n) s a.ground (later_refl a.ground) a.appended (halted_holds w a.ground n a.holds) (ahead_same name w s (node_halted w n) s refl (onward_refl s)) a.shaped [] (sym (append-nil w.post)) tt)
 
   manager_halted_stays : Goes w.catalog (manager_halted w).catalog → Leads (manager_halted w)
   manager_halted_stays goes =
-      stand generation s _ (next_follows generation name w s sent a (manager_halted w) s a.ground (later_refl a.ground) (manager_halted_holds w a.ground a.holds)
+      stand generation s _ (next_follows generation name w s sent a (manager_halted w) s a.ground (later_refl a.ground) a.appended (manager_halted_holds w a.ground a.holds)
       (ahead_goes name w s (manager_halted w) s goes (a.holds.catalog.fresh (suc w.catalog.count) (omega arith)) (onward_refl s)) a.shaped [] (sym (append-nil w.post)) tt)
 
   stop_stays : (actor : ActorId) (call : ℕ) (keep : Bool) → Goes w.catalog (stop w actor call keep).catalog → Leads (stop w actor call keep)
@@ -112,6 +114,9 @@ module _ (generation : ℕ → ℕ) (name : StreamName) (sent : List Sent) (w : 
         by_event (Assign range server until) goes = stays
         by_event (Renew range server until) goes = stays
         by_event (Moment now) goes = stays
+        by_event (Checkpoint server range combine) goes = stays
+        by_event (Split server range key) goes = stays
+        by_event (Merge server left right) goes = stays
 
 -- ---- what answers mean
 
@@ -133,6 +138,20 @@ module _ (generation : ℕ → ℕ) (name : StreamName) (sent : List Sent) (w : 
   read_all (Some (Reads i index upto)) (Groups q e groups) given = given i index upto q e groups refl refl
   read_all z b given = tt
 
+  -- what the machine needs nothing of means nothing of it, whatever its number is for
+  unmeant : (z : Option Purpose) (b : StreamBody) → stream_meant b ≡ None → StreamMeans generation name w s sent z b
+  unmeant (Some (Opens i)) (Opened q lists) none = absurd cc
+  unmeant (Some (Confirms i read end)) (Confirmed q) none = absurd cc
+  unmeant (Some (Extends i n)) (Extended q e places) none = absurd cc
+  unmeant z b none = tt
+
+  stream_all : (b : StreamBody) → StreamMeans generation name w s sent (purpose_if generation name w s sent (stream_meant b)) b →
+      StreamMeans generation name w s sent (purpose_if generation name w s sent (stream_number b)) b
+  stream_all (Created q) given = unmeant (purpose_of sent q) (Created q) refl
+  stream_all (Trimmed q) given = unmeant (purpose_of sent q) (Trimmed q) refl
+  stream_all (Modified q) given = unmeant (purpose_of sent q) (Modified q) refl
+  stream_all b given = given
+
 module _ (generation : ℕ → ℕ) (name : StreamName) (sent : List Sent) (nodes target : ℕ) (moves : List Move) (s : MachineState Group)
     (a : Follows generation name (run_moves moves (start nodes target)) s sent) where
   abbrev w : StreamSystem
@@ -147,16 +166,12 @@ module _ (generation : ℕ → ℕ) (name : StreamName) (sent : List Sent) (node
     sealed_so q e l i index c for =
         let told = seals_answered nodes target moves [] from (Server server) q e l c in
         let x = a.asked server Manager (bodies.Seal (SealExtent e q)) told.asked in
-        elim (is_in_or (extents_in w name) e) [
-          | inl m ↦
-              let y : AsksToSeal generation name w s sent e m.0 q = x.here m.0 m.1 in
-              let d : Some (Seals y.i m.0) ≡ Some (Seals i index) = sym y.for ∙ for in
-              let jj : m.0 ≡ index = cc in
-              let at : IsAt w name index e = subst (λ j. IsAt w name j e) jj m.1 in
-              let shut = (sealed_or_last o a.ground s sent a.shaped index e at).sealed l (sealed_known a.ground w.catalog a.holds.catalog e l told.now) in
-              (at, shut.0, shut.1, shut.2)
-          | inr none ↦ absurd (let d : None ≡ Some (Seals i index) = sym (x.elsewhere none) ∙ for in cc)
-        ]
+        let (j, there, y) = x.known (Seals i index) for in
+        let d : Some (Seals y.i j) ≡ Some (Seals i index) = sym y.for ∙ for in
+        let jj : j ≡ index = cc in
+        let at : IsAt w name index e = subst (λ k. IsAt w name k e) jj there in
+        let shut = (sealed_or_last o a.ground s sent a.shaped index e at).sealed l (sealed_known a.ground w.catalog a.holds.catalog e l told.now) in
+        (at, shut.0, shut.1, shut.2)
 
     same_groups : (e upto : ℕ) (xs ys : List Group) → Begins xs (a.ground.script e) → Begins ys (a.ground.script e) → text_length xs ≡ upto → text_length ys ≡ upto → xs ≡ ys
     same_groups e upto xs ys b d m n =
@@ -167,30 +182,26 @@ module _ (generation : ℕ → ℕ) (name : StreamName) (sent : List Sent) (node
     read_so q e i index upto groups c for =
         let r = a.read from server q e groups c in
         let x = a.asked server from (bodies.Read (ReadGroups e r.upto r.sealed q)) r.asked in
-        elim (is_in_or (extents_in w name) e) [
-          | inl m ↦
-              let y : AsksToRead generation name w s sent e m.0 r.upto q = x.here m.0 m.1 in
-              let d : Some (Reads y.i m.0 r.upto) ≡ Some (Reads i index upto) = sym y.for ∙ for in
-              let jj : m.0 ≡ index = cc in
-              let uu : r.upto ≡ upto = cc in
-              let at : IsAt w name index e = subst (λ j. IsAt w name j e) jj m.1 in
-              record {
-                whole = λ z is end.
-                    let b = a.shaped.settled.shut index e at (shut_within index s.core.shut z is) in
-                    let same : b.shut ≡ z = (let k : Some b.shut ≡ Some z = sym b.is ∙ is in cc) in
-                    let long : b.shut.end ≡ base index + text_length (map group_of b.shut.copies) = chain_len (base index) b.shut.copies b.shut.end b.tied.chain b.tied.sized in
-                    let ends : b.shut.end ≡ base index + upto = ap (λ (y : SealedExtent Group). y.end) same ∙ end in
-                    let l : text_length (map group_of b.shut.copies) ≡ upto = omega (arith, long, ends) in
-                    same_groups e upto groups (map group_of b.shut.copies) r.begins b.tied.begins (r.ends ∙ uu) l ∙ ap (λ (y : SealedExtent Group). map group_of y.copies) same;
-                checked = λ j stood fact.
-                    let k = a.shaped.settled.checked j index stood (base index + upto) fact in
-                    let which : k.extent ≡ e = same_got (extents_of o) index k.extent e k.at at in
-                    let long : base index + upto ≡ base index + text_length (map group_of stood) = chain_len (base index) stood (base index + upto) k.chain k.sized in
-                    let l : text_length (map group_of stood) ≡ upto = omega (arith, long) in
-                    same_groups e upto groups (map group_of stood) r.begins (subst (λ z. Begins (map group_of stood) (a.ground.script z)) which k.begins) (r.ends ∙ uu) l;
-              }
-          | inr none ↦ absurd (let d : None ≡ Some (Reads i index upto) = sym (x.elsewhere none) ∙ for in cc)
-        ]
+        let (there_index, there, y) = x.known (Reads i index upto) for in
+        let d : Some (Reads y.i there_index r.upto) ≡ Some (Reads i index upto) = sym y.for ∙ for in
+        let jj : there_index ≡ index = cc in
+        let uu : r.upto ≡ upto = cc in
+        let at : IsAt w name index e = subst (λ j. IsAt w name j e) jj there in
+        record {
+          whole = λ z is end.
+              let b = a.shaped.settled.shut index e at (shut_within index s.core.shut z is) in
+              let same : b.shut ≡ z = (let k : Some b.shut ≡ Some z = sym b.is ∙ is in cc) in
+              let long : b.shut.end ≡ base index + text_length (map group_of b.shut.copies) = chain_len (base index) b.shut.copies b.shut.end b.tied.chain b.tied.sized in
+              let ends : b.shut.end ≡ base index + upto = ap (λ (y : SealedExtent Group). y.end) same ∙ end in
+              let l : text_length (map group_of b.shut.copies) ≡ upto = omega (arith, long, ends) in
+              same_groups e upto groups (map group_of b.shut.copies) r.begins b.tied.begins (r.ends ∙ uu) l ∙ ap (λ (y : SealedExtent Group). map group_of y.copies) same;
+          checked = λ j stood fact.
+              let k = a.shaped.settled.checked j index stood (base index + upto) fact in
+              let which : k.extent ≡ e = same_got (extents_of o) index k.extent e k.at at in
+              let long : base index + upto ≡ base index + text_length (map group_of stood) = chain_len (base index) stood (base index + upto) k.chain k.sized in
+              let l : text_length (map group_of stood) ≡ upto = omega (arith, long) in
+              same_groups e upto groups (map group_of stood) r.begins (subst (λ z. Begins (map group_of stood) (a.ground.script z)) which k.begins) (r.ends ∙ uu) l;
+        }
 
     by_body : (body : Body) → Contains w.post (packet from (Server server) body) → Means generation name w s sent body
     by_body (bodies.Append b) c =
@@ -209,7 +220,7 @@ module _ (generation : ℕ → ℕ) (name : StreamName) (sent : List Sent) (node
         read_all generation name sent w s (purpose_if generation name w s sent (read_number b)) b
         (λ i index upto q e groups for is. read_so q e i index upto groups (subst (λ z. Contains w.post (packet from (Server server) (bodies.Read z))) is c)
         (subst (λ z. purpose_if generation name w s sent (read_number z) ≡ Some (Reads i index upto)) is for))
-    by_body (bodies.Stream b) c = (a.meant (packet from (Server server) (bodies.Stream b)) c server refl).streamed b refl
+    by_body (bodies.Stream b) c = stream_all generation name sent w s b ((a.meant (packet from (Server server) (bodies.Stream b)) c server refl).streamed b refl)
     by_body (bodies.Map b) c = tt
     by_body (bodies.Table b) c = tt
 

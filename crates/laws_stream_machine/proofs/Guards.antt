@@ -1,5 +1,5 @@
 -- What answers give a server for its next turn.
-use Rattle.std.proofs.Common.{◌≡◌, ℕ, zero, suc, ◌<◌, ◌≤◌, List, [], ◌∷◌, length, Option, Some, None, slice_get, refl, sym, arith}
+use Rattle.std.proofs.Common.{◌≡◌, ℕ, zero, suc, ◌+◌, ◌<◌, ◌≤◌, List, [], ◌∷◌, length, Option, Some, None, slice_get, refl, sym, arith}
 use Rattle.wire.specs.declared.actor.ReqNo.{ReqNo}
 use Rattle.wire.specs.declared.body.SealBody.TheVariants.{SealedIs}
 use Rattle.wire.specs.declared.streams.StreamExtent.{StreamExtent}
@@ -8,7 +8,7 @@ use Rattle.wire.specs.declared.streams.StreamName.{StreamName}
 use Rattle.replica.specs.Groups.{Group}
 use Rattle.model_streams.specs.StreamSystem.{StreamSystem}
 use Rattle.model_partition.specs.StreamMachine.{MachineState}
-use Rattle.laws_stream_machine.specs.Refinement.{Sent, Seals, SealMeans, Tells}
+use Rattle.laws_stream_machine.specs.Refinement.{Sent, known_of, Seals, SealMeans, Tells}
 use Rattle.laws_stream_machine.proofs.StepSequences.{shut_within}
 
 get_there : {A : Type 0} (xs : List A) (k : ℕ) → k < length xs → (x : A) × (slice_get xs k ≡ Some x)
@@ -23,16 +23,16 @@ module _ (generation : ℕ → ℕ) (name : StreamName) (w : StreamSystem) (s : 
 
   -- a list that is told with its last extent sealed, or with none, is sealed as a whole
   pub all_sealed_guard : (list : StreamList) → Tells generation name w s sent list →
-      ((index : ℕ) (y : StreamExtent) → slice_get list.extents index ≡ Some y → suc index ≡ length list.extents → y.length ≡ None → ⊥) → length list.extents ≤ length s.core.shut
+      ((k : ℕ) (y : StreamExtent) → slice_get list.extents k ≡ Some y → suc k ≡ length list.extents → y.length ≡ None → ⊥) → known_of list ≤ length s.core.shut
   all_sealed_guard list tells closed = by_length (length list.extents) refl
     where
-      by_told : (n : ℕ) → length list.extents ≡ suc n → (y : StreamExtent) → slice_get list.extents n ≡ Some y → (o : Option ℕ) → y.length ≡ o → suc n ≤ length s.core.shut
+      by_told : (n : ℕ) → length list.extents ≡ suc n → (y : StreamExtent) → slice_get list.extents n ≡ Some y → (o : Option ℕ) → y.length ≡ o → known_of list ≤ length s.core.shut
       by_told n is y at None none = absurd (closed n y at (sym is) none)
       by_told n is y at (Some l) long =
           let m = tells.sealed n y l at long in
-          let within = shut_within n s.core.shut m.0 m.1 in
-          omega (arith, within)
+          let within = shut_within (list.base + n) s.core.shut m.0 m.1 in
+          omega (arith, within, is)
 
-      by_length : (n : ℕ) → length list.extents ≡ n → n ≤ length s.core.shut
-      by_length zero is = omega arith
+      by_length : (n : ℕ) → length list.extents ≡ n → known_of list ≤ length s.core.shut
+      by_length zero is = let none = tells.ends is in omega (arith, is, none)
       by_length (suc n) is = let (y, at) = get_there list.extents n (omega (arith, is)) in by_told n is y at y.length refl

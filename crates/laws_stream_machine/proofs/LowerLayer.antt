@@ -1,7 +1,6 @@
 -- The nodes and the manager are the lower layer of the machine of one stream of a range, whatever happens.
 use Rattle.std.proofs.Common.{◌≡◌, ℕ, suc, ◌≤◌, true, List, [], ◌∷◌, ◌++◌, Option, Some, None, slice_get, refl, sym, ap, ◌∙◌, arith, subst}
 use Rattle.wire.specs.declared.actor.ActorId.{ActorId}
-use Rattle.wire.specs.declared.actor.ReqNo.{ReqNo}
 use Rattle.wire.specs.declared.body.Body.{Body}
 use Rattle.wire.specs.declared.note.Note.{Note}
 use Rattle.wire.specs.declared.streams.StreamName.{StreamName}
@@ -17,7 +16,7 @@ use Rattle.laws_streams.proofs.Listings.{moved_goes, lists_grow}
 use Rattle.model_partition.specs.StreamMachine.{MachineState, MachineStep}
 use Rattle.model_partition.specs.ServerTurns.{Turn, Whole, Above, at_first, after_all, AreMoves}
 use Rattle.model_partition.specs.ServerTurns as machine
-use Rattle.laws_stream_machine.specs.Refinement.{Sent, purpose_of, extents_of, IsAt, IsAsked, AllAsked, AllMean, OfExtent}
+use Rattle.laws_stream_machine.specs.Refinement.{Sent, extents_of, IsAt, IsUnsealedAt, IsAsked, AllAsked, AllMean}
 use Rattle.laws_stream_machine.proofs.FactSources.{lawful}
 use Rattle.laws_stream_machine.proofs.StepSequences.{Onward, Walk, all_onward, below_all, walked}
 use Rattle.laws_stream_machine.proofs.SentPackets.{Ahead}
@@ -113,9 +112,9 @@ module _ (generation : ℕ → ℕ) (name : StreamName) (nodes target : ℕ) whe
       let next : Whole Group generation = machine.moved Group generation whole (Above i turn) in
       is_below moves next sent (upper_follows generation name (system moves) whole.state next.state sent (turn_upper generation whole.state i (whole.phase i) turn) a.follows)
 
-  pub below_sends : (moves : List Move) (whole : Whole Group generation) (sent : List Sent) → Below moves whole sent → (new : Sent) → purpose_of sent new.request ≡ None → Unused (system moves) new.request →
+  pub below_sends : (moves : List Move) (whole : Whole Group generation) (sent : List Sent) → Below moves whole sent → (new : Sent) → Unused (system moves) new.request →
       Below moves whole (new ∷ sent)
-  below_sends moves whole sent a new fresh unused = is_below moves whole (new ∷ sent) (sent_follows generation name (system moves) whole.state sent new fresh unused a.follows)
+  below_sends moves whole sent a new unused = is_below moves whole (new ∷ sent) (sent_follows generation name (system moves) whole.state sent new unused a.follows)
 
   -- ---- what a server says of an extent
 
@@ -136,27 +135,10 @@ module _ (generation : ℕ → ℕ) (name : StreamName) (nodes target : ℕ) whe
       let (x, is) = stream_at (stream_of w.catalog.stream name) i e at in
       same_index w.catalog name x (listed_now moves name x is) i j e (subst (λ o. slice_get (extents_of o) i ≡ Some e) is at) (subst (λ o. slice_get (extents_of o) j ≡ Some e) is there)
 
-  -- what is asked of an extent of this stream
-  pub below_of_extent : (moves : List Move) (whole : Whole Group generation) (sent : List Sent) → Below moves whole sent → (index e : ℕ) (q : ReqNo) (Q : ℕ → Type 0) → IsAt (system moves) name index e → Q index →
-      OfExtent generation name (system moves) whole.state sent e q Q
-  below_of_extent moves whole sent a index e q Q at asks = record {
-    made = below_made moves whole sent a index e at;
-    here = λ other there. subst Q (below_index moves index other e at there) asks;
-    elsewhere = λ none. absurd (none index at);
-  }
-
-  -- what is asked of an extent of another stream
-  pub below_of_other : (moves : List Move) (whole : Whole Group generation) (sent : List Sent) → Below moves whole sent → (other : StreamName) → (other ≡ name → ⊥) → (index e : ℕ) (q : ReqNo) (Q : ℕ → Type 0) →
-      IsAt (system moves) other index e → purpose_of sent q ≡ None → OfExtent generation name (system moves) whole.state sent e q Q
-  below_of_other moves whole sent a other apart index e q Q at unused =
+  -- while it is not sealed it stands in no other list
+  pub below_alone : (moves : List Move) (other : StreamName) → (other ≡ name → ⊥) → (i j e : ℕ) → IsAt (system moves) other i e → IsUnsealedAt (system moves) name j e → ⊥
+  below_alone moves other apart i j e here there =
       let w : StreamSystem = system moves in
-      let (z, is) = stream_at (stream_of w.catalog.stream other) index e at in
-      let list = listed_now moves other z is in
-      let here : slice_get z.extents index ≡ Some e = subst (λ o. slice_get (extents_of o) index ≡ Some e) is at in
-      record {
-        made = λ none. let (y, there) = list.there index e here in let c : None ≡ Some y = sym none ∙ there in cc;
-        here = λ j there.
-            let (x, own) = stream_at (stream_of w.catalog.stream name) j e there in
-            absurd (apart (list.apart name x index j e own here (subst (λ o. slice_get (extents_of o) j ≡ Some e) own there)));
-        elsewhere = λ none. unused;
-      }
+      let (z, is) = stream_at (stream_of w.catalog.stream other) i e here in
+      let (x, own) = stream_at (stream_of w.catalog.stream name) j e there.0 in
+      apart ((listed_now moves other z is).apart name x i j e own (subst (λ o. slice_get (extents_of o) i ≡ Some e) is here) (subst (λ o. slice_get (extents_of o) j ≡ Some e) own there.0))

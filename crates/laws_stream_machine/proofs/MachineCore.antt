@@ -21,7 +21,7 @@ use Rattle.laws_streams.proofs.RestsOnGround.{Moment, Unmoved, Added, origin_of}
 use Rattle.laws_streams.proofs.LastingLengths.{place_had}
 use Rattle.model_partition.specs.Story.{Copy}
 use Rattle.model_partition.specs.StreamMachine.{In, SealedExtent, OpenExtent, base, count, one_if_live, shut_at, Chain, Opened, Checked, AsksAppend, MachineState, TakesAppend, Seals, new_copy, next}
-use Rattle.laws_stream_machine.specs.Refinement.{Sent, purpose_of, Appends, extents_of}
+use Rattle.laws_stream_machine.specs.Refinement.{Purpose, Sent, purpose_of, Appends, extents_of}
 use Rattle.laws_stream_machine.proofs.ExtentSteps.{Sized, group_of, floor_of, TiedLive, TiedShut, floor_low, floor_rises, append_tied, seal_tied, find_front, end_after, live_fits, FoundFront, chain_le}
 use Rattle.laws_stream_machine.proofs.StepSequences.{Walk, stand, walk_on, steps_to, with_lived, keep_all}
 
@@ -29,10 +29,10 @@ use Rattle.laws_stream_machine.proofs.StepSequences.{Walk, stand, walk_on, steps
 abbrev pub IsIn : Option Stream → ℕ → ℕ → Type 0
 IsIn o index e = slice_get (extents_of o) index ≡ Some e
 
--- each copy is of the append that the number of its request is for
+-- where the number of its request is one of this stream's, a copy is of the append that the number is for
 abbrev pub Sourced : Ground → List Sent → ℕ → ℕ → List (Copy Group) → Type 0
 Sourced g sent e index copies = (k : ℕ) (c : Copy Group) (from : Origin) → slice_get copies k ≡ Some c → slice_get (g.origin e) k ≡ Some from →
-    (i : ℕ) × (purpose_of sent from.request ≡ Some (Appends i index c.append c.group))
+    (p : Purpose) → purpose_of sent from.request ≡ Some p → (i : ℕ) × (p ≡ Appends i index c.append c.group)
 
 pub record ShutThere (g : Ground) (sent : List Sent) (s : MachineState Group) (e index : ℕ) : Type 0 where
   pub shut : SealedExtent Group
@@ -172,17 +172,16 @@ live_count_is g sound e index v tied =
 
 -- one more copy, for one more origin
 grown_sources : (g h : Ground) (sent : List Sent) (e index : ℕ) (copies : List (Copy Group)) (new : Copy Group) (from : Origin) → length copies ≡ length (g.origin e) →
-    Sourced g sent e index copies → h.origin e ≡ g.origin e ++ from ∷ [] → (i : ℕ) × (purpose_of sent from.request ≡ Some (Appends i index new.append new.group)) →
+    Sourced g sent e index copies → h.origin e ≡ g.origin e ++ from ∷ [] → ((p : Purpose) → purpose_of sent from.request ≡ Some p → (i : ℕ) × (p ≡ Appends i index new.append new.group)) →
     Sourced h sent e index (copies ++ new ∷ [])
-grown_sources g h sent e index copies new from count old origins mine k c origin is at =
+grown_sources g h sent e index copies new from count old origins mine k c origin is at p for =
     let there : slice_get (g.origin e ++ from ∷ []) k ≡ Some origin = subst (λ z. slice_get z k ≡ Some origin) origins at in
     elim (pushed_get copies new k c is) [
-      | inl m ↦ let within = slice_get_within copies k c m in old k c origin m (get_front (g.origin e) (from ∷ []) k origin (omega (arith, count, within)) there)
+      | inl m ↦ let within = slice_get_within copies k c m in old k c origin m (get_front (g.origin e) (from ∷ []) k origin (omega (arith, count, within)) there) p for
       | inr m ↦
           let last : slice_get (g.origin e ++ from ∷ []) (length (g.origin e)) ≡ Some origin = subst (λ z. slice_get (g.origin e ++ from ∷ []) z ≡ Some origin) (m.0 ∙ count) there in
           let same : from ≡ origin = same_got (g.origin e ++ from ∷ []) (length (g.origin e)) from origin (get_next (g.origin e) [] from) last in
-          subst (λ (z : Origin). (i : ℕ) × (purpose_of sent z.request ≡ Some (Appends i index c.append c.group))) same
-          (subst (λ (z : Copy Group). (i : ℕ) × (purpose_of sent from.request ≡ Some (Appends i index z.append z.group))) (sym m.1) mine)
+          subst (λ (z : Copy Group). (i : ℕ) × (p ≡ Appends i index z.append z.group)) (sym m.1) (mine p (subst (λ (z : Origin). purpose_of sent z.request ≡ Some p) (sym same) for))
     ]
 
 module _ (o : Option Stream) (g h : Ground) (later : Later g h) (sound : Sound g) (sent : List Sent) (s : MachineState Group) where
@@ -299,7 +298,7 @@ module _ (generation : ℕ → ℕ) (o : Option Stream) (g h : Ground) (later : 
         let tied : TiedShut h extent index x = seal_tied generation g h extent index v whole.front l b.tied f whole.begins unmoved.0 sealed in
         let all : v.kept ++ v.loose ≡ w.kept ++ f.rest = ap (λ z. v.kept ++ z) f.loose ∙ sym (append_assoc v.kept f.more f.rest) in
         let sources : Sourced h sent extent index x.copies =
-        λ k c from is there. b.sources k c from (subst (λ z. slice_get z k ≡ Some c) (sym all) (get_left w.kept f.rest k c is)) (subst (λ z. slice_get z k ≡ Some from) unmoved.1 there) in
+        λ k c from is there p for. b.sources k c from (subst (λ z. slice_get z k ≡ Some c) (sym all) (get_left w.kept f.rest k c is)) (subst (λ z. slice_get z k ≡ Some from) unmoved.1 there) p for in
         walk_on generation s (λ t. t ≡ with_lived generation s w) _ (keep_all generation f.more f.rest s v live f.loose)
         (λ t on is.
         steps_to generation t (λ u. Shaped o h u sent) (Seals w) refl (ap (λ (z : MachineState Group). z.core.live) is)
@@ -352,14 +351,15 @@ module _ (generation : ℕ → ℕ) (o : Option Stream) (g h : Ground) (later : 
               at = b.at;
               tied = tied;
               sources = subst (Sourced h sent e index) (append_assoc v.kept v.loose (new ∷ []))
-                  (grown_sources g h sent e index (v.kept ++ v.loose) new from (live_count_is g sound e index v b.tied) b.sources added.origin (f.i, f.for));
+                  (grown_sources g h sent e index (v.kept ++ v.loose) new from (live_count_is g sound e index v b.tied) b.sources added.origin
+                  (λ p for. (f.i, (let c : Some p ≡ Some (Appends f.i index f.append added.group) = sym for ∙ f.for in cc))));
             });
       })
 
   -- ---- whatever a rule leaves
 
   pub ground_walk : ((k : ℕ) → Unmoved g h k ⊎ Added now g h k) → ((k : ℕ) → Added now g h k → h.sealed k ≡ g.sealed k) →
-      ((k : ℕ) → IsIn o (length s.core.shut) k → (counted : ℕ) (request : ReqNo) (group : Group) → now.packet.body ≡ bodies.Append (Append k counted group request) →
+      ((k : ℕ) → IsIn o (length s.core.shut) k → g.sealed k ≡ None → (counted : ℕ) (request : ReqNo) (group : Group) → now.packet.body ≡ bodies.Append (Append k counted group request) →
       1 ≤ generation_of now.packet.from counted → AppendFor generation sent s (length s.core.shut) (generation_of now.packet.from counted) request group) →
       ((v : OpenExtent Group) → s.core.live ≡ Some v → LiveThere o g sent s v) → Walk generation s (λ t. Shaped o h t sent)
   ground_walk grown same asked live = by_live s.core.live refl
@@ -387,7 +387,7 @@ module _ (generation : ℕ → ℕ) (o : Option Stream) (g h : Ground) (later : 
       by_grown v is b (inl unmoved) = by_sealed v is b unmoved (h.sealed b.extent) refl
       by_grown v is b (inr added) =
           append_walk v is b added (same b.extent added ∙ b.tied.unsealed)
-          (λ some. asked b.extent b.at added.generation added.request added.group added.body some)
+          (λ some. asked b.extent b.at b.tied.unsealed added.generation added.request added.group added.body some)
 
       by_live : (l : Option (OpenExtent Group)) → s.core.live ≡ l → Walk generation s (λ t. Shaped o h t sent)
       by_live None none = stand generation s _ (record { settled = settled_later o g h later sound sent s a; live = λ v is. absurd (let c : None ≡ Some v = sym none ∙ is in cc) })

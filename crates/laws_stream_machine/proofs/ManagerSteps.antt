@@ -26,13 +26,12 @@ use Rattle.laws_streams.proofs.DecisionRules.{SealsNow, decide_keeps}
 use Rattle.laws_streams.proofs.ListRules.{Goes}
 use Rattle.laws_streams.proofs.ManagerAnswers as manager
 use Rattle.laws_streams.proofs.DecisionAnswers as decision
-use Rattle.model_partition.specs.Answering.{stream_number}
 use Rattle.model_partition.specs.StreamMachine.{MachineState}
-use Rattle.laws_stream_machine.specs.Refinement.{Sent, purpose_if}
+use Rattle.laws_stream_machine.specs.Refinement.{Sent, purpose_if, stream_meant}
 use Rattle.laws_stream_machine.proofs.FactSources.{Lawful}
 use Rattle.laws_stream_machine.proofs.StepSequences.{Onward, onward_refl, Walk, stand, walk_on, walk_weaker}
 use Rattle.laws_stream_machine.proofs.MachineCore.{Shaped, ground_walk}
-use Rattle.laws_stream_machine.proofs.SentPackets.{Called, manager_calls_not, decision_calls_not, Ahead, ahead_same, stream_on}
+use Rattle.laws_stream_machine.proofs.SentPackets.{Called, manager_calls_not, decision_calls_not, AllAppended, unmoved_appended, Ahead, ahead_same, stream_on}
 use Rattle.laws_stream_machine.proofs.Refines.{Follows}
 use Rattle.laws_stream_machine.proofs.SystemSteps.{ahead_goes, Answered, next_follows}
 use Rattle.laws_stream_machine.proofs.ToldLists.{decide_same}
@@ -64,7 +63,7 @@ module _ (generation : ℕ → ℕ) (name : StreamName) (sent : List Sent) (w : 
         meant = λ server to. record {
           appended = λ q e o is. absurd (no_append_is q e o is);
           checked = λ q l is. absurd (no_check q l is);
-          streamed = λ body is. stream_on name generation v t u t ahead sent (purpose_if generation name v t sent (stream_number body)) body (told server to body is);
+          streamed = λ body is. stream_on name generation v t u t ahead sent (purpose_if generation name v t sent (stream_meant body)) body (told server to body is);
         };
         read = λ server q e groups is. absurd (no_read q e groups (ap (λ (y : Packet). y.body) is));
       }
@@ -113,24 +112,27 @@ module _ (generation : ℕ → ℕ) (name : StreamName) (sent : List Sent) (w : 
     performed =
         walk_on generation s (λ t. Shaped (stream_of w.catalog.stream name) h t sent) _
         (ground_walk generation (stream_of w.catalog.stream name) a.ground h rule_fine.later a.holds.sound rule_fine.sound sent s no_append a.shaped.settled
-        (λ k. inl (rule_fine.unmoved k)) (λ k (added : Added no_append a.ground h k). absurd (let is = added.body in cc)) (λ k at counted request group is. absurd cc) a.shaped.live)
+        (λ k. inl (rule_fine.unmoved k)) (λ k (added : Added no_append a.ground h k). absurd (let is = added.body in cc)) (λ k at unsealed counted request group is. absurd cc) a.shaped.live)
         rows
+
+    appended : AllAppended w.post h
+    appended = unmoved_appended w.post a.ground h rule_fine.unmoved a.appended
 
     pub does_walk : Goes w.catalog (manager_performs w o).catalog → Leads (manager_performs w o)
     does_walk =
         if_elim (λ v. Goes w.catalog v.catalog → Leads v) (stops_in w.manager_cell o.written) _ _
         (λ stops. if_elim (λ v. Goes w.catalog v.catalog → Leads v) (stands_in w.manager_cell) _ _
         (λ stands goes. walk_weaker generation s _ _ performed
-        (λ t on there. next_follows generation name w s sent a (manager_halted (after_manager_rule w (unsent o))) t h rule_fine.later
+        (λ t on there. next_follows generation name w s sent a (manager_halted (after_manager_rule w (unsent o))) t h rule_fine.later appended
         (manager_halted_holds (after_manager_rule w (unsent o)) h (manager_rule_holds News w a.ground h (unsent o) a.holds (manager_rule_unsent News w.notes a.ground h o rule_fine)))
         (ahead_goes name w s (manager_halted (after_manager_rule w (unsent o))) t goes fresh_is on) there.0 [] refl tt))
         (λ lost goes. stand generation s _
-        (next_follows generation name w s sent a (manager_halted w) s a.ground (later_refl a.ground) (manager_halted_holds w a.ground a.holds)
+        (next_follows generation name w s sent a (manager_halted w) s a.ground (later_refl a.ground) a.appended (manager_halted_holds w a.ground a.holds)
         (ahead_goes name w s (manager_halted w) s goes fresh_is (onward_refl s)) a.shaped [] (sym (append-nil w.post)) tt)))
         (λ runs goes. walk_weaker generation s _ _ performed
         (λ t on there.
         let v : StreamSystem = after_manager_rule (record w { manager_cell = burnt w.manager_cell o.written }) o in
-        next_follows generation name w s sent a v t h rule_fine.later
+        next_follows generation name w s sent a v t h rule_fine.later appended
         (manager_rule_holds News (record w { manager_cell = burnt w.manager_cell o.written }) a.ground h o (recelled w w.cell (burnt w.manager_cell o.written) a.ground a.holds) rule_fine)
         (ahead_goes name w s v t goes fresh_is on) there.0 o.packets refl (all_answered (after_manager_rule w o) v t h refl o.packets from there.1)))
 

@@ -130,8 +130,7 @@ module _ (generation : ℕ → ℕ) (name : StreamName) (sent : List Sent) (o : 
   copy_is : (g : Ground) (s : MachineState Group) (e index i append : ℕ) (group : Group) (offset : ℕ) → (due : AppendDue g s e index i append group offset) → (copies : List (Copy Group)) →
       Sourced g sent e index copies → (c : CopyAt (base index) copies due.place group) → text_length (take due.place (map group_of copies)) ≡ offset → c.copy ≡ copy_of index offset append group
   copy_is g s e index i append group offset due copies sources c start =
-      let (j, for) = sources due.place c.copy due.from c.is due.appended in
-      let d : Some (Appends j index c.copy.append c.copy.group) ≡ Some (Appends i index append group) = sym for ∙ due.for in
+      let (j, same) = sources due.place c.copy due.from c.is due.appended (Appends i index append group) due.for in
       let append_is : c.copy.append ≡ append = cc in
       copy_eta c.copy (base index + offset) (base index + offset + size group) append group (omega (arith, c.from, start)) (omega (arith, c.from, c.to, start)) append_is c.same
 

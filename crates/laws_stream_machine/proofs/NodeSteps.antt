@@ -1,6 +1,5 @@
 -- What nodes do, as steps of the machine of one stream.
-use Rattle.std.proofs.Common.{◌≡◌, ◌⊎◌, ℕ, zero, suc, ◌≤◌, Bool, true, false, List, [], ◌∷◌, length, take, ◌+◌, Option, Some, None, slice_get, Contains, refl, sym, ap, ◌∙◌, subst, inl, inr, arith, append-nil, ◌==◌}
-use Rattle.std.proofs.lemmas.Bool.{eqb-true, eqb-false}
+use Rattle.std.proofs.Common.{◌≡◌, ◌⊎◌, ℕ, ◌≤◌, true, List, [], ◌∷◌, length, take, ◌+◌, Option, Some, None, slice_get, Contains, refl, sym, ap, ◌∙◌, subst, inl, inr, arith, append-nil, ◌==◌}
 use Rattle.block_types.specs.declared.record.Nodes.{Nodes}
 use Rattle.wire.specs.declared.actor.ActorId.{ActorId}
 use Rattle.wire.specs.declared.actor.ActorId.TheVariants.{Node, Manager, Map, Server, User}
@@ -20,6 +19,8 @@ use Rattle.replica.specs.Groups.{Group, size, text_length}
 use Rattle.streams.specs.Streams.{Stream, stream_of}
 use Rattle.model_streams.specs.declared.checking.Checking.{Checking}
 use Rattle.model_streams.specs.Actors.{generation_of}
+use Rattle.model_streams.specs.declared.extent.Extent.{Extent}
+use Rattle.model_streams.specs.Manager.{Catalog, sealed_in, sealed_lengths}
 use Rattle.model_streams.specs.Maps.{changed}
 use Rattle.model_streams.specs.Node.{Replica, extent_of, node_rule, probed_by, probed_for, with_probed, settled}
 use Rattle.model_streams.specs.Outcome.{Outcome, packet, silent}
@@ -30,7 +31,7 @@ use Rattle.laws_streams.proofs.Lists.{begins_trans}
 use Rattle.laws_streams.proofs.Choices.{Each, each-get, each-weaker, each-contains, contains_get, contains_left}
 use Rattle.laws_streams.proofs.Ground.{Ground, FineNote, FinePacket, FineAck, FineBody, FineCheck, FineChecking, FineChecked, FineWaiting, FineOne, FineReplica}
 use Rattle.laws_streams.proofs.MoreKnown.{later_refl, waiting_later}
-use Rattle.laws_streams.proofs.RestsOnGround.{Moment, FineRule, rule_holds, rule_unsent, halted_holds}
+use Rattle.laws_streams.proofs.RestsOnGround.{Moment, Unmoved, Added, origin_of, FineRule, FineCatalog, sealed_of, rule_holds, rule_unsent, halted_holds}
 use Rattle.laws_streams.proofs.RuleInvariant.{open_phase}
 use Rattle.laws_streams.proofs.ReadRules.{prefix_fine}
 use Rattle.laws_streams.proofs.NodeRules.{node_keeps}
@@ -39,30 +40,14 @@ use Rattle.laws_streams.proofs.StreamAnswers.{same_packet}
 use Rattle.laws_streams.proofs.NodeAnswers as node
 use Rattle.model_partition.specs.StreamMachine as machine
 use Rattle.model_partition.specs.StreamMachine.{MachineState}
-use Rattle.laws_stream_machine.specs.Refinement.{Purpose, Checks, Appends, Sent, purpose_of, extents_of, extents_in, AsksToAppend, AsksToCheck, AppendMeans, CheckMeans}
+use Rattle.laws_stream_machine.specs.Refinement.{Purpose, Checks, Appends, Sent, purpose_of, extents_of, AsksToAppend, AppendMeans, CheckMeans}
 use Rattle.laws_stream_machine.proofs.FactSources.{Lawful}
 use Rattle.laws_stream_machine.proofs.StepSequences.{Onward, onward_refl, onward_trans, Walk, stand, walk_on, walk_weaker}
-use Rattle.laws_stream_machine.proofs.MachineCore.{IsIn, Shaped, AppendFor, ground_walk, same_got}
-use Rattle.laws_stream_machine.proofs.SentPackets.{is_outside, node_calls_not, Reading, Ahead, ahead_same, append_on, check_on}
+use Rattle.laws_stream_machine.proofs.MachineCore.{IsIn, Shaped, AppendFor, ground_walk, same_got, pushed_get}
+use Rattle.laws_stream_machine.proofs.SentPackets.{is_outside, node_calls_not, Reading, Appending, AllAppended, Ahead, ahead_same, append_on, check_on}
 use Rattle.laws_stream_machine.proofs.Refines.{Follows}
 use Rattle.laws_stream_machine.proofs.SystemSteps.{Answered, next_follows}
 use Rattle.laws_stream_machine.proofs.NodeAnswers.{AppendDue, CheckDue, answer_append, answer_check}
-
--- ---- lists
-
-pub is_in_or : (es : List ℕ) (e : ℕ) → ((index : ℕ) × (slice_get es index ≡ Some e)) ⊎ ((index : ℕ) → slice_get es index ≡ Some e → ⊥)
-is_in_or [] e = inr (λ index is. cc)
-is_in_or (x ∷ es) e = by_test (x == e) refl (is_in_or es e)
-  where
-    by_test : (b : Bool) → (x == e) ≡ b → ((index : ℕ) × (slice_get es index ≡ Some e)) ⊎ ((index : ℕ) → slice_get es index ≡ Some e → ⊥) →
-        ((index : ℕ) × (slice_get (x ∷ es) index ≡ Some e)) ⊎ ((index : ℕ) → slice_get (x ∷ es) index ≡ Some e → ⊥)
-    by_test true t more = inl (0, ap Some (eqb-true x e t))
-    by_test false t (inl m) = inl (suc m.0, m.1)
-    by_test false t (inr none) = inr (λ index is. by_index index is)
-      where
-        by_index : (index : ℕ) → slice_get (x ∷ es) index ≡ Some e → ⊥
-        by_index zero is = let c : x ≡ e = cc in eqb-false x e t c
-        by_index (suc i) is = none i is
 
 -- ---- the answer to a probe is one packet at most
 
@@ -88,6 +73,15 @@ probed_one n (Some r) p e k l = by_check r.check
         if_elim (λ (o : Outcome (Option Replica)). ((o.packets ≡ []) ⊎ ((x : Packet) × (o.packets ≡ x ∷ [])))) (c.generation == k) (probed_by n r (with_probed c r.content.places p.from l)) (silent (Some r))
         (λ t. by_told (with_probed c r.content.places p.from l)) (λ t. inl refl)
 
+-- ---- an extent that is not sealed
+
+unsealed_known : (g : Ground) (b : Catalog) → FineCatalog g b → (e : ℕ) → g.sealed e ≡ None → sealed_lengths b e ≡ None
+unsealed_known g b fine e unsealed = by_extent (b.extent e) (sym (fine.sealed e) ∙ unsealed)
+  where
+    by_extent : (o : Option Extent) → sealed_of o ≡ None → sealed_in o ≡ None
+    by_extent None none = refl
+    by_extent (Some x) none = none
+
 -- ---- a packet to a node
 
 module _ (generation : ℕ → ℕ) (name : StreamName) (sent : List Sent) (w : StreamSystem) (s : MachineState Group) (a : Follows generation name w s sent) (lawful : Lawful Group generation s)
@@ -108,21 +102,32 @@ module _ (generation : ℕ → ℕ) (name : StreamName) (sent : List Sent) (w : 
   now = record { told = told; number = number; packet = p }
 
   -- an append to the last extent of the stream was asked for
-  append_asked : (e : ℕ) → IsIn o (length s.core.shut) e → (counted : ℕ) (request : ReqNo) (group : Group) → p.body ≡ bodies.Append (Append e counted group request) →
+  append_asked : (e : ℕ) → IsIn o (length s.core.shut) e → g.sealed e ≡ None → (counted : ℕ) (request : ReqNo) (group : Group) → p.body ≡ bodies.Append (Append e counted group request) →
       1 ≤ generation_of p.from counted → AppendFor generation sent s (length s.core.shut) (generation_of p.from counted) request group
-  append_asked e at counted request group is some =
+  append_asked e at unsealed counted request group is some =
       by_from p.from refl (a.called p stood (subst (λ z. is_server_call z ≡ true) (sym is) refl)) some
     where
       by_from : (from : ActorId) → p.from ≡ from → is_outside from ≡ true → 1 ≤ generation_of from counted → AppendFor generation sent s (length s.core.shut) (generation_of from counted) request group
       by_from (Server server) from outside some =
           let x = a.asked server (Node n) (bodies.Append (Append e counted group request))
           (subst (Contains w.post) (same_packet p (Server server) (Node n) (bodies.Append (Append e counted group request)) from to is) stood) in
-          let y : AsksToAppend generation name w s sent counted e (length s.core.shut) group request = x.here (length s.core.shut) at in
+          let y : AsksToAppend generation name w s sent counted e (length s.core.shut) group request = x.unsealed (length s.core.shut) (at, unsealed_known g w.catalog a.holds.catalog e unsealed) in
           record { i = y.i; append = y.append; for = y.for; under = y.under; fact = y.fact }
       by_from (User u) from outside some = absurd (omega (arith, some))
       by_from (Node m) from outside some = absurd cc
       by_from Manager from outside some = absurd cc
       by_from Map from outside some = absurd cc
+
+  -- the append of a group that came now is the packet
+  appended_now : (h : Ground) → ((e : ℕ) → Unmoved g h e ⊎ Added now g h e) → AllAppended w.post h
+  appended_now h grown e k from is = by_grown (grown e)
+    where
+      by_grown : Unmoved g h e ⊎ Added now g h e → Appending w.post e from
+      by_grown (inl same) = a.appended e k from (subst (λ z. slice_get z k ≡ Some from) same.1 is)
+      by_grown (inr added) = elim (pushed_get (g.origin e) (origin_of now added.generation added.request) k from (subst (λ z. slice_get z k ≡ Some from) added.origin is)) [
+        | inl old ↦ a.appended e k from old
+        | inr new ↦ subst (Appending w.post e) (sym new.1) (record { packet = p; generation = added.generation; group = added.group; sent = stood; body = added.body; counted = refl })
+      ]
 
   module _ (h : Ground) (fine : FineRule now g h n k rule) where
     abbrev Done : MachineState Group → Type 0
@@ -143,37 +148,27 @@ module _ (generation : ℕ → ℕ) (name : StreamName) (sent : List Sent) (w : 
         IsIn o index e × (generation i ≡ counted) × machine.In (machine.AsksCheck i index) s.facts
     check_index server who e counted q i index there for =
         let x = a.asked server who (bodies.Check (Check e counted q)) there in
-        elim (is_in_or (extents_in w name) e) [
-          | inl m ↦
-              let y : AsksToCheck generation name w s sent counted e m.0 q = x.here m.0 m.1 in
-              let d : Some (Checks y.i m.0) ≡ Some (Checks i index) = sym y.for ∙ for in
-              let ii : y.i ≡ i = cc in
-              let jj : m.0 ≡ index = cc in (
-                subst (λ j. IsIn o j e) jj m.1,
-                ap generation (sym ii) ∙ y.under,
-                subst (λ j. machine.In (machine.AsksCheck i j) s.facts) jj (subst (λ j. machine.In (machine.AsksCheck j m.0) s.facts) ii y.fact),
-              )
-          | inr none ↦ absurd (let d : None ≡ Some (Checks i index) = sym (x.elsewhere none) ∙ for in cc)
-        ]
+        let (there_index, at, y) = x.known (Checks i index) for in
+        let d : Some (Checks y.i there_index) ≡ Some (Checks i index) = sym y.for ∙ for in
+        let ii : y.i ≡ i = cc in
+        let jj : there_index ≡ index = cc in (
+          subst (λ j. IsIn o j e) jj at,
+          ap generation (sym ii) ∙ y.under,
+          subst (λ j. machine.In (machine.AsksCheck i j) s.facts) jj (subst (λ j. machine.In (machine.AsksCheck j there_index) s.facts) ii y.fact),
+        )
 
     append_index : (server : ℕ) (who : ActorId) (e counted : ℕ) (blocks : Group) (q : ReqNo) (i index append : ℕ) (group : Group) → Contains w.post (packet (Server server) who (bodies.Append (Append e counted blocks q))) →
         purpose_of sent q ≡ Some (Appends i index append group) → IsIn o index e × (blocks ≡ group) × machine.In (machine.AsksAppend i index append group) s.facts
     append_index server who e counted blocks q i index append group there for =
         let x = a.asked server who (bodies.Append (Append e counted blocks q)) there in
-        elim (is_in_or (extents_in w name) e) [
-          | inl m ↦
-              let y : AsksToAppend generation name w s sent counted e m.0 blocks q = x.here m.0 m.1 in
-              let d : Some (Appends y.i m.0 y.append blocks) ≡ Some (Appends i index append group) = sym y.for ∙ for in
-              let ii : y.i ≡ i = cc in
-              let jj : m.0 ≡ index = cc in
-              let aa : y.append ≡ append = cc in
-              let gg : blocks ≡ group = cc in (
-                subst (λ j. IsIn o j e) jj m.1,
-                gg,
-                rw (← ii, ← jj, ← aa, ← gg) y.fact,
-              )
-          | inr none ↦ absurd (let d : None ≡ Some (Appends i index append group) = sym (x.elsewhere none) ∙ for in cc)
-        ]
+        let (there_index, at, y) = x.known (Appends i index append group) for in
+        let d : Some (Appends y.i there_index y.append blocks) ≡ Some (Appends i index append group) = sym y.for ∙ for in
+        let jj : there_index ≡ index = cc in
+        let same : ◌≡◌ {A = machine.Fact Group} (machine.AsksAppend y.i there_index y.append blocks) (machine.AsksAppend i index append group) = cc in (
+          subst (λ j. IsIn o j e) jj at,
+          cc,
+          subst (λ (f : machine.Fact Group). machine.In f s.facts) same y.fact,
+        )
 
     -- ---- a check is answered
 
@@ -459,16 +454,16 @@ module _ (generation : ℕ → ℕ) (name : StreamName) (sent : List Sent) (w : 
       (λ stands.
       let v : StreamSystem = node_halted (after_node_rule w n k (unsent rule)) n in
       walk_weaker generation s (Done h fine) _ (moves_walk h fine)
-      (λ t on done. next_follows generation name w s sent a v t h fine.later
+      (λ t on done. next_follows generation name w s sent a v t h fine.later (appended_now h fine.grown)
       (halted_holds (after_node_rule w n k (unsent rule)) h n (rule_holds w now g h n k (unsent rule) before stood a.holds (rule_unsent now g h n k rule fine)))
       (ahead_same name w s v t refl on) done [] refl tt))
       (λ lost. stand generation s _
-      (next_follows generation name w s sent a (node_halted w n) s g (later_refl g) (halted_holds w g n a.holds) (ahead_same name w s (node_halted w n) s refl (onward_refl s)) a.shaped [] (sym (append-nil w.post)) tt)))
+      (next_follows generation name w s sent a (node_halted w n) s g (later_refl g) a.appended (halted_holds w g n a.holds) (ahead_same name w s (node_halted w n) s refl (onward_refl s)) a.shaped [] (sym (append-nil w.post)) tt)))
       (λ runs.
       let u : StreamSystem = record w { cell = changed n (burnt (w.cell n) rule.written) w.cell } in
       let v : StreamSystem = after_node_rule u n k rule in
       walk_weaker generation s _ _ (all_walk h fine)
-      (λ t on got. next_follows generation name w s sent a v t h fine.later
+      (λ t on got. next_follows generation name w s sent a v t h fine.later (appended_now h fine.grown)
       (rule_holds u now g h n k rule before stood (recelled w (changed n (burnt (w.cell n) rule.written) w.cell) w.manager_cell g a.holds) fine)
       (ahead_same name w s v t refl on) got.0 rule.packets refl
       (answered_all h fine v t refl (λ x c. contains_left w.post rule.packets x c) rule.packets (node.node_tells n (w.replica n k) p) got.1 got.2)))

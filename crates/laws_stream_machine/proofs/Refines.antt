@@ -1,5 +1,6 @@
 -- How a stream system and the machine of one stream go together, and what keeps them so without a step of the machine.
-use Rattle.std.proofs.Common.{◌≡◌, ℕ, Bool, true, false, ◌&&◌, nat_le, List, [], ◌∷◌, ◌++◌, Option, Some, None, Contains, refl, sym, ap, ◌∙◌, subst, inl, inr, arith, ◌==◌}
+use Rattle.std.proofs.Common.{◌≡◌, ℕ, Bool, true, false, ◌&&◌, nat_le, List, [], ◌∷◌, ◌++◌, length, Option, Some, None, Contains, refl, sym, ap, ◌∙◌, subst, inl, inr, arith, ◌==◌}
+use Rattle.std.proofs.lemmas.Option.{slice_get_within}
 use Rattle.wire.specs.declared.actor.ActorId.{ActorId}
 use Rattle.wire.specs.declared.actor.ActorId.TheVariants.{Server, User}
 use Rattle.wire.specs.declared.actor.ReqNo.{ReqNo}
@@ -25,13 +26,12 @@ use Rattle.laws_streams.proofs.Ground.{Ground, FineBody}
 use Rattle.laws_streams.proofs.MoreKnown.{later_refl}
 use Rattle.laws_streams.proofs.RestsOnGround.{Holds}
 use Rattle.laws_streams.proofs.EventSteps.{start_good, sent_holds, shown_holds, server_fine, told_fine, user_fine}
-use Rattle.model_partition.specs.Answering.{stream_number}
 use Rattle.model_partition.specs.StreamMachine as machine
 use Rattle.model_partition.specs.StreamMachine.{MachineState}
-use Rattle.laws_stream_machine.specs.Refinement.{Sent, IsAsked, AllAsked, StreamMeans, purpose_if}
+use Rattle.laws_stream_machine.specs.Refinement.{Sent, IsAsked, AllAsked, StreamMeans, purpose_if, stream_meant}
 use Rattle.laws_stream_machine.proofs.StepSequences.{onward_refl}
 use Rattle.laws_stream_machine.proofs.MachineCore.{Shaped}
-use Rattle.laws_stream_machine.proofs.SentPackets.{Called, AllRead, reading_on, Ahead, ahead_same, asked_on, Meant, meant_on}
+use Rattle.laws_stream_machine.proofs.SentPackets.{Called, AllRead, reading_on, AllAppended, appended_more, Ahead, ahead_same, asked_on, Meant, meant_on}
 
 -- the stream of the stream system is the core of the machine, and what is in the post is what the facts of the machine say
 pub record Follows (generation : ℕ → ℕ) (name : StreamName) (w : StreamSystem) (s : MachineState Group) (sent : List Sent) : Type 0 where
@@ -41,6 +41,7 @@ pub record Follows (generation : ℕ → ℕ) (name : StreamName) (w : StreamSys
   pub asked : AllAsked generation name w s sent
   pub called : (p : Packet) → Contains w.post p → Called p
   pub read : AllRead w.post ground
+  pub appended : AllAppended w.post ground
   pub meant : (p : Packet) → Contains w.post p → (server : ℕ) → p.to ≡ Server server → Meant name generation w s sent p
 
 -- ---- at first
@@ -84,6 +85,10 @@ start_follows generation name nodes target =
       asked = λ server to body c. absurd (nothing_in _ c);
       called = λ p c. absurd (nothing_in p c);
       read = λ from server q e groups c. absurd (nothing_in _ c);
+      appended = λ e k from is.
+          let empty = good.holds.sound.unmade e (good.holds.catalog.places e) in
+          let within = slice_get_within (good.ground.origin e) k from is in
+          absurd (omega (arith, within, good.holds.sound.aged e, ap (λ (xs : List Group). length xs) empty.0));
       meant = λ p c server to. absurd (nothing_in p c);
     }
 
@@ -95,11 +100,11 @@ NoAnswer body =
     ((q : ReqNo) (e o : ℕ) → body ≡ bodies.Append (Appended q e o) → ⊥)
     × ((q : ReqNo) (l : ℕ) → body ≡ bodies.Check (CheckedAt q (Some l)) → ⊥)
     × ((q : ReqNo) (e : ℕ) (groups : List Group) → body ≡ bodies.Read (Groups q e groups) → ⊥)
-    × ((b : StreamBody) → body ≡ bodies.Stream b → stream_number b ≡ None)
+    × ((b : StreamBody) → body ≡ bodies.Stream b → stream_meant b ≡ None)
 
 no_answer_of : (test : Body → Bool) → ((q : ReqNo) (e o : ℕ) → test (bodies.Append (Appended q e o)) ≡ false) → ((q : ReqNo) (l : ℕ) → test (bodies.Check (CheckedAt q (Some l))) ≡ false) →
     ((q : ReqNo) (e : ℕ) (groups : List Group) → test (bodies.Read (Groups q e groups)) ≡ false) →
-    ((b : StreamBody) → test (bodies.Stream b) ≡ true → stream_number b ≡ None) → (body : Body) → test body ≡ true → NoAnswer body
+    ((b : StreamBody) → test (bodies.Stream b) ≡ true → stream_meant b ≡ None) → (body : Body) → test body ≡ true → NoAnswer body
 no_answer_of test a b c d body t = (
   λ q e o is. let k = a q e o in let m = ap test is in absurd cc,
   λ q l is. let k = b q l in let m = ap test is in absurd cc,
@@ -107,14 +112,14 @@ no_answer_of test a b c d body t = (
   λ x is. d x (sym (ap test is) ∙ t),
 )
 
-stream_call_number : (b : StreamBody) → is_server_call (bodies.Stream b) ≡ true → stream_number b ≡ None
+stream_call_number : (b : StreamBody) → is_server_call (bodies.Stream b) ≡ true → stream_meant b ≡ None
 stream_call_number (CreateStream s f q) t = refl
 stream_call_number (OpenStreams r g q) t = refl
 stream_call_number (Confirm r g q) t = refl
 stream_call_number (Extend s g l p q) t = refl
 stream_call_number b t = absurd cc
 
-stream_request_number : (b : StreamBody) → is_request (bodies.Stream b) ≡ true → stream_number b ≡ None
+stream_request_number : (b : StreamBody) → is_request (bodies.Stream b) ≡ true → stream_meant b ≡ None
 stream_request_number (CreateStream s f q) t = refl
 stream_request_number (Extend s g l p q) t = refl
 stream_request_number b t = absurd cc
@@ -129,7 +134,7 @@ pub told_no_answer : (body : Body) → is_told body ≡ true → NoAnswer body
 told_no_answer body t = no_answer_of is_told (λ q e o. refl) (λ q l. refl) (λ q e groups. refl) (λ b u. absurd cc) body t
 
 module _ (generation : ℕ → ℕ) (name : StreamName) (s : MachineState Group) (sent : List Sent) where
-  unnumbered : (v : StreamSystem) (b : StreamBody) → stream_number b ≡ None → StreamMeans generation name v s sent (purpose_if generation name v s sent (stream_number b)) b
+  unnumbered : (v : StreamSystem) (b : StreamBody) → stream_meant b ≡ None → StreamMeans generation name v s sent (purpose_if generation name v s sent (stream_meant b)) b
   unnumbered v b none = rw none (by_body b)
     where
       by_body : (b : StreamBody) → StreamMeans generation name v s sent None b
@@ -164,6 +169,7 @@ module _ (generation : ℕ → ℕ) (name : StreamName) (s : MachineState Group)
           | inl old ↦ reading_on w.post v.post a.ground a.ground (λ x d. contains_left w.post (p ∷ []) x d) (later_refl a.ground) who server q e groups (a.read who server q e groups old)
           | inr new ↦ absurd (none.2 q e groups (ap (λ (x : Packet). x.body) (sym new)))
         ];
+        appended = appended_more w.post v.post a.ground (λ x c. contains_left w.post (p ∷ []) x c) a.appended;
         meant = λ x c server to. elim (contains_pushed w.post p x c) [
           | inl old ↦ meant_on name generation w s v s ahead sent x (a.meant x old server to)
           | inr new ↦ no_answer_means v x (subst (λ (y : Packet). NoAnswer y.body) (sym new) none)
@@ -220,6 +226,7 @@ module _ (generation : ℕ → ℕ) (name : StreamName) (s : MachineState Group)
         asked = λ server who b c. asked_on name generation w s v s ahead sent b (a.asked server who b c);
         called = a.called;
         read = a.read;
+        appended = a.appended;
         meant = λ x c server to. meant_on name generation w s v s ahead sent x (a.meant x c server to);
       })
       (λ t. a)

@@ -1,5 +1,5 @@
 -- What was asked and answered stays so when more is known.
-use Rattle.std.proofs.Common.{◌≡◌, ℕ, zero, suc, ◌-◌, ◌≤◌, Bool, true, false, List, ◌++◌, length, Option, Some, None, slice_get, Contains, refl, sym, ap, ◌∙◌, subst, arith, length-append, ◌==◌}
+use Rattle.std.proofs.Common.{◌≡◌, ℕ, ◌+◌, zero, suc, ◌-◌, ◌≤◌, Bool, true, false, List, ◌++◌, length, Option, Some, None, slice_get, Contains, refl, sym, ap, ◌∙◌, subst, arith, length-append, ◌==◌}
 use Rattle.std.proofs.lemmas.Bool.Decides.{nat_tests}
 use Rattle.wire.specs.declared.actor.ActorId.{ActorId}
 use Rattle.wire.specs.declared.actor.ActorId.TheVariants.{Node, Manager, Map, Server, User}
@@ -20,20 +20,21 @@ use Rattle.wire.specs.declared.streams.StreamList.{StreamList}
 use Rattle.wire.specs.declared.streams.StreamName.{StreamName}
 use Rattle.replica.specs.Groups.{Group, text_length}
 use Rattle.streams.specs.Streams.{stream_of}
-use Rattle.model_streams.specs.Manager.{Catalog}
+use Rattle.model_streams.specs.Actors.{generation_of}
+use Rattle.model_streams.specs.Manager.{Catalog, sealed_lengths}
 use Rattle.model_streams.specs.Node.{Replica}
 use Rattle.model_streams.specs.Outcome.{packet}
 use Rattle.model_streams.specs.StreamSystem.{StreamSystem, is_server_call}
-use Rattle.laws_streams.specs.Origins.{Begins}
+use Rattle.laws_streams.specs.Origins.{Origin, Begins}
 use Rattle.laws_streams.proofs.Lists.{begins_refl, begins_trans, get_left}
 use Rattle.laws_streams.proofs.Ground.{Ground}
 use Rattle.laws_streams.proofs.MoreKnown.{Later}
+use Rattle.laws_streams.proofs.RestsOnGround.{Unmoved}
 use Rattle.laws_streams.proofs.NodeAnswers as node
 use Rattle.laws_streams.proofs.ManagerAnswers as manager
 use Rattle.laws_streams.proofs.DecisionAnswers as decision
-use Rattle.model_partition.specs.Answering.{stream_number}
 use Rattle.model_partition.specs.StreamMachine as machine
-use Rattle.laws_stream_machine.specs.Refinement.{Purpose, Opens, Checks, Confirms, Appends, Extends, Sent, purpose_of, extents_of, extents_in, IsAt, last_known, AsksToOpen, AsksToConfirm, AsksToExtend, AsksToCheck, AsksToAppend, AsksToRead, AsksToSeal, OfExtent, OfStream, IsAsked, Tells, list_of, AppendMeans, CheckMeans, StreamMeans, purpose_if}
+use Rattle.laws_stream_machine.specs.Refinement.{Purpose, Opens, Checks, Confirms, Appends, Extends, Sent, purpose_of, extents_of, extents_in, IsAt, last_known, known_of, AsksToOpen, AsksToConfirm, AsksToExtend, AsksToCheck, AsksToAppend, AsksToRead, AsksToSeal, OfExtent, OfStream, IsAsked, Tells, list_of, AppendMeans, CheckMeans, StreamMeans, purpose_if, stream_meant}
 use Rattle.laws_stream_machine.proofs.MachineCore.{get_same}
 use Rattle.laws_stream_machine.proofs.StepSequences.{Onward}
 
@@ -115,6 +116,28 @@ reading_on old post g h more later from server q e groups r = record {
   ends = r.ends;
 }
 
+-- ---- groups that were appended
+
+-- the append of a group was sent
+pub record Appending (post : List Packet) (e : ℕ) (from : Origin) : Type 0 where
+  pub packet : Packet
+  pub generation : ℕ
+  pub group : Group
+  pub sent : Contains post packet
+  pub body : packet.body ≡ bodies.Append (Append e generation group from.request)
+  pub counted : from.generation ≡ generation_of packet.from generation
+
+abbrev pub AllAppended : List Packet → Ground → Type 0
+AllAppended post g = (e k : ℕ) (from : Origin) → slice_get (g.origin e) k ≡ Some from → Appending post e from
+
+pub appended_more : (old post : List Packet) (g : Ground) → ((p : Packet) → Contains old p → Contains post p) → AllAppended old g → AllAppended post g
+appended_more old post g more a e k from is =
+    let y = a e k from is in
+    record { packet = y.packet; generation = y.generation; group = y.group; sent = more y.packet y.sent; body = y.body; counted = y.counted }
+
+pub unmoved_appended : (post : List Packet) (g h : Ground) → ((e : ℕ) → Unmoved g h e) → AllAppended post g → AllAppended post h
+unmoved_appended post g h same a e k from is = a e k from (subst (λ z. slice_get z k ≡ Some from) (same e).1 is)
+
 -- ---- from one stream system and state to a later one
 
 module _ (name : StreamName) where
@@ -123,6 +146,8 @@ module _ (name : StreamName) where
     -- what is new in the list was not made before
     pub back : (index e : ℕ) → (w.catalog.extent e ≡ None → ⊥) → IsAt v name index e → IsAt w name index e
     pub made : (e : ℕ) → (w.catalog.extent e ≡ None → ⊥) → v.catalog.extent e ≡ None → ⊥
+    -- what is not sealed was not sealed before
+    pub unsealed : (e : ℕ) → (w.catalog.extent e ≡ None → ⊥) → sealed_lengths v.catalog e ≡ None → sealed_lengths w.catalog e ≡ None
     pub onward : Onward s t
 
   -- the catalog is the same
@@ -131,6 +156,7 @@ module _ (name : StreamName) where
     begins = subst (λ (b : Catalog). Begins (extents_in w name) (extents_of (stream_of b.stream name))) (sym same) (begins_refl (extents_in w name));
     back = λ index e made at. subst (λ (b : Catalog). slice_get (extents_of (stream_of b.stream name)) index ≡ Some e) same at;
     made = λ e made none. made (ap (λ (b : Catalog). b.extent e) (sym same) ∙ none);
+    unsealed = λ e made none. ap (λ (b : Catalog). sealed_lengths b e) (sym same) ∙ none;
     onward = onward;
   }
 
@@ -146,8 +172,8 @@ module _ (name : StreamName) where
     of_extent : (e : ℕ) (q : ReqNo) (P Q : ℕ → Type 0) → ((index : ℕ) → P index → Q index) → OfExtent generation name w s sent e q P → OfExtent generation name v t sent e q Q
     of_extent e q P Q f x = record {
       made = a.made e x.made;
-      here = λ index at. f index (x.here index (a.back index e x.made at));
-      elsewhere = λ none. x.elsewhere (λ index at. none index (at_on index e at));
+      unsealed = λ index at. f index (x.unsealed index (a.back index e x.made at.0, a.unsealed e x.made at.1));
+      known = λ p for. let (index, at, asks) = x.known p for in (index, at_on index e at, f index asks);
     }
 
     of_stream : (Here : Type 0) (q : ReqNo) (P Q : Type 0) → (P → Q) → OfStream generation name w s sent Here q P → OfStream generation name v t sent Here q Q
@@ -197,10 +223,12 @@ module _ (name : StreamName) where
 
     pub tells_on : (list : StreamList) → Tells generation name w s sent list → Tells generation name v t sent list
     tells_on list x = record {
-      base = x.base;
-      known = count_on (length list.extents) x.known;
-      are = λ index y is. at_on index y.extent (x.are index y is);
-      sealed = λ index y l is length_is. let m = x.sealed index y l is length_is in (m.0, a.onward.shut index m.0 m.1, m.2);
+      left = λ index below. let y = x.left index below in (y.0, a.onward.shut index y.0 y.1);
+      whole = x.whole;
+      ends = x.ends;
+      known = count_on (known_of list) x.known;
+      are = λ k y is. at_on (list.base + k) y.extent (x.are k y is);
+      sealed = λ k y l is length_is. let m = x.sealed k y l is length_is in (m.0, a.onward.shut (list.base + k) m.0 m.1, m.2);
       unsealed = x.unsealed;
     }
 
@@ -215,7 +243,7 @@ module _ (name : StreamName) where
   pub record Meant (generation : ℕ → ℕ) (w : StreamSystem) (s : machine.MachineState Group) (sent : List Sent) (p : Packet) : Type 0 where
     pub appended : (q : ReqNo) (e o : ℕ) → p.body ≡ bodies.Append (Appended q e o) → AppendMeans generation name w s sent (purpose_of sent q) (Appended q e o)
     pub checked : (q : ReqNo) (l : ℕ) → p.body ≡ bodies.Check (CheckedAt q (Some l)) → CheckMeans generation name w s sent (purpose_of sent q) (CheckedAt q (Some l))
-    pub streamed : (body : StreamBody) → p.body ≡ bodies.Stream body → StreamMeans generation name w s sent (purpose_if generation name w s sent (stream_number body)) body
+    pub streamed : (body : StreamBody) → p.body ≡ bodies.Stream body → StreamMeans generation name w s sent (purpose_if generation name w s sent (stream_meant body)) body
 
   -- of each packet to a server
   abbrev pub IfToServer : Packet → Type 0 → Type 0
@@ -226,5 +254,5 @@ module _ (name : StreamName) where
   meant_on generation w s v t a sent p m = record {
     appended = λ q e o is. append_on generation w s v t a sent (purpose_of sent q) (Appended q e o) (m.appended q e o is);
     checked = λ q l is. check_on generation w s v t a sent (purpose_of sent q) (CheckedAt q (Some l)) (m.checked q l is);
-    streamed = λ body is. stream_on generation w s v t a sent (purpose_if generation name w s sent (stream_number body)) body (m.streamed body is);
+    streamed = λ body is. stream_on generation w s v t a sent (purpose_if generation name w s sent (stream_meant body)) body (m.streamed body is);
   }

@@ -1,7 +1,8 @@
 -- What servers do on a stream, which the lower layer takes no part in: turns, and numbers for new requests.
-use Rattle.std.proofs.Common.{◌≡◌, ◌⊎◌, ℕ, zero, suc, ◌<◌, Bool, true, false, ◌&&◌, List, [], ◌∷◌, ◌++◌, length, Option, Some, None, slice_get, Contains, refl, sym, ap, ◌∙◌, subst, inl, inr, if◌then◌else◌, ◌==◌}
+use Rattle.std.proofs.Common.{◌≡◌, ◌⊎◌, ℕ, zero, suc, ◌<◌, ◌≤◌, Bool, true, false, ◌&&◌, List, [], ◌∷◌, ◌++◌, length, Option, Some, None, slice_get, Contains, refl, sym, ap, ◌∙◌, subst, inl, inr, if◌then◌else◌, arith, ◌==◌}
 use Rattle.std.proofs.lemmas.Bool.{eqb-true, and_parts}
-use Rattle.wire.specs.declared.actor.ActorId.TheVariants.{Server}
+use Rattle.wire.specs.declared.actor.ActorId.{ActorId}
+use Rattle.wire.specs.declared.actor.ActorId.TheVariants.{Node, Manager, Map, Server, User}
 use Rattle.wire.specs.declared.actor.ReqNo.{ReqNo}
 use Rattle.wire.specs.declared.actor.ReqNo.TheVariants as requests
 use Rattle.wire.specs.declared.body.AppendBody.{AppendBody}
@@ -20,20 +21,22 @@ use Rattle.wire.specs.declared.streams.StreamName.{StreamName}
 use Rattle.replica.specs.Groups.{Group}
 use Rattle.streams.specs.Streams.{Stream, stream_of}
 use Rattle.client.specs.Requests.{is_same}
+use Rattle.model_streams.specs.Actors.{generation_of}
 use Rattle.model_streams.specs.Outcome.{packet}
-use Rattle.model_streams.specs.StreamSystem.{StreamSystem}
+use Rattle.model_streams.specs.StreamSystem.{StreamSystem, is_server_call}
+use Rattle.laws_streams.specs.Origins.{Origin}
+use Rattle.laws_streams.proofs.Choices.{each-get}
 use Rattle.laws_streams.proofs.Ground.{Ground}
 use Rattle.model_partition.specs.Story.{Copy}
-use Rattle.model_partition.specs.Answering.{stream_number}
 use Rattle.model_partition.specs.StreamMachine as machine
 use Rattle.model_partition.specs.StreamMachine.{In, StreamCore, shut_at, Fact, MachineState, MachineStep, Opens, Checks, ReadsSealed, ReadsChecked, Begins, Appends, Extends, TakesConfirmed, TakesAppended, next}
 use Rattle.model_partition.specs.ServerTurns.{Phase, Idle, Opening, Checking, Sealing, Confirming, Serving, Sent as SentOut, Closing, Growing, Turn, Assigned, AllSealed, LastOpen, Found, IsShut, ConfirmedIs, Forms, AppendedAt, ExtendedTo, does, forms, all_next, is_layer}
-use Rattle.laws_stream_machine.specs.Refinement.{Purpose, Sent, purpose_of, asked_number, meant_number, AsksToOpen, AsksToConfirm, AsksToExtend, AsksToCheck, AsksToAppend, AsksToRead, AsksToSeal, OfExtent, OfStream, IsAsked, Tells, list_of, AppendMeans, CheckMeans, StreamMeans, purpose_if}
+use Rattle.laws_stream_machine.specs.Refinement.{Purpose, Sent, purpose_of, asked_number, meant_number, AsksToOpen, AsksToConfirm, AsksToExtend, AsksToCheck, AsksToAppend, AsksToRead, AsksToSeal, OfExtent, OfStream, IsAsked, Tells, list_of, AppendMeans, CheckMeans, StreamMeans, purpose_if, stream_meant}
 use Rattle.laws_stream_machine.specs.Refinement as ties
 use Rattle.laws_stream_machine.proofs.StepSequences.{Onward, onward_refl, onward_trans, next_onward}
 use Rattle.laws_stream_machine.proofs.ExtentSteps.{TiedLive}
-use Rattle.laws_stream_machine.proofs.MachineCore.{FencedBy, Sourced, Shaped}
-use Rattle.laws_stream_machine.proofs.SentPackets.{ahead_same, asked_on, meant_on}
+use Rattle.laws_stream_machine.proofs.MachineCore.{IsIn, FencedBy, Sourced, Shaped}
+use Rattle.laws_stream_machine.proofs.SentPackets.{is_outside, Appending, ahead_same, asked_on, meant_on}
 use Rattle.laws_stream_machine.proofs.Refines.{Follows}
 
 -- ---- turns
@@ -146,6 +149,7 @@ upper_follows generation name w s t sent u a =
       asked = λ server to body c. asked_on name generation w s w t ahead sent body (a.asked server to body c);
       called = a.called;
       read = a.read;
+      appended = a.appended;
       meant = λ p c server to. meant_on name generation w s w t ahead sent p (a.meant p c server to);
     }
 
@@ -172,18 +176,15 @@ module _ (generation : ℕ → ℕ) (name : StreamName) (w : StreamSystem) (s : 
   other_purpose : (q : ReqNo) → is_same x.request q ≡ false → purpose_of (x ∷ sent) q ≡ purpose_of sent q
   other_purpose q is = ap (λ b. if b then Some x.purpose else purpose_of sent q) is
 
-  old_purpose : purpose_of sent x.request ≡ None → (q : ReqNo) (p : Purpose) → purpose_of sent q ≡ Some p → purpose_of (x ∷ sent) q ≡ Some p
-  old_purpose fresh q p is = by_test (is_same x.request q) refl
-    where
-      by_test : (b : Bool) → is_same x.request q ≡ b → purpose_of (x ∷ sent) q ≡ Some p
-      by_test true t = let c : None ≡ Some p = sym fresh ∙ ap (purpose_of sent) (same_request x.request q t) ∙ is in absurd cc
-      by_test false t = other_purpose q t ∙ is
+  -- no group of the extent was appended under this number
+  abbrev NoneUnder : Ground → ℕ → Type 0
+  NoneUnder g e = (k : ℕ) (from : Origin) → slice_get (g.origin e) k ≡ Some from → is_same x.request from.request ≡ false
 
-  more_sourced : purpose_of sent x.request ≡ None → (g : Ground) (e index : ℕ) (copies : List (Copy Group)) → Sourced g sent e index copies → Sourced g (x ∷ sent) e index copies
-  more_sourced fresh g e index copies old k c from is at = let (i, for) = old k c from is at in (i, old_purpose fresh from.request _ for)
+  more_sourced : (g : Ground) (e index : ℕ) (copies : List (Copy Group)) → NoneUnder g e → Sourced g sent e index copies → Sourced g (x ∷ sent) e index copies
+  more_sourced g e index copies none old k c from is at p for = old k c from is at p (sym (other_purpose from.request (none k from at)) ∙ for)
 
-  more_shaped : purpose_of sent x.request ≡ None → (o : Option Stream) (g : Ground) → Shaped o g s sent → Shaped o g s (x ∷ sent)
-  more_shaped fresh o g a = record {
+  more_shaped : (o : Option Stream) (g : Ground) → ((index e : ℕ) → IsIn o index e → NoneUnder g e) → Shaped o g s sent → Shaped o g s (x ∷ sent)
+  more_shaped o g none a = record {
     settled = record {
       fence = a.settled.fence;
       counts = a.settled.counts;
@@ -191,16 +192,20 @@ module _ (generation : ℕ → ℕ) (name : StreamName) (w : StreamSystem) (s : 
       made = a.settled.made;
       shut = λ index e at l.
           let b = a.settled.shut index e at l in
-          record { shut = b.shut; is = b.is; tied = b.tied; sources = more_sourced fresh g e index b.shut.copies b.sources };
+          record { shut = b.shut; is = b.is; tied = b.tied; sources = more_sourced g e index b.shut.copies (none index e at) b.sources };
       checked = a.settled.checked;
     };
     live = λ v is.
         let b = a.live v is in
-        record { extent = b.extent; at = b.at; tied = b.tied; sources = more_sourced fresh g b.extent (length s.core.shut) (v.kept ++ v.loose) b.sources };
+        record { extent = b.extent; at = b.at; tied = b.tied; sources = more_sourced g b.extent (length s.core.shut) (v.kept ++ v.loose) (none (length s.core.shut) b.extent b.at) b.sources };
   }
 
   of_extent : (e : ℕ) (q : ReqNo) → purpose_of (x ∷ sent) q ≡ purpose_of sent q → (P Q : ℕ → Type 0) → ((index : ℕ) → P index → Q index) → OfExtent generation name w s sent e q P → OfExtent generation name w s (x ∷ sent) e q Q
-  of_extent e q same P Q f a = record { made = a.made; here = λ index at. f index (a.here index at); elsewhere = λ none. same ∙ a.elsewhere none }
+  of_extent e q same P Q f a = record {
+    made = a.made;
+    unsealed = λ index at. f index (a.unsealed index at);
+    known = λ p for. let (index, at, asks) = a.known p (sym same ∙ for) in (index, at, f index asks);
+  }
 
   of_stream : (Here : Type 0) (q : ReqNo) → purpose_of (x ∷ sent) q ≡ purpose_of sent q → (P Q : Type 0) → (P → Q) → OfStream generation name w s sent Here q P → OfStream generation name w s (x ∷ sent) Here q Q
   of_stream Here q same P Q f a = record { here = λ h. f (a.here h); elsewhere = λ none. same ∙ a.elsewhere none }
@@ -238,7 +243,7 @@ module _ (generation : ℕ → ℕ) (name : StreamName) (w : StreamSystem) (s : 
   more_check z b m = tt
 
   more_tells : (list : StreamList) → Tells generation name w s sent list → Tells generation name w s (x ∷ sent) list
-  more_tells list a = record { base = a.base; known = a.known; are = a.are; sealed = a.sealed; unsealed = a.unsealed }
+  more_tells list a = record { left = a.left; whole = a.whole; ends = a.ends; known = a.known; are = a.are; sealed = a.sealed; unsealed = a.unsealed }
 
   more_stream : (z : Option Purpose) (b : StreamBody) → StreamMeans generation name w s sent z b → StreamMeans generation name w s (x ∷ sent) z b
   more_stream (Some (ties.Opens i)) (Opened q lists) m = (m.0, more_tells (list_of generation name w s sent name.kind lists) m.1)
@@ -250,17 +255,33 @@ module _ (generation : ℕ → ℕ) (name : StreamName) (w : StreamSystem) (s : 
   same_if None same = refl
   same_if (Some q) same = same q refl
 
-  pub sent_follows : purpose_of sent x.request ≡ None → Unused w x.request → Follows generation name w s sent → Follows generation name w s (x ∷ sent)
-  sent_follows fresh unused a =
+  -- what stands in the stream was appended by servers, under numbers that they have used
+  none_under : Unused w x.request → (a : Follows generation name w s sent) → (index e : ℕ) → IsIn (stream_of w.catalog.stream name) index e → NoneUnder a.ground e
+  none_under unused a index e at k from is =
+      let y = a.appended e k from is in
+      let born = a.shaped.settled.born index e at in
+      let older : a.ground.born e ≤ from.generation = each-get (λ (z : Origin). a.ground.born e ≤ z.generation) (a.ground.origin e) k from (a.holds.sound.born e) is in
+      by_from y y.packet.from refl (a.called y.packet y.sent (ap is_server_call y.body)) (omega (arith, born, older, y.counted))
+    where
+      by_from : (y : Appending w.post e from) → (who : ActorId) → y.packet.from ≡ who → is_outside y.packet.from ≡ true → 1 ≤ generation_of y.packet.from y.generation → is_same x.request from.request ≡ false
+      by_from y (Server server) is_from outside some = unused y.packet y.sent server from.request (inl (is_from, ap asked_number y.body))
+      by_from y (User user) is_from outside some = absurd (let m = subst (λ z. 1 ≤ generation_of z y.generation) is_from some in omega (arith, m))
+      by_from y (Node n) is_from outside some = absurd (let m = subst (λ z. is_outside z ≡ true) is_from outside in cc)
+      by_from y Manager is_from outside some = absurd (let m = subst (λ z. is_outside z ≡ true) is_from outside in cc)
+      by_from y Map is_from outside some = absurd (let m = subst (λ z. is_outside z ≡ true) is_from outside in cc)
+
+  pub sent_follows : Unused w x.request → Follows generation name w s sent → Follows generation name w s (x ∷ sent)
+  sent_follows unused a =
       let same : (p : Packet) → Contains w.post p → (server : ℕ) → p.to ≡ Server server → (q : ReqNo) → meant_number p.body ≡ Some q → purpose_of (x ∷ sent) q ≡ purpose_of sent q =
       λ p c server to q is. other_purpose q (unused p c server q (inr (to, is))) in
       record {
         ground = a.ground;
         holds = a.holds;
-        shaped = more_shaped fresh (stream_of w.catalog.stream name) a.ground a.shaped;
+        shaped = more_shaped (stream_of w.catalog.stream name) a.ground (none_under unused a) a.shaped;
         asked = λ server to body c. more_asked body (λ q is. other_purpose q (unused (packet (Server server) to body) c server q (inl (refl, is)))) (a.asked server to body c);
         called = a.called;
         read = a.read;
+        appended = a.appended;
         meant = λ p c server to.
             let m = a.meant p c server to in
             record {
@@ -271,7 +292,7 @@ module _ (generation : ℕ → ℕ) (name : StreamName) (w : StreamSystem) (s : 
                   subst (λ z. CheckMeans generation name w s (x ∷ sent) z (CheckedAt q (Some l))) (sym (same p c server to q (ap meant_number is)))
                   (more_check (purpose_of sent q) (CheckedAt q (Some l)) (m.checked q l is));
               streamed = λ body is.
-                  subst (λ z. StreamMeans generation name w s (x ∷ sent) z body) (sym (same_if (stream_number body) (λ q k. same p c server to q (ap meant_number is ∙ k))))
-                  (more_stream (purpose_if generation name w s sent (stream_number body)) body (m.streamed body is));
+                  subst (λ z. StreamMeans generation name w s (x ∷ sent) z body) (sym (same_if (stream_meant body) (λ q k. same p c server to q (ap meant_number is ∙ k))))
+                  (more_stream (purpose_if generation name w s sent (stream_meant body)) body (m.streamed body is));
             };
       }

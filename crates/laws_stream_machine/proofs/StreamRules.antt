@@ -1,5 +1,5 @@
 -- The rules of the manager's table about streams, as steps of the machine of one stream.
-use Rattle.std.proofs.Common.{◌≡◌, ◌≢◌, ◌⊎◌, ℕ, zero, suc, ◌-◌, ◌<◌, ◌≤◌, Bool, true, false, not, nat_lt, List, [], ◌∷◌, ◌++◌, length, Option, Some, None, Result, Ok, Err, slice_get, Contains, refl, sym, ap, ◌∙◌, subst, inl, inr, arith, if◌then◌else◌, ◌==◌, eq-eqb, length-append}
+use Rattle.std.proofs.Common.{◌≡◌, ◌≢◌, ◌⊎◌, ℕ, zero, suc, ◌+◌, ◌-◌, ◌<◌, ◌≤◌, Bool, true, false, not, nat_lt, List, [], ◌∷◌, ◌++◌, length, Option, Some, None, Result, Ok, Err, slice_get, Contains, refl, sym, ap, ◌∙◌, subst, inl, inr, arith, if◌then◌else◌, ◌==◌, eq-eqb, length-append}
 use Rattle.std.proofs.lemmas.Bool.Decides.{nat_tests}
 use Rattle.std.proofs.lemmas.Bool.{cases_lt, and_cases, ltb-true, not-false, eqb-true}
 use Rattle.block_types.specs.declared.record.Nodes.{Nodes}
@@ -19,10 +19,10 @@ use Rattle.wire.specs.declared.streams.StreamKind.TheVariants as kinds
 use Rattle.wire.specs.declared.streams.StreamList.{StreamList}
 use Rattle.wire.specs.declared.streams.StreamName.{StreamName}
 use Rattle.replica.specs.Groups.{Group}
-use Rattle.streams.specs.Streams.{Stream, Streams, stream_of, kind_number, empty_stream, created, opened as opened_at, fenced_at, all_pass, passes, extending, last_of, longer, extended_if}
+use Rattle.streams.specs.Streams.{Stream, Streams, base_of, whole, stream_of, kind_number, empty_stream, created, opened as opened_at, fenced_at, all_pass, passes, extending, last_of, longer, extended_if}
 use Rattle.model_streams.specs.declared.extent.Extent.{Extent}
 use Rattle.model_streams.specs.Actors.{is_user, generation_of}
-use Rattle.model_streams.specs.Manager.{Catalog, told_extents, told_stream, told_streams, open_tests, open_refusal, open_taken, confirm_tests, confirm_refusal, answer, create_tests, create_refusal, create_taken, no_users, open_rule, confirm_rule, stream_body_rule, seal_body_rule, manager_rule, is_foreign, is_pick, new_extent, sealed_in, sealed_lengths, extend_made, last_told, extend_answered, extend_rule}
+use Rattle.model_streams.specs.Manager.{Catalog, told_stream, told_streams, open_tests, open_refusal, open_taken, confirm_tests, confirm_refusal, answer, create_tests, create_refusal, create_taken, no_users, open_rule, confirm_rule, stream_body_rule, seal_body_rule, manager_rule, is_foreign, is_pick, new_extent, sealed_in, sealed_lengths, extend_made, last_told, extend_answered, extend_rule}
 use Rattle.model_streams.specs.Outcome.{Outcome, silent, refused, or_refused}
 use Rattle.model_streams.specs.StreamSystem.{StreamSystem, after_manager_rule, is_server_call}
 use Rattle.model_streams.proofs.Tests.{if_elim, none_met}
@@ -30,6 +30,7 @@ use Rattle.laws_streams.specs.Answers.{MayGrow}
 use Rattle.laws_streams.specs.Listings.{Listed}
 use Rattle.laws_streams.proofs.Choices.{Each, changed-same, changed-other}
 use Rattle.laws_streams.proofs.Lists.{get_left, get_next}
+use Rattle.laws_streams.proofs.WholeLists.{whole_get, whole_last, whole_longer}
 use Rattle.laws_streams.proofs.Ground.{Ground}
 use Rattle.laws_streams.proofs.RestsOnGround.{places_of, sealed_of, FineCatalog}
 use Rattle.laws_streams.proofs.RisingFences.{all_passed, four_pass, not_there, no_fault, with_here}
@@ -38,14 +39,13 @@ use Rattle.laws_streams.proofs.ManagerAnswers as manager
 use Rattle.model_partition.specs.Story.{Copy}
 use Rattle.model_partition.specs.StreamMachine as machine
 use Rattle.model_partition.specs.StreamMachine.{In, OpenExtent, MachineState, TakesOpen, TakesConfirm, TakesExtend, count, one_if_live}
-use Rattle.laws_stream_machine.specs.Refinement.{Opens, Sent, purpose_of, extents_of, extents_in, IsAsked, AllAsked, last_known, AsksToOpen, AsksToConfirm, AsksToExtend, Tells, list_of, StreamMeans, purpose_if}
+use Rattle.laws_stream_machine.specs.Refinement.{Opens, Sent, purpose_of, extents_of, extents_in, IsAsked, AllAsked, last_known, known_of, AsksToOpen, AsksToConfirm, AsksToExtend, Tells, list_of, StreamMeans, purpose_if, stream_meant}
 use Rattle.laws_stream_machine.proofs.FactSources.{Lawful}
 use Rattle.laws_stream_machine.proofs.StepSequences.{Onward, Walk, stand, steps_to, shut_within}
 use Rattle.laws_stream_machine.proofs.ExtentSteps.{floor_born, new_tied}
 use Rattle.laws_stream_machine.proofs.MachineCore.{LiveThere, FencedBy, Shaped, pushed_get, get_front}
 use Rattle.laws_stream_machine.proofs.SentPackets.{Called}
 use Rattle.laws_stream_machine.proofs.ToldLists.{server_of, is_name_or, with_other, told_length, told_get, sealed_or_last, seal_same}
-use Rattle.model_partition.specs.Answering.{stream_number}
 
 -- ---- lists
 
@@ -76,7 +76,7 @@ known_index es (suc index) e is =
     (index, refl, subst (λ i. slice_get es i ≡ Some e) e1 (subst (λ c. (if c then None else slice_get es (suc index - 1)) ≡ Some e) z is))
 
 -- no extent stands twice in a list
-pub same_index : (b : Catalog) (name : StreamName) (x : Stream) → Listed b name x → (i j e : ℕ) → slice_get x.extents i ≡ Some e → slice_get x.extents j ≡ Some e → i ≡ j
+pub same_index : (b : Catalog) (name : StreamName) (x : Stream) → Listed b name x → (i j e : ℕ) → slice_get (whole x) i ≡ Some e → slice_get (whole x) j ≡ Some e → i ≡ j
 same_index b name x listed i j e at there = elim (cases_lt i j) [
   | inl below ↦ let m = listed.rising i j e e below at there in absurd (omega (arith, m))
   | inr le ↦ elim (cases_lt j i) [
@@ -85,33 +85,71 @@ same_index b name x listed i j e at there = elim (cases_lt i j) [
   ]
 ]
 
+-- ---- what has left a list
+
+none_told : (es : List ℕ) → length es ≡ 0 → es ≡ []
+none_told [] is = refl
+none_told (e ∷ es) is = absurd (omega (arith, is))
+
+got_within : (es : List ℕ) (k : ℕ) → k < length es → (e : ℕ) × (slice_get es k ≡ Some e)
+got_within [] k inside = absurd (omega (arith, inside))
+got_within (e ∷ es) zero inside = (e, refl)
+got_within (e ∷ es) (suc k) inside = got_within es k (omega (arith, inside))
+
+one_at_most : (l : Option (OpenExtent Group)) → one_if_live l ≤ 1
+one_at_most None = omega arith
+one_at_most (Some v) = omega arith
+
+-- the last extent stands behind all that have left
+gone_before : (x : Stream) → (x.extents ≡ [] → x.gone ≡ []) → (index : ℕ) → index < base_of x → suc index < length (whole x)
+gone_before x ends index below = by_extents x.extents refl
+  where
+    by_extents : (es : List ℕ) → x.extents ≡ es → suc index < length (x.gone ++ es)
+    by_extents [] is = absurd (let none = ap (λ (g : List ℕ). length g) (ends is) in omega (arith, below, none))
+    by_extents (e ∷ es) is = omega (arith, below, length-append x.gone (e ∷ es))
+
 module _ (generation : ℕ → ℕ) (name : StreamName) (sent : List Sent) where
   -- what a packet says to a server about streams
   abbrev pub ToldOf : StreamSystem → MachineState Group → Packet → Type 0
   ToldOf v t x = (server : ℕ) → x.to ≡ Server server → (body : StreamBody) → x.body ≡ bodies.Stream body →
-      StreamMeans generation name v t sent (purpose_if generation name v t sent (stream_number body)) body
+      StreamMeans generation name v t sent (purpose_if generation name v t sent (stream_meant body)) body
+
+  -- how many extents there are to the end of what is told of a stream
+  told_count : (b : Catalog) (x : Stream) → Listed b name x → known_of (told_stream b.extent (Some x)) ≡ length (whole x)
+  told_count b x listed =
+      omega (arith, told_length b.extent x.extents (λ i e at. listed.there (base_of x + i) e (whole_get x i ∙ at)), length-append x.gone x.extents)
 
   -- what is told of a stream as it stands
-  pub opened_tells : (v : StreamSystem) (b : Catalog) (x : Stream) (z : Option Stream) (g : Ground) (t : MachineState Group) → Listed b name x → FineCatalog g b → extents_in v name ≡ x.extents → extents_of z ≡ x.extents →
+  pub opened_tells : (v : StreamSystem) (b : Catalog) (x : Stream) (z : Option Stream) (g : Ground) (t : MachineState Group) → Listed b name x → FineCatalog g b → extents_in v name ≡ whole x → extents_of z ≡ whole x →
       Shaped z g t sent → Tells generation name v t sent (told_stream b.extent (Some x))
   opened_tells v b x z g t listed catalog here same shaped =
-      let counted = told_length b.extent x.extents listed.there in
-      let got = told_get b.extent x.extents listed.there in
+      let all = λ (i e : ℕ) (at : slice_get x.extents i ≡ Some e). listed.there (base_of x + i) e (whole_get x i ∙ at) in
+      let counted = told_length b.extent x.extents all in
+      let got = told_get b.extent x.extents all in
+      let long = length-append x.gone x.extents in
       record {
-        base = listed.base;
-        known = omega (arith, counted, ap (λ (xs : List ℕ). length xs) here);
-        are = λ index y is.
-            let (e, k, at, there, told) = got index y is in
-            subst (λ xs. slice_get xs index ≡ Some y.extent) (sym here) (at ∙ ap (λ (w : StreamExtent). Some w.extent) (sym told));
-        sealed = λ index y l is long.
-            let (e, k, at, there, told) = got index y is in
-            let sealed : g.sealed e ≡ Some l = catalog.sealed e ∙ ap sealed_of there ∙ ap (λ (w : StreamExtent). w.length) (sym told) ∙ long in
-            (sealed_or_last z g t sent shaped index e (subst (λ xs. slice_get xs index ≡ Some e) (sym same) at)).sealed l sealed;
-        unsealed = λ index y is long.
-            let (e, k, at, there, told) = got index y is in
-            let sealed : g.sealed e ≡ None = catalog.sealed e ∙ ap sealed_of there ∙ ap (λ (w : StreamExtent). w.length) (sym told) ∙ long in
-            let last = ((sealed_or_last z g t sent shaped index e (subst (λ xs. slice_get xs index ≡ Some e) (sym same) at)).last sealed).0 in
-            omega (arith, last, ap (λ (xs : List ℕ). length xs) same, counted);
+        left = λ index below.
+            let behind = gone_before x listed.ends index below in
+            let (e, at) = got_within (whole x) index (omega (arith, behind)) in
+            let one = one_at_most t.core.live in
+            let count = ap (λ (xs : List ℕ). length xs) same in
+            let shut = shaped.settled.shut index e (subst (λ xs. slice_get xs index ≡ Some e) (sym same) at) (omega (arith, behind, one, count, shaped.settled.counts)) in
+            (shut.shut, shut.is);
+        whole = λ kind. ap (λ (xs : List ℕ). length xs) listed.gone;
+        ends = λ none. ap (λ (xs : List ℕ). length xs) (listed.ends (none_told x.extents (omega (arith, none, counted))));
+        known = omega (arith, counted, long, ap (λ (xs : List ℕ). length xs) here);
+        are = λ k y is.
+            let (e, extent, at, there, told) = got k y is in
+            subst (λ xs. slice_get xs (base_of x + k) ≡ Some y.extent) (sym here) (whole_get x k ∙ at ∙ ap (λ (w : StreamExtent). Some w.extent) (sym told));
+        sealed = λ k y l is length_is.
+            let (e, extent, at, there, told) = got k y is in
+            let sealed : g.sealed e ≡ Some l = catalog.sealed e ∙ ap sealed_of there ∙ ap (λ (w : StreamExtent). w.length) (sym told) ∙ length_is in
+            (sealed_or_last z g t sent shaped (base_of x + k) e (subst (λ xs. slice_get xs (base_of x + k) ≡ Some e) (sym same) (whole_get x k ∙ at))).sealed l sealed;
+        unsealed = λ k y is length_is.
+            let (e, extent, at, there, told) = got k y is in
+            let sealed : g.sealed e ≡ None = catalog.sealed e ∙ ap sealed_of there ∙ ap (λ (w : StreamExtent). w.length) (sym told) ∙ length_is in
+            let last = ((sealed_or_last z g t sent shaped (base_of x + k) e (subst (λ xs. slice_get xs (base_of x + k) ≡ Some e) (sym same) (whole_get x k ∙ at))).last sealed).0 in
+            omega (arith, last, ap (λ (xs : List ℕ). length xs) same, long, counted);
       }
 
   -- the list of the kind of the name
@@ -210,7 +248,7 @@ module _ (generation : ℕ → ℕ) (name : StreamName) (sent : List Sent) where
         none_of : (q : ReqNo) (from : ActorId) → x.to ≡ from → p.from ≡ from → ((other : ℕ) → p.from ≡ Server other → purpose_of sent q ≡ None) → purpose_of sent q ≡ None
         none_of q from a c none = none server (c ∙ sym a ∙ here)
 
-        by_body : (body : StreamBody) → manager.BodyTells b p x.to (bodies.Stream body) → StreamMeans generation name v t sent (purpose_if generation name v t sent (stream_number body)) body
+        by_body : (body : StreamBody) → manager.BodyTells b p x.to (bodies.Stream body) → StreamMeans generation name v t sent (purpose_if generation name v t sent (stream_meant body)) body
         by_body (Opened q lists) f =
             subst (λ z. StreamMeans generation name v t sent z (Opened q lists)) (sym (none_of q p.from f.asker refl (λ other from. (asked_for other _ from f.body).elsewhere (away.opens f.range f.generation q f.body)))) tt
         by_body (Confirmed q) f =
@@ -238,7 +276,7 @@ module _ (generation : ℕ → ℕ) (name : StreamName) (sent : List Sent) where
         let none : stream_of b.stream other ≡ None = not_there _ (no_fault _ _ (none_met (create_tests b p other) is).1.0) in
         stand generation s _ (
           by_name none (is_name_or name other),
-          ((λ server here body made. let c : bodies.Stream (Created q) ≡ bodies.Stream body = made in let d : Created q ≡ body = cc in subst (λ z. StreamMeans generation name (after_manager_rule w (create_taken b p other fence q)) s sent (purpose_if generation name (after_manager_rule w (create_taken b p other fence q)) s sent (stream_number z)) z) d tt), tt),
+          ((λ server here body made. let c : bodies.Stream (Created q) ≡ bodies.Stream body = made in let d : Created q ≡ body = cc in subst (λ z. StreamMeans generation name (after_manager_rule w (create_taken b p other fence q)) s sent (purpose_if generation name (after_manager_rule w (create_taken b p other fence q)) s sent (stream_meant z)) z) d tt), tt),
         )
       where
         empty_shape : (o : Option Stream) → stream_of b.stream name ≡ o → o ≡ None → Shaped (Some (empty_stream fence)) g s sent
@@ -285,7 +323,7 @@ module _ (generation : ℕ → ℕ) (name : StreamName) (sent : List Sent) where
           (
             (λ other to_is body made.
                 let d : Opened q (told_streams b range) ≡ body = cc in
-                subst (λ z. StreamMeans generation name v t sent (purpose_if generation name v t sent (stream_number z)) z) d
+                subst (λ z. StreamMeans generation name v t sent (purpose_if generation name v t sent (stream_meant z)) z) d
                 (subst (λ z. StreamMeans generation name v t sent z (Opened q (told_streams b range))) (sym a.for)
                 (means a.i x there v t (inl refl) (ap extents_of after) shape))),
             tt,
@@ -302,17 +340,17 @@ module _ (generation : ℕ → ℕ) (name : StreamName) (sent : List Sent) where
             (λ t. ap (fenced_at k) there)
             (λ t. let c : false ≡ true = sym t ∙ eq-eqb name.range range (sym here) in absurd cc)
 
-        means : (i : ℕ) (x : Stream) → stream_of b.stream name ≡ Some x → (v : StreamSystem) (t : MachineState Group) → In (machine.Opened i (count s.core)) t.facts → extents_in v name ≡ x.extents →
+        means : (i : ℕ) (x : Stream) → stream_of b.stream name ≡ Some x → (v : StreamSystem) (t : MachineState Group) → In (machine.Opened i (count s.core)) t.facts → extents_in v name ≡ whole x →
             Shaped (Some (record x { fence = k })) g t sent → StreamMeans generation name v t sent (Some (Opens i)) (Opened q (told_streams b range))
         means i x there v t fact same shape =
             let list = listed x there in
-            let counted : count s.core ≡ length (told_extents b.extent x.extents) =
-            omega (arith, told_length b.extent x.extents list.there, (subst (λ z. Shaped z g s sent) there shaped).settled.counts) in
-            let first : In (machine.Opened i (length (told_extents b.extent x.extents))) t.facts × Tells generation name v t sent (told_stream b.extent (Some x)) =
+            let counted : count s.core ≡ known_of (told_stream b.extent (Some x)) =
+            omega (arith, told_count b x list, (subst (λ z. Shaped z g s sent) there shaped).settled.counts) in
+            let first : In (machine.Opened i (known_of (told_stream b.extent (Some x)))) t.facts × Tells generation name v t sent (told_stream b.extent (Some x)) =
             (subst (λ n. In (machine.Opened i n) t.facts) counted fact, opened_tells v b x (Some (record x { fence = k })) g t list catalog same refl shape) in
             let path : list_of generation name v t sent name.kind (told_streams b range) ≡ told_stream b.extent (Some x) =
             ap (λ r. list_of generation name v t sent name.kind (told_streams b r)) here ∙ list_is v t b ∙ ap (told_stream b.extent) there in
-            subst (λ (l : StreamList). In (machine.Opened i (length l.extents)) t.facts × Tells generation name v t sent l) (sym path) first
+            subst (λ (l : StreamList). In (machine.Opened i (known_of l)) t.facts × Tells generation name v t sent l) (sym path) first
 
     -- who has opened the stream knows its fence
     pub fence_is : (x : Stream) → FencedBy s (Some x) → (i n : ℕ) → In (machine.Opened i n) s.facts → x.fence ≡ s.core.fence
@@ -342,7 +380,7 @@ module _ (generation : ℕ → ℕ) (name : StreamName) (sent : List Sent) where
           (
             (λ other to_is body made.
                 let d : Confirmed q ≡ body = cc in
-                subst (λ z. StreamMeans generation name v t sent (purpose_if generation name v t sent (stream_number z)) z) d
+                subst (λ z. StreamMeans generation name v t sent (purpose_if generation name v t sent (stream_meant z)) z) d
                 (subst (λ z. StreamMeans generation name v t sent z (Confirmed q)) (sym a.for) (inl refl))),
             tt,
           ),
@@ -372,18 +410,21 @@ module _ (generation : ℕ → ℕ) (name : StreamName) (sent : List Sent) where
         level : generation asks.i ≡ s.core.fence
         level = asks.under ∙ sym (ap (λ z. generation_of z k) from) ∙ fence ∙ fence_is x now_shaped.settled.fence asks.i opened_before.0 (on.facts _ opened_before.1)
 
-        known_is : asks.n ≤ length x.extents
+        known_is : asks.n ≤ length (whole x)
         known_is = subst (λ z. asks.n ≤ length (extents_of z)) there asks.known
 
-        last_is : last ≡ last_known x.extents asks.n
+        last_is : last ≡ last_known (whole x) asks.n
         last_is = asks.last_is ∙ ap (λ z. last_known (extents_of z) asks.n) there
+
+        last_whole : last_of (whole x) ≡ last_of x.extents
+        last_whole = whole_last x (listed x there).ends
 
         abbrev extend_fact : ℕ → MachineState Group
         extend_fact m = record s { facts = machine.Extended asks.i asks.n m ∷ s.facts }
 
         -- ---- another extent is the last
 
-        corrected : (m : ℕ) → m ≡ length x.extents → asks.n ≢ m → machine.next Group generation s (TakesExtend asks.i asks.n) ≡ extend_fact m
+        corrected : (m : ℕ) → m ≡ length (whole x) → asks.n ≢ m → machine.next Group generation s (TakesExtend asks.i asks.n) ≡ extend_fact m
         corrected m count_is other = by_live s.core.live refl
           where
             by_live : (l : Option (OpenExtent Group)) → s.core.live ≡ l →
@@ -408,10 +449,10 @@ module _ (generation : ℕ → ℕ) (name : StreamName) (sent : List Sent) where
 
         last_walk : (e : ℕ) (y : Extent) → last_of x.extents ≡ Some e → last ≢ Some e → RuleWalk (answer b p (Extended q e y.places))
         last_walk e y end other =
-            let (index, at, suc_is) = last_index x.extents e end in
+            let (index, at, suc_is) = last_index (whole x) e (last_whole ∙ end) in
             let v : StreamSystem = after_manager_rule w (answer b p (Extended q e y.places)) in
             let t : MachineState Group = extend_fact (suc index) in
-            let not_last : asks.n ≢ suc index = λ same. other (last_is ∙ ap (last_known x.extents) same ∙ known_at x.extents index e at) in
+            let not_last : asks.n ≢ suc index = λ same. other (last_is ∙ ap (last_known (whole x)) same ∙ known_at (whole x) index e at) in
             let moved : machine.next Group generation s (TakesExtend asks.i asks.n) ≡ t = corrected (suc index) suc_is not_last in
             steps_to generation s _ (TakesExtend asks.i asks.n) refl (on.facts _ asks.fact, level)
             (subst (λ u. Shaped (stream_of b.stream name) g u sent × Each (ToldOf v u) (answer b p (Extended q e y.places)).packets) (sym moved) (
@@ -419,7 +460,7 @@ module _ (generation : ℕ → ℕ) (name : StreamName) (sent : List Sent) where
               (
                 (λ to_server to_is body made.
                     let d : Extended q e y.places ≡ body = cc in
-                    subst (λ z. StreamMeans generation name v t sent (purpose_if generation name v t sent (stream_number z)) z) d
+                    subst (λ z. StreamMeans generation name v t sent (purpose_if generation name v t sent (stream_meant z)) z) d
                     (subst (λ z. StreamMeans generation name v t sent z (Extended q e y.places)) (sym asks.for) (index, subst (λ z. slice_get (extents_of z) index ≡ Some e) (sym there) at, inl refl))),
                 tt,
               ),
@@ -432,6 +473,12 @@ module _ (generation : ℕ → ℕ) (name : StreamName) (sent : List Sent) where
 
         abbrev made : Outcome Catalog
         made = extend_made b p name (generation_of p.from k) pick q
+
+        grown : whole (longer new x) ≡ whole x ++ new ∷ []
+        grown = whole_longer new x
+
+        new_at : slice_get (whole (longer new x)) (length (whole x)) ≡ Some new
+        new_at = subst (λ xs. slice_get xs (length (whole x)) ≡ Some new) (sym grown) (get_next (whole x) [] new)
 
         new_is : stream_of made.after.stream name ≡ Some (longer new x)
         new_is = ap (λ o. stream_of (extended_if b.stream name new o) name) there ∙ with_here b.stream name (longer new x)
@@ -449,24 +496,24 @@ module _ (generation : ℕ → ℕ) (name : StreamName) (sent : List Sent) where
           pub record AtEnd : Type 0 where
             pub none : s.core.live ≡ None
             pub all : asks.n ≡ length s.core.shut
-            pub counts : length x.extents ≡ length s.core.shut
+            pub counts : length (whole x) ≡ length s.core.shut
 
-          none_open : length x.extents ≤ length s.core.shut → asks.n ≡ length x.extents → AtEnd
+          none_open : length (whole x) ≤ length s.core.shut → asks.n ≡ length (whole x) → AtEnd
           none_open le all = by_live s.core.live refl
             where
               by_live : (l : Option (OpenExtent Group)) → s.core.live ≡ l → AtEnd
-              by_live None none = let one = ap one_if_live none in let c : length x.extents ≡ length s.core.shut = omega (arith, now_shaped.settled.counts, one) in record { none = none; all = all ∙ c; counts = c }
+              by_live None none = let one = ap one_if_live none in let c : length (whole x) ≡ length s.core.shut = omega (arith, now_shaped.settled.counts, one) in record { none = none; all = all ∙ c; counts = c }
               by_live (Some v) some = let one = ap one_if_live some in absurd (omega (arith, now_shaped.settled.counts, one, le))
 
           at_end : AtEnd
           at_end = elim may [
             | inl empty ↦
-                let zero_is = none_last x.extents empty in
+                let zero_is = none_last (whole x) (last_whole ∙ empty) in
                 none_open (omega (arith, zero_is)) (let m = known_is in omega (arith, m, zero_is))
             | inr (e, end, named, (l, sealed)) ↦
-                let (index, at, suc_is) = last_index x.extents e end in
+                let (index, at, suc_is) = last_index (whole x) e (last_whole ∙ end) in
                 let list = listed x there in
-                let known = known_index x.extents asks.n e (sym last_is ∙ named) in
+                let known = known_index (whole x) asks.n e (sym last_is ∙ named) in
                 let same : known.0 ≡ index = same_index b name x list known.0 index e known.2 at in
                 let shut = (sealed_or_last (Some x) g s sent now_shaped index e at).sealed l (sealed_here e l (list.there index e at) sealed) in
                 let within = shut_within index s.core.shut shut.0 shut.1 in
@@ -500,30 +547,30 @@ module _ (generation : ℕ → ℕ) (name : StreamName) (sent : List Sent) where
               record {
                 settled = record {
                   fence = inl (sym (fence_is x old.settled.fence asks.i opened_before.0 (on.facts _ opened_before.1)));
-                  counts = omega (arith, length-append x.extents (new ∷ []), a.counts);
-                  born = λ index e at. elim (pushed_get x.extents new index e at) [
+                  counts = omega (arith, ap (λ (xs : List ℕ). length xs) grown, length-append (whole x) (new ∷ []), a.counts);
+                  born = λ index e at. elim (pushed_get (whole x) new index e (subst (λ xs. slice_get xs index ≡ Some e) grown at)) [
                     | inl was ↦ old.settled.born index e was
                     | inr here ↦ let low = (lawful.opened asks.i opened_before.0 opened_before.1).0 in let c : g.born e ≡ generation asks.i = ap g.born here.1 ∙ born_is in omega (arith, low, c)
                   ];
-                  made = λ index e at. elim (pushed_get x.extents new index e at) [
+                  made = λ index e at. elim (pushed_get (whole x) new index e (subst (λ xs. slice_get xs index ≡ Some e) grown at)) [
                     | inl was ↦ old.settled.made index e was
                     | inr here ↦ (pick, ap g.places here.1 ∙ catalog.places new ∙ ap places_of extent_is)
                   ];
                   shut = λ index e at l.
-                      let c = old.settled.shut index e (get_front x.extents (new ∷ []) index e (omega (arith, l, a.counts)) at) l in
+                      let c = old.settled.shut index e (get_front (whole x) (new ∷ []) index e (omega (arith, l, a.counts)) (subst (λ xs. slice_get xs index ≡ Some e) grown at)) l in
                       record { shut = c.shut; is = c.is; tied = c.tied; sources = c.sources };
                   checked = λ i index stood end m. elim m [
                     | inl made ↦ absurd cc
                     | inr was ↦
                         let c = old.settled.checked i index stood end was in
-                        record { extent = c.extent; at = get_left x.extents (new ∷ []) index c.extent c.at; begins = c.begins; chain = c.chain; sized = c.sized }
+                        record { extent = c.extent; at = subst (λ xs. slice_get xs index ≡ Some c.extent) (sym grown) (get_left (whole x) (new ∷ []) index c.extent c.at); begins = c.begins; chain = c.chain; sized = c.sized }
                   ];
                 };
                 live = λ v lives.
                     let c : machine.new_live Group generation s.core (generation asks.i) ≡ v = cc in
                     subst (LiveThere (Some (longer new x)) g sent t_made) c (record {
                       extent = new;
-                      at = subst (λ i. slice_get (x.extents ++ new ∷ []) i ≡ Some new) a.counts (get_next x.extents [] new);
+                      at = subst (λ i. slice_get (whole (longer new x)) i ≡ Some new) a.counts new_at;
                       tied = new_tied g new n (generation asks.i) (unmade new fresh) (let f = floor_born g new in omega (arith, f, born_is)) (catalog.sealed new ∙ ap sealed_of extent_is);
                       sources = λ j c from none there. absurd cc;
                     });
@@ -545,15 +592,15 @@ module _ (generation : ℕ → ℕ) (name : StreamName) (sent : List Sent) where
               ))
             where
               made_means : (body : StreamBody) → bodies.Stream (Extended q new pick) ≡ bodies.Stream body →
-                  StreamMeans generation name (after_manager_rule w made) t_made sent (purpose_if generation name (after_manager_rule w made) t_made sent (stream_number body)) body
+                  StreamMeans generation name (after_manager_rule w made) t_made sent (purpose_if generation name (after_manager_rule w made) t_made sent (stream_meant body)) body
               made_means body sends =
                   let v : StreamSystem = after_manager_rule w made in
                   let d : Extended q new pick ≡ body = cc in
                   let a = at_end in
-                  subst (λ z. StreamMeans generation name v t_made sent (purpose_if generation name v t_made sent (stream_number z)) z) d
+                  subst (λ z. StreamMeans generation name v t_made sent (purpose_if generation name v t_made sent (stream_meant z)) z) d
                   (subst (λ z. StreamMeans generation name v t_made sent z (Extended q new pick)) (sym asks.for) (
                     asks.n,
-                    subst (λ z. slice_get (extents_of z) asks.n ≡ Some new) (sym new_is) (subst (λ i. slice_get (x.extents ++ new ∷ []) i ≡ Some new) (a.counts ∙ sym a.all) (get_next x.extents [] new)),
+                    subst (λ z. slice_get (extents_of z) asks.n ≡ Some new) (sym new_is) (subst (λ i. slice_get (whole (longer new x)) i ≡ Some new) (a.counts ∙ sym a.all) new_at),
                     inl refl,
                   ))
 

@@ -1,6 +1,6 @@
 -- How a stream of the stream system is one stream of the machine: what each request of a server is for, and what each answer to it
 -- means.
-use Rattle.std.specs.Prelude.{◌≡◌, ℕ, suc, ◌==◌, ◌+◌, ◌-◌, ◌≤◌, true, List, [], ◌∷◌, length, map, Option, Some, None, slice_get, if◌then◌else◌, Contains}
+use Rattle.std.specs.Prelude.{◌≡◌, ℕ, suc, ◌==◌, ◌+◌, ◌-◌, ◌<◌, ◌≤◌, true, List, [], ◌∷◌, length, map, Option, Some, None, slice_get, if◌then◌else◌, Contains}
 use Rattle.wire.specs.declared.actor.ActorId.{ActorId}
 use Rattle.wire.specs.declared.actor.ActorId.TheVariants.{Server}
 use Rattle.wire.specs.declared.actor.ReqNo.{ReqNo}
@@ -23,12 +23,13 @@ use Rattle.wire.specs.declared.streams.StreamList.{StreamList}
 use Rattle.wire.specs.declared.streams.StreamLists.{StreamLists}
 use Rattle.wire.specs.declared.streams.StreamName.{StreamName}
 use Rattle.replica.specs.Groups.{Group, size}
-use Rattle.streams.specs.Streams.{Stream, stream_of}
+use Rattle.streams.specs.Streams.{Stream, stream_of, whole}
 use Rattle.client.specs.Requests.{is_same}
+use Rattle.model_streams.specs.Manager.{sealed_lengths}
 use Rattle.model_streams.specs.Outcome.{packet}
 use Rattle.model_streams.specs.StreamSystem.{StreamSystem}
 use Rattle.model_partition.specs.Story.{Copy}
-use Rattle.model_partition.specs.Answering.{answered_number, stream_number, is_answerer}
+use Rattle.model_partition.specs.Answering.{answered_number, is_answerer}
 use Rattle.model_partition.specs.StreamMachine as machine
 
 -- ---- requests
@@ -55,11 +56,12 @@ purpose_of (s ∷ sent) q = if is_same s.request q then Some s.purpose else purp
 
 -- ---- the extents of a stream
 
+-- by their indexes, those that have left it first
 abbrev pub extents_of : Option Stream → List ℕ
 extents_of None = []
-extents_of (Some x) = x.extents
+extents_of (Some x) = whole x
 
--- the list of the stream, as the manager has it
+-- the whole list of the stream, as the manager has it
 abbrev pub extents_in : StreamSystem → StreamName → List ℕ
 extents_in w name = extents_of (stream_of w.catalog.stream name)
 
@@ -67,9 +69,17 @@ extents_in w name = extents_of (stream_of w.catalog.stream name)
 abbrev pub IsAt : StreamSystem → StreamName → ℕ → ℕ → Type 0
 IsAt w name index e = slice_get (extents_in w name) index ≡ Some e
 
+-- the same of an extent that is not sealed
+abbrev pub IsUnsealedAt : StreamSystem → StreamName → ℕ → ℕ → Type 0
+IsUnsealedAt w name index e = IsAt w name index e × (sealed_lengths w.catalog e ≡ None)
+
 -- where n extents are known, the last one of them
 abbrev pub last_known : List ℕ → ℕ → Option ℕ
 last_known extents n = if n == 0 then None else slice_get extents (n - 1)
+
+-- how many extents there are up to the end of a list that is told
+abbrev pub known_of : StreamList → ℕ
+known_of list = list.base + length list.extents
 
 -- ---- what servers ask
 
@@ -93,10 +103,16 @@ abbrev pub check_meant : CheckBody → Option ReqNo
 check_meant (CheckedAt q (Some found)) = Some q
 check_meant body = None
 
+abbrev pub stream_meant : StreamBody → Option ReqNo
+stream_meant (Opened q lists) = Some q
+stream_meant (Confirmed q) = Some q
+stream_meant (Extended q e places) = Some q
+stream_meant body = None
+
 abbrev pub meant_number : Body → Option ReqNo
 meant_number (bodies.Append body) = append_meant body
 meant_number (bodies.Check body) = check_meant body
-meant_number (bodies.Stream body) = stream_number body
+meant_number (bodies.Stream body) = stream_meant body
 meant_number body = None
 
 module _ (generation : ℕ → ℕ) (name : StreamName) (w : StreamSystem) (s : machine.MachineState Group) (sent : List Sent) where
@@ -148,14 +164,14 @@ module _ (generation : ℕ → ℕ) (name : StreamName) (w : StreamSystem) (s : 
   abbrev pub IsOther : ReqNo → Type 0
   IsOther q = purpose_of sent q ≡ None
 
-  -- what a server says of an extent, which is made: where it is of this stream, it asks so; where not, its number is none of
-  -- this stream's
+  -- what a server says of an extent, which is made: it asks so where the extent is of this stream and not sealed, and of one of
+  -- the extent's indexes where its number is one of this stream's
   pub record OfExtent (e : ℕ) (q : ReqNo) (Asks : ℕ → Type 0) : Type 0 where
     pub made : w.catalog.extent e ≡ None → ⊥
-    pub here : (index : ℕ) → IsAt w name index e → Asks index
-    pub elsewhere : ((index : ℕ) → IsAt w name index e → ⊥) → IsOther q
+    pub unsealed : (index : ℕ) → IsUnsealedAt w name index e → Asks index
+    pub known : (purpose : Purpose) → purpose_of sent q ≡ Some purpose → (index : ℕ) × IsAt w name index e × Asks index
 
-  -- the same of a range or a stream
+  -- what a server says of a range or a stream: it asks so where this is the one; where not, its number is none of this stream's
   pub record OfStream (Here : Type 0) (q : ReqNo) (Asks : Type 0) : Type 0 where
     pub here : Here → Asks
     pub elsewhere : (Here → ⊥) → IsOther q
@@ -197,14 +213,17 @@ module _ (generation : ℕ → ℕ) (name : StreamName) (w : StreamSystem) (s : 
 
   -- ---- what answers mean
 
-  -- the extents that were told, of which there were n: those of the list, and the length of each that is sealed
+  -- the extents that were told: those of the list from its base on, and the length of each that is sealed
   pub record Tells (list : StreamList) : Type 0 where
-    pub base : list.base ≡ 0
-    pub known : length list.extents ≤ length (extents_in w name)
-    pub are : (index : ℕ) (x : StreamExtent) → slice_get list.extents index ≡ Some x → IsAt w name index x.extent
-    pub sealed : (index : ℕ) (x : StreamExtent) (l : ℕ) → slice_get list.extents index ≡ Some x → x.length ≡ Some l →
-        (y : machine.SealedExtent Group) × (machine.shut_at index s.core.shut ≡ Some y) × (y.end ≡ machine.base index + l)
-    pub unsealed : (index : ℕ) (x : StreamExtent) → slice_get list.extents index ≡ Some x → x.length ≡ None → suc index ≡ length list.extents
+    -- what has left the list is sealed; nothing leaves that of the metadata, nor does the last extent of any
+    pub left : (index : ℕ) → index < list.base → (y : machine.SealedExtent Group) × (machine.shut_at index s.core.shut ≡ Some y)
+    pub whole : name.kind ≡ kinds.Metadata → list.base ≡ 0
+    pub ends : length list.extents ≡ 0 → list.base ≡ 0
+    pub known : known_of list ≤ length (extents_in w name)
+    pub are : (k : ℕ) (x : StreamExtent) → slice_get list.extents k ≡ Some x → IsAt w name (list.base + k) x.extent
+    pub sealed : (k : ℕ) (x : StreamExtent) (l : ℕ) → slice_get list.extents k ≡ Some x → x.length ≡ Some l →
+        (y : machine.SealedExtent Group) × (machine.shut_at (list.base + k) s.core.shut ≡ Some y) × (y.end ≡ machine.base (list.base + k) + l)
+    pub unsealed : (k : ℕ) (x : StreamExtent) → slice_get list.extents k ≡ Some x → x.length ≡ None → suc k ≡ length list.extents
 
   abbrev pub list_of : StreamKind → StreamLists → StreamList
   list_of kinds.Metadata lists = lists.metadata
@@ -242,7 +261,7 @@ module _ (generation : ℕ → ℕ) (name : StreamName) (w : StreamSystem) (s : 
 
   abbrev pub StreamMeans : Option Purpose → StreamBody → Type 0
   StreamMeans (Some (Opens i)) (Opened q lists) =
-      machine.In (machine.Opened i (length (list_of name.kind lists).extents)) s.facts × Tells (list_of name.kind lists)
+      machine.In (machine.Opened i (known_of (list_of name.kind lists))) s.facts × Tells (list_of name.kind lists)
   StreamMeans (Some (Confirms i read end)) (Confirmed q) = machine.In (machine.Confirmed i read end) s.facts
   StreamMeans (Some (Extends i n)) (Extended q e places) =
       (index : ℕ) × IsAt w name index e × machine.In (machine.Extended i n (suc index)) s.facts

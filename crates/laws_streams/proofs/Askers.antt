@@ -16,7 +16,7 @@ use Rattle.wire.specs.declared.refusal.Refusal.TheVariants.{Stale, BadPick}
 use Rattle.wire.specs.declared.streams.StreamName.{StreamName}
 use Rattle.streams.specs.Streams.{stream_of, extending}
 use Rattle.model_streams.specs.declared.event.Event.{Event}
-use Rattle.model_streams.specs.declared.event.Event.TheVariants.{Submit, Deliver, Stop, Restart, Decide, GiveUp, Assign, Renew, Moment}
+use Rattle.model_streams.specs.declared.event.Event.TheVariants.{Submit, Deliver, Stop, Restart, Decide, GiveUp, Assign, Renew, Moment, Checkpoint, Split, Merge}
 use Rattle.model_streams.specs.declared.extent.Asker.{Asker}
 use Rattle.model_streams.specs.declared.extent.Extent.{Extent}
 use Rattle.model_streams.specs.declared.extent.PlaceReport.{PlaceReport}
@@ -240,6 +240,9 @@ module _ (post : List Packet) where
     happens_asked (Assign range server until) = asked
     happens_asked (Renew range server until) = asked
     happens_asked (Moment now) = asked
+    happens_asked (Checkpoint server range combine) = asked
+    happens_asked (Split server range key) = asked
+    happens_asked (Merge server left right) = asked
 
     moved_asked : (move : Move) → HaveAsked post (moved w move).catalog
     moved_asked (Happens event) = happens_asked event

@@ -15,7 +15,7 @@ use Rattle.wire.specs.declared.note.Note.TheVariants.{Acked, SealedAt, Content, 
 use Rattle.wire.specs.declared.packet.Packet.{Packet}
 use Rattle.replica.specs.Groups.{Group}
 use Rattle.model_streams.specs.declared.event.Event.{Event}
-use Rattle.model_streams.specs.declared.event.Event.TheVariants.{Submit, Deliver, Stop, Restart, Decide, GiveUp, Assign, Renew}
+use Rattle.model_streams.specs.declared.event.Event.TheVariants.{Submit, Deliver, Stop, Restart, Decide, GiveUp, Assign, Renew, Checkpoint, Split, Merge}
 use Rattle.model_streams.specs.declared.event.Event.TheVariants as events
 use Rattle.model_streams.specs.Honest.{Apart}
 use Rattle.model_streams.specs.Maps.{changed}
@@ -280,6 +280,9 @@ module _ (C : ℕ → Group → Origin → Type 0) (D : ℕ → ℕ → Type 0) 
   happens_good w (Assign range server until) k a comes new = passed k w w a a.holds
   happens_good w (Renew range server until) k a comes new = passed k w w a a.holds
   happens_good w (events.Moment now) k a comes new = passed k w w a a.holds
+  happens_good w (Checkpoint server range combine) k a comes new = passed k w w a a.holds
+  happens_good w (Split server range key) k a comes new = passed k w w a a.holds
+  happens_good w (Merge server left right) k a comes new = passed k w w a a.holds
 
   pub moved_good : (w : StreamSystem) (move : Move) (k : ℕ) → (a : Good C D k w) →
       ((number : ℕ) (p : Packet) → move ≡ Happens (Deliver number) → slice_get w.post number ≡ Some p → Comes C (record { told = w.notes; number = k; packet = p })) →

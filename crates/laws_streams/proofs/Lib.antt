@@ -1,4 +1,5 @@
 pub mod Lists
+pub mod WholeLists
 pub mod Choices
 pub mod Ground
 pub mod MoreKnown

@@ -17,7 +17,7 @@ use Rattle.wire.specs.declared.refusal.Refusal.TheVariants.{Stale, BadPick}
 use Rattle.wire.specs.declared.streams.StreamKind.{StreamKind}
 use Rattle.wire.specs.declared.streams.StreamKind.TheVariants.{Metadata, Log, RowData, BlobData}
 use Rattle.wire.specs.declared.streams.StreamName.{StreamName}
-use Rattle.streams.specs.Streams.{kind_number, Stream, Streams, empty_stream, stream_of, with_stream, fenced_at, extending, last_of, longer, extended_if, extended as extended_streams}
+use Rattle.streams.specs.Streams.{kind_number, Stream, Streams, whole, empty_stream, stream_of, with_stream, fenced_at, extending, last_of, longer, extended_if, extended as extended_streams}
 use Rattle.model_streams.specs.declared.extent.Extent.{Extent}
 use Rattle.model_streams.specs.declared.extent.PlaceReport.{PlaceReport}
 use Rattle.model_streams.specs.Actors.{is_node, is_user, generation_of}
@@ -28,6 +28,7 @@ use Rattle.laws_streams.specs.Origins.{Begins}
 use Rattle.laws_streams.specs.Answers.{MayGrow}
 use Rattle.laws_streams.specs.Listings.{Longer}
 use Rattle.laws_streams.proofs.Lists.{begins_refl, begins_push}
+use Rattle.laws_streams.proofs.WholeLists.{whole_longer}
 use Rattle.laws_streams.proofs.Choices.{changed_elim, changed-same}
 use Rattle.laws_streams.proofs.RisingFences.{not_there, no_fault}
 use Rattle.laws_streams.proofs.StreamAnswers.{found_end, may_grow}
@@ -44,19 +45,25 @@ pub record Kept (y : Extent) (found : Option Extent) : Type 0 where
 pub record Old (b : Catalog) (s : StreamName) (z : Stream) : Type 0 where
   pub was : Stream
   pub there : stream_of b.stream s ≡ Some was
-  pub base : z.base ≡ was.base
+  pub gone : z.gone ≡ was.gone
   pub extents : z.extents ≡ was.extents
 
 -- a list that gained the next extent
 pub record Grown (b : Catalog) (extent : ℕ → Option Extent) (s : StreamName) (z : Stream) : Type 0 where
   pub was : Stream
   pub there : stream_of b.stream s ≡ Some was
-  pub base : z.base ≡ was.base
+  pub gone : z.gone ≡ was.gone
   pub extents : z.extents ≡ was.extents ++ suc b.count ∷ []
   pub last : Option ℕ
   pub may : MayGrow b was last
   pub new : Extent
   pub made : extent (suc b.count) ≡ Some new
+
+pub old_whole : {b : Catalog} {s : StreamName} {z : Stream} (o : Old b s z) → whole z ≡ whole o.was
+old_whole o = rw (o.gone, o.extents) refl
+
+pub grown_whole : {b : Catalog} {extent : ℕ → Option Extent} {s : StreamName} {z : Stream} (g : Grown b extent s z) → whole z ≡ whole g.was ++ suc b.count ∷ []
+grown_whole {b} g = rw (g.gone, g.extents) (whole_longer (suc b.count) g.was)
 
 -- from b to c lists and extents are kept, and at most the list of this name gains an extent
 pub record Goes (b c : Catalog) : Type 0 where
@@ -64,7 +71,7 @@ pub record Goes (b c : Catalog) : Type 0 where
   pub kept : (e : ℕ) (y : Extent) → b.extent e ≡ Some y → Kept y (c.extent e)
   pub grows : (s : StreamName) (x : Stream) → stream_of b.stream s ≡ Some x → Longer x (stream_of c.stream s)
   pub lists : (s : StreamName) (z : Stream) → stream_of c.stream s ≡ Some z →
-      Old b s z ⊎ (((z.base ≡ 0) × (z.extents ≡ [])) ⊎ ((s ≡ name) × Grown b c.extent s z))
+      Old b s z ⊎ (((z.gone ≡ []) × (z.extents ≡ [])) ⊎ ((s ≡ name) × Grown b c.extent s z))
   pub count : b.count ≤ c.count
   pub numbered : (e : ℕ) (y : Extent) → c.extent e ≡ Some y → ((x : Extent) × (b.extent e ≡ Some x)) ⊎ (e ≤ c.count)
 
@@ -72,10 +79,10 @@ same_extent : (o : Option Extent) (y : Extent) → o ≡ Some y → Kept y o
 same_extent o y is = record { now = y; is = is; sealed = λ l k. k }
 
 same_list : (o : Option Stream) (x : Stream) → o ≡ Some x → Longer x o
-same_list o x is = record { now = x; is = is; begins = begins_refl x.extents }
+same_list o x is = record { now = x; is = is; begins = begins_refl (whole x) }
 
 old_list : (b : Catalog) (s : StreamName) (z : Stream) → stream_of b.stream s ≡ Some z → Old b s z
-old_list b s z is = record { was = z; there = is; base = refl; extents = refl }
+old_list b s z is = record { was = z; there = is; gone = refl; extents = refl }
 
 -- any name
 abbrev some_name : StreamName
@@ -152,9 +159,9 @@ create_goes b p s fence q None is =
       kept = λ e y there. same_extent _ y there;
       grows = λ t x there. with_stream_elim (Longer x) b.stream s (empty_stream fence) t
           (λ k. absurd (let c : None ≡ Some x = sym none ∙ ap (stream_of b.stream) (sym k) ∙ there in cc)) (same_list _ x there);
-      lists = λ t z. with_stream_elim (λ o. o ≡ Some z → Old b t z ⊎ (((z.base ≡ 0) × (z.extents ≡ [])) ⊎ ((t ≡ some_name) × Grown b b.extent t z)))
+      lists = λ t z. with_stream_elim (λ o. o ≡ Some z → Old b t z ⊎ (((z.gone ≡ []) × (z.extents ≡ [])) ⊎ ((t ≡ some_name) × Grown b b.extent t z)))
           b.stream s (empty_stream fence) t
-          (λ k there. let c : empty_stream fence ≡ z = cc in inr (inl (ap (λ (v : Stream). v.base) (sym c), ap (λ (v : Stream). v.extents) (sym c))))
+          (λ k there. let c : empty_stream fence ≡ z = cc in inr (inl (ap (λ (v : Stream). v.gone) (sym c), ap (λ (v : Stream). v.extents) (sym c))))
           (λ there. inl (old_list b t z there));
       count = omega arith;
       numbered = λ e y there. inl (y, there);
@@ -164,13 +171,13 @@ fenced_longer : (generation : ℕ) (o : Option Stream) (x : Stream) → o ≡ So
 fenced_longer generation None x is = absurd cc
 fenced_longer generation (Some y) x is =
     let c : y ≡ x = cc in
-    record { now = record y { fence = generation }; is = refl; begins = subst (λ (v : Stream). Begins v.extents y.extents) c (begins_refl y.extents) }
+    record { now = record y { fence = generation }; is = refl; begins = subst (λ (v : Stream). Begins (whole v) (whole y)) c (begins_refl (whole y)) }
 
 fenced_old : (b : Catalog) (s : StreamName) (generation : ℕ) (o : Option Stream) (z : Stream) → stream_of b.stream s ≡ o → fenced_at generation o ≡ Some z → Old b s z
 fenced_old b s generation None z there is = absurd cc
 fenced_old b s generation (Some y) z there is =
     let c : record y { fence = generation } ≡ z = cc in
-    record { was = y; there = there; base = ap (λ (v : Stream). v.base) (sym c); extents = ap (λ (v : Stream). v.extents) (sym c) }
+    record { was = y; there = there; gone = ap (λ (v : Stream). v.gone) (sym c); extents = ap (λ (v : Stream). v.extents) (sym c) }
 
 open_goes : (b : Catalog) (p : Packet) (range generation : ℕ) (q : ReqNo) (x : Option Refusal) →
     Goes b (or_refused b Manager p q x (open_taken b p range generation q)).after
@@ -180,7 +187,7 @@ open_goes b p range generation q None = record {
   kept = λ e y there. same_extent _ y there;
   grows = λ s x there. if_elim (Longer x) (s.range == range) (fenced_at generation (stream_of b.stream s)) (stream_of b.stream s)
       (λ t. fenced_longer generation _ x there) (λ t. same_list _ x there);
-  lists = λ s z. if_elim (λ o. o ≡ Some z → Old b s z ⊎ (((z.base ≡ 0) × (z.extents ≡ [])) ⊎ ((s ≡ some_name) × Grown b b.extent s z)))
+  lists = λ s z. if_elim (λ o. o ≡ Some z → Old b s z ⊎ (((z.gone ≡ []) × (z.extents ≡ [])) ⊎ ((s ≡ some_name) × Grown b b.extent s z)))
       (s.range == range) (fenced_at generation (stream_of b.stream s)) (stream_of b.stream s)
       (λ t is. inl (fenced_old b s generation (stream_of b.stream s) z refl is)) (λ t is. inl (old_list b s z is));
   count = omega arith;
@@ -199,16 +206,16 @@ module _ (b : Catalog) (s : StreamName) (fence : ℕ) (pick : Nodes) (x : Stream
         (λ q. absurd (let c : None ≡ Some y = sym fresh ∙ ap b.extent (sym q) ∙ is in cc)) (λ q. same_extent _ y is);
     grows = λ t y is. rw longer_is (with_stream_elim (Longer y) b.stream s (longer (suc b.count) x) t
         (λ k. let c : y ≡ x = (let d : Some y ≡ Some x = sym is ∙ ap (stream_of b.stream) k ∙ there in cc) in
-        record { now = longer (suc b.count) x; is = refl; begins = subst (λ (v : Stream). Begins v.extents (x.extents ++ suc b.count ∷ [])) (sym c) (begins_push x.extents (suc b.count ∷ [])) })
+        record { now = longer (suc b.count) x; is = refl; begins = subst (λ (v : Stream). Begins (whole v) (whole (longer (suc b.count) x))) (sym c) (subst (Begins (whole x)) (sym (whole_longer (suc b.count) x)) (begins_push (whole x) (suc b.count ∷ []))) })
         (same_list _ y is));
-    lists = λ t z. rw longer_is (with_stream_elim (λ o. o ≡ Some z → Old b t z ⊎ (((z.base ≡ 0) × (z.extents ≡ [])) ⊎ ((t ≡ s) × Grown b (extended b s fence pick).extent t z)))
+    lists = λ t z. rw longer_is (with_stream_elim (λ o. o ≡ Some z → Old b t z ⊎ (((z.gone ≡ []) × (z.extents ≡ [])) ⊎ ((t ≡ s) × Grown b (extended b s fence pick).extent t z)))
         b.stream s (longer (suc b.count) x) t
         (λ k is. let c : longer (suc b.count) x ≡ z = cc in inr (inr (
           k,
           record {
             was = x;
             there = ap (stream_of b.stream) k ∙ there;
-            base = ap (λ (v : Stream). v.base) (sym c);
+            gone = ap (λ (v : Stream). v.gone) (sym c);
             extents = ap (λ (v : Stream). v.extents) (sym c);
             last = last;
             may = may;

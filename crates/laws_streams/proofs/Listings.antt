@@ -1,7 +1,7 @@
 -- In every run each extent stands in one list, once, and each but the last of its list is sealed.
 use Rattle.std.proofs.Common.{◌≡◌, ◌⊎◌, ℕ, zero, suc, ◌<◌, ◌≤◌, ◌&&◌, ◌==◌, nat_le, List, [], ◌∷◌, ◌++◌, length, Option, Some, None, slice_get, refl, sym, ap, ◌∙◌, inl, inr, arith, subst, Bool, not, ◌||◌}
 use Rattle.wire.specs.declared.streams.StreamName.{StreamName}
-use Rattle.streams.specs.Streams.{Stream, stream_of, last_of, empty_stream, kind_number}
+use Rattle.streams.specs.Streams.{Stream, stream_of, whole, last_of, empty_stream, kind_number}
 use Rattle.model_streams.specs.declared.extent.Extent.{Extent}
 use Rattle.model_streams.specs.Manager.{Catalog, sealed_in, sealed_lengths, forgotten, forgotten_if, catalog_stopped, decide_rule, manager_rule}
 use Rattle.model_streams.specs.StreamSystem.{StreamSystem, start, Move, moved, run_moves, stops_in, stands_in, node_halted, node_performs, node_takes, manager_halted, manager_performs, delivered, delivered_if, is_request, node_stops, manager_stops, stop, is_present, restart, happens, is_server_call, is_told, is_table_note}
@@ -10,12 +10,13 @@ use Rattle.laws_streams.specs.Answers.{SealedIn}
 use Rattle.laws_streams.specs.Listings.{Listed, Longer, ListsGrow}
 use Rattle.laws_streams.proofs.Lists.{begins_refl, begins_trans}
 use Rattle.laws_streams.proofs.RisingFences.{run_more}
-use Rattle.laws_streams.proofs.ListRules.{Goes, Grown, goes_refl, rule_goes, decide_goes}
+use Rattle.laws_streams.proofs.ListRules.{Goes, Grown, old_whole, grown_whole, goes_refl, rule_goes, decide_goes}
+use Rattle.laws_streams.proofs.WholeLists.{whole_last, none_whole}
 use Rattle.wire.specs.declared.actor.ActorId.{ActorId}
 use Rattle.wire.specs.declared.actor.ActorId.TheVariants.{Node, Manager, Map, Server, User}
 use Rattle.wire.specs.declared.packet.Packet.{Packet}
 use Rattle.model_streams.specs.declared.event.Event.{Event}
-use Rattle.model_streams.specs.declared.event.Event.TheVariants.{Submit, Deliver, Stop, Restart, Decide, GiveUp, Assign, Renew, Moment}
+use Rattle.model_streams.specs.declared.event.Event.TheVariants.{Submit, Deliver, Stop, Restart, Decide, GiveUp, Assign, Renew, Moment, Checkpoint, Split, Merge}
 use Rattle.model_streams.specs.Node.{extent_of, node_rule}
 use Rattle.model_streams.specs.Outcome.{Outcome}
 use Rattle.model_streams.specs.StreamSystem.Move.{Happens, Asks, Says, Observes}
@@ -40,7 +41,7 @@ stopped_goes b c a = record {
     still_grown {s} {z} g = record {
       was = g.was;
       there = g.there;
-      base = g.base;
+      gone = g.gone;
       extents = g.extents;
       last = g.last;
       may = g.may;
@@ -117,6 +118,9 @@ module _ (w : StreamSystem) (fresh : w.catalog.extent (suc w.catalog.count) ≡ 
   happens_goes (Assign range server until) = same_goes
   happens_goes (Renew range server until) = same_goes
   happens_goes (Moment now) = same_goes
+  happens_goes (Checkpoint server range combine) = same_goes
+  happens_goes (Split server range key) = same_goes
+  happens_goes (Merge server left right) = same_goes
 
   pub moved_goes : (move : Move) → GoesTo (moved w move)
   moved_goes (Happens event) = happens_goes event
@@ -144,6 +148,10 @@ last_at (x ∷ []) (suc i) e is end = absurd cc
 last_at (x ∷ y ∷ xs) zero e is end = absurd (omega (arith, end))
 last_at (x ∷ y ∷ xs) (suc i) e is end = last_at (y ∷ xs) i e is (omega (arith, end))
 
+never_empty : (xs : List ℕ) (y : ℕ) → xs ++ y ∷ [] ≡ [] → ⊥
+never_empty [] y is = cc
+never_empty (x ∷ xs) y is = cc
+
 -- ---- one step
 
 -- what holds of a catalog
@@ -170,22 +178,22 @@ module _ (b c : Catalog) (goes : Goes b c) (fit : Fit b) where
   record Stood (s : StreamName) (i e : ℕ) : Type 0 where
     was : Stream
     there : stream_of b.stream s ≡ Some was
-    at : slice_get was.extents i ≡ Some e
+    at : slice_get (whole was) i ≡ Some e
 
   -- it is the new one, at the end
   record Added (s : StreamName) (i e : ℕ) : Type 0 where
     name : s ≡ goes.name
     stream : Stream
     grown : Grown b c.extent s stream
-    end : i ≡ length grown.was.extents
+    end : i ≡ length (whole grown.was)
     new : e ≡ suc b.count
 
-  found : (s : StreamName) (z : Stream) (i e : ℕ) → stream_of c.stream s ≡ Some z → slice_get z.extents i ≡ Some e → Stood s i e ⊎ Added s i e
+  found : (s : StreamName) (z : Stream) (i e : ℕ) → stream_of c.stream s ≡ Some z → slice_get (whole z) i ≡ Some e → Stood s i e ⊎ Added s i e
   found s z i e there at = elim (goes.lists s z there) [
-    | inl o ↦ inl (record { was = o.was; there = o.there; at = subst (λ xs. slice_get xs i ≡ Some e) o.extents at })
+    | inl o ↦ inl (record { was = o.was; there = o.there; at = subst (λ xs. slice_get xs i ≡ Some e) (old_whole o) at })
     | inr n ↦ elim n [
-      | inl k ↦ absurd (let d : slice_get [] i ≡ Some e = subst (λ xs. slice_get xs i ≡ Some e) k.1 at in cc)
-      | inr g ↦ elim (get_pushed g.1.was.extents (suc b.count) i e (subst (λ xs. slice_get xs i ≡ Some e) g.1.extents at)) [
+      | inl k ↦ absurd (let d : slice_get [] i ≡ Some e = subst (λ xs. slice_get xs i ≡ Some e) (none_whole z k.0 k.1) at in cc)
+      | inr g ↦ elim (get_pushed (whole g.1.was) (suc b.count) i e (subst (λ xs. slice_get xs i ≡ Some e) (grown_whole g.1) at)) [
         | inl a ↦ inl (record { was = g.1.was; there = g.1.there; at = a })
         | inr a ↦ inr (record { name = g.0; stream = z; grown = g.1; end = a.0; new = a.1 })
       ]
@@ -210,11 +218,11 @@ module _ (b c : Catalog) (goes : Goes b c) (fit : Fit b) where
   all_there s i e (inr a) = (a.grown.new, ap c.extent a.new ∙ a.grown.made)
 
   -- the next one is added only after a sealed one
-  last_sealed : (s : StreamName) (i e : ℕ) → Stood s i e → (g : (z : Stream) × Grown b c.extent s z) → suc i ≡ length g.1.was.extents → (l : ℕ) × SealedIn c e l
+  last_sealed : (s : StreamName) (i e : ℕ) → Stood s i e → (g : (z : Stream) × Grown b c.extent s z) → suc i ≡ length (whole g.1.was) → (l : ℕ) × SealedIn c e l
   last_sealed s i e a (z, g) end =
       let same = same_was s a.was g.was a.there g.there in
-      let at : slice_get g.was.extents i ≡ Some e = subst (λ (v : Stream). slice_get v.extents i ≡ Some e) same a.at in
-      let is_last : last_of g.was.extents ≡ Some e = last_at g.was.extents i e at end in
+      let at : slice_get (whole g.was) i ≡ Some e = subst (λ (v : Stream). slice_get (whole v) i ≡ Some e) same a.at in
+      let is_last : last_of g.was.extents ≡ Some e = sym (whole_last g.was (fit.listed s g.was g.there).ends) ∙ last_at (whole g.was) i e at end in
       elim g.may [
         | inl none ↦ absurd (let k : None ≡ Some e = sym none ∙ is_last in cc)
         | inr m ↦
@@ -226,29 +234,29 @@ module _ (b c : Catalog) (goes : Goes b c) (fit : Fit b) where
   all_closed : (s : StreamName) (i e f : ℕ) → Stood s i e ⊎ Added s i e → Stood s (suc i) f ⊎ Added s (suc i) f → (l : ℕ) × SealedIn c e l
   all_closed s i e f (inl a) (inl d) =
       let same = same_was s d.was a.was d.there a.there in
-      let (l, sealed) = (fit.listed s a.was a.there).closed i e f a.at (subst (λ (v : Stream). slice_get v.extents (suc i) ≡ Some f) same d.at) in
+      let (l, sealed) = (fit.listed s a.was a.there).closed i e f a.at (subst (λ (v : Stream). slice_get (whole v) (suc i) ≡ Some f) same d.at) in
       (l, still_sealed e l sealed)
   all_closed s i e f (inl a) (inr d) = last_sealed s i e a (d.stream, d.grown) d.end
   all_closed s i e f (inr a) (inl d) =
       let same = same_was s d.was a.grown.was d.there a.grown.there in
-      let m = get_within a.grown.was.extents (suc i) f (subst (λ (v : Stream). slice_get v.extents (suc i) ≡ Some f) same d.at) in
+      let m = get_within (whole a.grown.was) (suc i) f (subst (λ (v : Stream). slice_get (whole v) (suc i) ≡ Some f) same d.at) in
       absurd (omega (arith, m, a.end))
   all_closed s i e f (inr a) (inr d) =
       let same = same_was s d.grown.was a.grown.was d.grown.there a.grown.there in
-      absurd (omega (arith, a.end, d.end, ap (λ (v : Stream). length v.extents) same))
+      absurd (omega (arith, a.end, d.end, ap (λ (v : Stream). length (whole v)) same))
 
   all_rising : (s : StreamName) (i j e f : ℕ) → i < j → Stood s i e ⊎ Added s i e → Stood s j f ⊎ Added s j f → e < f
   all_rising s i j e f l (inl a) (inl d) =
       let same = same_was s d.was a.was d.there a.there in
-      (fit.listed s a.was a.there).rising i j e f l a.at (subst (λ (v : Stream). slice_get v.extents j ≡ Some f) same d.at)
+      (fit.listed s a.was a.there).rising i j e f l a.at (subst (λ (v : Stream). slice_get (whole v) j ≡ Some f) same d.at)
   all_rising s i j e f l (inl a) (inr d) = let m = low s i e a in omega (arith, m, d.new)
   all_rising s i j e f l (inr a) (inl d) =
       let same = same_was s d.was a.grown.was d.there a.grown.there in
-      let m = get_within a.grown.was.extents j f (subst (λ (v : Stream). slice_get v.extents j ≡ Some f) same d.at) in
+      let m = get_within (whole a.grown.was) j f (subst (λ (v : Stream). slice_get (whole v) j ≡ Some f) same d.at) in
       absurd (omega (arith, m, l, a.end))
   all_rising s i j e f l (inr a) (inr d) =
       let same = same_was s d.grown.was a.grown.was d.grown.there a.grown.there in
-      absurd (omega (arith, l, a.end, d.end, ap (λ (v : Stream). length v.extents) same))
+      absurd (omega (arith, l, a.end, d.end, ap (λ (v : Stream). length (whole v)) same))
 
   all_apart : (s t : StreamName) (i j e : ℕ) → Stood s i e ⊎ Added s i e → Stood t j e ⊎ Added t j e → s ≡ t
   all_apart s t i j e (inl a) (inl d) = (fit.listed s a.was a.there).apart t d.was i j e d.there a.at d.at
@@ -256,16 +264,23 @@ module _ (b c : Catalog) (goes : Goes b c) (fit : Fit b) where
   all_apart s t i j e (inr a) (inl d) = absurd (let m = low t j e d in omega (arith, m, a.new))
   all_apart s t i j e (inr a) (inr d) = a.name ∙ sym d.name
 
-  from_base : (s : StreamName) (z : Stream) → stream_of c.stream s ≡ Some z → z.base ≡ 0
-  from_base s z there = elim (goes.lists s z there) [
-    | inl o ↦ o.base ∙ (fit.listed s o.was o.there).base
-    | inr n ↦ elim n [ inl k ↦ k.0 | inr g ↦ g.1.base ∙ (fit.listed s g.1.was g.1.there).base ]
+  none_gone : (s : StreamName) (z : Stream) → stream_of c.stream s ≡ Some z → z.gone ≡ []
+  none_gone s z there = elim (goes.lists s z there) [
+    | inl o ↦ o.gone ∙ (fit.listed s o.was o.there).gone
+    | inr n ↦ elim n [ inl k ↦ k.0 | inr g ↦ g.1.gone ∙ (fit.listed s g.1.was g.1.there).gone ]
+  ]
+
+  last_stays : (s : StreamName) (z : Stream) → stream_of c.stream s ≡ Some z → z.extents ≡ [] → z.gone ≡ []
+  last_stays s z there none = elim (goes.lists s z there) [
+    | inl o ↦ o.gone ∙ (fit.listed s o.was o.there).ends (sym o.extents ∙ none)
+    | inr n ↦ elim n [ inl k ↦ k.0 | inr g ↦ absurd (never_empty g.1.was.extents (suc b.count) (sym g.1.extents ∙ none)) ]
   ]
 
   fit_next : Fit c
   fit_next = record {
     listed = λ s z is. record {
-      base = from_base s z is;
+      gone = none_gone s z is;
+      ends = last_stays s z is;
       there = λ i e at. all_there s i e (found s z i e is at);
       closed = λ i e f at next. all_closed s i e f (found s z i e is at) (found s z (suc i) f is next);
       rising = λ i j e f l at next. all_rising s i j e f l (found s z i e is at) (found s z j f is next);
@@ -290,7 +305,7 @@ longer_trans x o p a next =
 
 run_longer : (moves : List Move) (w : StreamSystem) → Fit w.catalog → (s : StreamName) (x : Stream) → stream_of w.catalog.stream s ≡ Some x →
     Longer x (stream_of (run_moves moves w).catalog.stream s)
-run_longer [] w fit s x is = record { now = x; is = is; begins = begins_refl x.extents }
+run_longer [] w fit s x is = record { now = x; is = is; begins = begins_refl (whole x) }
 run_longer (move ∷ moves) w fit s x is =
     let goes = moved_goes w (fresh_next w.catalog fit) move in
     longer_trans x (stream_of (moved w move).catalog.stream s) (stream_of (run_moves moves (moved w move)).catalog.stream s) (goes.grows s x is)
@@ -302,7 +317,8 @@ first_fit nodes target = record {
   listed = λ s z is.
       if_elim (λ o. o ≡ Some z → Listed (start nodes target).catalog s z) ((s.range == 1) && nat_le (kind_number s.kind) 3) (Some (empty_stream 0)) None
       (λ t k. let c : empty_stream 0 ≡ z = cc in subst (Listed (start nodes target).catalog s) c (record {
-        base = refl;
+        gone = refl;
+        ends = λ none. refl;
         there = λ i e at. absurd cc;
         closed = λ i e f at next. absurd cc;
         rising = λ i j e f l at next. absurd cc;

@@ -7,7 +7,7 @@ use Rattle.wire.specs.declared.body.Body.{Body}
 use Rattle.wire.specs.declared.note.Note.{Note}
 use Rattle.wire.specs.declared.packet.Packet.{Packet}
 use Rattle.model_streams.specs.declared.event.Event.{Event}
-use Rattle.model_streams.specs.declared.event.Event.TheVariants.{Submit, Deliver, Stop, Restart, Decide, GiveUp, Assign, Renew, Moment}
+use Rattle.model_streams.specs.declared.event.Event.TheVariants.{Submit, Deliver, Stop, Restart, Decide, GiveUp, Assign, Renew, Moment, Checkpoint, Split, Merge}
 use Rattle.model_streams.specs.Manager.{Catalog, manager_rule, decide_rule}
 use Rattle.model_streams.specs.Node.{Replica, extent_of, node_rule}
 use Rattle.model_streams.specs.Outcome.{Outcome, packet}
@@ -178,6 +178,9 @@ happens_gains w (GiveUp server range pick) = unmoved_gains w (Happens (GiveUp se
 happens_gains w (Assign range server until) = unmoved_gains w (Happens (Assign range server until)) w refl refl
 happens_gains w (Renew range server until) = unmoved_gains w (Happens (Renew range server until)) w refl refl
 happens_gains w (Moment now) = unmoved_gains w (Happens (Moment now)) w refl refl
+happens_gains w (Checkpoint server range combine) = unmoved_gains w (Happens (Checkpoint server range combine)) w refl refl
+happens_gains w (Split server range key) = unmoved_gains w (Happens (Split server range key)) w refl refl
+happens_gains w (Merge server left right) = unmoved_gains w (Happens (Merge server left right)) w refl refl
 
 pub moved_gains : (w : StreamSystem) (move : Move) → Gains w move (moved w move)
 moved_gains w (Happens event) = happens_gains w event

@@ -19,7 +19,7 @@ use Rattle.wire.specs.declared.streams.StreamKind.TheVariants.{Metadata, Log, Ro
 use Rattle.wire.specs.declared.streams.StreamName.{StreamName}
 use Rattle.streams.specs.Streams.{kind_number, Stream, Streams, empty_stream, stream_of, with_stream, passes, all_pass, fenced_at, behind, extending, last_of, longer, extended_if, extended as extended_streams}
 use Rattle.model_streams.specs.declared.event.Event.{Event}
-use Rattle.model_streams.specs.declared.event.Event.TheVariants.{Submit, Deliver, Stop, Restart, Decide, GiveUp, Assign, Renew}
+use Rattle.model_streams.specs.declared.event.Event.TheVariants.{Submit, Deliver, Stop, Restart, Decide, GiveUp, Assign, Renew, Checkpoint, Split, Merge}
 use Rattle.model_streams.specs.declared.event.Event.TheVariants as events
 use Rattle.model_streams.specs.declared.extent.Extent.{Extent}
 use Rattle.model_streams.specs.declared.extent.PlaceReport.{PlaceReport}
@@ -349,6 +349,9 @@ happens_goes w (GiveUp server range pick) = onward_refl w.catalog
 happens_goes w (Assign range server until) = onward_refl w.catalog
 happens_goes w (Renew range server until) = onward_refl w.catalog
 happens_goes w (events.Moment now) = onward_refl w.catalog
+happens_goes w (Checkpoint server range combine) = onward_refl w.catalog
+happens_goes w (Split server range key) = onward_refl w.catalog
+happens_goes w (Merge server left right) = onward_refl w.catalog
 
 moved_goes : (w : StreamSystem) (move : Move) → Goes w (moved w move)
 moved_goes w (Happens event) = happens_goes w event

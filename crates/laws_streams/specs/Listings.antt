@@ -1,27 +1,30 @@
 -- What the manager's lists of extents are: each extent stands in one list, once, and each but the last of its list is sealed.
-use Rattle.std.specs.Prelude.{◌≡◌, ℕ, suc, ◌<◌, List, ◌++◌, Option, Some, slice_get}
+use Rattle.std.specs.Prelude.{◌≡◌, ℕ, suc, ◌<◌, List, [], ◌++◌, Option, Some, slice_get}
 use Rattle.wire.specs.declared.streams.StreamName.{StreamName}
-use Rattle.streams.specs.Streams.{Stream, stream_of}
+use Rattle.streams.specs.Streams.{Stream, stream_of, whole}
 use Rattle.model_streams.specs.declared.extent.Extent.{Extent}
 use Rattle.model_streams.specs.Manager.{Catalog}
 use Rattle.model_streams.specs.StreamSystem.{StreamSystem, Move, run_moves}
 use Rattle.laws_streams.specs.Origins.{Begins}
 use Rattle.laws_streams.specs.Answers.{SealedIn}
 
--- the list of a stream: from its first extent on, all in the catalog, in the order in which they were made
+-- the list of a stream: from index 0 on, with those that have left it, all in the catalog, in the order in which they were
+-- made; the last one does not leave
 pub record Listed (b : Catalog) (s : StreamName) (x : Stream) : Type 0 where
-  pub base : x.base ≡ 0
-  pub there : (i e : ℕ) → slice_get x.extents i ≡ Some e → (y : Extent) × (b.extent e ≡ Some y)
-  pub closed : (i e f : ℕ) → slice_get x.extents i ≡ Some e → slice_get x.extents (suc i) ≡ Some f → (length : ℕ) × SealedIn b e length
-  pub rising : (i j e f : ℕ) → i < j → slice_get x.extents i ≡ Some e → slice_get x.extents j ≡ Some f → e < f
-  pub apart : (t : StreamName) (z : Stream) (i j e : ℕ) → stream_of b.stream t ≡ Some z → slice_get x.extents i ≡ Some e → slice_get z.extents j ≡ Some e →
+  -- none is trimmed yet
+  pub gone : x.gone ≡ []
+  pub ends : x.extents ≡ [] → x.gone ≡ []
+  pub there : (i e : ℕ) → slice_get (whole x) i ≡ Some e → (y : Extent) × (b.extent e ≡ Some y)
+  pub closed : (i e f : ℕ) → slice_get (whole x) i ≡ Some e → slice_get (whole x) (suc i) ≡ Some f → (length : ℕ) × SealedIn b e length
+  pub rising : (i j e f : ℕ) → i < j → slice_get (whole x) i ≡ Some e → slice_get (whole x) j ≡ Some f → e < f
+  pub apart : (t : StreamName) (z : Stream) (i j e : ℕ) → stream_of b.stream t ≡ Some z → slice_get (whole x) i ≡ Some e → slice_get (whole z) j ≡ Some e →
       s ≡ t
 
 -- the stream is there, and its list begins with that of before
 pub record Longer (x : Stream) (found : Option Stream) : Type 0 where
   pub now : Stream
   pub is : found ≡ Some now
-  pub begins : Begins x.extents now.extents
+  pub begins : Begins (whole x) (whole now)
 
 -- the lists of a run, and how each goes on later
 pub record ListsGrow (before after : List Move) (w : StreamSystem) : Type 0 where

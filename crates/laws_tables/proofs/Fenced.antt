@@ -3,6 +3,7 @@ use Rattle.std.proofs.Common.{◌≡◌, ℕ, ◌<◌, ◌≤◌, List, [], ◌�
 use Rattle.std.specs.Prelude.{Contains}
 use Rattle.std.proofs.lemmas.List.{append-nil, append_cancel_left}
 use Rattle.model_partition.specs.Story.{Placed, StreamEvent, Made, Answered, Showed, event_at, Copy, placed, from_place, Ascending, KeepsOrder}
+use Rattle.laws_tables.specs.Ends.{EndsRise, StandsBehind}
 use Rattle.laws_tables.specs.Fenced.{Seen, Landed, Fenced, LogRun, visible, landed, fence, end_of, May, IsLogRun, stood}
 use Rattle.laws_tables.proofs.Lines.{split_at}
 use Rattle.laws_tables.proofs.Range.{bound, older, event_cases, eq_test, ne_test}
@@ -358,4 +359,29 @@ module _ (A : Type 0) where
                     omega arith,
               ),
         );
+  }
+
+  -- each of its readings ends at or behind those before it
+  pub ends_rise : (run : LogRun A) → IsLogRun run → EndsRise (visible run)
+  ends_rise run ok l m g h start end start' end' groups groups' hl hm lt =
+      let p : LoadIn run l g start end groups = load_in run ok l g start end groups hl in
+      let q : LoadIn run m h start' end' groups' = load_in run ok m h start' end' groups' hm in
+      let mid : (mid : LogRun A) × (q.before ≡ mid ++ Fenced g end ∷ p.before) = lower_first p.after p.before q.after q.before g h end end' (subst IsLogRun p.is ok) (sym p.is ∙ q.is) lt in
+      let t : Later q.before (Fenced g end ∷ p.before) = lands q.before q.good mid.0 (Fenced g end ∷ p.before) mid.1 in
+      let up : end ≤ end_of q.before = t.longer in
+      let low : end_of q.before ≤ end' = q.end_is in
+      omega arith
+
+  -- where all that landed stands behind a place, and each reading ends there
+  pub stands_behind : (place : ℕ) (run : LogRun A) (ok : IsLogRun run) → ((c : Copy A) → In c (landed run) → place ≤ c.from) →
+      ((l g start end : ℕ) (groups : List (Placed A)) → event_at (visible run) l ≡ Some (Showed g start end groups) → place ≤ end) → StandsBehind place (visible run) (keeps_order run ok)
+  unfolding keeps_order
+  stands_behind place run ok behind ends = record {
+    copies = λ l c i. behind c (for_copies run l (λ z. In c z → In c (landed run)) (λ n. absurd n)
+        (λ g start end groups h j.
+        let p : LoadIn run l g start end groups = load_in run ok l g start end groups h in
+        let t : Later run (Fenced g end ∷ p.before) = lands run ok p.after (Fenced g end ∷ p.before) p.is in
+        subst (In c) (sym t.is) (in_left c (landed p.before) t.rest (subst (In c) p.copies j)))
+        (in_contains c (copies_of run (event_at (visible run) l)) i));
+    ends = ends;
   }

@@ -110,12 +110,12 @@ module _ (A : Type 0) where
       (λ o. inr o)
       (event_cases (Group A) (Made g' new) earlier a (Made g group) h)
 
-  answered_made : (x from to : ℕ) (earlier : Log) (a g : ℕ) (group : Group A) → IsMadeAt (Answered x from to ∷ earlier) a g group → IsMadeAt earlier a g group
+  pub answered_made : (x from to : ℕ) (earlier : Log) (a g : ℕ) (group : Group A) → IsMadeAt (Answered x from to ∷ earlier) a g group → IsMadeAt earlier a g group
   answered_made x from to earlier a g group h =
       ⊎_elim {C = IsMadeAt earlier a g group} (λ (s : (a ≡ length earlier) × (Answered x from to ≡ Made g group)). let e : Answered x from to ≡ Made g group = s.1 in cc) (λ o. o)
       (event_cases (Group A) (Answered x from to) earlier a (Made g group) h)
 
-  showed_made : (g' s e : ℕ) (xs : List (Placed (Group A))) (earlier : Log) (a g : ℕ) (group : Group A) → IsMadeAt (Showed g' s e xs ∷ earlier) a g group → IsMadeAt earlier a g group
+  pub showed_made : (g' s e : ℕ) (xs : List (Placed (Group A))) (earlier : Log) (a g : ℕ) (group : Group A) → IsMadeAt (Showed g' s e xs ∷ earlier) a g group → IsMadeAt earlier a g group
   showed_made g' s e xs earlier a g group h =
       ⊎_elim {C = IsMadeAt earlier a g group} (λ (s' : (a ≡ length earlier) × (Showed g' s e xs ≡ Made g group)). let q : Showed g' s e xs ≡ Made g group = s'.1 in cc) (λ o. o)
       (event_cases (Group A) (Showed g' s e xs) earlier a (Made g group) h)
@@ -130,16 +130,16 @@ module _ (A : Type 0) where
       ⊎_elim {C = IsShownAt earlier l g s e xs} (λ (s' : (l ≡ length earlier) × (Answered x from to ≡ Showed g s e xs)). let q : Answered x from to ≡ Showed g s e xs = s'.1 in cc) (λ o. o)
       (event_cases (Group A) (Answered x from to) earlier l (Showed g s e xs) h)
 
-  next_same : (g : ℕ) (new : Group A) (earlier : Log) → next_number (Made g new ∷ earlier) g ≡ next_after new
+  pub next_same : (g : ℕ) (new : Group A) (earlier : Log) → next_number (Made g new ∷ earlier) g ≡ next_after new
   next_same g new earlier = ap (λ b. cond b (next_after new) (next_number earlier g)) (eq_test A g)
 
-  next_other : (g g' : ℕ) (new : Group A) (earlier : Log) → (g ≡ g' → ⊥) → next_number (Made g' new ∷ earlier) g ≡ next_number earlier g
+  pub next_other : (g g' : ℕ) (new : Group A) (earlier : Log) → (g ≡ g' → ⊥) → next_number (Made g' new ∷ earlier) g ≡ next_number earlier g
   next_other g g' new earlier n = ap (λ b. cond b (next_after new) (next_number earlier g)) (ne_test A g g' n)
 
-  next_shown_same : (g s e : ℕ) (xs : List (Placed (Group A))) (earlier : Log) → next_number (Showed g s e xs ∷ earlier) g ≡ suc (length (line_shown xs))
+  pub next_shown_same : (g s e : ℕ) (xs : List (Placed (Group A))) (earlier : Log) → next_number (Showed g s e xs ∷ earlier) g ≡ suc (length (line_shown xs))
   next_shown_same g s e xs earlier = ap (λ b. cond b (suc (length (line_shown xs))) (next_number earlier g)) (eq_test A g)
 
-  next_shown_other : (g g' s e : ℕ) (xs : List (Placed (Group A))) (earlier : Log) → (g ≡ g' → ⊥) → next_number (Showed g' s e xs ∷ earlier) g ≡ next_number earlier g
+  pub next_shown_other : (g g' s e : ℕ) (xs : List (Placed (Group A))) (earlier : Log) → (g ≡ g' → ⊥) → next_number (Showed g' s e xs ∷ earlier) g ≡ next_number earlier g
   next_shown_other g g' s e xs earlier n = ap (λ b. cond b (suc (length (line_shown xs))) (next_number earlier g)) (ne_test A g g' n)
 
   Answer : Log → ℕ → ℕ → Type 0

@@ -1,8 +1,7 @@
 -- A served log that keeps its order has the rules of `Lines`.
-use Rattle.std.proofs.Common.{◌≡◌, ℕ, suc, ◌<◌, ◌≤◌, List, [], ◌∷◌, ◌++◌, length, map, false, cond, Option, Some, None, refl, sym, ap, ◌∙◌, subst, inl, inr, ◌⊎◌, ⊎_elim, arith, append_assoc, eqb, ltb}
+use Rattle.std.proofs.Common.{◌≡◌, ℕ, suc, ◌<◌, ◌≤◌, List, [], ◌∷◌, ◌++◌, length, map, cond, Option, Some, None, refl, sym, ap, ◌∙◌, subst, inl, inr, ◌⊎◌, ⊎_elim, arith, append_assoc, eqb}
 use Rattle.std.specs.Prelude.{Contains}
 use Rattle.std.proofs.lemmas.List.{map-append}
-use Rattle.std.proofs.lemmas.Bool.Decides.{nat_tests}
 use Rattle.commitlog.specs.Replay.{Numbered as Group, taken, replayed as replay}
 use Rattle.model_partition.specs.StreamMachine.{In}
 use Rattle.model_partition.specs.Lines.{next_after}
@@ -10,6 +9,7 @@ use Rattle.model_partition.specs.Story.{Placed, StreamEvent, Made, Answered, Sho
 use Rattle.model_partition.specs.Log.{line_shown, IsServed}
 use Rattle.laws_tables.proofs.Lines.{along, Rules}
 use Rattle.laws_tables.proofs.Members.{in_contains, contains_in, in_right, in_cases, in_split}
+use Rattle.laws_tables.proofs.Whole.{from_first}
 use Rattle.laws_tables.proofs.Range.{IsMadeAt, IsShownAt, Origin, Kept, EndedAt, eq_test, ne_test, made_shown, answered_shown, shown_cases, event_cases, kept_by_servers}
 
 module _ (A : Type 0) where
@@ -60,7 +60,7 @@ module _ (A : Type 0) where
       where_d
 
 module _ (A : Type 0) where
-  along_is_replay : (group : ℕ → Group A) (gen : ℕ → ℕ) (copies : List (Copy (Group A))) (line : List A) →
+  pub along_is_replay : (group : ℕ → Group A) (gen : ℕ → ℕ) (copies : List (Copy (Group A))) (line : List A) →
       ((c : Copy (Group A)) → In c copies → group c.append ≡ c.group) →
       along A group gen line (numbers (Group A) copies) ≡ replay line (map (λ p. p.group) (map placed copies))
   unfolding along
@@ -69,12 +69,6 @@ module _ (A : Type 0) where
       let e : group c.append ≡ c.group = h c (inl refl) in
       along_is_replay group gen copies (taken line (group c.append)) (λ d i. h d (inr i))
       ∙ ap (λ z. replay (taken line z) (map (λ p. p.group) (map placed copies))) e
-
-  from_first : (copies : List (Copy (Group A))) → from_place 0 copies ≡ copies
-  from_first [] = refl
-  from_first (c ∷ copies) =
-      let t : ltb c.from 0 ≡ false = grind (arith, nat_tests) in
-      ap (λ b. cond b (from_place 0 copies) (c ∷ copies)) t
 
   starts_at_first : (story : Story (Group A)) → IsServed story → (l g s e : ℕ) (xs : List (Placed (Group A))) → IsShownAt A story l g s e xs → s ≡ 0
   starts_at_first [] served l g s e xs h = absurd (cc)
@@ -234,7 +228,7 @@ module _ (A : Type 0) where
     line_is l g s e xs h =
         let zero_start : s ≡ 0 = starts_at_first story served l g s e xs h in
         let shown : xs ≡ map placed (from_place s (order.copies l)) = order.shown l g s e xs h in
-        let all : xs ≡ map placed (order.copies l) = shown ∙ ap (λ z. map placed (from_place z (order.copies l))) zero_start ∙ ap (map placed) (from_first (order.copies l)) in
+        let all : xs ≡ map placed (order.copies l) = shown ∙ ap (λ z. map placed (from_place z (order.copies l))) zero_start ∙ ap (map placed) (from_first (Group A) (order.copies l)) in
         along_is_replay group gen (order.copies l) []
         (λ c i.
         let d : (g' : ℕ) × (event_at story c.append ≡ Some (Made g' c.group)) × (g' < g) × (c.append < l) = order.handed l g s e xs c h (contains_in c (order.copies l) i) in

@@ -70,15 +70,15 @@ plain-keys (Split b c d key ∷ h) r p = absurd p
 plain-keys (Merged c d e ∷ h) r p = absurd p
 plain-keys (o ∷ h) r p = plain-keys h r p
 
-plain_begins : (g s : ℕ) (ts : List Transaction) → Plain (begins_of g s ts)
+plain_begins : (g s : ℕ) (ts : List Transaction) → Plain (begins_of 1 g s ts)
 plain_begins g s [] = tt
 plain_begins g s (t ∷ ts) = plain_begins g (suc s) ts
 
-plain_dones : (g s : ℕ) (ts : List Transaction) → Plain (dones_of g s ts)
+plain_dones : (g s : ℕ) (ts : List Transaction) → Plain (dones_of 1 g s ts)
 plain_dones g s [] = tt
 plain_dones g s (t ∷ ts) = plain_dones g (suc s) ts
 
-plain_dones_at : (o : Option (StreamEvent (Group Transaction))) → Plain (dones_at o)
+plain_dones_at : (o : Option (StreamEvent (Group Transaction))) → Plain (dones_at 1 o)
 plain_dones_at None = tt
 plain_dones_at (Some (Made g group)) = plain_dones g group.first group.items
 plain_dones_at (Some (Answered a from to)) = tt
@@ -101,13 +101,13 @@ get_split : (us vs : List Transaction) (t : Transaction) → slice_get (us ++ t 
 get_split [] vs t = refl
 get_split (u ∷ us) vs t = get_split us vs t
 
-in_begins : (g s : ℕ) (front back : List Transaction) (t : Transaction) → In (Began 1 g (s + length front) t) (begins_of g s (front ++ t ∷ back))
+in_begins : (g s : ℕ) (front back : List Transaction) (t : Transaction) → In (Began 1 g (s + length front) t) (begins_of 1 g s (front ++ t ∷ back))
 in_begins g s [] back t = inl (ap (λ n. Began 1 g n t) (let e : s + 0 ≡ s = omega arith in e))
 in_begins g s (x ∷ front) back t =
     let e : suc s + length front ≡ s + suc (length front) = omega arith in
-    inr (subst (λ n. In (Began 1 g n t) (begins_of g (suc s) (front ++ t ∷ back))) e (in_begins g (suc s) front back t))
+    inr (subst (λ n. In (Began 1 g n t) (begins_of 1 g (suc s) (front ++ t ∷ back))) e (in_begins g (suc s) front back t))
 
-in_dones : (r g g' s n : ℕ) (ts : List Transaction) → In (Done r g n) (dones_of g' s ts) → (r ≡ 1) × (g ≡ g') × ((front : List Transaction) × (t : Transaction) × (back : List Transaction) × (ts ≡ front ++ t ∷ back) × (n ≡ s + length front))
+in_dones : (r g g' s n : ℕ) (ts : List Transaction) → In (Done r g n) (dones_of 1 g' s ts) → (r ≡ 1) × (g ≡ g') × ((front : List Transaction) × (t : Transaction) × (back : List Transaction) × (ts ≡ front ++ t ∷ back) × (n ≡ s + length front))
 in_dones r g g' s n [] h = absurd h
 in_dones r g g' s n (t ∷ ts) (inl e) =
     let er : r ≡ 1 = cc in
@@ -120,17 +120,17 @@ in_dones r g g' s n (t ∷ ts) (inr h) =
     let m : n ≡ suc s + length (q.2).0 = (q.2).4 in
     (q.0, q.1, (t ∷ (q.2).0, (q.2).1, (q.2).2, ap (λ l. t ∷ l) (q.2).3, omega arith))
 
-no_done_in_begins : (r g n g' s : ℕ) (ts : List Transaction) → In (Done r g n) (begins_of g' s ts) → ⊥
+no_done_in_begins : (r g n g' s : ℕ) (ts : List Transaction) → In (Done r g n) (begins_of 1 g' s ts) → ⊥
 no_done_in_begins r g n g' s [] h = h
 no_done_in_begins r g n g' s (t ∷ ts) (inl e) = cc
 no_done_in_begins r g n g' s (t ∷ ts) (inr h) = no_done_in_begins r g n g' (suc s) ts h
 
-no_load_in_begins : (r g : ℕ) (rows : List Row) (nx : ℕ) (g' s : ℕ) (ts : List Transaction) → In (Loaded r g rows nx) (begins_of g' s ts) → ⊥
+no_load_in_begins : (r g : ℕ) (rows : List Row) (nx : ℕ) (g' s : ℕ) (ts : List Transaction) → In (Loaded r g rows nx) (begins_of 1 g' s ts) → ⊥
 no_load_in_begins r g rows nx g' s [] h = h
 no_load_in_begins r g rows nx g' s (t ∷ ts) (inl e) = cc
 no_load_in_begins r g rows nx g' s (t ∷ ts) (inr h) = no_load_in_begins r g rows nx g' (suc s) ts h
 
-no_load_in_dones : (r g : ℕ) (rows : List Row) (nx : ℕ) (g' s : ℕ) (ts : List Transaction) → In (Loaded r g rows nx) (dones_of g' s ts) → ⊥
+no_load_in_dones : (r g : ℕ) (rows : List Row) (nx : ℕ) (g' s : ℕ) (ts : List Transaction) → In (Loaded r g rows nx) (dones_of 1 g' s ts) → ⊥
 no_load_in_dones r g rows nx g' s [] h = h
 no_load_in_dones r g rows nx g' s (t ∷ ts) (inl e) = cc
 no_load_in_dones r g rows nx g' s (t ∷ ts) (inr h) = no_load_in_dones r g rows nx g' (suc s) ts h
@@ -165,130 +165,130 @@ begun-append (SealedAt e l ∷ h) ys r g s = begun-append h ys r g s
 begun-append (Content e n grps ∷ h) ys r g s = begun-append h ys r g s
 begun-append (Seen e n o bytes ∷ h) ys r g s = begun-append h ys r g s
 
-begun_dones : (g' s' : ℕ) (ts : List Transaction) (g s : ℕ) → begun (dones_of g' s' ts) 1 g s ≡ []
+begun_dones : (g' s' : ℕ) (ts : List Transaction) (g s : ℕ) → begun (dones_of 1 g' s' ts) 1 g s ≡ []
 begun_dones g' s' [] g s = refl
 begun_dones g' s' (t ∷ ts) g s = begun_dones g' (suc s') ts g s
 
-begun_dones_at : (o : Option (StreamEvent (Group Transaction))) (g s : ℕ) → begun (dones_at o) 1 g s ≡ []
+begun_dones_at : (o : Option (StreamEvent (Group Transaction))) (g s : ℕ) → begun (dones_at 1 o) 1 g s ≡ []
 begun_dones_at None g s = refl
 begun_dones_at (Some (Made g' group)) g s = begun_dones g' group.first group.items g s
 begun_dones_at (Some (Answered a from to)) g s = refl
 begun_dones_at (Some (Showed g' start end groups)) g s = refl
 
-begun_other : (g' s' : ℕ) (ts : List Transaction) (g s : ℕ) → (g ≡ g' → ⊥) → begun (begins_of g' s' ts) 1 g s ≡ []
+begun_other : (g' s' : ℕ) (ts : List Transaction) (g s : ℕ) → (g ≡ g' → ⊥) → begun (begins_of 1 g' s' ts) 1 g s ≡ []
 begun_other g' s' [] g s n = refl
 begun_other g' s' (t ∷ ts) g s n =
-    let rest : begun (begins_of g' (suc s') ts) 1 g s ≡ [] = begun_other g' (suc s') ts g s n in
-    ap (λ b. cond (b && (eqb s s')) (t ∷ begun (begins_of g' (suc s') ts) 1 g s) (begun (begins_of g' (suc s') ts) 1 g s)) (ne_test Transaction g g' n) ∙ rest
+    let rest : begun (begins_of 1 g' (suc s') ts) 1 g s ≡ [] = begun_other g' (suc s') ts g s n in
+    ap (λ b. cond (b && (eqb s s')) (t ∷ begun (begins_of 1 g' (suc s') ts) 1 g s) (begun (begins_of 1 g' (suc s') ts) 1 g s)) (ne_test Transaction g g' n) ∙ rest
 
-begun_skip : (g s' : ℕ) (t : Transaction) (ts : List Transaction) (s : ℕ) → (s ≡ s' → ⊥) → begun (begins_of g s' (t ∷ ts)) 1 g s ≡ begun (begins_of g (suc s') ts) 1 g s
+begun_skip : (g s' : ℕ) (t : Transaction) (ts : List Transaction) (s : ℕ) → (s ≡ s' → ⊥) → begun (begins_of 1 g s' (t ∷ ts)) 1 g s ≡ begun (begins_of 1 g (suc s') ts) 1 g s
 begun_skip g s' t ts s n =
-    let X : List Transaction = begun (begins_of g (suc s') ts) 1 g s in
+    let X : List Transaction = begun (begins_of 1 g (suc s') ts) 1 g s in
     ap (λ b. cond (b && (eqb s s')) (t ∷ X) X) (eq_test Transaction g) ∙ ap (λ b. cond b (t ∷ X) X) (ne_test Transaction s s' n)
 
-begun_below : (g s' : ℕ) (ts : List Transaction) (s : ℕ) → s < s' → begun (begins_of g s' ts) 1 g s ≡ []
+begun_below : (g s' : ℕ) (ts : List Transaction) (s : ℕ) → s < s' → begun (begins_of 1 g s' ts) 1 g s ≡ []
 begun_below g s' [] s h = refl
 begun_below g s' (t ∷ ts) s h = begun_skip g s' t ts s (λ (q : s ≡ s'). omega arith) ∙ begun_below g (suc s') ts s (omega arith)
 
-begun_above : (g s' : ℕ) (ts : List Transaction) (s : ℕ) → s' + length ts ≤ s → begun (begins_of g s' ts) 1 g s ≡ []
+begun_above : (g s' : ℕ) (ts : List Transaction) (s : ℕ) → s' + length ts ≤ s → begun (begins_of 1 g s' ts) 1 g s ≡ []
 begun_above g s' [] s h = refl
 begun_above g s' (t ∷ ts) s h = begun_skip g s' t ts s (λ (q : s ≡ s'). omega arith) ∙ begun_above g (suc s') ts s (omega arith)
 
-begun_here : (g s' : ℕ) (front back : List Transaction) (t : Transaction) → begun (begins_of g s' (front ++ t ∷ back)) 1 g (s' + length front) ≡ t ∷ []
+begun_here : (g s' : ℕ) (front back : List Transaction) (t : Transaction) → begun (begins_of 1 g s' (front ++ t ∷ back)) 1 g (s' + length front) ≡ t ∷ []
 begun_here g s' [] back t =
-    let X : List Transaction = begun (begins_of g (suc s') back) 1 g (s' + 0) in
+    let X : List Transaction = begun (begins_of 1 g (suc s') back) 1 g (s' + 0) in
     let low : X ≡ [] = begun_below g (suc s') back (s' + 0) (omega arith) in
     let same : eqb (s' + 0) s' ≡ true = grind (arith, nat_tests) in
     ap (λ b. cond (b && (eqb (s' + 0) s')) (t ∷ X) X) (eq_test Transaction g) ∙ ap (λ b. cond b (t ∷ X) X) same ∙ ap (λ l. t ∷ l) low
 begun_here g s' (x ∷ front) back t =
     let e : s' + suc (length front) ≡ suc s' + length front = omega arith in
     begun_skip g s' x (front ++ t ∷ back) (s' + suc (length front)) (λ (q : s' + suc (length front) ≡ s'). omega arith)
-    ∙ ap (λ n. begun (begins_of g (suc s') (front ++ t ∷ back)) 1 g n) e ∙ begun_here g (suc s') front back t
+    ∙ ap (λ n. begun (begins_of 1 g (suc s') (front ++ t ∷ back)) 1 g n) e ∙ begun_here g (suc s') front back t
 
 module _ (rows : ℕ → List Row) where
   abbrev TheLog : Type 0
   TheLog = Story (Group Transaction)
 
-  plain_notes : (earlier : TheLog) (e : StreamEvent (Group Transaction)) → Plain (notes rows earlier e)
+  plain_notes : (earlier : TheLog) (e : StreamEvent (Group Transaction)) → Plain (notes 1 rows earlier e)
   plain_notes earlier (Made g group) = plain_begins g group.first group.items
   plain_notes earlier (Answered a from to) = plain_dones_at (event_at earlier a)
   plain_notes earlier (Showed g start end groups) = tt
 
-  plain_observed : (story : TheLog) → Plain (observed rows story)
+  plain_observed : (story : TheLog) → Plain (observed 1 rows story)
   plain_observed [] = tt
-  plain_observed (e ∷ earlier) = plain-append (observed rows earlier) (notes rows earlier e) (plain_observed earlier) (plain_notes earlier e)
+  plain_observed (e ∷ earlier) = plain-append (observed 1 rows earlier) (notes 1 rows earlier e) (plain_observed earlier) (plain_notes earlier e)
 
-  begun_none : (story : TheLog) (g s : ℕ) → ((a : ℕ) (grp : Group Transaction) → IsMadeAt Transaction story a g grp → (s < grp.first) ⊎ (next_after grp ≤ s)) → begun (observed rows story) 1 g s ≡ []
+  begun_none : (story : TheLog) (g s : ℕ) → ((a : ℕ) (grp : Group Transaction) → IsMadeAt Transaction story a g grp → (s < grp.first) ⊎ (next_after grp ≤ s)) → begun (observed 1 rows story) 1 g s ≡ []
   begun_none [] g s h = refl
   begun_none (Made g' new ∷ earlier) g s h =
-      let ih : begun (observed rows earlier) 1 g s ≡ [] = begun_none earlier g s (λ a grp m. h a grp (older (Group Transaction) (Made g' new) earlier a (Made g grp) m)) in
-      let mine : begun (begins_of g' new.first new.items) 1 g s ≡ [] =
-      ⊎_elim {C = begun (begins_of g' new.first new.items) 1 g s ≡ []}
+      let ih : begun (observed 1 rows earlier) 1 g s ≡ [] = begun_none earlier g s (λ a grp m. h a grp (older (Group Transaction) (Made g' new) earlier a (Made g grp) m)) in
+      let mine : begun (begins_of 1 g' new.first new.items) 1 g s ≡ [] =
+      ⊎_elim {C = begun (begins_of 1 g' new.first new.items) 1 g s ≡ []}
       (λ (q : g ≡ g').
       let at : IsMadeAt Transaction (Made g' new ∷ earlier) (length earlier) g' new = newest (Group Transaction) (Made g' new) earlier in
       let k : (s < new.first) ⊎ (next_after new ≤ s) = h (length earlier) new (subst (λ z. IsMadeAt Transaction (Made g' new ∷ earlier) (length earlier) z new) (sym q) at) in
-      subst (λ z. begun (begins_of z new.first new.items) 1 g s ≡ []) q
-      (⊎_elim {C = begun (begins_of g new.first new.items) 1 g s ≡ []} (λ lt. begun_below g new.first new.items s lt) (λ le. begun_above g new.first new.items s le) k))
+      subst (λ z. begun (begins_of 1 z new.first new.items) 1 g s ≡ []) q
+      (⊎_elim {C = begun (begins_of 1 g new.first new.items) 1 g s ≡ []} (λ lt. begun_below g new.first new.items s lt) (λ le. begun_above g new.first new.items s le) k))
       (λ (q : g ≡ g' → ⊥). begun_other g' new.first new.items g s q)
       (cases_eq g g') in
-      begun-append (observed rows earlier) (begins_of g' new.first new.items) 1 g s ∙ ap (λ z. z ++ begun (begins_of g' new.first new.items) 1 g s) ih ∙ mine
+      begun-append (observed 1 rows earlier) (begins_of 1 g' new.first new.items) 1 g s ∙ ap (λ z. z ++ begun (begins_of 1 g' new.first new.items) 1 g s) ih ∙ mine
   begun_none (Answered a from to ∷ earlier) g s h =
-      let ih : begun (observed rows earlier) 1 g s ≡ [] = begun_none earlier g s (λ b grp m. h b grp (older (Group Transaction) (Answered a from to) earlier b (Made g grp) m)) in
-      begun-append (observed rows earlier) (dones_at (event_at earlier a)) 1 g s ∙ ap (λ z. z ++ begun (dones_at (event_at earlier a)) 1 g s) ih ∙ begun_dones_at (event_at earlier a) g s
+      let ih : begun (observed 1 rows earlier) 1 g s ≡ [] = begun_none earlier g s (λ b grp m. h b grp (older (Group Transaction) (Answered a from to) earlier b (Made g grp) m)) in
+      begun-append (observed 1 rows earlier) (dones_at 1 (event_at earlier a)) 1 g s ∙ ap (λ z. z ++ begun (dones_at 1 (event_at earlier a)) 1 g s) ih ∙ begun_dones_at (event_at earlier a) g s
   begun_none (Showed g' start end groups ∷ earlier) g s h =
-      let ih : begun (observed rows earlier) 1 g s ≡ [] = begun_none earlier g s (λ b grp m. h b grp (older (Group Transaction) (Showed g' start end groups) earlier b (Made g grp) m)) in
-      begun-append (observed rows earlier) (Loaded 1 g' (rows (length earlier)) (suc (length (line_shown groups))) ∷ []) 1 g s ∙ ap (λ z. z ++ []) ih
+      let ih : begun (observed 1 rows earlier) 1 g s ≡ [] = begun_none earlier g s (λ b grp m. h b grp (older (Group Transaction) (Showed g' start end groups) earlier b (Made g grp) m)) in
+      begun-append (observed 1 rows earlier) (Loaded 1 g' (rows (length earlier)) (suc (length (line_shown groups))) ∷ []) 1 g s ∙ ap (λ z. z ++ []) ih
 
   begun_one : (story : TheLog) → IsServed story → (a g : ℕ) (grp : Group Transaction) (front back : List Transaction) (t : Transaction) → IsMadeAt Transaction story a g grp → grp.items ≡ front ++ t ∷ back →
-      begun (observed rows story) 1 g (grp.first + length front) ≡ t ∷ []
+      begun (observed 1 rows story) 1 g (grp.first + length front) ≡ t ∷ []
   begun_one [] served a g grp front back t m e = absurd (cc)
   begun_one (Made g' new ∷ earlier) served a g grp front back t m e =
       let s : ℕ = grp.first + length front in
       let kept_now : Kept Transaction (Made g' new ∷ earlier) = kept_by_servers Transaction (Made g' new ∷ earlier) served in
       let at_end : IsMadeAt Transaction (Made g' new ∷ earlier) (length earlier) g' new = newest (Group Transaction) (Made g' new) earlier in
       let inside : length grp.items ≡ length front + suc (length back) = ap length e ∙ length-append front (t ∷ back) in
-      begun-append (observed rows earlier) (begins_of g' new.first new.items) 1 g s ∙
-      ⊎_elim {C = begun (observed rows earlier) 1 g s ++ begun (begins_of g' new.first new.items) 1 g s ≡ t ∷ []}
+      begun-append (observed 1 rows earlier) (begins_of 1 g' new.first new.items) 1 g s ∙
+      ⊎_elim {C = begun (observed 1 rows earlier) 1 g s ++ begun (begins_of 1 g' new.first new.items) 1 g s ≡ t ∷ []}
       (λ (n : (a ≡ length earlier) × (Made g' new ≡ Made g grp)).
       let q : Made g' new ≡ Made g grp = n.1 in
       let eg : g' ≡ g = cc in
       let en : new ≡ grp = cc in
-      let none : begun (observed rows earlier) 1 g s ≡ [] = begun_none earlier g s (λ b old mb.
+      let none : begun (observed 1 rows earlier) 1 g s ≡ [] = begun_none earlier g s (λ b old mb.
       let lt : b < length earlier = bound (Group Transaction) earlier b (Made g old) mb in
       let mb' : IsMadeAt Transaction (Made g' new ∷ earlier) b g old = older (Group Transaction) (Made g' new) earlier b (Made g old) mb in
       let na : a ≡ length earlier = n.0 in
       let p : next_after old ≤ grp.first = (kept_now.pairs b a g old grp mb' m (omega arith)).0 in
       inr (omega arith)) in
-      let mine : begun (begins_of g' new.first new.items) 1 g s ≡ t ∷ [] =
-      subst (λ z. begun (begins_of z new.first new.items) 1 g s ≡ t ∷ []) (sym eg)
-      (subst (λ z. begun (begins_of g z.first z.items) 1 g s ≡ t ∷ []) (sym en)
-      (subst (λ z. begun (begins_of g grp.first z) 1 g s ≡ t ∷ []) (sym e) (begun_here g grp.first front back t))) in
-      ap (λ z. z ++ begun (begins_of g' new.first new.items) 1 g s) none ∙ mine)
+      let mine : begun (begins_of 1 g' new.first new.items) 1 g s ≡ t ∷ [] =
+      subst (λ z. begun (begins_of 1 z new.first new.items) 1 g s ≡ t ∷ []) (sym eg)
+      (subst (λ z. begun (begins_of 1 g z.first z.items) 1 g s ≡ t ∷ []) (sym en)
+      (subst (λ z. begun (begins_of 1 g grp.first z) 1 g s ≡ t ∷ []) (sym e) (begun_here g grp.first front back t))) in
+      ap (λ z. z ++ begun (begins_of 1 g' new.first new.items) 1 g s) none ∙ mine)
       (λ (o : IsMadeAt Transaction earlier a g grp).
-      let ih : begun (observed rows earlier) 1 g s ≡ t ∷ [] = begun_one earlier served.1 a g grp front back t o e in
+      let ih : begun (observed 1 rows earlier) 1 g s ≡ t ∷ [] = begun_one earlier served.1 a g grp front back t o e in
       let lt : a < length earlier = bound (Group Transaction) earlier a (Made g grp) o in
-      let mine : begun (begins_of g' new.first new.items) 1 g s ≡ [] =
-      ⊎_elim {C = begun (begins_of g' new.first new.items) 1 g s ≡ []}
+      let mine : begun (begins_of 1 g' new.first new.items) 1 g s ≡ [] =
+      ⊎_elim {C = begun (begins_of 1 g' new.first new.items) 1 g s ≡ []}
       (λ (q : g ≡ g').
       let late : IsMadeAt Transaction (Made g' new ∷ earlier) (length earlier) g new = subst (λ z. IsMadeAt Transaction (Made g' new ∷ earlier) (length earlier) z new) (sym q) at_end in
       let p : next_after grp ≤ new.first = (kept_now.pairs a (length earlier) g grp new m late lt).0 in
-      subst (λ z. begun (begins_of z new.first new.items) 1 g s ≡ []) q (begun_below g new.first new.items s (omega arith)))
+      subst (λ z. begun (begins_of 1 z new.first new.items) 1 g s ≡ []) q (begun_below g new.first new.items s (omega arith)))
       (λ (q : g ≡ g' → ⊥). begun_other g' new.first new.items g s q)
       (cases_eq g g') in
-      ap (λ z. z ++ begun (begins_of g' new.first new.items) 1 g s) ih ∙ ap (λ z. t ∷ z) mine)
+      ap (λ z. z ++ begun (begins_of 1 g' new.first new.items) 1 g s) ih ∙ ap (λ z. t ∷ z) mine)
       (event_cases (Group Transaction) (Made g' new) earlier a (Made g grp) m)
   begun_one (Answered x from to ∷ earlier) served a g grp front back t m e =
       let s : ℕ = grp.first + length front in
-      begun-append (observed rows earlier) (dones_at (event_at earlier x)) 1 g s ∙
-      ⊎_elim {C = begun (observed rows earlier) 1 g s ++ begun (dones_at (event_at earlier x)) 1 g s ≡ t ∷ []}
+      begun-append (observed 1 rows earlier) (dones_at 1 (event_at earlier x)) 1 g s ∙
+      ⊎_elim {C = begun (observed 1 rows earlier) 1 g s ++ begun (dones_at 1 (event_at earlier x)) 1 g s ≡ t ∷ []}
       (λ (n : (a ≡ length earlier) × (Answered x from to ≡ Made g grp)). let q : Answered x from to ≡ Made g grp = n.1 in absurd (cc))
       (λ (o : IsMadeAt Transaction earlier a g grp).
-      ap (λ z. z ++ begun (dones_at (event_at earlier x)) 1 g s) (begun_one earlier served.1 a g grp front back t o e) ∙ ap (λ z. t ∷ z) (begun_dones_at (event_at earlier x) g s))
+      ap (λ z. z ++ begun (dones_at 1 (event_at earlier x)) 1 g s) (begun_one earlier served.1 a g grp front back t o e) ∙ ap (λ z. t ∷ z) (begun_dones_at (event_at earlier x) g s))
       (event_cases (Group Transaction) (Answered x from to) earlier a (Made g grp) m)
   begun_one (Showed g' start end groups ∷ earlier) served a g grp front back t m e =
       let s : ℕ = grp.first + length front in
-      begun-append (observed rows earlier) (Loaded 1 g' (rows (length earlier)) (suc (length (line_shown groups))) ∷ []) 1 g s ∙
-      ⊎_elim {C = begun (observed rows earlier) 1 g s ++ [] ≡ t ∷ []}
+      begun-append (observed 1 rows earlier) (Loaded 1 g' (rows (length earlier)) (suc (length (line_shown groups))) ∷ []) 1 g s ∙
+      ⊎_elim {C = begun (observed 1 rows earlier) 1 g s ++ [] ≡ t ∷ []}
       (λ (n : (a ≡ length earlier) × (Showed g' start end groups ≡ Made g grp)). let q : Showed g' start end groups ≡ Made g grp = n.1 in absurd (cc))
       (λ (o : IsMadeAt Transaction earlier a g grp). ap (λ z. z ++ []) (begun_one earlier served.1 a g grp front back t o e))
       (event_cases (Group Transaction) (Showed g' start end groups) earlier a (Made g grp) m)
@@ -301,7 +301,7 @@ module _ (rows : ℕ → List Row) where
     pub end : ℕ
     pub groups : List (Placed (Group Transaction))
     pub story_is : story ≡ front ++ Showed g start end groups ∷ earlier
-    pub before_is : before ≡ observed rows earlier
+    pub before_is : before ≡ observed 1 rows earlier
     pub range_is : r ≡ 1
     pub rows_are : rs ≡ rows (length earlier)
     pub next_is : nx ≡ suc (length (line_shown groups))
@@ -310,13 +310,13 @@ module _ (rows : ℕ → List Row) where
   load_later e story before r g rs nx h = record { front = e ∷ h.front; earlier = h.earlier; start = h.start; end = h.end; groups = h.groups; story_is = ap (λ z. e ∷ z) h.story_is; before_is = h.before_is; range_is = h.range_is; rows_are = h.rows_are; next_is = h.next_is }
 
   load_in_notes : (e : StreamEvent (Group Transaction)) (earlier : TheLog) (between after : List Note) (r g : ℕ) (rs : List Row) (nx : ℕ) →
-      notes rows earlier e ≡ between ++ Loaded r g rs nx ∷ after → LoadAt (e ∷ earlier) (observed rows earlier ++ between) r g rs nx
+      notes 1 rows earlier e ≡ between ++ Loaded r g rs nx ∷ after → LoadAt (e ∷ earlier) (observed 1 rows earlier ++ between) r g rs nx
   load_in_notes (Made g' group) earlier between after r g rs nx h =
       absurd (no_load_in_begins r g rs nx g' group.first group.items (subst (In (Loaded r g rs nx)) (sym h) (in_right (Loaded r g rs nx) between (Loaded r g rs nx ∷ after) (inl refl))))
   load_in_notes (Answered a from to) earlier between after r g rs nx h =
       absurd (go (event_at earlier a) (subst (In (Loaded r g rs nx)) (sym h) (in_right (Loaded r g rs nx) between (Loaded r g rs nx ∷ after) (inl refl))))
     where
-      go : (o : Option (StreamEvent (Group Transaction))) → In (Loaded r g rs nx) (dones_at o) → ⊥
+      go : (o : Option (StreamEvent (Group Transaction))) → In (Loaded r g rs nx) (dones_at 1 o) → ⊥
       go None i = i
       go (Some (Made g' group)) i = no_load_in_dones r g rs nx g' group.first group.items i
       go (Some (Answered b f t)) i = i
@@ -334,7 +334,7 @@ module _ (rows : ℕ → List Row) where
         end = end;
         groups = groups;
         story_is = ap (λ z. Showed z start end groups ∷ earlier) eg;
-        before_is = append-nil (observed rows earlier);
+        before_is = append-nil (observed 1 rows earlier);
         range_is = sym er;
         rows_are = sym ew;
         next_is = sym en;
@@ -345,14 +345,14 @@ module _ (rows : ℕ → List Row) where
       tail_is : between ++ Loaded r g rs nx ∷ after ≡ []
       tail_is = cc
 
-  load_at : (story : TheLog) (before after : List Note) (r g : ℕ) (rs : List Row) (nx : ℕ) → observed rows story ≡ before ++ Loaded r g rs nx ∷ after → LoadAt story before r g rs nx
+  load_at : (story : TheLog) (before after : List Note) (r g : ℕ) (rs : List Row) (nx : ℕ) → observed 1 rows story ≡ before ++ Loaded r g rs nx ∷ after → LoadAt story before r g rs nx
   load_at [] before after r g rs nx h = absurd (subst (In (Loaded r g rs nx)) (sym h) (in_right (Loaded r g rs nx) before (Loaded r g rs nx ∷ after) (inl refl)))
   load_at (e ∷ earlier) before after r g rs nx h =
       ⊎_elim {C = LoadAt (e ∷ earlier) before r g rs nx}
-      (λ (s : (more : List Note) × (observed rows earlier ≡ before ++ Loaded r g rs nx ∷ more)). load_later e earlier before r g rs nx (load_at earlier before s.0 r g rs nx s.1))
-      (λ (s : (between : List Note) × (before ≡ observed rows earlier ++ between) × (notes rows earlier e ≡ between ++ Loaded r g rs nx ∷ after)).
+      (λ (s : (more : List Note) × (observed 1 rows earlier ≡ before ++ Loaded r g rs nx ∷ more)). load_later e earlier before r g rs nx (load_at earlier before s.0 r g rs nx s.1))
+      (λ (s : (between : List Note) × (before ≡ observed 1 rows earlier ++ between) × (notes 1 rows earlier e ≡ between ++ Loaded r g rs nx ∷ after)).
       subst (λ z. LoadAt (e ∷ earlier) z r g rs nx) (sym s.1) (load_in_notes e earlier s.0 after r g rs nx s.2))
-      (split_at (Loaded r g rs nx) before after (observed rows earlier) (notes rows earlier e) (sym h))
+      (split_at (Loaded r g rs nx) before after (observed 1 rows earlier) (notes 1 rows earlier e) (sym h))
 
   older_many : (front earlier : TheLog) (n : ℕ) (x : StreamEvent (Group Transaction)) → event_at earlier n ≡ Some x → event_at (front ++ earlier) n ≡ Some x
   older_many [] earlier n x h = h
@@ -376,15 +376,15 @@ module _ (rows : ℕ → List Row) where
       (older_many h.front (Showed g h.start h.end h.groups ∷ h.earlier) (length h.earlier) (Showed g h.start h.end h.groups) (newest (Group Transaction) (Showed g h.start h.end h.groups) h.earlier))
 
   began_in : (earlier : TheLog) (a g : ℕ) (grp : Group Transaction) (front back : List Transaction) (t : Transaction) → IsMadeAt Transaction earlier a g grp → grp.items ≡ front ++ t ∷ back →
-      In (Began 1 g (grp.first + length front) t) (observed rows earlier)
+      In (Began 1 g (grp.first + length front) t) (observed 1 rows earlier)
   began_in [] a g grp front back t m e = absurd (cc)
   began_in (x ∷ earlier) a g grp front back t m e =
-      ⊎_elim {C = In (Began 1 g (grp.first + length front) t) (observed rows earlier ++ notes rows earlier x)}
+      ⊎_elim {C = In (Began 1 g (grp.first + length front) t) (observed 1 rows earlier ++ notes 1 rows earlier x)}
       (λ (q : (a ≡ length earlier) × (x ≡ Made g grp)).
-      in_right (Began 1 g (grp.first + length front) t) (observed rows earlier) (notes rows earlier x)
-      (subst (λ z. In (Began 1 g (grp.first + length front) t) (notes rows earlier z)) (sym q.1)
-      (subst (λ z. In (Began 1 g (grp.first + length front) t) (begins_of g grp.first z)) (sym e) (in_begins g grp.first front back t))))
-      (λ o. in_left (Began 1 g (grp.first + length front) t) (observed rows earlier) (notes rows earlier x) (began_in earlier a g grp front back t o e))
+      in_right (Began 1 g (grp.first + length front) t) (observed 1 rows earlier) (notes 1 rows earlier x)
+      (subst (λ z. In (Began 1 g (grp.first + length front) t) (notes 1 rows earlier z)) (sym q.1)
+      (subst (λ z. In (Began 1 g (grp.first + length front) t) (begins_of 1 g grp.first z)) (sym e) (in_begins g grp.first front back t))))
+      (λ o. in_left (Began 1 g (grp.first + length front) t) (observed 1 rows earlier) (notes 1 rows earlier x) (began_in earlier a g grp front back t o e))
       (event_cases (Group Transaction) x earlier a (Made g grp) m)
 
   pub record DoneAt (story : TheLog) (r g s : ℕ) : Type 0 where
@@ -419,7 +419,7 @@ module _ (rows : ℕ → List Row) where
     number = d.number;
   }
 
-  done_of_answer : (a from to : ℕ) (earlier : TheLog) (r g s : ℕ) (o : Option (StreamEvent (Group Transaction))) → event_at earlier a ≡ o → In (Done r g s) (dones_at o) → DoneAt (Answered a from to ∷ earlier) r g s
+  done_of_answer : (a from to : ℕ) (earlier : TheLog) (r g s : ℕ) (o : Option (StreamEvent (Group Transaction))) → event_at earlier a ≡ o → In (Done r g s) (dones_at 1 o) → DoneAt (Answered a from to ∷ earlier) r g s
   done_of_answer a from to earlier r g s None e i = absurd i
   done_of_answer a from to earlier r g s (Some (Made g' group)) e i =
       let q : (r ≡ 1) × (g ≡ g') × ((front : List Transaction) × (t : Transaction) × (back : List Transaction) × (group.items ≡ front ++ t ∷ back) × (s ≡ group.first + length front)) = in_dones r g g' group.first s group.items i in
@@ -441,17 +441,17 @@ module _ (rows : ℕ → List Row) where
   done_of_answer a from to earlier r g s (Some (Answered b f t)) e i = absurd i
   done_of_answer a from to earlier r g s (Some (Showed g' st en xs)) e i = absurd i
 
-  done_at : (story : TheLog) (r g s : ℕ) → In (Done r g s) (observed rows story) → DoneAt story r g s
+  done_at : (story : TheLog) (r g s : ℕ) → In (Done r g s) (observed 1 rows story) → DoneAt story r g s
   done_at [] r g s i = absurd i
   done_at (Made g' new ∷ earlier) r g s i =
       ⊎_elim {C = DoneAt (Made g' new ∷ earlier) r g s} (λ o. done_later (Made g' new) earlier r g s (done_at earlier r g s o))
-      (λ o. absurd (no_done_in_begins r g s g' new.first new.items o)) (in_cases (Done r g s) (observed rows earlier) (begins_of g' new.first new.items) i)
+      (λ o. absurd (no_done_in_begins r g s g' new.first new.items o)) (in_cases (Done r g s) (observed 1 rows earlier) (begins_of 1 g' new.first new.items) i)
   done_at (Answered a from to ∷ earlier) r g s i =
       ⊎_elim {C = DoneAt (Answered a from to ∷ earlier) r g s} (λ o. done_later (Answered a from to) earlier r g s (done_at earlier r g s o))
-      (λ o. done_of_answer a from to earlier r g s (event_at earlier a) refl o) (in_cases (Done r g s) (observed rows earlier) (dones_at (event_at earlier a)) i)
+      (λ o. done_of_answer a from to earlier r g s (event_at earlier a) refl o) (in_cases (Done r g s) (observed 1 rows earlier) (dones_at 1 (event_at earlier a)) i)
   done_at (Showed g' start end groups ∷ earlier) r g s i =
       ⊎_elim {C = DoneAt (Showed g' start end groups ∷ earlier) r g s} (λ o. done_later (Showed g' start end groups) earlier r g s (done_at earlier r g s o))
-      (λ o. absurd (no_done_in_load r g s g' (rows (length earlier)) (suc (length (line_shown groups))) o)) (in_cases (Done r g s) (observed rows earlier) (Loaded 1 g' (rows (length earlier)) (suc (length (line_shown groups))) ∷ []) i)
+      (λ o. absurd (no_done_in_load r g s g' (rows (length earlier)) (suc (length (line_shown groups))) o)) (in_cases (Done r g s) (observed 1 rows earlier) (Loaded 1 g' (rows (length earlier)) (suc (length (line_shown groups))) ∷ []) i)
 
   -- a range list of one
   one_range : (h : List Note) → Plain h → owners h 1 ≡ 1 ∷ []
@@ -486,7 +486,7 @@ module _ (rows : ℕ → List Row) where
     the_kept = kept_by_servers Transaction story served
 
     h : List Note
-    h = observed rows story
+    h = observed 1 rows story
 
     found_load : (before : List Note) (r g : ℕ) (rs : List Row) (nx : ℕ) (at : LoadAt story before r g rs nx) → found Transaction story g ≡ length at.earlier
     found_load before r g rs nx at = found_is Transaction story the_kept (length at.earlier) g at.start at.end at.groups served (load_shown story before r g rs nx at)
@@ -529,8 +529,8 @@ module _ (rows : ℕ → List Row) where
         let len : length sp.0 ≡ s - 1 = sp.3 in
         let one : 1 ≤ s = member.0 in
         let n : grp.first + length c.front ≡ s = omega arith in
-        let there : In (Began 1 k.3 (grp.first + length c.front) t) (observed rows at.earlier) = began_in at.earlier c.append k.3 grp c.front c.back t earlier_made items in
-        let there' : In (Began 1 k.3 s t) before = subst (In (Began 1 k.3 s t)) (sym at.before_is) (subst (λ z. In (Began 1 k.3 z t) (observed rows at.earlier)) n there) in
+        let there : In (Began 1 k.3 (grp.first + length c.front) t) (observed 1 rows at.earlier) = began_in at.earlier c.append k.3 grp c.front c.back t earlier_made items in
+        let there' : In (Began 1 k.3 s t) before = subst (In (Began 1 k.3 s t)) (sym at.before_is) (subst (λ z. In (Began 1 k.3 z t) (observed 1 rows at.earlier)) n there) in
         (1, k.3, contains_in 1 (1 ∷ []) (inl refl), omega arith, contains_in (Began 1 k.3 s t) before there')
 
     in_a_line : (A B C : List Transaction) (t : Transaction) (line : List Transaction) (items front back : List Transaction) → line ≡ A ++ (items ++ C) → items ≡ front ++ t ∷ back → slice_get line (length A + length front) ≡ Some t
@@ -544,7 +544,7 @@ module _ (rows : ℕ → List Row) where
     unfolding line_at shown_by h
     all_done before r g rs nx at r' g' s in_owners lower done =
         let l : ℕ = found Transaction story g in
-        let d : DoneAt story r' g' s = done_at story r' g' s (in_contains (Done r' g' s) (observed rows story) done) in
+        let d : DoneAt story r' g' s = done_at story r' g' s (in_contains (Done r' g' s) (observed 1 rows story) done) in
         let is_load : IsShownAt Transaction story l g at.start at.end at.groups = (shown_by before r g rs nx at).4 in
         let there : Contains (order.copies l) (record { from = d.from; to = d.to; append = d.append; group = d.group }) =
         order.answered l g at.start at.end d.append g' d.answer d.from d.to at.groups d.group is_load d.made lower d.answered in
@@ -561,40 +561,40 @@ module _ (rows : ℕ → List Row) where
         let n : s ≡ (d.group).first + length d.front = d.number in
         let at_s : length stands'.before + length d.front ≡ s - 1 = omega arith in
         let got : slice_get (line_at l) (length stands'.before + length d.front) ≡ Some d.t = in_a_line stands'.before [] stands'.after d.t (line_at l) (d.group).items d.front d.back stands'.is d.items in
-        let once : begun (observed rows story) 1 g' ((d.group).first + length d.front) ≡ d.t ∷ [] = begun_one story served d.append g' d.group d.front d.back d.t d.made d.items in
-        let once' : begun (observed rows story) r' g' s ≡ d.t ∷ [] = subst (λ z. begun (observed rows story) z g' s ≡ d.t ∷ []) (sym d.range_is) (subst (λ z. begun (observed rows story) 1 g' z ≡ d.t ∷ []) (sym n) once) in
+        let once : begun (observed 1 rows story) 1 g' ((d.group).first + length d.front) ≡ d.t ∷ [] = begun_one story served d.append g' d.group d.front d.back d.t d.made d.items in
+        let once' : begun (observed 1 rows story) r' g' s ≡ d.t ∷ [] = subst (λ z. begun (observed 1 rows story) z g' s ≡ d.t ∷ []) (sym d.range_is) (subst (λ z. begun (observed 1 rows story) 1 g' z ≡ d.t ∷ []) (sym n) once) in
         (d.t, once', (omega arith, subst (λ z. slice_get (line_at l) z ≡ Some d.t) at_s got))
 
     load_of : (r g : ℕ) (rs : List Row) (nx : ℕ) → Contains h (Loaded r g rs nx) → (before : List Note) × LoadAt story before r g rs nx
     unfolding h
     load_of r g rs nx c =
-        let s : (front : List Note) × (back : List Note) × (observed rows story ≡ front ++ Loaded r g rs nx ∷ back) = split_of (Loaded r g rs nx) (observed rows story) (in_contains (Loaded r g rs nx) (observed rows story) c) in
+        let s : (front : List Note) × (back : List Note) × (observed 1 rows story ≡ front ++ Loaded r g rs nx ∷ back) = split_of (Loaded r g rs nx) (observed 1 rows story) (in_contains (Loaded r g rs nx) (observed 1 rows story) c) in
         (s.0, load_at story s.0 s.1 r g rs nx s.2)
 
     table_is : (before : List Note) (r g : ℕ) (rs : List Row) (nx : ℕ) (at : LoadAt story before r g rs nx) (key : Bytes) → stored rs key ≡ table_of h r (past_of r g) key
     unfolding past_of h
     table_is before r g rs nx at key =
         let line : List Transaction = line_at (found Transaction story g) in
-        let keys : keys_of h r ≡ all_keys = plain-keys (reverse (observed rows story)) r (plain-reverse (observed rows story) (plain_observed story)) in
+        let keys : keys_of h r ≡ all_keys = plain-keys (reverse (observed 1 rows story)) r (plain-reverse (observed 1 rows story) (plain_observed story)) in
         let left : stored rs key ≡ after_line line empty_table key =
         ap (λ z. stored z key) at.rows_are ∙ right (length at.earlier) g at.start at.end at.groups (load_shown story before r g rs nx at) key ∙ ap (λ z. after_line z empty_table key) (sym (line_is_shown before r g rs nx at)) in
         left ∙ sym (ap (λ z. within_keys z (after_line line empty_table) key) keys ∙ all_kept (after_line line empty_table) key)
 
     -- what is observed of one range without checkpoints replays
-    pub replays : Replays (observed rows story)
+    pub replays : Replays (observed 1 rows story)
     unfolding past_of line_at shown_by h
     replays = record {
       past = past_of;
       of = λ before after r g rs nx e.
           let at : LoadAt story before r g rs nx = load_at story before after r g rs nx e in
-          let p : Plain (observed rows story) = plain_observed story in
-          let own : owners (observed rows story) r ≡ 1 ∷ [] = ap (owners (observed rows story)) at.range_is ∙ one_range (observed rows story) p in
-          let eld : eldest (observed rows story) r ≡ 1 = plain-eldest (reverse (observed rows story)) r (plain-reverse (observed rows story) p) ∙ at.range_is in
+          let p : Plain (observed 1 rows story) = plain_observed story in
+          let own : owners (observed 1 rows story) r ≡ 1 ∷ [] = ap (owners (observed 1 rows story)) at.range_is ∙ one_range (observed 1 rows story) p in
+          let eld : eldest (observed 1 rows story) r ≡ 1 = plain-eldest (reverse (observed 1 rows story)) r (plain-reverse (observed 1 rows story) p) ∙ at.range_is in
           (subst (λ z. AllBegan before z g (line_at (found Transaction story g))) (sym own) (all_began before r g rs nx at), eld);
       complete = λ r g rs nx c.
           let at : (before : List Note) × LoadAt story before r g rs nx = load_of r g rs nx c in
-          let own : owners (observed rows story) r ≡ 1 ∷ [] = ap (owners (observed rows story)) (at.1).range_is ∙ one_range (observed rows story) (plain_observed story) in
-          subst (λ z. AllDone (observed rows story) z g (line_at (found Transaction story g))) (sym own) (all_done at.0 r g rs nx at.1);
+          let own : owners (observed 1 rows story) r ≡ 1 ∷ [] = ap (owners (observed 1 rows story)) (at.1).range_is ∙ one_range (observed 1 rows story) (plain_observed story) in
+          subst (λ z. AllDone (observed 1 rows story) z g (line_at (found Transaction story g))) (sym own) (all_done at.0 r g rs nx at.1);
       table = λ r g rs nx c key. let at : (before : List Note) × LoadAt story before r g rs nx = load_of r g rs nx c in table_is at.0 r g rs nx at.1 key;
       number = λ r g rs nx c.
           let at : (before : List Note) × LoadAt story before r g rs nx = load_of r g rs nx c in
@@ -613,7 +613,7 @@ module _ (rows : ℕ → List Row) where
           );
       once = λ before after r g rs rs' nx nx' e c.
           let s : (u : List Note) × (v : List Note) × (after ≡ u ++ Loaded r g rs' nx' ∷ v) = split_of (Loaded r g rs' nx') after (in_contains (Loaded r g rs' nx') after c) in
-          let whole : observed rows story ≡ (before ++ Loaded r g rs nx ∷ s.0) ++ Loaded r g rs' nx' ∷ s.1 =
+          let whole : observed 1 rows story ≡ (before ++ Loaded r g rs nx ∷ s.0) ++ Loaded r g rs' nx' ∷ s.1 =
           e ∙ ap (λ z. before ++ Loaded r g rs nx ∷ z) s.2 ∙ sym (append_assoc before (Loaded r g rs nx ∷ s.0) (Loaded r g rs' nx' ∷ s.1)) in
           let at : LoadAt story before r g rs nx = load_at story before after r g rs nx e in
           let at' : LoadAt story (before ++ Loaded r g rs nx ∷ s.0) r g rs' nx' = load_at story (before ++ Loaded r g rs nx ∷ s.0) s.1 r g rs' nx' whole in
@@ -622,7 +622,7 @@ module _ (rows : ℕ → List Row) where
           let tails : Showed g at.start at.end at.groups ∷ at.earlier ≡ Showed g at'.start at'.end at'.groups ∷ at'.earlier =
           suffix_same at.front (Showed g at.start at.end at.groups ∷ at.earlier) at'.front (Showed g at'.start at'.end at'.groups ∷ at'.earlier) (sym at.story_is ∙ at'.story_is) (ap suc same) in
           let tail : at.earlier ≡ at'.earlier = cc in
-          let clash : before ≡ before ++ Loaded r g rs nx ∷ s.0 = at.before_is ∙ ap (observed rows) tail ∙ sym at'.before_is in
+          let clash : before ≡ before ++ Loaded r g rs nx ∷ s.0 = at.before_is ∙ ap (observed 1 rows) tail ∙ sym at'.before_is in
           let len : length before ≡ length before + suc (length s.0) = ap length clash ∙ length-append before (Loaded r g rs nx ∷ s.0) in
           omega arith;
     }

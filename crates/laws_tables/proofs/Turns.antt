@@ -4,7 +4,8 @@ use Rattle.std.proofs.lemmas.Bool.Decides.{nat_tests}
 use Rattle.model_partition.specs.Story.{KeepsOrder}
 use Rattle.model_partition.specs.StreamMachine.{In, OpenExtent, StreamCore, count, Fact, AsksOpen, Opened, AsksCheck, Checked, AsksConfirm, Confirmed, Serves, Begun, AsksAppend, Appended, AsksExtend, Extended, MachineState, MachineStep, TakesOpen, TakesExtend, TakesConfirm, TakesCheck, AnswersCheck, AnswersLate, TakesAppend, Keeps, AnswersAppend, Seals, Opens, Checks, ReadsSealed, ReadsChecked, Begins, Appends, Extends, TakesConfirmed, TakesAppended, NotYet, May, extend_facts, next, after, IsRun}
 use Rattle.model_partition.specs.ServerTurns.{Phase, Idle, Opening, Checking, Sealing, Confirming, Serving, Sent, Closing, Growing, Turn, Assigned, AllSealed, LastOpen, Found, Fails, IsShut, ConfirmedIs, Forms, AppendedAt, ExtendedTo, IsTurn, becomes, does, forms, formed, all_next, Whole, Below, Above, Move, is_layer, MayMove, moved, after_all, AreMoves}
-use Rattle.laws_tables.proofs.Extents.{stream_keeps_order}
+use Rattle.laws_tables.specs.Ends.{EndsRise}
+use Rattle.laws_tables.proofs.Extents.{stream_ends_rise, stream_keeps_order}
 
 module _ (A : Type 0) (gen : ℕ → ℕ) where
   extend_stays : (i n : ℕ) (c : StreamCore A) (o : Option (OpenExtent A)) (facts : List (Fact A)) (f : Fact A) → In f facts → In f (extend_facts A gen i n c o facts)
@@ -181,3 +182,9 @@ module _ (A : Type 0) (gen : ℕ → ℕ) where
   clients_keep_order moves ok =
       let g : Good (after_all A gen moves) = all_good moves ok in
       subst (λ z. KeepsOrder z.story) (sym (g.0).2) (stream_keeps_order A gen (g.0).0 (g.0).1)
+
+  -- nor does a load of a higher generation end before one of a lower
+  pub clients_ends_rise : (moves : List (Move A gen)) → AreMoves A gen moves → EndsRise (after_all A gen moves).state.story
+  clients_ends_rise moves ok =
+      let g : Good (after_all A gen moves) = all_good moves ok in
+      subst (λ z. EndsRise z.story) (sym (g.0).2) (stream_ends_rise A gen (g.0).0 (g.0).1)

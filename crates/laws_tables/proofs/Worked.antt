@@ -74,11 +74,11 @@ is_run = (
 abbrev seen : (ℕ → List Row) → List Note
 seen rows = Loaded 1 1 (rows 0) 1 ∷ Began 1 1 1 t1 ∷ Done 1 1 1 ∷ Began 1 1 2 t2 ∷ Loaded 1 2 (rows 4) 3 ∷ []
 
-sees : (rows : ℕ → List Row) → observed rows (visible worked_run) ≡ seen rows
+sees : (rows : ℕ → List Row) → observed 1 rows (visible worked_run) ≡ seen rows
 sees rows = refl
 
 -- the two theorems together
-pub both : (rows : ℕ → List Row) (run : LogRun (Group Transaction)) → ShowsTables rows (visible run) → IsLogRun run → IsServed (visible run) → Replays (observed rows (visible run))
+pub both : (rows : ℕ → List Row) (run : LogRun (Group Transaction)) → ShowsTables rows (visible run) → IsLogRun run → IsServed (visible run) → Replays (observed 1 rows (visible run))
 both rows run right ok served = replays rows (visible run) right served (keeps_order (Group Transaction) run ok)
 
 abbrev GT : Type 0

@@ -1,1 +1,5 @@
+pub mod Ends
 pub mod Fenced
+pub mod Layers
+pub mod Runs
+pub mod Through

@@ -11,7 +11,7 @@ use std::alloc::{AllocError, Global};
 use wire::{Body, Packet, Step};
 
 /// A change of the table.
-#[derive(Clone, Copy)]
+#[derive(Drop)]
 pub enum Change {
     /// None.
     Nothing,

@@ -58,9 +58,9 @@ impl ManagerTable {
                 },
             }),
             Some(listed) => {
-                let extents = self.tell_extents(alloc, &listed.extents)?;
+                let extents = self.tell_extents(alloc, listed.extents())?;
                 Ok(StreamList {
-                    base: listed.base,
+                    base: listed.base(),
                     extents,
                 })
             }

@@ -6,7 +6,7 @@ ghost use Rattle.memtable.specs.Cell.{IsEntry};
 ghost use Rattle.memtable.specs.Entries.{found, latest, put_all};
 
 use crate::cell::Cell;
-use crate::layer::put_all;
+use crate::cell_map::CellMap;
 use bytes::Bytes;
 use std::alloc::{AllocError, Global};
 use std::collections::BTreeMap;
@@ -16,34 +16,27 @@ use std::mem;
 /// What rows keep of the keys that changed: a live layer, which changes go into, and perhaps a fixed one below it. Its
 /// value is their entries in the order of the keys.
 pub struct MemTable {
-    live: BTreeMap<Bytes, Cell>,
-    fixed: Option<BTreeMap<Bytes, Cell>>,
-    size: u64,
-    fixed_size: u64,
+    live: CellMap,
+    fixed: Option<CellMap>,
 }
 
 // Written out, so that a crate above that lets one go has no proof of what is in it.
 impl Drop for MemTable {
     fn drop(self) {
-        let MemTable {
-            live: _,
-            fixed: _,
-            size: _,
-            fixed_size: _,
-        } = self;
+        let MemTable { live: _, fixed: _ } = self;
     }
 }
 
 impl Model for MemTable {
-    ghost use Rattle.std.specs.Prelude.{◌≡◌, option_map};
+    ghost use Rattle.std.specs.Prelude.{◌<◌, ◌^◌};
     ghost use Rattle.memtable.specs.Layers as specs;
 
     ghost Value = { specs.Layers };
 
-    ghost view = { λ t. record { live = t.live.entries; fixed = option_map (λ m. m.entries) t.fixed } };
+    ghost view = { λ t. record { live = t.live; fixed = t.fixed } };
 
-    ghost invariant = { λ t. (t.size ≡ specs.layers_size (record { live = t.live.entries; fixed = option_map (λ m. m.entries) t.fixed }))
-        × (t.fixed_size ≡ specs.size_of (option_map (λ m. m.entries) t.fixed)) };
+    // So many bytes can be counted.
+    ghost invariant = { λ t. specs.layers_size (record { live = t.live; fixed = t.fixed }) < 2 ^ 64 };
 }
 
 impl MemTable {
@@ -54,10 +47,8 @@ impl MemTable {
         ensures { result ≡ record { live = []; fixed = None } }
     {
         MemTable {
-            live: BTreeMap::new(alloc),
+            live: CellMap::new(alloc),
             fixed: None,
-            size: 0,
-            fixed_size: 0,
         }
     }
 
@@ -73,8 +64,8 @@ impl MemTable {
         ensures fixed { self.new.fixed ≡ self.old.fixed }
         ensures err { OnErr result (self.new ≡ self.old) }
     {
-        self.size = put_all(alloc, &mut self.live, self.size, changes)?;
-        Ok(())
+        let beside = self.fixed_size();
+        self.live.put_beside(alloc, beside, changes)
     }
 
     /// Fixes the live layer, below a new one with no entry, unless there is a fixed one already; then it answers `false`,
@@ -87,9 +78,8 @@ impl MemTable {
         if self.fixed.is_some() {
             return false;
         }
-        let live = mem::replace(&mut self.live, BTreeMap::new(alloc));
+        let live = mem::replace(&mut self.live, CellMap::new(alloc));
         self.fixed = Some(live);
-        self.fixed_size = self.size;
         true
     }
 
@@ -97,8 +87,6 @@ impl MemTable {
     pub fn drop_layer(&mut self)
         ensures { self.new ≡ record { live = self.old.live; fixed = None } }
     {
-        self.size -= self.fixed_size;
-        self.fixed_size = 0;
         self.fixed = None;
     }
 
@@ -119,7 +107,7 @@ impl MemTable {
     pub fn live(&self) -> &BTreeMap<Bytes, Cell>
         ensures { result.now.entries ≡ self.now.live }
     {
-        &self.live
+        self.live.entries()
     }
 
     /// The fixed layer, if there is one, for a walk through its entries in the order of their keys.
@@ -128,7 +116,7 @@ impl MemTable {
     {
         match &self.fixed {
             None => None,
-            Some(layer) => Some(layer),
+            Some(layer) => Some(layer.entries()),
         }
     }
 
@@ -136,6 +124,15 @@ impl MemTable {
     pub fn size(&self) -> u64
         ensures { result ≡ specs.layers_size self.now }
     {
-        self.size
+        self.live.size() + self.fixed_size()
+    }
+
+    fn fixed_size(&self) -> u64
+        ensures { result ≡ specs.size_of self.now.fixed }
+    {
+        match &self.fixed {
+            None => 0,
+            Some(layer) => layer.size(),
+        }
     }
 }

@@ -1,8 +1,8 @@
 -- What a range does with an answer, and with being told to give up.
-use Rattle.std.specs.Prelude.{ℕ, suc, ◌+◌, ◌^◌, Bool, true, false, ◌||◌, ◌&&◌, nat_lt, List, [], ◌++◌, map, flat_map, Option, Some, None, option_to_list, if◌then◌else◌}
+use Rattle.std.specs.Prelude.{ℕ, ◌+◌, ◌^◌, Bool, true, false, ◌||◌, ◌&&◌, nat_lt, List, [], ◌++◌, map, flat_map, Option, Some, None, option_to_list, if◌then◌else◌}
 use Rattle.std.specs.List.{list_any}
 use Rattle.wire.specs.declared.actor.ActorId.{ActorId}
-use Rattle.wire.specs.declared.actor.ActorId.TheVariants.{Node, Manager}
+use Rattle.wire.specs.declared.actor.ActorId.TheVariants.{Node, Manager, Map}
 use Rattle.wire.specs.declared.actor.ReqNo.{ReqNo}
 use Rattle.wire.specs.declared.body.AppendBody.{AppendBody}
 use Rattle.wire.specs.declared.body.AppendBody.TheVariants as appends
@@ -14,6 +14,8 @@ use Rattle.wire.specs.declared.body.ReadBody.{ReadBody}
 use Rattle.wire.specs.declared.body.ReadBody.TheVariants as reads
 use Rattle.wire.specs.declared.body.StreamBody.{StreamBody}
 use Rattle.wire.specs.declared.body.StreamBody.TheVariants as streams
+use Rattle.wire.specs.declared.body.MapBody.{MapBody}
+use Rattle.wire.specs.declared.body.MapBody.TheVariants as maps
 use Rattle.wire.specs.declared.body.Body.{Body}
 use Rattle.wire.specs.declared.body.Body.TheVariants as bodies
 use Rattle.wire.specs.declared.packet.Packet.{Packet}
@@ -22,7 +24,7 @@ use Rattle.client.specs.declared.job.News.{News}
 use Rattle.client.specs.declared.job.News.TheVariants as news
 use Rattle.client.specs.declared.load.LoadPhase.{LoadPhase}
 use Rattle.client.specs.declared.load.LoadPhase.TheVariants as phases
-use Rattle.client.specs.Client.{Outcome, awaits, reply_rule, give_up_rule}
+use Rattle.client.specs.Client.{ClientState, Outcome, awaits, reply_rule, give_up_rule}
 use Rattle.client.specs.Load.{again, load_awaits}
 use Rattle.client.specs.Requests.{is_same}
 use Rattle.model_partition.specs.declared.waiting.WaitingGet.{WaitingGet}
@@ -60,10 +62,21 @@ read_number (reads.Groups w e groups) = Some w
 read_number body = None
 
 abbrev pub stream_number : StreamBody → Option ReqNo
+stream_number (streams.Created w) = Some w
 stream_number (streams.Opened w lists) = Some w
 stream_number (streams.Confirmed w) = Some w
 stream_number (streams.Extended w e places) = Some w
+stream_number (streams.Trimmed w) = Some w
+stream_number (streams.Modified w) = Some w
 stream_number body = None
+
+-- of what the map answers to servers; where a key is (RouteIs) it tells users alone
+abbrev pub map_number : MapBody → Option ReqNo
+map_number (maps.SplitBegun w low high) = Some w
+map_number (maps.SplitDone w) = Some w
+map_number (maps.MergeBegun w range) = Some w
+map_number (maps.MergeDone w) = Some w
+map_number body = None
 
 -- the number that an answer repeats
 abbrev pub answered_number : Body → Option ReqNo
@@ -72,7 +85,7 @@ answered_number (bodies.Check body) = check_number body
 answered_number (bodies.Seal body) = seal_number body
 answered_number (bodies.Read body) = read_number body
 answered_number (bodies.Stream body) = stream_number body
-answered_number (bodies.Map body) = None
+answered_number (bodies.Map body) = map_number body
 answered_number (bodies.Table body) = None
 
 abbrev pub is_any_node : ActorId → Bool
@@ -83,8 +96,13 @@ abbrev pub is_the_manager : ActorId → Bool
 is_the_manager Manager = true
 is_the_manager actor = false
 
+abbrev pub is_the_map : ActorId → Bool
+is_the_map Map = true
+is_the_map actor = false
+
+-- all of them refuse, and nodes alone append
 abbrev pub append_sender : ActorId → AppendBody → Bool
-append_sender from (appends.Refused w refusal) = is_any_node from || is_the_manager from
+append_sender from (appends.Refused w refusal) = is_any_node from || (is_the_manager from || is_the_map from)
 append_sender from body = is_any_node from
 
 -- whether an answer comes from one who gives such answers
@@ -94,7 +112,8 @@ is_answerer from (bodies.Check body) = is_any_node from
 is_answerer from (bodies.Seal body) = is_the_manager from
 is_answerer from (bodies.Read body) = is_any_node from
 is_answerer from (bodies.Stream body) = is_the_manager from
-is_answerer from body = false
+is_answerer from (bodies.Map body) = is_the_map from
+is_answerer from (bodies.Table body) = false
 
 -- ---- answers
 
@@ -179,16 +198,19 @@ answer_rule d r w body =
 
 -- ---- giving up
 
--- The load, the log's job and the Gets, in this order, each send again what is not answered, or seal the extent that does not
--- answer. Two numbers of requests are used.
+-- a client's job gives up under the next number: it sends again what is not answered, or seals the extent that does not answer
+abbrev pub gives_up_job : ServerContext → ClientState → Outcome
+gives_up_job d c = give_up_rule (picking d c) (request d) d.pick
+
+-- The load, the log's job, the metadata's job and the Gets give up, in this order. Each job takes the next number.
 abbrev pub give_up_all : ServerContext → RangeState → RangeOutcome
 give_up_all d r =
-    let m : Outcome = give_up_rule (picking d r.metadata) (request d) d.pick in
-    let l : Outcome = give_up_rule (picking d r.log) (request (used d)) d.pick in
+    let l : Outcome = gives_up_job d r.log in
+    let m : Outcome = gives_up_job (used d) r.metadata in
     record {
       after = Some (record r { metadata = m.after; log = l.after; gets = map (λ g. (gives_up_get d r g).0) r.gets });
-      count = suc (suc d.count);
+      count = (used (used d)).count;
       packets = option_to_list (again r.load r.load.phase)
-          ++ (option_to_list m.packet ++ (option_to_list l.packet ++ flat_map (λ g. (gives_up_get d r g).1) r.gets));
+          ++ (option_to_list l.packet ++ (option_to_list m.packet ++ flat_map (λ g. (gives_up_get d r g).1) r.gets));
       notes = [];
     }

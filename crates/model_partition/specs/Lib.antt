@@ -22,3 +22,5 @@ pub mod StreamActions
 pub mod ServerRun
 pub mod ServedTables
 pub mod Honest
+pub mod LoadStages
+pub mod RangeSteps

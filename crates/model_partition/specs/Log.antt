@@ -1,5 +1,5 @@
 -- What servers do to the log of one range, as they may: the story of the log, and what is observed of it.
-use Rattle.std.specs.Prelude.{◌≡◌, ℕ, suc, ◌<◌, List, [], ◌∷◌, ◌++◌, length, map, Option, Some, None, if◌then◌else◌, ◌==◌}
+use Rattle.std.specs.Prelude.{◌≡◌, ℕ, suc, ◌<◌, Bool, false, List, [], ◌∷◌, ◌++◌, length, map, Option, Some, None, if◌then◌else◌, ◌==◌}
 use Rattle.wire.specs.declared.note.Note.{Note}
 use Rattle.wire.specs.declared.note.Note.TheVariants.{Began, Done, Loaded}
 use Rattle.wire.specs.declared.rows.Row.{Row}
@@ -36,31 +36,43 @@ abbrev pub IsServed : {A : Type 0} → Story (Group A) → Type 0
 IsServed [] = Unit {0}
 IsServed (e ∷ earlier) = Allowed earlier e × IsServed earlier
 
--- ---- what is observed of range 1
+-- ---- what is observed of a range
 
-abbrev pub begins_of : ℕ → ℕ → List Transaction → List Note
-begins_of g s [] = []
-begins_of g s (t ∷ ts) = Began 1 g s t ∷ begins_of g (suc s) ts
+abbrev pub begins_of : ℕ → ℕ → ℕ → List Transaction → List Note
+begins_of range g s [] = []
+begins_of range g s (t ∷ ts) = Began range g s t ∷ begins_of range g (suc s) ts
 
-abbrev pub dones_of : ℕ → ℕ → List Transaction → List Note
-dones_of g s [] = []
-dones_of g s (t ∷ ts) = Done 1 g s ∷ dones_of g (suc s) ts
+abbrev pub dones_of : ℕ → ℕ → ℕ → List Transaction → List Note
+dones_of range g s [] = []
+dones_of range g s (t ∷ ts) = Done range g s ∷ dones_of range g (suc s) ts
 
-abbrev pub dones_at : Option (StreamEvent (Group Transaction)) → List Note
-dones_at None = []
-dones_at (Some (Made g group)) = dones_of g group.first group.items
-dones_at (Some (Answered a from to)) = []
-dones_at (Some (Showed g start end groups)) = []
+abbrev pub dones_at : ℕ → Option (StreamEvent (Group Transaction)) → List Note
+dones_at range None = []
+dones_at range (Some (Made g group)) = dones_of range g group.first group.items
+dones_at range (Some (Answered a from to)) = []
+dones_at range (Some (Showed g start end groups)) = []
 
 -- rows: those that the load of a number shows
-abbrev pub notes : (ℕ → List Row) → Story (Group Transaction) → StreamEvent (Group Transaction) → List Note
-notes rows earlier (Made g group) = begins_of g group.first group.items
-notes rows earlier (Answered a from to) = dones_at (event_at earlier a)
-notes rows earlier (Showed g start end groups) = Loaded 1 g (rows (length earlier)) (suc (length (line_shown groups))) ∷ []
+abbrev pub notes : ℕ → (ℕ → List Row) → Story (Group Transaction) → StreamEvent (Group Transaction) → List Note
+notes range rows earlier (Made g group) = begins_of range g group.first group.items
+notes range rows earlier (Answered a from to) = dones_at range (event_at earlier a)
+notes range rows earlier (Showed g start end groups) = Loaded range g (rows (length earlier)) (suc (length (line_shown groups))) ∷ []
 
-abbrev pub observed : (ℕ → List Row) → Story (Group Transaction) → List Note
-observed rows [] = []
-observed rows (e ∷ earlier) = observed rows earlier ++ notes rows earlier e
+abbrev pub observed : ℕ → (ℕ → List Row) → Story (Group Transaction) → List Note
+observed range rows [] = []
+observed range rows (e ∷ earlier) = observed range rows earlier ++ notes range rows earlier e
+
+-- whether an observation is of a range that is served
+abbrev pub is_of : ℕ → Note → Bool
+is_of range (Began other g s t) = range == other
+is_of range (Done other g s) = range == other
+is_of range (Loaded other g rows next) = range == other
+is_of range note = false
+
+-- the observations of one range
+abbrev pub only : ℕ → List Note → List Note
+only range [] = []
+only range (note ∷ h) = if is_of range note then note ∷ only range h else only range h
 
 -- the rows of each load are the table of the line that it makes of what it shows
 abbrev pub ShowsTables : (ℕ → List Row) → Story (Group Transaction) → Type 0

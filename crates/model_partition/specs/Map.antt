@@ -18,18 +18,19 @@ use Rattle.model_partition.specs.declared.map_record.MapRecord.{MapRecord}
 use Rattle.model_partition.specs.declared.map_record.MapRecord.TheVariants.{Assign, Renew}
 use Rattle.model_partition.specs.declared.range_entry.RangeEntry.{RangeEntry}
 use Rattle.model_partition.specs.RecordBytes.{spelled}
+use Rattle.model_partition.specs.Past.{first_range}
 
 -- the ranges in the order of their keys, and the number of the next range
 pub record MapState : Type 0 where
   pub ranges : List RangeEntry
   pub next : ℕ
 
--- range 1 has all keys, and nobody holds it
-abbrev pub first_range : RangeEntry
-first_range = record { range = 1; keys = all_keys; generation = 0; holder = None; until = 0 }
+-- the first range has all keys, and nobody holds it
+abbrev pub first_entry : RangeEntry
+first_entry = record { range = first_range; keys = all_keys; generation = 0; holder = None; until = 0 }
 
 abbrev pub first_map : MapState
-first_map = record { ranges = first_range ∷ []; next = 2 }
+first_map = record { ranges = first_entry ∷ []; next = suc first_range }
 
 -- ---- finding a range
 

@@ -42,6 +42,10 @@ abbrev pub stored : List Row → Table
 stored [] key = None
 stored (row ∷ rows) key = if bytes_eq key row.key then Some row.value else stored rows key
 
+-- the number of the range that is there from the start, which no split or merge made
+abbrev pub first_range : ℕ
+first_range = 1
+
 -- ---- families of ranges, each read off the observations from the newest back
 
 -- the range, the one that a split made it of, the one that a split made that of, and so on
@@ -103,7 +107,7 @@ AllBegan before ranges g line = (s : ℕ) (t : Transaction) → IsMember line s 
 
 -- the past is of this range and generation: all of it began before, and its start is that of the range's family
 abbrev pub IsPastOf : List Note → List Note → ℕ → ℕ → Past → Type 0
-IsPastOf h before g r (From_nothing line) = AllBegan before (owners h r) g line × (eldest h r ≡ 1)
+IsPastOf h before g r (From_nothing line) = AllBegan before (owners h r) g line × (eldest h r ≡ first_range)
 IsPastOf h before g r (From_pair c p d q line) =
     AllBegan before (owners h r) g line × Contains h (Merged c d (eldest h r)) × IsPastOf h before g c p × IsPastOf h before g d q
 

@@ -14,7 +14,7 @@ use Rattle.model_streams.specs.Maps.{entry_at}
 use Rattle.model_partition.specs.declared.table_note.TableNote.{TableNote}
 use Rattle.model_partition.specs.declared.table_note.TableNote.TheVariants as tables
 use Rattle.model_partition.specs.Log.{line_shown}
-use Rattle.model_partition.specs.Past.{Bytes, stored, after_line, empty_table}
+use Rattle.model_partition.specs.Past.{Bytes, stored, after_line, empty_table, first_range}
 use Rattle.model_partition.specs.Story.{Placed, StreamEvent, Made, Answered, Showed, Story, event_at, KeepsOrder}
 use Rattle.model_partition.specs.Range.{RangeState, waiting_out, is_serving}
 use Rattle.model_partition.specs.Loading.{Group}
@@ -29,7 +29,7 @@ use Rattle.model_partition.specs.ServerRun.{PlacedBytes, ServerRun, ServerEvent,
 
 -- the map assigns the first range alone
 abbrev pub IsOfFirst : ActorId → Body → Type 0
-IsOfFirst Map (bodies.Map (maps.Assign range generation until)) = range ≡ 1
+IsOfFirst Map (bodies.Map (maps.Assign range generation until)) = range ≡ first_range
 IsOfFirst from body = Unit {0}
 
 abbrev pub IsFirst : ServerEvent → Type 0
@@ -50,13 +50,13 @@ abbrev pub AllStand : (ℕ → Bytes) → List PlacedBytes → Type 0
 AllStand texts [] = Unit {0}
 AllStand texts (p ∷ placed) = StandsAt (texts p.extent) p.offset p.bytes × AllStand texts placed
 
--- What is premised of the streams of the first range, as their servers see them: the stories of its metadata and of its log keep
--- their order, no generation is confirmed twice, and what was shown of the log keeps its bytes.
-pub record StreamsInOrder (texts : ℕ → Bytes) (x : ServerRun) : Type 0 where
-  pub metadata : KeepsOrder (x.story metadata_name)
-  pub log : KeepsOrder (x.story log_name)
-  pub once : LoadsOnce (x.story log_name)
-  pub shown : AllStand texts x.shown
+-- What is premised of the streams of a range, as their servers see them: the stories of its metadata and of its log keep their
+-- order, no generation is confirmed twice, and what was shown of its log keeps its bytes.
+pub record StreamsInOrder (texts : ℕ → Bytes) (range : ℕ) (x : ServerRun) : Type 0 where
+  pub metadata : KeepsOrder (x.story (metadata_name range))
+  pub log : KeepsOrder (x.story (log_name range))
+  pub once : LoadsOnce (x.story (log_name range))
+  pub shown : AllStand texts (x.shown range)
 
 -- ---- what servers show
 

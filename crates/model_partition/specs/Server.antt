@@ -161,8 +161,10 @@ abbrev pub numbered_rule : ServerState → Packet → Option ReqNo → ServerOut
 numbered_rule s p None = rests s
 numbered_rule s p (Some w) = if is_answerer p.from p.body then answer_of s p w (awaiting s.ranges w) else rests s
 
+-- what the map tells of leases is taken as it is told, and all else that it says by the number that it answers
 abbrev pub taken_rule : ServerState → Packet → Body → ServerOutcome
-taken_rule s p (bodies.Map body) = map_rule s p.from body
+taken_rule s p (bodies.Map (maps.Assign range generation until)) = map_rule s p.from (maps.Assign range generation until)
+taken_rule s p (bodies.Map (maps.Renew range generation until)) = map_rule s p.from (maps.Renew range generation until)
 taken_rule s p (bodies.Table body) = table_rule s p body
 taken_rule s p body = numbered_rule s p (answered_number body)
 

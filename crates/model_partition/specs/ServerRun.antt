@@ -20,7 +20,7 @@ use Rattle.block_types.specs.Limits.{group_size}
 use Rattle.replica.specs.Groups.{joined, text}
 use Rattle.streams.specs.Streams.{kind_number}
 use Rattle.streams.specs.declared.table.Position.{Position}
-use Rattle.model_streams.specs.Maps.{changed_at, entry_at}
+use Rattle.model_streams.specs.Maps.{changed, changed_at, entry_at}
 use Rattle.model_partition.specs.declared.table_note.TableNote.{TableNote}
 use Rattle.model_partition.specs.StreamMachine.{base}
 use Rattle.model_partition.specs.Story.{Placed, StreamEvent, Made, Answered, Showed, Story}
@@ -71,14 +71,14 @@ pub record RangeHistory : Type 0 where
   -- the event of a stream's story with which the append that is out began
   pub append : StreamKind → ℕ
 
--- The servers, the history of each range at each server, the story of each stream, the bytes that confirmed loads showed of logs
--- and those that appends were answered for, the newest first; and what servers showed, in order.
+-- The servers, the history of each range at each server, the story of each stream, the bytes that confirmed loads showed of the
+-- log of each range and those that its appends were answered for, the newest first; and what servers showed, in order.
 pub record ServerRun : Type 0 where
   pub servers : List ServerCell
   pub history : (server range : ℕ) → RangeHistory
   pub story : StreamName → Story Group
-  pub shown : List PlacedBytes
-  pub answered : List PlacedBytes
+  pub shown : (range : ℕ) → List PlacedBytes
+  pub answered : (range : ℕ) → List PlacedBytes
   pub notes : List TableNote
 
 abbrev pub first_history : RangeHistory
@@ -116,7 +116,7 @@ module _ (server range generation : ℕ) where
       record x {
         story = with_event x.story (stream_named range kind)
             (Answered ((x.history server range).append kind) (place_number at) (place_number at + group_size group));
-        answered = record { extent = extent; offset = at.offset; bytes = joined group } ∷ x.answered;
+        answered = changed range (record { extent = extent; offset = at.offset; bytes = joined group } ∷ x.answered range) x.answered;
       }
   after_action x (Shows start log_end metadata_end) =
       let h : RangeHistory = x.history server range in
@@ -125,7 +125,7 @@ module _ (server range generation : ℕ) where
             (with_event x.story (stream_named range kinds.Metadata) (Showed generation 0 (place_number metadata_end) (placed_reads (h.reads kinds.Metadata))))
             (stream_named range kinds.Log)
             (Showed generation (place_number start) (place_number log_end) (placed_behind (place_number start) (placed_reads (h.reads kinds.Log))));
-        shown = bytes_read (h.reads kinds.Log) ++ x.shown;
+        shown = changed range (bytes_read (h.reads kinds.Log) ++ x.shown range) x.shown;
       }
 
   -- after some, of which the last was done first
@@ -171,7 +171,8 @@ numbered_effect s p None = Rests
 numbered_effect s p (Some w) = if is_answerer p.from p.body then awaited_effect s p w (awaiting s.ranges w) else Rests
 
 abbrev pub packet_effect : ServerState → Packet → Body → RangeEffect
-packet_effect s p (bodies.Map body) = map_effect s p.from body
+packet_effect s p (bodies.Map (maps.Assign range generation until)) = map_effect s p.from (maps.Assign range generation until)
+packet_effect s p (bodies.Map (maps.Renew range generation until)) = map_effect s p.from (maps.Renew range generation until)
 packet_effect s p (bodies.Table body) = table_effect s p body
 packet_effect s p body = numbered_effect s p (answered_number body)
 
@@ -217,8 +218,8 @@ first_run batch servers =
       servers = first_servers batch 1 servers;
       history = λ server range. first_history;
       story = λ name. [];
-      shown = [];
-      answered = [];
+      shown = λ range. [];
+      answered = λ range. [];
       notes = [];
     }
 
@@ -227,10 +228,10 @@ abbrev pub run_of : (batch servers : ℕ) → List ServerEvent → ServerRun
 run_of batch servers [] = first_run batch servers
 run_of batch servers (event ∷ earlier) = after_event (run_of batch servers earlier) event
 
--- ---- the streams of the first range
+-- ---- the streams of a range
 
-abbrev pub log_name : StreamName
-log_name = stream_named 1 kinds.Log
+abbrev pub log_name : ℕ → StreamName
+log_name range = stream_named range kinds.Log
 
-abbrev pub metadata_name : StreamName
-metadata_name = stream_named 1 kinds.Metadata
+abbrev pub metadata_name : ℕ → StreamName
+metadata_name range = stream_named range kinds.Metadata

@@ -20,14 +20,20 @@
 #![tactic(auto)]
 
 mod map_record;
+mod progress;
+mod range_content;
 mod range_entry;
+mod requests;
 mod server_context;
 mod stage;
 mod table_note;
 mod waiting;
 
 pub use map_record::MapRecord;
+pub use progress::{Progress, Service};
+pub use range_content::RangeContent;
 pub use range_entry::RangeEntry;
+pub use requests::next_request;
 pub use server_context::ServerContext;
 pub use stage::Stage;
 pub use table_note::{Entries, TableNote};

@@ -2,7 +2,7 @@
 use wire::{RangeId, ServerNo};
 
 /// What the map writes down. Its bytes stand after the kind byte of a manage record.
-#[derive(Clone, Copy)]
+#[derive(Drop)]
 pub enum MapRecord {
     /// 16: a range is assigned to a server, under a generation one higher, with a lease up to this moment or to its old end,
     /// whichever is later.

@@ -21,7 +21,7 @@ use Rattle.wire.specs.declared.streams.StreamExtent.{StreamExtent}
 use Rattle.wire.specs.declared.streams.StreamList.{StreamList}
 use Rattle.wire.specs.declared.streams.StreamLists.{StreamLists}
 use Rattle.wire.specs.declared.streams.StreamName.{StreamName}
-use Rattle.streams.specs.Streams.{Stream, Streams, stream_of, empty_stream, has_four, all_pass, create_fault, created, opened, extended as extended_streams, extending}
+use Rattle.streams.specs.Streams.{Stream, Streams, stream_of, base_of, empty_stream, has_four, all_pass, create_fault, created, opened, extended as extended_streams, extending}
 pub use Rattle.streams.specs.Streams.{is_there}
 use Rattle.model_streams.specs.declared.extent.Asker.{Asker}
 use Rattle.model_streams.specs.declared.extent.Extent.{Extent}
@@ -148,7 +148,7 @@ told_extents extent (e ∷ es) = told_before e (extent e) (told_extents extent e
 
 abbrev pub told_stream : (ℕ → Option Extent) → Option Stream → StreamList
 told_stream extent None = record { base = 0; extents = [] }
-told_stream extent (Some x) = record { base = x.base; extents = told_extents extent x.extents }
+told_stream extent (Some x) = record { base = base_of x; extents = told_extents extent x.extents }
 
 abbrev pub told_streams : Catalog → ℕ → StreamLists
 told_streams b range =

@@ -23,7 +23,7 @@ use Rattle.wire.specs.declared.note.Note.{Note}
 use Rattle.wire.specs.declared.note.Note.TheVariants.{Began, Done, Loaded, Split, Merged}
 use Rattle.wire.specs.declared.packet.Packet.{Packet}
 use Rattle.model_streams.specs.declared.event.Event.{Event}
-use Rattle.model_streams.specs.declared.event.Event.TheVariants.{Submit, Deliver, Stop, Restart, Decide, GiveUp, Assign, Renew, Moment}
+use Rattle.model_streams.specs.declared.event.Event.TheVariants.{Submit, Deliver, Stop, Restart, Decide, GiveUp, Assign, Renew, Moment, Checkpoint, Split, Merge}
 use Rattle.model_streams.specs.Maps.{changed, changed_at}
 use Rattle.model_streams.specs.Outcome.{Outcome, packet}
 use Rattle.model_streams.specs.Node.{Replica, stopped, node_rule, extent_of}
@@ -208,6 +208,9 @@ happens w (GiveUp server range pick) = w
 happens w (Assign range server until) = w
 happens w (Renew range server until) = w
 happens w (Moment now) = w
+happens w (Checkpoint server range combine) = w
+happens w (Split server range key) = w
+happens w (Merge server left right) = w
 
 abbrev pub run : List Event → StreamSystem → StreamSystem
 run [] w = w

@@ -1,5 +1,6 @@
 //! Events: what may happen next in a run.
 use block_types::Nodes;
+use bytes::Bytes;
 use wire::{ActorId, Body, ExtentId, RangeId, ServerNo};
 
 /// What happens next. An event that does not fit (no such packet, a body that no user asks, a stopped actor) changes
@@ -60,5 +61,24 @@ pub enum Event {
     /// The clock of leases shows this, to the map and to all servers at once. Nodes and the manager do nothing with it.
     Moment {
         now: u64,
+    },
+    /// The operator has a server write down what a range keeps in memory, and combine its indexes. No server does it yet, and
+    /// nothing comes of it.
+    Checkpoint {
+        server: ServerNo,
+        range: RangeId,
+        combine: bool,
+    },
+    /// The operator has a server split a range at a key. No server does it yet, and nothing comes of it.
+    Split {
+        server: ServerNo,
+        range: RangeId,
+        key: Bytes,
+    },
+    /// The operator has a server merge two ranges that lie side by side. No server does it yet, and nothing comes of it.
+    Merge {
+        server: ServerNo,
+        left: RangeId,
+        right: RangeId,
     },
 }

@@ -3,7 +3,7 @@ use block_types::Nodes;
 use wire::{ExtentId, Fence, RangeId, StreamName};
 
 /// What the manager writes down. Its bytes stand after the kind byte of a manage record.
-#[derive(Clone, Copy)]
+#[derive(Drop)]
 pub enum ManagerRecord {
     /// 1, the first record: how many nodes there are, and the target of each extent in bytes.
     First {

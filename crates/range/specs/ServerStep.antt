@@ -36,6 +36,6 @@ asked_needs_memory body = false
 
 -- whether a packet may take memory: an assignment, what a user asks, or an answer
 abbrev pub needs_memory : Body → Bool
-needs_memory (bodies.Map body) = told_needs_memory body
+needs_memory (bodies.Map (maps.Assign range generation until)) = true
 needs_memory (bodies.Table body) = asked_needs_memory body
 needs_memory body = is_some (answered_number body)

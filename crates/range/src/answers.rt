@@ -2,7 +2,7 @@
 ghost use Rattle.std.specs.Prelude.{◌≡◌};
 ghost use Rattle.model_partition.specs.Answering as specs;
 
-use wire::{ActorId, AppendBody, Body, CheckBody, ReadBody, ReqNo, SealBody, StreamBody};
+use wire::{ActorId, AppendBody, Body, CheckBody, MapBody, ReadBody, ReqNo, SealBody, StreamBody};
 
 fn append_number(body: &AppendBody) -> Option<ReqNo>
     ensures { result ≡ specs.append_number body.now }
@@ -18,9 +18,24 @@ fn stream_number(body: &StreamBody) -> Option<ReqNo>
     ensures { result ≡ specs.stream_number body.now }
 {
     match body {
+        StreamBody::Created { request } => Some(*request),
         StreamBody::Opened { request, .. } => Some(*request),
         StreamBody::Confirmed { request } => Some(*request),
         StreamBody::Extended { request, .. } => Some(*request),
+        StreamBody::Trimmed { request } => Some(*request),
+        StreamBody::Modified { request } => Some(*request),
+        _ => None,
+    }
+}
+
+fn map_number(body: &MapBody) -> Option<ReqNo>
+    ensures { result ≡ specs.map_number body.now }
+{
+    match body {
+        MapBody::SplitBegun { request, .. } => Some(*request),
+        MapBody::SplitDone { request } => Some(*request),
+        MapBody::MergeBegun { request, .. } => Some(*request),
+        MapBody::MergeDone { request } => Some(*request),
         _ => None,
     }
 }
@@ -47,7 +62,7 @@ pub(crate) fn answered_number(body: &Body) -> Option<ReqNo>
         Body::Seal(_) => None,
         Body::Read(body) => read_number(body),
         Body::Stream(body) => stream_number(body),
-        Body::Map(_) => None,
+        Body::Map(body) => map_number(body),
         Body::Table(_) => None,
     }
 }
@@ -70,18 +85,29 @@ fn is_the_manager(from: &ActorId) -> bool
     }
 }
 
+fn is_the_map(from: &ActorId) -> bool
+    ensures { result ≡ specs.is_the_map from.now }
+{
+    match from {
+        ActorId::Map => true,
+        _ => false,
+    }
+}
+
 /// Whether an answer comes from one who gives such answers.
 pub(crate) fn is_answerer(from: &ActorId, body: &Body) -> bool
     ensures { result ≡ specs.is_answerer from.now body.now }
 {
     match body {
-        Body::Append(AppendBody::Refused { .. }) => is_any_node(from) || is_the_manager(from),
+        Body::Append(AppendBody::Refused { .. }) => {
+            is_any_node(from) || is_the_manager(from) || is_the_map(from)
+        }
         Body::Append(_) => is_any_node(from),
         Body::Check(_) => is_any_node(from),
         Body::Seal(_) => is_the_manager(from),
         Body::Read(_) => is_any_node(from),
         Body::Stream(_) => is_the_manager(from),
-        Body::Map(_) => false,
+        Body::Map(_) => is_the_map(from),
         Body::Table(_) => false,
     }
 }

@@ -317,7 +317,7 @@ impl RangeServer {
         }
     }
 
-    /// What the map tells.
+    /// What the map tells of leases.
     fn told(&mut self, alloc: Global, from: ActorId, body: &MapBody) -> Result<Sent, AllocError>
         requires numbers { self.old.context.count + 1024 < 2 ^ 64 }
         ensures ok { IfOk result (λ t. map_rule self.old from body.now ≡ outcome t self.new) }
@@ -363,7 +363,11 @@ impl RangeServer {
             Body::Seal(_) => self.answered(alloc, packet),
             Body::Read(_) => self.answered(alloc, packet),
             Body::Stream(_) => self.answered(alloc, packet),
-            Body::Map(body) => self.told(alloc, packet.from, body),
+            Body::Map(body) => match body {
+                MapBody::Assign { .. } => self.told(alloc, packet.from, body),
+                MapBody::Renew { .. } => self.told(alloc, packet.from, body),
+                _ => self.answered(alloc, packet),
+            },
             Body::Table(body) => self.asked(alloc, packet, body),
         }
     }

@@ -10,11 +10,11 @@ ghost use Rattle.range_commit.specs.Queue.{changes_out, committed_out, dones_out
 ghost use Rattle.range_core.specs.Replies.{IsAppended, IsAwaited, is_end_of, is_stale, reaction, taking};
 ghost use Rattle.range_core.specs.Steps.{outcome, IsShort};
 
-use crate::forming::{Begun, next_group, next_request};
+use crate::forming::{Begun, next_group};
 use crate::range_step::{RangeStep, append_reserved, push_some};
 use crate::state::RangeState;
 use client::{Job, Reaction, StreamClient};
-use model_partition::{ServerContext, TableNote};
+use model_partition::{ServerContext, TableNote, next_request};
 use range_commit::MAX_WAITING;
 use std::alloc::{AllocError, Global};
 use streams::Position;

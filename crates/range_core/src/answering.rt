@@ -3,7 +3,7 @@ ghost use Rattle.std.specs.Prelude.{◌≡◌, ◌<◌, ◌≤◌, ◌+◌, ◌^
 ghost use Rattle.model_partition.specs.Range.{is_serving, refused_users};
 ghost use Rattle.model_partition.specs.Answering.{answer_rule, answered_number, log_reply, range_awaits};
 ghost use Rattle.range_load.specs.Awaited.{is_awaited};
-ghost use Rattle.range_load.specs.Steps as steps;
+ghost use Rattle.model_partition.specs.RangeSteps as steps;
 ghost use Rattle.range_core.specs.Replies.{IsAwaited};
 ghost use Rattle.range_core.specs.Steps.{outcome, IsShort};
 ghost use Rattle.range_core.specs.Waiters.{waiter_rule};
@@ -11,9 +11,9 @@ ghost use Rattle.range_core.specs.declared.answering.Waiter.TheVariants as waite
 
 use crate::range_step::{RangeStep, push_some};
 use crate::state::RangeState;
-use model_partition::{ServerContext, TableNote};
+use model_partition::{Progress, RangeContent, ServerContext, Service, TableNote};
 use range_commit::Queue;
-use range_load::{Progress, RangeContent, Service};
+use range_load::{load_reply, log_load_reply, metadata_reply};
 use std::alloc::{AllocError, Global};
 use wire::{Packet, ReqNo};
 
@@ -63,9 +63,9 @@ fn progress_of(
     ensures err { OnErr result (content.new ≡ content.old) }
 {
     match waiter {
-        Waiter::Load => content.load_reply(alloc, context, packet),
-        Waiter::Metadata => content.metadata_reply(alloc, context, packet),
-        Waiter::Log => content.log_load_reply(alloc, context, packet),
+        Waiter::Load => load_reply(content, alloc, context, packet),
+        Waiter::Metadata => metadata_reply(content, alloc, context, packet),
+        Waiter::Log => log_load_reply(content, alloc, context, packet),
     }
 }
 

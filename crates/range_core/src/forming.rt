@@ -10,21 +10,10 @@ ghost use Rattle.range_core.specs.Steps.{outcome, IsShort};
 use crate::range_step::{RangeStep, push_some};
 use crate::state::RangeState;
 use client::{Appending, StreamClient};
-use model_partition::{ServerContext, TableNote};
+use model_partition::{ServerContext, TableNote, next_request};
 use range_commit::{Plan, Queue};
 use std::alloc::{AllocError, Global};
-use wire::{Fence, Packet, RangeId, ReqNo};
-
-/// The number of the next request.
-pub(crate) fn next_request(context: &ServerContext) -> ReqNo
-    ensures { result ≡ request context.now }
-{
-    ReqNo::Server {
-        server: context.server,
-        session: context.session,
-        count: context.count,
-    }
-}
+use wire::{Fence, Packet, RangeId};
 
 /// A group that is ready to be appended: how many transactions it has, how many bytes, its blocks, and the observations that
 /// its transactions got their numbers.

@@ -6,33 +6,33 @@ ghost use Rattle.range_core.specs.Steps.{outcome, IsShort};
 use crate::range_step::{RangeStep, append_reserved, push_some};
 use crate::state::{RangeState, extents_of, known_extents};
 use model_partition::ServerContext;
-use range_load::GivenUp;
+use range_load::{GivenUp, give_up};
 use range_reads::{Asking, MAX_GETS};
 use std::alloc::{AllocError, Global};
 use wire::Packet;
 
-/// What the load, the metadata's client and the log's client send, and then the reads, in room that is there.
+/// What the load, the log's client and the metadata's client send, and then the reads, in room that is there.
 fn gathered(packets: Vec<Packet>, given: GivenUp, reads: Vec<Packet>) -> Vec<Packet>
     requires room { vec_len packets + 259 ≤ vec_capacity packets }
     requires few { length reads.items ≤ 256 }
-    ensures { result.items ≡ (((packets.items ++ option_to_list given.load) ++ option_to_list given.metadata) ++ option_to_list given.log) ++ reads.items }
+    ensures { result.items ≡ (((packets.items ++ option_to_list given.load) ++ option_to_list given.log) ++ option_to_list given.metadata) ++ reads.items }
 {
     let GivenUp {
         load,
-        metadata,
         log,
+        metadata,
     } = given;
     let mut packets = packets;
     push_some(&mut packets, load);
-    push_some(&mut packets, metadata);
     push_some(&mut packets, log);
+    push_some(&mut packets, metadata);
     append_reserved(&mut packets, reads);
     packets
 }
 
 impl RangeState {
-    /// What is not answered is sent again, or an extent that does not answer is sealed: the load, the log's job and the Gets, in
-    /// this order. Where memory runs out (22) nothing has changed.
+    /// What is not answered is sent again, or an extent that does not answer is sealed: the load, the log's job, the metadata's job
+    /// and the Gets, in this order. Where memory runs out (22) nothing has changed.
     pub fn give_up(
         &mut self,
         alloc: Global,
@@ -54,7 +54,7 @@ impl RangeState {
             rows: extents_of(&content.row_data),
         };
         let reads = self.lookups.give_up(alloc, &asking)?;
-        let given = self.content.give_up(context);
+        let given = give_up(&mut self.content, context);
         let sent = gathered(packets, given, reads);
         Ok(RangeStep::sends(alloc, context.count + 2, sent))
     }

@@ -2,16 +2,16 @@
 ghost use Rattle.std.specs.Prelude.{◌≡◌, ◌≤◌, [], None, length, max, IfOk};
 ghost use Rattle.client.specs.Load.{open_packet};
 ghost use Rattle.model_partition.specs.Range.{RangeState, request, refused_users};
-ghost use Rattle.range_load.specs.Steps.{put};
+ghost use Rattle.model_partition.specs.RangeSteps.{put};
 ghost use Rattle.model_partition.specs.Server.{new_range};
 ghost use Rattle.range_core.specs.Phases.{phase_of};
 
 use crate::phase::Phase;
 use client::StreamClient;
 use metadata::{IndexRange, Region};
-use model_partition::{ServerContext, Stage};
+use model_partition::{RangeContent, ServerContext, Stage};
 use range_commit::Queue;
-use range_load::RangeContent;
+use range_load::begin_load;
 use range_reads::Lookups;
 use std::alloc::{AllocError, Global};
 use std::marker::Model;
@@ -121,7 +121,7 @@ impl RangeState {
         ensures packet { IfOk result (λ x. x.1 ≡ open_packet context.now.server range generation (request context.now)) }
     {
         let lookups = Lookups::new(alloc)?;
-        let (content, packet) = RangeContent::new(alloc, context, range, generation)?;
+        let (content, packet) = begin_load(alloc, context, range, generation)?;
         Ok((RangeState::of(alloc, until, content, lookups), packet))
     }
 

@@ -5,20 +5,9 @@ ghost use Rattle.model_partition.specs.Range.{request, given, picking};
 ghost use Rattle.model_partition.specs.Loading.{read_by, read_of};
 
 use client::{Reaction, StreamClient};
-use model_partition::ServerContext;
+use model_partition::{ServerContext, next_request};
 use std::alloc::{AllocError, Global};
-use wire::{Packet, ReqNo, StreamExtent};
-
-/// The number of the next request.
-pub(crate) fn next_request(context: &ServerContext) -> ReqNo
-    ensures { result ≡ request context.now }
-{
-    ReqNo::Server {
-        server: context.server,
-        session: context.session,
-        count: context.count,
-    }
-}
+use wire::{Packet, StreamExtent};
 
 /// The check of the last extent's length.
 pub(crate) fn check_last(client: &mut StreamClient, context: &ServerContext) -> Option<Packet>

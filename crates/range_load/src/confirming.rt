@@ -7,15 +7,14 @@ ghost use Rattle.model_partition.specs.declared.table_note.TableNote.TheVariants
 ghost use Rattle.model_partition.specs.declared.server_context.ServerContext.{ServerContext};
 ghost use Rattle.model_partition.specs.Range.{position_le};
 ghost use Rattle.model_partition.specs.Loading as rows;
-ghost use Rattle.range_load.specs.Steps.{RangePerforms};
+ghost use Rattle.model_partition.specs.RangeSteps.{RangePerforms};
 
-use crate::asking::next_request;
-use crate::content::RangeContent;
 use crate::copying::live_entries;
-use crate::progress::{Progress, Service};
 use client::StreamClient;
 use metadata::{IndexRanges, copied_indexes};
-use model_partition::{ServerContext, Stage, TableNote};
+use model_partition::{
+    Progress, RangeContent, ServerContext, Service, Stage, TableNote, next_request,
+};
 use range_replay::open_region;
 use std::alloc::{AllocError, Global};
 use streams::Position;
@@ -57,56 +56,58 @@ fn are_counted(log: &StreamClient) -> bool
     log.base.checked_add(log.extents.len() as u64).is_some()
 }
 
-impl RangeContent {
-    /// The manager is asked whether the generation is still the fence.
-    pub(crate) fn confirms(&mut self, context: &ServerContext) -> Progress
-        requires { is_open self.old.load.phase ≡ true }
-        ensures { RangePerforms context.now (λ r. rows.confirms context.now r) self.old self.new result }
-    {
-        let packet = self.load.confirm(&next_request(context));
-        self.stage = Stage::Confirming;
-        Progress::Goes(packet)
-    }
+/// The manager is asked whether the generation is still the fence.
+pub(crate) fn confirms(content: &mut RangeContent, context: &ServerContext) -> Progress
+    requires { is_open content.old.load.phase ≡ true }
+    ensures { RangePerforms context.now (λ r. rows.confirms context.now r) content.old content.new result }
+{
+    let packet = content.load.confirm(&next_request(context));
+    content.stage = Stage::Confirming;
+    Progress::Goes(packet)
+}
 
-    /// What is shown of the range once it is served.
-    fn loaded(&self, alloc: Global, next: u64) -> Result<TableNote, AllocError>
-        ensures { IfOk result (λ note. note ≡ notes.Loaded self.now.load.range self.now.load.generation self.now.table.live self.now.said.indexes next) }
-    {
-        Ok(TableNote::Loaded {
-            range: self.load.range,
-            generation: self.load.generation,
-            entries: live_entries(alloc, &self.table)?,
-            indexes: IndexRanges {
-                items: copied_indexes(alloc, &self.said.indexes.items)?,
-            },
-            next,
-        })
-    }
+/// What is shown of the range once it is served.
+fn loaded(content: &RangeContent, alloc: Global, next: u64) -> Result<TableNote, AllocError>
+    ensures { IfOk result (λ note. note ≡ notes.Loaded content.now.load.range content.now.load.generation content.now.table.live content.now.said.indexes next) }
+{
+    Ok(TableNote::Loaded {
+        range: content.load.range,
+        generation: content.load.generation,
+        entries: live_entries(alloc, &content.table)?,
+        indexes: IndexRanges {
+            items: copied_indexes(alloc, &content.said.indexes.items)?,
+        },
+        next,
+    })
+}
 
-    /// The generation is confirmed by this packet: the range is served.
-    pub(crate) fn serves(&mut self, alloc: Global, packet: &Packet) -> Result<Progress, AllocError>
-        requires { reply_phase packet.now.body self.old.load.phase ≡ phases.Confirmed }
-        ensures ok { IfOk result (λ p. (d : ServerContext) → RangePerforms d (λ r. rows.serves d r) self.old self.new p) }
-        ensures err { OnErr result (self.new ≡ self.old) }
-    {
-        if !are_counted(&self.log) {
-            return Ok(Progress::Dropped);
-        }
-        let (next, start) = match open_region(&self.regions) {
-            None => return Ok(Progress::Dropped),
-            Some(region) => (region.next, region.start),
-        };
-        if next == 0 {
-            return Ok(Progress::Dropped);
-        }
-        let note = self.loaded(alloc, next)?;
-        let position = log_end(&self.log, &start);
-        self.load.on_reply(packet);
-        self.stage = Stage::Serving;
-        Ok(Progress::Serves(Service {
-            next,
-            position,
-            note,
-        }))
+/// The generation is confirmed by this packet: the range is served.
+pub(crate) fn serves(
+    content: &mut RangeContent,
+    alloc: Global,
+    packet: &Packet,
+) -> Result<Progress, AllocError>
+    requires { reply_phase packet.now.body content.old.load.phase ≡ phases.Confirmed }
+    ensures ok { IfOk result (λ p. (d : ServerContext) → RangePerforms d (λ r. rows.serves d r) content.old content.new p) }
+    ensures err { OnErr result (content.new ≡ content.old) }
+{
+    if !are_counted(&content.log) {
+        return Ok(Progress::Dropped);
     }
+    let (next, start) = match open_region(&content.regions) {
+        None => return Ok(Progress::Dropped),
+        Some(region) => (region.next, region.start),
+    };
+    if next == 0 {
+        return Ok(Progress::Dropped);
+    }
+    let note = loaded(content, alloc, next)?;
+    let position = log_end(&content.log, &start);
+    content.load.on_reply(packet);
+    content.stage = Stage::Serving;
+    Ok(Progress::Serves(Service {
+        next,
+        position,
+        note,
+    }))
 }

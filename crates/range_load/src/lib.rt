@@ -1,7 +1,7 @@
 //! The load of a range at its server: its streams are opened, its metadata is read and then its log, and its generation is
 //! confirmed.
 //!
-//! This crate touches memory alone. `RangeContent` is what a load makes of a range, and each call takes one answer, as the table
+//! This crate touches memory alone. Each call takes one answer and a `RangeContent`, as the table
 //! of model_partition (Loading and Answering) says. What the layers above may build on, each a clause here:
 //! - `load_reply`, `metadata_reply` and `log_load_reply` are the rules of those names, whatever else is known of the range: what
 //!   is sent, what is known then, whether the range is dropped, and what is shown once it is served. An answer to another request
@@ -17,7 +17,6 @@
 mod answering;
 mod asking;
 mod confirming;
-mod content;
 mod copying;
 mod giving_up;
 mod log_answers;
@@ -25,9 +24,10 @@ mod log_reading;
 mod metadata_answers;
 mod metadata_reading;
 mod opening;
-mod progress;
 mod turning;
 
-pub use content::RangeContent;
-pub use giving_up::GivenUp;
-pub use progress::{Progress, Service};
+pub use answering::load_reply;
+pub use giving_up::{GivenUp, give_up};
+pub use log_answers::log_load_reply;
+pub use metadata_answers::metadata_reply;
+pub use opening::begin_load;

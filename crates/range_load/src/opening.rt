@@ -8,16 +8,14 @@ ghost use Rattle.metadata.specs.Fold.{first_metadata};
 ghost use Rattle.model_partition.specs.Range.{request};
 ghost use Rattle.model_partition.specs.Loading as rows;
 ghost use Rattle.model_partition.specs.Server.{new_range};
-ghost use Rattle.range_load.specs.Steps.{put, RangePerforms};
+ghost use Rattle.model_partition.specs.RangeSteps.{put, RangePerforms};
 
-use crate::asking::next_request;
-use crate::content::RangeContent;
 use crate::copying::{copied_list, no_list};
-use crate::progress::Progress;
+use crate::metadata_reading::begins_metadata;
 use client::{RangeLoad, StreamClient};
 use memtable::MemTable;
 use metadata::{Metadata, Region, copied_regions};
-use model_partition::{ServerContext, Stage};
+use model_partition::{Progress, RangeContent, ServerContext, Stage, next_request};
 use std::alloc::{AllocError, Global};
 use wire::{Fence, Packet, RangeId, StreamKind, StreamList, StreamLists, StreamName};
 
@@ -139,88 +137,86 @@ fn begun(
     }
 }
 
-impl RangeContent {
-    /// A load of a range under a generation, of which nothing is known, and the packet, to the manager, that opens its streams
-    /// under the next number. An error is out of memory (22).
-    pub fn new(
-        alloc: Global,
-        context: &ServerContext,
-        range: RangeId,
-        generation: Fence,
-    ) -> Result<(RangeContent, Packet), AllocError>
-        ensures content { IfOk result (λ x. (until : ℕ) → put x.0 (new_range context.now range generation until) ≡ new_range context.now range generation until) }
-        ensures packet { IfOk result (λ x. x.1 ≡ open_packet context.now.server range generation (request context.now)) }
-    {
-        let (load, packet) = StreamClient::open_for_load(
-            context.server,
-            range,
-            generation,
-            &next_request(context),
-        );
-        match begun(alloc, context, load) {
-            Ok(content) => Ok((content, packet)),
-            Err(full) => {
-                drop(packet);
-                Err(full)
-            }
+/// A load of a range under a generation, of which nothing is known, and the packet, to the manager, that opens its streams
+/// under the next number. An error is out of memory (22).
+pub fn begin_load(
+    alloc: Global,
+    context: &ServerContext,
+    range: RangeId,
+    generation: Fence,
+) -> Result<(RangeContent, Packet), AllocError>
+    ensures content { IfOk result (λ x. (until : ℕ) → put x.0 (new_range context.now range generation until) ≡ new_range context.now range generation until) }
+    ensures packet { IfOk result (λ x. x.1 ≡ open_packet context.now.server range generation (request context.now)) }
+{
+    let (load, packet) = StreamClient::open_for_load(
+        context.server,
+        range,
+        generation,
+        &next_request(context),
+    );
+    match begun(alloc, context, load) {
+        Ok(content) => Ok((content, packet)),
+        Err(full) => {
+            drop(packet);
+            Err(full)
         }
     }
+}
 
-    /// The streams are opened by this packet, which tells them, and nothing is read yet.
-    pub(crate) fn opens(
-        &mut self,
-        alloc: Global,
-        context: &ServerContext,
-        packet: &Packet,
-        lists: &StreamLists,
-    ) -> Result<Progress, AllocError>
-        requires { reply_phase packet.now.body self.old.load.phase ≡ phases.Opened }
-        ensures ok { IfOk result (λ p. RangePerforms context.now (λ r. rows.opens context.now r lists.now) self.old self.new p) }
-        ensures err { OnErr result (self.new ≡ self.old) }
-    {
-        let clients = clients_of(alloc, context, &self.load, &lists.metadata, &lists.log)?;
-        match data_of(alloc, lists) {
-            Ok(streams) => self.opens_with(alloc, context, packet, clients, streams),
-            Err(full) => {
-                drop(clients);
-                Err(full)
-            }
+/// The streams are opened by this packet, which tells them, and nothing is read yet.
+pub(crate) fn opens(
+    content: &mut RangeContent,
+    alloc: Global,
+    context: &ServerContext,
+    packet: &Packet,
+    lists: &StreamLists,
+) -> Result<Progress, AllocError>
+    requires { reply_phase packet.now.body content.old.load.phase ≡ phases.Opened }
+    ensures ok { IfOk result (λ p. RangePerforms context.now (λ r. rows.opens context.now r lists.now) content.old content.new p) }
+    ensures err { OnErr result (content.new ≡ content.old) }
+{
+    let clients = clients_of(alloc, context, &content.load, &lists.metadata, &lists.log)?;
+    match data_of(alloc, lists) {
+        Ok(streams) => opens_with(content, alloc, context, packet, clients, streams),
+        Err(full) => {
+            drop(clients);
+            Err(full)
         }
     }
+}
 
-    /// The same with these clients of the metadata and the log, and these streams of the data.
-    fn opens_with(
-        &mut self,
-        alloc: Global,
-        context: &ServerContext,
-        packet: &Packet,
-        clients: (StreamClient, StreamClient),
-        streams: (StreamList, StreamList),
-    ) -> Result<Progress, AllocError>
-        requires { reply_phase packet.now.body self.old.load.phase ≡ phases.Opened }
-        ensures ok { IfOk result (λ p. RangePerforms context.now (λ r. rows.begins_metadata context.now (record r {
-          load = record r.load { phase = phases.Opened };
-          metadata = clients.0;
-          log = clients.1;
-          row_data = streams.0;
-          blob_data = streams.1;
-          said = first_metadata;
-        }) (last_extent clients.0.extents)) self.old self.new p) }
-        ensures err { OnErr result (self.new ≡ self.old) }
-    {
-        match first_said(alloc) {
-            Ok((said, regions)) => {
-                self.load.on_reply(packet);
-                (self.metadata, self.log) = clients;
-                (self.row_data, self.blob_data) = streams;
-                self.said = said;
-                Ok(self.begins_metadata(context, regions))
-            }
-            Err(full) => {
-                drop(clients);
-                drop(streams);
-                Err(full)
-            }
+/// The same with these clients of the metadata and the log, and these streams of the data.
+fn opens_with(
+    content: &mut RangeContent,
+    alloc: Global,
+    context: &ServerContext,
+    packet: &Packet,
+    clients: (StreamClient, StreamClient),
+    streams: (StreamList, StreamList),
+) -> Result<Progress, AllocError>
+    requires { reply_phase packet.now.body content.old.load.phase ≡ phases.Opened }
+    ensures ok { IfOk result (λ p. RangePerforms context.now (λ r. rows.begins_metadata context.now (record r {
+      load = record r.load { phase = phases.Opened };
+      metadata = clients.0;
+      log = clients.1;
+      row_data = streams.0;
+      blob_data = streams.1;
+      said = first_metadata;
+    }) (last_extent clients.0.extents)) content.old content.new p) }
+    ensures err { OnErr result (content.new ≡ content.old) }
+{
+    match first_said(alloc) {
+        Ok((said, regions)) => {
+            content.load.on_reply(packet);
+            (content.metadata, content.log) = clients;
+            (content.row_data, content.blob_data) = streams;
+            content.said = said;
+            Ok(begins_metadata(content, context, regions))
+        }
+        Err(full) => {
+            drop(clients);
+            drop(streams);
+            Err(full)
         }
     }
 }

@@ -5,13 +5,12 @@ ghost use Rattle.wire.specs.declared.packet.Packet.{Packet as Sent};
 ghost use Rattle.model_partition.specs.declared.server_context.ServerContext.{ServerContext};
 ghost use Rattle.model_partition.specs.Range.{RangeState};
 ghost use Rattle.model_partition.specs.Loading as rows;
-ghost use Rattle.range_load.specs.Steps.{outcome};
-ghost use Rattle.range_load.specs.Stages.{is_reading};
+ghost use Rattle.model_partition.specs.RangeSteps.{outcome};
+ghost use Rattle.model_partition.specs.LoadStages.{is_reading};
 ghost use Rattle.range_load.specs.Turns.{stays, metadata_turn, log_turn, reads_next};
 
-use crate::progress::Progress;
 use client::News;
-use model_partition::Stage;
+use model_partition::{Progress, Stage};
 use wire::Packet;
 
 /// What news other than of groups lets the load read next of a stream.

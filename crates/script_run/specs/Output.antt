@@ -10,7 +10,7 @@ use Rattle.replica.specs.Groups.{text_length}
 use Rattle.model_streams.specs.declared.event.Event.{Event}
 use Rattle.model_streams.specs.Node.{contents}
 use Rattle.enode.specs.Node.{find}
-use Rattle.world_streams.specs.Nodes.{NodeSeen}
+use Rattle.world_nodes.specs.Seen.{NodeSeen}
 use Rattle.script_reports.specs.declared.report.Report.{Report}
 use Rattle.script_reports.specs.declared.report.Report.TheVariants.{Refused, Replica, NoReplica, Stopped}
 use Rattle.script_reports.specs.declared.report.Standing.{Standing}

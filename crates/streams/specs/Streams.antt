@@ -1,6 +1,6 @@
 -- Streams: named lists of extents (Calder et al., SOSP 2011, section 4.1). Each has a fence, the least generation that it
--- listens to, and the index of its first extent.
-use Rattle.std.specs.Prelude.{ℕ, ◌-◌, Bool, true, false, ◌&&◌, List, [], ◌∷◌, ◌++◌, Option, Some, None, option_map, Result, Ok, Err, ◌==◌, nat_lt, nat_le, slice_get, if◌then◌else◌}
+-- listens to, and remembers the extents that have left it at the front.
+use Rattle.std.specs.Prelude.{ℕ, ◌-◌, Bool, true, false, ◌&&◌, List, [], ◌∷◌, ◌++◌, length, Option, Some, None, option_map, Result, Ok, Err, ◌==◌, nat_lt, nat_le, slice_get, if◌then◌else◌}
 use Rattle.wire.specs.declared.refusal.Refusal.{Refusal}
 use Rattle.wire.specs.declared.refusal.Refusal.TheVariants.{Stale, NoSuchStream, NameTaken, LastOpen}
 use Rattle.wire.specs.declared.streams.StreamKind.{StreamKind}
@@ -13,15 +13,23 @@ kind_number Log = 1
 kind_number RowData = 2
 kind_number BlobData = 3
 
--- the index of its first extent, its fence, and its extents in order
+-- the extents that have left it at the front, its fence, and its extents, both in order
 pub record Stream : Type 0 where
-  pub base : ℕ
+  pub gone : List ℕ
   pub fence : ℕ
   pub extents : List ℕ
 
+-- the index of its first extent
+abbrev pub base_of : Stream → ℕ
+base_of x = length x.gone
+
+-- its extents from index 0 on, those that have left it first
+abbrev pub whole : Stream → List ℕ
+whole x = x.gone ++ x.extents
+
 -- with no extent
 abbrev pub empty_stream : ℕ → Stream
-empty_stream fence = record { base = 0; fence = fence; extents = [] }
+empty_stream fence = record { gone = []; fence = fence; extents = [] }
 
 -- the streams that there are, by the number of their range and of their kind
 abbrev pub Streams : Type 0
@@ -121,7 +129,7 @@ extended streams s e = extended_if streams s e (stream_of streams s)
 
 -- the extent of an index; the first extent has the stream's base as its index
 abbrev pub at_index : Stream → ℕ → Option ℕ
-at_index x index = if nat_le x.base index then slice_get x.extents (index - x.base) else None
+at_index x index = if nat_le (base_of x) index then slice_get x.extents (index - base_of x) else None
 
 abbrev pub located : Option Stream → ℕ → ℕ → Option (ℕ × ℕ)
 located None index offset = None

@@ -1,21 +1,21 @@
 //! One stream.
 ghost use Rattle.std.specs.Prelude.{◌≡◌, ◌<◌, OnOk};
-ghost use Rattle.streams.specs.Streams.{empty_stream, last_of, longer, at_index};
+ghost use Rattle.streams.specs.Streams.{empty_stream, base_of, last_of, longer, at_index};
 ghost use Rattle.streams.specs.Table.{key_of};
 
 use std::alloc::{AllocError, Global};
 use std::marker::Model;
 use wire::{ExtentId, Fence, StreamKind, StreamName};
 
-/// A stream: the index of its first extent, its fence, and its extents in order.
+/// A stream: its fence, and its extents in order.
 pub struct Listed {
     name: StreamName,
-    /// The index of its first extent.
-    pub base: u64,
+    /// How many extents have left it at the front.
+    left: usize,
     /// The generation that it listens to.
     pub fence: Fence,
-    /// Its extents, in order.
-    pub extents: Vec<ExtentId>,
+    /// Its extents in order, those that have left it first, so that one that leaves takes no memory.
+    extents: Vec<ExtentId>,
 }
 
 // Written out, so that a crate above that lets one go has no proof of what is in it.
@@ -23,7 +23,7 @@ impl Drop for Listed {
     fn drop(self) {
         let Listed {
             name: _,
-            base: _,
+            left: _,
             fence: _,
             extents: _,
         } = self;
@@ -31,16 +31,18 @@ impl Drop for Listed {
 }
 
 impl Model for Listed {
-    ghost use Rattle.std.specs.Prelude.{◌-◌, vec_capacity, vec_len};
+    ghost use Rattle.std.specs.Prelude.{◌-◌, ◌≤◌, take, drop, vec_capacity, vec_len};
     ghost use Rattle.streams.specs.Table.{Entry};
 
     ghost Value = { Entry };
 
     ghost view = { λ x. record {
       name = x.name;
-      stream = record { base = x.base; fence = x.fence; extents = x.extents.items };
+      stream = record { gone = take x.left x.extents.items; fence = x.fence; extents = drop x.left x.extents.items };
       room = vec_capacity x.extents - vec_len x.extents;
     } };
+
+    ghost invariant = { λ x. x.left ≤ vec_len x.extents };
 }
 
 /// The place of a name in the order of names.
@@ -64,7 +66,7 @@ impl Listed {
     {
         Listed {
             name,
-            base: 0,
+            left: 0,
             fence,
             extents: Vec::new(alloc),
         }
@@ -77,21 +79,35 @@ impl Listed {
         key_of(self.name)
     }
 
+    /// The index of its first extent: how many have left it at the front.
+    pub fn base(&self) -> u64
+        ensures { result ≡ base_of self.now.stream }
+    {
+        self.left as u64
+    }
+
+    /// Its extents, in order.
+    pub fn extents(&self) -> &[ExtentId]
+        ensures { result.now ≡ self.now.stream.extents }
+    {
+        &self.extents[self.left..]
+    }
+
     /// Its last extent, if it has one.
     pub fn last(&self) -> Option<ExtentId>
         ensures { result ≡ last_of self.now.stream.extents }
     {
-        self.extents.last().copied()
+        self.extents().last().copied()
     }
 
     /// The extent of an index.
     pub(crate) fn at(&self, index: u64) -> Option<ExtentId>
         ensures { result ≡ at_index self.now.stream index }
     {
-        if index < self.base {
+        if index < self.base() {
             return None;
         }
-        self.extents.get((index - self.base) as usize).copied()
+        self.extents().get((index - self.base()) as usize).copied()
     }
 
     /// Listens to another generation.

@@ -196,10 +196,10 @@ fn shown(table: &StreamTable, range: u64, kind: StreamKind) -> Option<Shown> {
     match table.stream(&name(range, kind)) {
         None => None,
         Some(listed) => Some((
-            listed.base,
+            listed.base(),
             listed.fence.0,
             number_of(listed.last()),
-            listed.extents.len(),
+            listed.extents().len(),
         )),
     }
 }

@@ -5,8 +5,8 @@ use crate::asking::{answer_of, context, number};
 use crate::cases::{Case, Tested, holds};
 use crate::records::{FIRST, GAP, KEYS};
 use answers::{Answer, body_of};
-use model_partition::{ServerContext, Stage};
-use range_load::{Progress, RangeContent};
+use model_partition::{Progress, RangeContent, ServerContext, Stage};
+use range_load::{begin_load, give_up, load_reply, log_load_reply, metadata_reply};
 use std::alloc::{AllocError, Global};
 use std::test::Fail;
 use streams::Position;
@@ -113,7 +113,7 @@ const CASES: &[Case<Step>] = &[
 
 /// A load under the generation 2, whose first request has the number 1.
 fn begun(alloc: Global) -> Result<RangeContent, Fail> {
-    let (content, packet) = RangeContent::new(alloc, &context(1, 5), RangeId(5), Fence(2))?;
+    let (content, packet) = begin_load(alloc, &context(1, 5), RangeId(5), Fence(2))?;
     drop(packet);
     Ok(content)
 }
@@ -127,13 +127,13 @@ fn reply(
     packet: &Packet,
 ) -> Result<Option<Progress>, AllocError> {
     let progress = match part {
-        Part::Load => content.load_reply(alloc, context, packet)?,
-        Part::Metadata => content.metadata_reply(alloc, context, packet)?,
+        Part::Load => load_reply(content, alloc, context, packet)?,
+        Part::Metadata => metadata_reply(content, alloc, context, packet)?,
         Part::Log => {
             if content.stage == Stage::Serving {
                 return Ok(None);
             }
-            content.log_load_reply(alloc, context, packet)?
+            log_load_reply(content, alloc, context, packet)?
         }
     };
     Ok(Some(progress))
@@ -189,7 +189,7 @@ fn answered(
 }
 
 fn gives_up(content: &mut RangeContent, count: u32) -> (bool, bool, bool) {
-    let given = content.give_up(&context(count, 5));
+    let given = give_up(content, &context(count, 5));
     let asked = (
         given.load.is_some(),
         given.metadata.is_some(),

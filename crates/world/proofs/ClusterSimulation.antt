@@ -1,19 +1,19 @@
 -- What each event does to a cluster, beside what it does to the model's.
-use Rattle.std.proofs.Common.{◌≡◌, ◌<◌, ℕ, zero, suc, length, arith, Bool, true, false, nat_lt, List, [], ◌∷◌, ◌++◌, Option, Some, None, Result, Ok, Err, OnOk, IfSome, refl, sym, ap, ◌∙◌, subst, slice_get, map, append-nil}
+use Rattle.std.proofs.Common.{◌≡◌, ◌<◌, ℕ, zero, suc, length, arith, Bool, true, false, nat_lt, List, [], ◌∷◌, ◌++◌, Option, Some, None, Result, Ok, Err, OnOk, IfSome, refl, sym, ap, ◌∙◌, subst, slice_get, map, append-nil, if◌then◌else◌}
 use Rattle.std.proofs.lemmas.Option.{same_Some}
 use Rattle.block_types.specs.declared.record.Nodes.{Nodes}
 use Rattle.wire.specs.declared.actor.ActorId.{ActorId}
 use Rattle.wire.specs.declared.actor.ActorId.TheVariants.{Node, Manager, Map, Server, User}
 use Rattle.wire.specs.declared.body.Body.{Body}
-use Rattle.wire.specs.declared.body.Body.TheVariants as bodies
-use Rattle.wire.specs.declared.body.MapBody.TheVariants as maps
 use Rattle.wire.specs.declared.packet.Packet.{Packet}
+use Rattle.model_streams.specs.declared.event.Event.{Event}
 use Rattle.model_streams.specs.declared.event.Event.TheVariants.{Submit, Deliver, Stop, Restart, Decide, GiveUp, Assign, Renew, Moment}
 use Rattle.model_streams.specs.StreamSystem.{StreamSystem, happens, delivered, delivered_if, sent_more}
 use Rattle.model_streams.proofs.Tests.{if_elim}
 use Rattle.model_partition.specs.Servers.{ServerCell, ServersOutcome, told_moment, with_told, server_takes, server_gives_up, server_stops, server_starts}
 use Rattle.model_partition.specs.Cluster.{Cluster, delivered_to, delivers, servers_perform, stops, restarts, assigns, renews, map_takes, map_stops, map_starts}
-use Rattle.world_map.specs.Seen.{MapSeen, MapSteps, MapSimulates, MapSimulatesAt}
+use Rattle.world_map.specs.Seen.{MapSeen, MapSteps, MapSimulates, moment_shown}
+use Rattle.world_servers.specs.Servers.{ServersSeen, all_shown}
 use Rattle.world_streams.specs.StreamLayer.{StreamLayerState, StreamLayerMirrors}
 use Rattle.world_streams.specs.ServersStep.{AfterMap, AfterServers}
 use Rattle.world_streams.proofs.ServerOutput.{sent_mirrors, told_mirrors}
@@ -28,6 +28,17 @@ if_ok (Err x) f h = tt
 -- a cluster of these parts
 abbrev pub state : StreamLayerState → List ServerCell → MapSeen → ℕ → ℕ → ClusterState
 state stream_layer servers map moment batch = record { stream_layer = stream_layer; servers = servers; map = map; moment = moment; batch = batch }
+
+-- a cluster of these servers
+abbrev pub cluster_of : StreamLayerState → ServersSeen → MapSeen → ClusterState
+cluster_of stream_layer servers seen = state stream_layer servers.cells seen servers.moment servers.batch
+
+-- servers whose moment and batch stay
+pub servers_stay : (l k : StreamLayerState) (s t : ServersSeen) (x : MapSeen) (event : Event) → (t.moment ≡ s.moment) × (t.batch ≡ s.batch) →
+    ClusterSimulates (cluster_of l s x) (state k t.cells x s.moment s.batch) event → ClusterSimulates (cluster_of l s x) (cluster_of k t x) event
+servers_stay l k s t x event same h =
+    subst (λ (n : ℕ). ClusterSimulates (cluster_of l s x) (state k t.cells x n t.batch) event) (sym same.0)
+    (subst (λ (n : ℕ). ClusterSimulates (cluster_of l s x) (state k t.cells x s.moment n) event) (sym same.1) h)
 
 -- ---- events of the stream layer
 
@@ -184,9 +195,9 @@ route_came_if x l y number is o =
     let there = goes_there (slice_get x.stream_layer.post number) Map is in
     route_came x l y number there.0 there.1 there.2 (o there.0 there.1)
 
-pub assign_came : (x : ClusterState) (l : StreamLayerState) (y : MapSeen) (range server until : ℕ) → AfterMap x.stream_layer l (MapSimulatesAt x.moment x.map y (λ c. assigns c range server until)) →
+pub assign_came : (x : ClusterState) (l : StreamLayerState) (y : MapSeen) (range server until : ℕ) → AfterMap x.stream_layer l (MapSimulates x.map y (λ c. assigns c range server until)) →
     ClusterSimulates x (record x { stream_layer = l; map = y }) (Assign range server until)
-assign_came x l y range server until o = λ c m. map_went x l y c (assigns c range server until) o.packets o.stream_layer (o.steps_are c m.map (sym m.moment)) m
+assign_came x l y range server until o = λ c m. map_went x l y c (assigns c range server until) o.packets o.stream_layer (o.steps_are c m.map) m
 
 pub renew_came : (x : ClusterState) (l : StreamLayerState) (y : MapSeen) (range server until : ℕ) → AfterMap x.stream_layer l (MapSimulates x.map y (λ c. renews c range server until)) →
     ClusterSimulates x (record x { stream_layer = l; map = y }) (Renew range server until)
@@ -203,12 +214,55 @@ restart_map_came x y steps = λ c m. map_went x x.stream_layer y c (map_starts c
 
 -- ---- the clock
 
-pub back_came : (x : ClusterState) (moment : ℕ) → nat_lt moment x.moment ≡ true → ClusterSimulates x x (Moment moment)
-back_came x moment is = λ c m. if_elim (ClusterMirrors x) (nat_lt moment c.now) _ _ (λ t. m) (λ f. absurd (let same = ap (nat_lt moment) m.moment in cc))
+servers_back : (now : ℕ) (s t : ServersSeen) → t ≡ all_shown now s → nat_lt now s.moment ≡ true → t ≡ s
+servers_back now s t is back = is ∙ ap (λ (b : Bool). if b then s else record s { cells = map (told_moment now) s.cells; moment = now }) back
 
-pub on_came : (x : ClusterState) (moment : ℕ) (servers : List ServerCell) → nat_lt moment x.moment ≡ false → servers ≡ map (told_moment moment) x.servers →
-    ClusterSimulates x (record x { moment = moment; servers = servers }) (Moment moment)
-on_came x moment servers is told = λ c m.
-    if_elim (ClusterMirrors (record x { moment = moment; servers = servers })) (nat_lt moment c.now) _ _
-    (λ t. absurd (let same = ap (nat_lt moment) m.moment in cc))
-    (λ f. record { stream_layer = m.stream_layer; servers = told ∙ ap (map (told_moment moment)) m.servers; map = m.map; moment = refl; batch = m.batch })
+servers_on : (now : ℕ) (s t : ServersSeen) → t ≡ all_shown now s → nat_lt now s.moment ≡ false → t ≡ record s { cells = map (told_moment now) s.cells; moment = now }
+servers_on now s t is on = is ∙ ap (λ (b : Bool). if b then s else record s { cells = map (told_moment now) s.cells; moment = now }) on
+
+map_back : (now : ℕ) (x y : MapSeen) → y ≡ moment_shown now x → nat_lt now x.moment ≡ true → y ≡ x
+map_back now x y is back = is ∙ ap (λ (b : Bool). if b then x else record x { moment = now }) back
+
+map_on : (now : ℕ) (x y : MapSeen) → y ≡ moment_shown now x → nat_lt now x.moment ≡ false → y ≡ record x { moment = now }
+map_on now x y is on = is ∙ ap (λ (b : Bool). if b then x else record x { moment = now }) on
+
+-- the clock shows this to all
+pub moment_came : (l : StreamLayerState) (s t : ServersSeen) (x y : MapSeen) (now : ℕ) → t ≡ all_shown now s → y ≡ moment_shown now x → ClusterSimulates (cluster_of l s x) (cluster_of l t y) (Moment now)
+moment_came l s t x y now servers map_is = λ c m.
+    if_elim (ClusterMirrors (cluster_of l t y)) (nat_lt now c.now) _ _
+    (λ b. subst (λ (z : ServersSeen). ClusterMirrors (cluster_of l z y) c) (sym (servers_back now s t servers (ap (nat_lt now) m.moment ∙ b)))
+    (subst (λ (z : MapSeen). ClusterMirrors (cluster_of l s z) c) (sym (map_back now x y map_is (ap (nat_lt now) (sym m.map.moment) ∙ b))) m))
+    (λ b. subst (λ (z : ServersSeen). ClusterMirrors (cluster_of l z y) (record c { now = now; servers = map (told_moment now) c.servers })) (sym (servers_on now s t servers (ap (nat_lt now) m.moment ∙ b)))
+    (subst (λ (z : MapSeen). ClusterMirrors (state l (map (told_moment now) s.cells) z now s.batch) (record c { now = now; servers = map (told_moment now) c.servers }))
+    (sym (map_on now x y map_is (ap (nat_lt now) (sym m.map.moment) ∙ b)))
+    (record {
+      stream_layer = m.stream_layer;
+      servers = ap (map (told_moment now)) m.servers;
+      map = record { map = m.map.map; up = m.map.up; plan = m.map.plan; moment = refl };
+      moment = refl;
+      batch = m.batch;
+    })))
+
+abbrev latest : ℕ → ℕ → ℕ
+latest now moment = if nat_lt now moment then moment else now
+
+latest_back : (now moment : ℕ) → nat_lt now moment ≡ true → moment ≡ latest now moment
+latest_back now moment is = sym (ap (λ (b : Bool). if b then moment else now) is)
+
+latest_on : (now moment : ℕ) → nat_lt now moment ≡ false → now ≡ latest now moment
+latest_on now moment is = sym (ap (λ (b : Bool). if b then moment else now) is)
+
+servers_at : (now : ℕ) (s : ServersSeen) → (all_shown now s).moment ≡ latest now s.moment
+servers_at now s =
+    if_elim (λ (z : ServersSeen). z.moment ≡ latest now s.moment) (nat_lt now s.moment) s (record s { cells = map (told_moment now) s.cells; moment = now })
+    (latest_back now s.moment) (latest_on now s.moment)
+
+map_at : (now : ℕ) (x : MapSeen) → (moment_shown now x).moment ≡ latest now x.moment
+map_at now x =
+    if_elim (λ (z : MapSeen). z.moment ≡ latest now x.moment) (nat_lt now x.moment) x (record x { moment = now })
+    (latest_back now x.moment) (latest_on now x.moment)
+
+-- servers and the map have seen the same moments
+pub moments_agree : (s t : ServersSeen) (x y : MapSeen) (now : ℕ) → x.moment ≡ s.moment → t ≡ all_shown now s → y ≡ moment_shown now x → y.moment ≡ t.moment
+moments_agree s t x y now same servers map_is =
+    ap (λ (z : MapSeen). z.moment) map_is ∙ map_at now x ∙ ap (latest now) same ∙ sym (servers_at now s) ∙ sym (ap (λ (z : ServersSeen). z.moment) servers)

@@ -10,7 +10,7 @@ use Rattle.model_streams.specs.Maps.{entry_at}
 use Rattle.model_partition.specs.Servers.{ServerCell, give_up_refusal}
 use Rattle.model_partition.specs.Cluster.{Cluster, cluster_after, cluster_after_all, first_cluster}
 use Rattle.world_map.specs.Seen.{MapSeen, MapMirrors, assign_refusal, renew_refusal}
-use Rattle.world_streams.specs.ManagerSeen.{decision_refusal}
+use Rattle.world_manager.specs.Seen.{decision_refusal}
 use Rattle.world_streams.specs.StreamLayer.{StreamLayerState, StreamLayerMirrors}
 
 -- the stream layer, the servers, the map, the last moment, and how many transactions a group may hold

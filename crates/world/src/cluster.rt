@@ -4,8 +4,9 @@ ghost use Rattle.model_streams.specs.declared.event.Event.TheVariants as events;
 ghost use Rattle.model_streams.specs.Maps.{entry_at};
 ghost use Rattle.model_partition.specs.Servers.{give_up_refusal};
 ghost use Rattle.model_partition.specs.Cluster.{first_cluster};
-ghost use Rattle.world_streams.specs.ManagerSeen.{decision_refusal};
-ghost use Rattle.world_streams.specs.Nodes.{seen_of, running_at};
+ghost use Rattle.world_manager.specs.Seen.{decision_refusal};
+ghost use Rattle.world_nodes.specs.Seen.{seen_of};
+ghost use Rattle.world_streams.specs.Nodes.{running_at};
 ghost use Rattle.wire.specs.declared.actor.ActorId.TheVariants as actors;
 ghost use Rattle.world_map.specs.Seen.{MapSimulates, assign_refusal, renew_refusal};
 ghost use Rattle.model_partition.specs.Cluster.{map_starts};
@@ -22,28 +23,30 @@ use world_map::MapActor;
 use world_servers::Servers;
 use world_streams::{Setup, StreamLayer, WorldFault};
 
-/// Real actors: nodes and the manager in the stream layer, which has all packets and observations; the servers; the map;
-/// the last moment of the clock; and how many transactions a group may hold.
+/// Real actors: nodes and the manager in the stream layer, which has all packets and observations; the servers, which know how
+/// many transactions a group may hold; and the map. Servers and the map have seen the same moments of the clock.
 #[derive(Drop)]
 pub(crate) struct Cluster {
     stream_layer: StreamLayer,
     servers: Servers,
     map: MapActor,
-    moment: u64,
-    batch: u16,
 }
 
 impl Model for Cluster {
+    ghost use Rattle.std.specs.Prelude.{◌≡◌};
     ghost use Rattle.world.specs.Cluster.{ClusterState};
 
     ghost Value = { ClusterState };
 
-    ghost view = { λ c. record { stream_layer = c.stream_layer; servers = c.servers; map = c.map; moment = c.moment; batch = c.batch } };
+    ghost view = { λ c. record { stream_layer = c.stream_layer; servers = c.servers.cells; map = c.map; moment = c.servers.moment; batch = c.servers.batch } };
+
+    ghost invariant = { λ c. c.map.moment ≡ c.servers.moment };
 }
 
 /// Brings the map back, with what is on its disk. An error is out of memory (22), and nothing has changed.
 fn restart_map(map: &mut MapActor, alloc: Global) -> Result<(), WorldFault>
     ensures ok { OnOk result (MapSimulates map.old map.new map_starts []) }
+    ensures moment { map.new.moment ≡ map.old.moment }
     ensures err { OnErr result (map.new ≡ map.old) }
 {
     match map.restart(alloc) {
@@ -70,8 +73,6 @@ impl Cluster {
                 stream_layer,
                 servers,
                 map,
-                moment: 0,
-                batch: setup.batch,
             }),
             Err(_full) => Err(WorldFault::Memory),
         }
@@ -186,7 +187,7 @@ impl Cluster {
     {
         match actor {
             ActorId::Server(server) => {
-                self.servers.restart(alloc, server, self.moment, self.batch);
+                self.servers.restart(alloc, server);
                 Ok(())
             }
             ActorId::Node(_) => self.stream_layer.restart(alloc, actor),
@@ -231,7 +232,7 @@ impl Cluster {
         ensures err { OnErr result (self.new ≡ self.old) }
     {
         self.stream_layer
-            .assign(alloc, &mut self.map, range, server, self.moment, until)
+            .assign(alloc, &mut self.map, range, server, until)
     }
 
     fn renew(
@@ -252,11 +253,8 @@ impl Cluster {
     fn show_moment(&mut self, moment: u64)
         ensures { ClusterSimulates self.old self.new (events.Moment moment) }
     {
-        if moment < self.moment {
-            return;
-        }
-        self.moment = moment;
         self.servers.moment(moment);
+        self.map.moment(moment);
     }
 
     /// The next event. It answers why an event is refused: a decision 1 or 10, giving up and a renewal 30, and an assignment 30
@@ -301,6 +299,7 @@ impl Cluster {
                 self.show_moment(*now);
                 Ok(None)
             }
+            Event::Checkpoint { .. } | Event::Split { .. } | Event::Merge { .. } => Ok(None),
         }
     }
 

@@ -3,7 +3,8 @@ ghost use Rattle.std.specs.Prelude.{◌≡◌, IfOk, OnOk, OnErr, option_map};
 ghost use Rattle.model_partition.specs.Cluster.{first_cluster};
 ghost use Rattle.model_partition.specs.Honest.{Honest};
 ghost use Rattle.wire.specs.Refusal.{number_of};
-ghost use Rattle.world_streams.specs.Nodes.{seen_of, running_at};
+ghost use Rattle.world_nodes.specs.Seen.{seen_of};
+ghost use Rattle.world_streams.specs.Nodes.{running_at};
 ghost use Rattle.world.specs.Cluster.{ClusterSimulates, ClusterMirrors, refusal_of};
 
 use crate::cluster::Cluster;

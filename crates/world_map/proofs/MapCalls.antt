@@ -1,6 +1,7 @@
 -- What a call of the real map is of the cluster's map, refused or not.
-use Rattle.std.proofs.Common.{◌≡◌, ◌≢◌, ℕ, Bool, true, false, not, nat_lt, ◌&&◌, if◌then◌else◌, List, Option, Some, None, Result, Ok, Err, IfErr, IfOk, OnOk, OnErr, refl, sym, ap, ◌∙◌, subst}
+use Rattle.std.proofs.Common.{◌≡◌, ◌≢◌, ℕ, Bool, true, false, not, nat_lt, ◌&&◌, if◌then◌else◌, List, [], Option, Some, None, Result, Ok, Err, IfErr, IfOk, OnOk, OnErr, refl, sym, ap, ◌∙◌, subst}
 use Rattle.std.proofs.lemmas.Option.{same_Some}
+use Rattle.disk.specs.declared.device.DiskFault.TheVariants.{Failed}
 use Rattle.disk.specs.declared.memory.MemDisk.{MemDisk}
 use Rattle.disk.specs.Memory.{memory_state}
 use Rattle.wire.specs.declared.packet.Packet.{Packet}
@@ -9,15 +10,15 @@ use Rattle.wire.specs.declared.refusal.Refusal.{Refusal}
 use Rattle.wire.specs.declared.refusal.Refusal.TheVariants as refusals
 use Rattle.model_streams.specs.Outcome.{Outcome}
 use Rattle.model_partition.specs.declared.range_entry.RangeEntry.{RangeEntry}
-use Rattle.model_partition.specs.Map.{MapState, is_other, is_holder, range_at, assign_fault, assign_rule, renew_fault, renew_rule}
-use Rattle.model_partition.specs.Cluster.{Cluster, assigns, renews, map_performs_if}
+use Rattle.model_partition.specs.Map.{MapState, map_rule, is_other, is_holder, range_at, assign_fault, assign_rule, renew_fault, renew_rule}
+use Rattle.model_partition.specs.Cluster.{Cluster, assigns, renews, map_performs, map_performs_if, map_takes}
 use Rattle.pmap.specs.declared.fault.MapFault.{MapFault}
 use Rattle.pmap.specs.declared.fault.MapFault.TheVariants as faults
 use Rattle.pmap.specs.MapWithFile.{MapWithFile, map_of}
 use Rattle.pmap.specs.Performs.{MapPerforms, as_rule, fault_of}
-use Rattle.world_map.specs.declared.map_actor.MapAnswer.{MapAnswer}
+use Rattle.world_steps.specs.ActorStep.{ActorStep}
 use Rattle.world_map.specs.Outcome.{packets_of, refusal_of}
-use Rattle.world_map.specs.Seen.{MapMirrors, MapSteps, assign_refusal, renew_refusal, seen_of}
+use Rattle.world_map.specs.Seen.{MapMirrors, MapSimulates, MapSteps, assign_refusal, renew_refusal, seen_of}
 use Rattle.world_map.proofs.MapSimulation.{IsReplayed, goes_up, rests_on, rule_broken, rule_done, rule_short, seen_up}
 
 -- ---- why calls are refused
@@ -40,35 +41,35 @@ renew_told server (Some e) r is = by_test (not (is_holder e.holder server)) is
 
 -- ---- a call that is refused for this reason, if for one
 
-module _ (x y : MapWithFile MemDisk) (up : x.file.stopped ≡ false) (fault : Option Refusal) (o : Outcome MapState) (done : Result Step MapFault)
+module _ (t : ℕ) (x y : MapWithFile MemDisk) (up : x.file.stopped ≡ false) (fault : Option Refusal) (o : Outcome MapState) (done : Result Step MapFault)
     (refused : (r : Refusal) → fault ≡ Some r → (y ≡ x) × (done ≡ Err (fault_of r))) (performed : fault ≡ None → MapPerforms memory_state x y o (as_rule done))
     (taken : fault ≡ None → IfErr done (λ e. (e ≢ faults.NotOwner) × (e ≢ faults.LeaseHeld))) where
   -- what it sends, and what is left of the cluster
-  went : (c : Cluster) → MapMirrors (seen_of x) c → IsReplayed x → done ≢ Err faults.Memory → MapSteps (seen_of y) c (map_performs_if c fault o) (packets_of done)
+  went : (c : Cluster) → MapMirrors (seen_of t x) c → IsReplayed x → done ≢ Err faults.Memory → MapSteps (seen_of t y) c (map_performs_if c fault o) (packets_of done)
   went c m before some = by_fault fault refl
     where
       by_done : (d : Result Step MapFault) → done ≡ d → MapPerforms memory_state x y o (as_rule d) → IfErr d (λ e. (e ≢ faults.NotOwner) × (e ≢ faults.LeaseHeld)) →
-          MapSteps (seen_of y) c (map_performs_if c None o) (packets_of d)
-      by_done (Ok step) is h t = rule_done o x y c step up m h
-      by_done (Err faults.NotOwner) is h t = absurd (t.0 refl)
-      by_done (Err faults.LeaseHeld) is h t = absurd (t.1 refl)
-      by_done (Err faults.DiskFailed) is h t = rule_broken o x y c up m before h
-      by_done (Err faults.Memory) is h t = absurd (some is)
+          MapSteps (seen_of t y) c (map_performs_if c None o) (packets_of d)
+      by_done (Ok step) is h taken = rule_done t o x y c step up m h
+      by_done (Err faults.NotOwner) is h taken = absurd (taken.0 refl)
+      by_done (Err faults.LeaseHeld) is h taken = absurd (taken.1 refl)
+      by_done (Err faults.DiskFailed) is h taken = rule_broken t o x y c up m before h
+      by_done (Err faults.Memory) is h taken = absurd (some is)
 
-      by_fault : (f : Option Refusal) → fault ≡ f → MapSteps (seen_of y) c (map_performs_if c f o) (packets_of done)
+      by_fault : (f : Option Refusal) → fault ≡ f → MapSteps (seen_of t y) c (map_performs_if c f o) (packets_of done)
       by_fault None is = by_done done refl (performed is) (taken is)
       by_fault (Some r) is =
           let (same, told) = refused r is in
-          subst (λ (z : MapWithFile MemDisk). MapSteps (seen_of z) c c (packets_of done)) (sym same)
-          (subst (λ (d : Result Step MapFault). MapSteps (seen_of x) c c (packets_of d)) (sym told) (rests_on (seen_of x) c m))
+          subst (λ (z : MapWithFile MemDisk). MapSteps (seen_of t z) c c (packets_of done)) (sym same)
+          (subst (λ (d : Result Step MapFault). MapSteps (seen_of t x) c c (packets_of d)) (sym told) (rests_on (seen_of t x) c m))
 
   -- where no memory was left nothing has changed
-  pub short : done ≡ Err faults.Memory → seen_of y ≡ seen_of x
+  pub short : done ≡ Err faults.Memory → seen_of t y ≡ seen_of t x
   short none = by_fault fault refl
     where
-      by_fault : (f : Option Refusal) → fault ≡ f → seen_of y ≡ seen_of x
-      by_fault None is = rule_short o x y up (subst (λ (d : Result Step MapFault). MapPerforms memory_state x y o (as_rule d)) none (performed is))
-      by_fault (Some r) is = ap seen_of (refused r is).0
+      by_fault : (f : Option Refusal) → fault ≡ f → seen_of t y ≡ seen_of t x
+      by_fault None is = rule_short t o x y up (subst (λ (d : Result Step MapFault). MapPerforms memory_state x y o (as_rule d)) none (performed is))
+      by_fault (Some r) is = ap (seen_of t) (refused r is).0
 
   -- why it is refused
   told_as : ((r : Refusal) → fault ≡ Some r → refusal_of (Err (fault_of r)) ≡ Some r) → refusal_of done ≡ fault
@@ -91,53 +92,67 @@ module _ (x y : MapWithFile MemDisk) (range server now until : ℕ) (done : Resu
     (refused : (r : Refusal) → assign_fault server now (range_at x.ranges range) ≡ Some r → (y ≡ x) × (done ≡ Err (fault_of r)))
     (performed : assign_fault server now (range_at x.ranges range) ≡ None → MapPerforms memory_state x y (assign_rule (map_of x) range server until (range_at x.ranges range)) (as_rule done))
     (taken : assign_fault server now (range_at x.ranges range) ≡ None → IfErr done (λ e. (e ≢ faults.NotOwner) × (e ≢ faults.LeaseHeld))) where
-  pub assign_went : IsReplayed x → done ≢ Err faults.Memory → (c : Cluster) → MapMirrors (seen_of x) c → c.now ≡ now → MapSteps (seen_of y) c (assigns c range server until) (packets_of done)
-  assign_went before some c m at =
-      let is : c.map ≡ map_of x = m.map ∙ seen_up x up in
-      goes_up (seen_of x) (seen_of y) c _ (packets_of done) up m
-      (subst (λ (k : MapState). MapSteps (seen_of y) c (map_performs_if c (assign_fault server c.now (range_at k.ranges range)) (assign_rule k range server until (range_at k.ranges range))) (packets_of done)) (sym is)
-      (subst (λ (n : ℕ). MapSteps (seen_of y) c (map_performs_if c (assign_fault server n (range_at x.ranges range)) (assign_rule (map_of x) range server until (range_at x.ranges range))) (packets_of done)) (sym at)
-      (went x y up (assign_fault server now (range_at x.ranges range)) (assign_rule (map_of x) range server until (range_at x.ranges range)) done refused performed taken c m before some)))
+  pub assign_went : IsReplayed x → done ≢ Err faults.Memory → (c : Cluster) → MapMirrors (seen_of now x) c → MapSteps (seen_of now y) c (assigns c range server until) (packets_of done)
+  assign_went before some c m =
+      let is : c.map ≡ map_of x = m.map ∙ seen_up now x up in
+      goes_up (seen_of now x) (seen_of now y) c _ (packets_of done) up m
+      (subst (λ (k : MapState). MapSteps (seen_of now y) c (map_performs_if c (assign_fault server c.now (range_at k.ranges range)) (assign_rule k range server until (range_at k.ranges range))) (packets_of done)) (sym is)
+      (subst (λ (n : ℕ). MapSteps (seen_of now y) c (map_performs_if c (assign_fault server n (range_at x.ranges range)) (assign_rule (map_of x) range server until (range_at x.ranges range))) (packets_of done)) (sym m.moment)
+      (went now x y up (assign_fault server now (range_at x.ranges range)) (assign_rule (map_of x) range server until (range_at x.ranges range)) done refused performed taken c m before some)))
 
-  pub assign_short : done ≡ Err faults.Memory → seen_of y ≡ seen_of x
-  assign_short = short x y up (assign_fault server now (range_at x.ranges range)) (assign_rule (map_of x) range server until (range_at x.ranges range)) done refused performed taken
+  pub assign_short : done ≡ Err faults.Memory → seen_of now y ≡ seen_of now x
+  assign_short = short now x y up (assign_fault server now (range_at x.ranges range)) (assign_rule (map_of x) range server until (range_at x.ranges range)) done refused performed taken
 
-  pub assign_refused : refusal_of done ≡ assign_refusal (seen_of x) now range server
+  pub assign_refused : refusal_of done ≡ assign_refusal (seen_of now x) now range server
   assign_refused =
-      told_as x y up (assign_fault server now (range_at x.ranges range)) (assign_rule (map_of x) range server until (range_at x.ranges range)) done refused performed taken (assign_told server now (range_at x.ranges range))
-      ∙ ap (λ (k : MapState). assign_fault server now (range_at k.ranges range)) (sym (seen_up x up))
-      ∙ ap (λ (b : Bool). if b then None else assign_fault server now (range_at (seen_of x).map.ranges range)) (sym up)
+      told_as now x y up (assign_fault server now (range_at x.ranges range)) (assign_rule (map_of x) range server until (range_at x.ranges range)) done refused performed taken (assign_told server now (range_at x.ranges range))
+      ∙ ap (λ (k : MapState). assign_fault server now (range_at k.ranges range)) (sym (seen_up now x up))
+      ∙ ap (λ (b : Bool). if b then None else assign_fault server now (range_at (seen_of now x).map.ranges range)) (sym up)
 
 -- ---- renewals
 
-module _ (x y : MapWithFile MemDisk) (range server until : ℕ) (done : Result Step MapFault) (up : x.file.stopped ≡ false)
+module _ (t : ℕ) (x y : MapWithFile MemDisk) (range server until : ℕ) (done : Result Step MapFault) (up : x.file.stopped ≡ false)
     (refused : (r : Refusal) → renew_fault server (range_at x.ranges range) ≡ Some r → (y ≡ x) × (done ≡ Err (fault_of r)))
     (performed : renew_fault server (range_at x.ranges range) ≡ None → MapPerforms memory_state x y (renew_rule (map_of x) range server until (range_at x.ranges range)) (as_rule done))
     (taken : renew_fault server (range_at x.ranges range) ≡ None → IfErr done (λ e. (e ≢ faults.NotOwner) × (e ≢ faults.LeaseHeld))) where
-  pub renew_went : IsReplayed x → done ≢ Err faults.Memory → (c : Cluster) → MapMirrors (seen_of x) c → MapSteps (seen_of y) c (renews c range server until) (packets_of done)
+  pub renew_went : IsReplayed x → done ≢ Err faults.Memory → (c : Cluster) → MapMirrors (seen_of t x) c → MapSteps (seen_of t y) c (renews c range server until) (packets_of done)
   renew_went before some c m =
-      let is : c.map ≡ map_of x = m.map ∙ seen_up x up in
-      goes_up (seen_of x) (seen_of y) c _ (packets_of done) up m
-      (subst (λ (k : MapState). MapSteps (seen_of y) c (map_performs_if c (renew_fault server (range_at k.ranges range)) (renew_rule k range server until (range_at k.ranges range))) (packets_of done)) (sym is)
-      (went x y up (renew_fault server (range_at x.ranges range)) (renew_rule (map_of x) range server until (range_at x.ranges range)) done refused performed taken c m before some))
+      let is : c.map ≡ map_of x = m.map ∙ seen_up t x up in
+      goes_up (seen_of t x) (seen_of t y) c _ (packets_of done) up m
+      (subst (λ (k : MapState). MapSteps (seen_of t y) c (map_performs_if c (renew_fault server (range_at k.ranges range)) (renew_rule k range server until (range_at k.ranges range))) (packets_of done)) (sym is)
+      (went t x y up (renew_fault server (range_at x.ranges range)) (renew_rule (map_of x) range server until (range_at x.ranges range)) done refused performed taken c m before some))
 
-  pub renew_short : done ≡ Err faults.Memory → seen_of y ≡ seen_of x
-  renew_short = short x y up (renew_fault server (range_at x.ranges range)) (renew_rule (map_of x) range server until (range_at x.ranges range)) done refused performed taken
+  pub renew_short : done ≡ Err faults.Memory → seen_of t y ≡ seen_of t x
+  renew_short = short t x y up (renew_fault server (range_at x.ranges range)) (renew_rule (map_of x) range server until (range_at x.ranges range)) done refused performed taken
 
-  pub renew_refused : refusal_of done ≡ renew_refusal (seen_of x) range server
+  pub renew_refused : refusal_of done ≡ renew_refusal (seen_of t x) range server
   renew_refused =
-      told_as x y up (renew_fault server (range_at x.ranges range)) (renew_rule (map_of x) range server until (range_at x.ranges range)) done refused performed taken (renew_told server (range_at x.ranges range))
-      ∙ ap (λ (k : MapState). renew_fault server (range_at k.ranges range)) (sym (seen_up x up))
-      ∙ ap (λ (b : Bool). if b then None else renew_fault server (range_at (seen_of x).map.ranges range)) (sym up)
+      told_as t x y up (renew_fault server (range_at x.ranges range)) (renew_rule (map_of x) range server until (range_at x.ranges range)) done refused performed taken (renew_told server (range_at x.ranges range))
+      ∙ ap (λ (k : MapState). renew_fault server (range_at k.ranges range)) (sym (seen_up t x up))
+      ∙ ap (λ (b : Bool). if b then None else renew_fault server (range_at (seen_of t x).map.ranges range)) (sym up)
+
+-- ---- packets
+
+module _ (t : ℕ) (x y : MapWithFile MemDisk) (p : Packet) (up : x.file.stopped ≡ false) where
+  takes : (c : Cluster) (packets : List Packet) → MapMirrors (seen_of t x) c → MapSteps (seen_of t y) c (map_performs c (map_rule (map_of x) p p.body)) packets → MapSteps (seen_of t y) c (map_takes c p) packets
+  takes c packets m h =
+      goes_up (seen_of t x) (seen_of t y) c _ packets up m
+      (subst (λ (k : MapState). MapSteps (seen_of t y) c (map_performs c (map_rule k p p.body)) packets) (sym (m.map ∙ seen_up t x up)) h)
+
+  pub took : (step : Step) → MapPerforms memory_state x y (map_rule (map_of x) p p.body) (Ok step) → MapSimulates (seen_of t x) (seen_of t y) (λ c. map_takes c p) step.packets
+  took step h = λ c m. takes c step.packets m (rule_done t (map_rule (map_of x) p p.body) x y c step up m h)
+
+  pub took_broken : IsReplayed x → MapPerforms memory_state x y (map_rule (map_of x) p p.body) (Err Failed) → MapSimulates (seen_of t x) (seen_of t y) (λ c. map_takes c p) []
+  took_broken before h = λ c m. takes c [] m (rule_broken t (map_rule (map_of x) p p.body) x y c up m before h)
 
 -- ---- what is answered
 
-pub if_packets : {E : Type 0} (r : Result MapAnswer E) (P : List Packet → Type 0) (done : Result Step MapFault) → IfOk r (λ answer. answer.packets ≡ packets_of done) → OnOk r (done ≢ Err faults.Memory) →
+pub if_packets : {E : Type 0} (r : Result ActorStep E) (P : List Packet → Type 0) (done : Result Step MapFault) → IfOk r (λ answer. answer.packets ≡ packets_of done) → OnOk r (done ≢ Err faults.Memory) →
     (done ≢ Err faults.Memory → P (packets_of done)) → IfOk r (λ answer. P answer.packets)
 if_packets (Ok answer) P done is some h = subst P (sym is) (h some)
 if_packets (Err e) P done is some h = tt
 
-pub if_refusal : {E : Type 0} (r : Result MapAnswer E) (done : Result Step MapFault) (why : Option Refusal) → IfOk r (λ answer. answer.refusal ≡ refusal_of done) → refusal_of done ≡ why →
+pub if_refusal : {E : Type 0} (r : Result ActorStep E) (done : Result Step MapFault) (why : Option Refusal) → IfOk r (λ answer. answer.refusal ≡ refusal_of done) → refusal_of done ≡ why →
     IfOk r (λ answer. answer.refusal ≡ why)
 if_refusal (Ok answer) done why is h = is ∙ h
 if_refusal (Err e) done why is h = tt

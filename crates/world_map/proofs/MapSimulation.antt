@@ -21,11 +21,11 @@ use Rattle.world_map.specs.Seen.{MapSeen, MapMirrors, MapSteps, seen_of, new_map
 
 -- ---- what is seen
 
-pub seen_up : (x : MapWithFile MemDisk) → x.file.stopped ≡ false → (seen_of x).map ≡ map_of x
-seen_up x up = ap (λ (b : Bool). if b then map_replay x.file.records else map_of x) up
+pub seen_up : (t : ℕ) (x : MapWithFile MemDisk) → x.file.stopped ≡ false → (seen_of t x).map ≡ map_of x
+seen_up t x up = ap (λ (b : Bool). if b then map_replay x.file.records else map_of x) up
 
-pub seen_down : (x : MapWithFile MemDisk) → x.file.stopped ≡ true → (seen_of x).map ≡ map_replay x.file.records
-seen_down x isdown = ap (λ (b : Bool). if b then map_replay x.file.records else map_of x) isdown
+pub seen_down : (t : ℕ) (x : MapWithFile MemDisk) → x.file.stopped ≡ true → (seen_of t x).map ≡ map_replay x.file.records
+seen_down t x isdown = ap (λ (b : Bool). if b then map_replay x.file.records else map_of x) isdown
 
 -- a map that runs is what its records make
 abbrev pub IsReplayed : MapWithFile MemDisk → Type 0
@@ -39,32 +39,33 @@ pub rests_on : (x : MapSeen) (c : Cluster) → MapMirrors x c → MapSteps x c c
 rests_on x c m = record { stream_layer = nothing_sent c.stream_layer; servers = refl; now = refl; batch = refl; map = m }
 
 -- it has stopped, with this map
-pub halted_on : (y : MapSeen) (c : Cluster) (m : MapState) → y.stopped ≡ true → m ≡ y.map → MapSteps y c (map_halted (record c { map = m })) []
-halted_on y c m isdown is = record {
+pub halted_on : (y : MapSeen) (c : Cluster) (m : MapState) → y.stopped ≡ true → m ≡ y.map → c.now ≡ y.moment → MapSteps y c (map_halted (record c { map = m })) []
+halted_on y c m isdown is at = record {
   stream_layer = nothing_sent c.stream_layer;
   servers = refl;
   now = refl;
   batch = refl;
-  map = record { map = is; up = ap not (sym isdown); plan = λ isup. absurd (let d = isdown in cc) };
+  map = record { map = is; up = ap not (sym isdown); plan = λ isup. absurd (let d = isdown in cc); moment = at };
 }
 
 -- ---- a rule
 
 -- the record stands before anything is sent
-pub rule_done : (o : Outcome MapState) (x y : MapWithFile MemDisk) (c : Cluster) (s : Step) → x.file.stopped ≡ false → MapMirrors (seen_of x) c → MapPerforms memory_state x y o (Ok s) →
-    MapSteps (seen_of y) c (map_performs c o) s.packets
-rule_done o x y c s up m h =
-    if_elim (λ d. MapSteps (seen_of y) c d s.packets) (stops_in c.map_cell o.written) _ _
-    (λ t. absurd (no_stop x.file y.file o.written s c.map_cell h.file (m.plan up) t))
+pub rule_done : (t : ℕ) (o : Outcome MapState) (x y : MapWithFile MemDisk) (c : Cluster) (s : Step) → x.file.stopped ≡ false → MapMirrors (seen_of t x) c → MapPerforms memory_state x y o (Ok s) →
+    MapSteps (seen_of t y) c (map_performs c o) s.packets
+rule_done t o x y c s up m h =
+    if_elim (λ d. MapSteps (seen_of t y) c d s.packets) (stops_in c.map_cell o.written) _ _
+    (λ b. absurd (no_stop x.file y.file o.written s c.map_cell h.file (m.plan up) b))
     (λ f. record {
       stream_layer = ap (λ (l : List Packet). sent_more c.stream_layer l) (sym h.packets);
       servers = refl;
       now = refl;
       batch = refl;
       map = record {
-        map = sym h.after ∙ sym (seen_up y yup);
+        map = sym h.after ∙ sym (seen_up t y yup);
         up = burnt_up c.map_cell o.written ∙ m.up ∙ ap not (up ∙ sym yup);
         plan = λ _. plan_ok x.file y.file o.written s c.map_cell h.file (m.plan up) f;
+        moment = m.moment;
       };
     })
   where
@@ -72,40 +73,40 @@ rule_done o x y c s up m h =
     yup = up_ok x.file y.file o.written s h.file up
 
 -- it stops in the rule's record, which stands or not
-pub rule_broken : (o : Outcome MapState) (x y : MapWithFile MemDisk) (c : Cluster) → x.file.stopped ≡ false → MapMirrors (seen_of x) c → IsReplayed x → MapPerforms memory_state x y o (Err Failed) →
-    MapSteps (seen_of y) c (map_performs c o) []
-rule_broken o x y c up m before h =
-    if_elim (λ d. MapSteps (seen_of y) c d []) (stops_in c.map_cell o.written) _ _
-    (λ t. by_record (stands_in c.map_cell) (broken_records x.file y.file o.written c.map_cell h.file (m.plan up) t))
+pub rule_broken : (t : ℕ) (o : Outcome MapState) (x y : MapWithFile MemDisk) (c : Cluster) → x.file.stopped ≡ false → MapMirrors (seen_of t x) c → IsReplayed x → MapPerforms memory_state x y o (Err Failed) →
+    MapSteps (seen_of t y) c (map_performs c o) []
+rule_broken t o x y c up m before h =
+    if_elim (λ d. MapSteps (seen_of t y) c d []) (stops_in c.map_cell o.written) _ _
+    (λ b. by_record (stands_in c.map_cell) (broken_records x.file y.file o.written c.map_cell h.file (m.plan up) b))
     (λ f. absurd (broken_stops x.file y.file o.written c.map_cell h.file (m.plan up) f))
   where
     isdown : y.file.stopped ≡ true
     isdown = broken_down x.file y.file o.written h.file
 
     by_record : (b : Bool) → y.file.records ≡ (if b then x.file.records ++ listed o.written else x.file.records) →
-        MapSteps (seen_of y) c (if b then map_halted (record c { map = o.after }) else map_halted c) []
-    by_record true is = halted_on (seen_of y) c o.after isdown (sym h.stands.replays ∙ ap map_replay (sym is) ∙ sym (seen_down y isdown))
-    by_record false is = halted_on (seen_of y) c c.map isdown (m.map ∙ seen_up x up ∙ before ∙ ap map_replay (sym is) ∙ sym (seen_down y isdown))
+        MapSteps (seen_of t y) c (if b then map_halted (record c { map = o.after }) else map_halted c) []
+    by_record true is = halted_on (seen_of t y) c o.after isdown (sym h.stands.replays ∙ ap map_replay (sym is) ∙ sym (seen_down t y isdown)) m.moment
+    by_record false is = halted_on (seen_of t y) c c.map isdown (m.map ∙ seen_up t x up ∙ before ∙ ap map_replay (sym is) ∙ sym (seen_down t y isdown)) m.moment
 
 -- where no memory was left all that is seen of it is as it was
-pub rule_short : (o : Outcome MapState) (x y : MapWithFile MemDisk) → x.file.stopped ≡ false → MapPerforms memory_state x y o (Err Memory) → seen_of y ≡ seen_of x
-rule_short o x y up h =
+pub rule_short : (t : ℕ) (o : Outcome MapState) (x y : MapWithFile MemDisk) → x.file.stopped ≡ false → MapPerforms memory_state x y o (Err Memory) → seen_of t y ≡ seen_of t x
+rule_short t o x y up h =
     let f = short_same x.file y.file o.written h.file in
-    let same : (seen_of y).map ≡ (seen_of x).map = seen_up y (f.1 ∙ up) ∙ h.same ∙ sym (seen_up x up) in
-    λ i. record { map = same i; stopped = f.1 i; stop = f.2 i }
+    let same : (seen_of t y).map ≡ (seen_of t x).map = seen_up t y (f.1 ∙ up) ∙ h.same ∙ sym (seen_up t x up) in
+    λ i. record { map = same i; stopped = f.1 i; stop = f.2 i; moment = t }
 
 -- ---- one that runs, and one that has stopped
 
 pub goes_up : (x y : MapSeen) (c d : Cluster) (packets : List Packet) → x.stopped ≡ false → MapMirrors x c → MapSteps y c d packets → MapSteps y c (if c.map_cell.up then d else c) packets
 goes_up x y c d packets isup m h =
     if_elim (λ e. MapSteps y c e packets) c.map_cell.up d c
-    (λ t. h)
+    (λ b. h)
     (λ f. absurd (let a = m.up ∙ ap not isup in cc))
 
 pub goes_down : (x : MapSeen) (c d : Cluster) → x.stopped ≡ true → MapMirrors x c → MapSteps x c (if c.map_cell.up then d else c) []
 goes_down x c d isdown m =
     if_elim (λ e. MapSteps x c e []) c.map_cell.up d c
-    (λ t. absurd (let a = m.up ∙ ap not isdown in cc))
+    (λ b. absurd (let a = m.up ∙ ap not isdown in cc))
     (λ f. rests_on x c m)
 
 -- ---- calls that may be refused
@@ -121,19 +122,19 @@ is_refused c fault refusal o is = ap (λ (f : Option Refusal). map_performs_if c
 pub stop_down : (call : ℕ) (keep : Bool) (x : MapSeen) (c : Cluster) → x.stopped ≡ true → MapMirrors x c → MapSteps x c (map_stops c call keep) []
 stop_down call keep x c isdown m = goes_down x c _ isdown m
 
-pub stop_now : (call : ℕ) (keep : Bool) (x y : MapWithFile MemDisk) (c : Cluster) → x.file.stopped ≡ false → call ≡ 0 → MapMirrors (seen_of x) c → IsReplayed x →
-    y.file.records ≡ x.file.records → y.file.stopped ≡ true → MapSteps (seen_of y) c (map_stops c call keep) []
-stop_now call keep x y c up now m before same isdown =
-    goes_up (seen_of x) (seen_of y) c _ [] up m
-    (if_elim (λ d. MapSteps (seen_of y) c d []) (call == 0) (map_halted c) _
-    (λ z. halted_on (seen_of y) c c.map isdown (m.map ∙ seen_up x up ∙ before ∙ ap map_replay (sym same) ∙ sym (seen_down y isdown)))
+pub stop_now : (t : ℕ) (call : ℕ) (keep : Bool) (x y : MapWithFile MemDisk) (c : Cluster) → x.file.stopped ≡ false → call ≡ 0 → MapMirrors (seen_of t x) c → IsReplayed x →
+    y.file.records ≡ x.file.records → y.file.stopped ≡ true → MapSteps (seen_of t y) c (map_stops c call keep) []
+stop_now t call keep x y c up now m before same isdown =
+    goes_up (seen_of t x) (seen_of t y) c _ [] up m
+    (if_elim (λ d. MapSteps (seen_of t y) c d []) (call == 0) (map_halted c) _
+    (λ z. halted_on (seen_of t y) c c.map isdown (m.map ∙ seen_up t x up ∙ before ∙ ap map_replay (sym same) ∙ sym (seen_down t y isdown)) m.moment)
     (λ z. absurd (let f = subst (λ k. (k == 0) ≡ false) now z in cc)))
 
-pub stop_later : (call : ℕ) (keep : Bool) (x y : MapWithFile MemDisk) (c : Cluster) → x.file.stopped ≡ false → call ≢ 0 → MapMirrors (seen_of x) c →
-    map_of y ≡ map_of x → y.file.stopped ≡ x.file.stopped → (memory_state y.file.disk).stop ≡ Some (call, keep) → MapSteps (seen_of y) c (map_stops c call keep) []
-stop_later call keep x y c up later m kept same told =
-    goes_up (seen_of x) (seen_of y) c _ [] up m
-    (if_elim (λ d. MapSteps (seen_of y) c d []) (call == 0) (map_halted c) _
+pub stop_later : (t : ℕ) (call : ℕ) (keep : Bool) (x y : MapWithFile MemDisk) (c : Cluster) → x.file.stopped ≡ false → call ≢ 0 → MapMirrors (seen_of t x) c →
+    map_of y ≡ map_of x → y.file.stopped ≡ x.file.stopped → (memory_state y.file.disk).stop ≡ Some (call, keep) → MapSteps (seen_of t y) c (map_stops c call keep) []
+stop_later t call keep x y c up later m kept same told =
+    goes_up (seen_of t x) (seen_of t y) c _ [] up m
+    (if_elim (λ d. MapSteps (seen_of t y) c d []) (call == 0) (map_halted c) _
     (λ z. absurd (later (eqb-true call 0 z)))
     (λ z. record {
       stream_layer = nothing_sent c.stream_layer;
@@ -141,37 +142,39 @@ stop_later call keep x y c up later m kept same told =
       now = refl;
       batch = refl;
       map = record {
-        map = m.map ∙ seen_up x up ∙ sym kept ∙ sym (seen_up y (same ∙ up));
+        map = m.map ∙ seen_up t x up ∙ sym kept ∙ sym (seen_up t y (same ∙ up));
         up = ap not (sym (same ∙ up));
         plan = λ _. told ∙ sym (plan_armed call keep later);
+        moment = m.moment;
       };
     }))
 
 pub start_up : (x : MapSeen) (c : Cluster) → x.stopped ≡ false → MapMirrors x c → MapSteps x c (map_starts c) []
 start_up x c isup m =
     if_elim (λ d. MapSteps x c d []) c.map_cell.up c (record c { map_cell = running })
-    (λ t. rests_on x c m)
+    (λ b. rests_on x c m)
     (λ f. absurd (let a = m.up ∙ ap not isup in cc))
 
-pub starts_again : (x y : MapWithFile MemDisk) (c : Cluster) → x.file.stopped ≡ true → MapMirrors (seen_of x) c → y.file.stopped ≡ false → y.file.records ≡ x.file.records →
-    (memory_state y.file.disk).stop ≡ None → IsReplayed y → MapSteps (seen_of y) c (map_starts c) []
-starts_again x y c isdown m isup same untold made =
-    if_elim (λ d. MapSteps (seen_of y) c d []) c.map_cell.up c (record c { map_cell = running })
-    (λ t. absurd (let a = m.up ∙ ap not isdown in cc))
+pub starts_again : (t : ℕ) (x y : MapWithFile MemDisk) (c : Cluster) → x.file.stopped ≡ true → MapMirrors (seen_of t x) c → y.file.stopped ≡ false → y.file.records ≡ x.file.records →
+    (memory_state y.file.disk).stop ≡ None → IsReplayed y → MapSteps (seen_of t y) c (map_starts c) []
+starts_again t x y c isdown m isup same untold made =
+    if_elim (λ d. MapSteps (seen_of t y) c d []) c.map_cell.up c (record c { map_cell = running })
+    (λ b. absurd (let a = m.up ∙ ap not isdown in cc))
     (λ f. record {
       stream_layer = nothing_sent c.stream_layer;
       servers = refl;
       now = refl;
       batch = refl;
       map = record {
-        map = m.map ∙ seen_down x isdown ∙ ap map_replay (sym same) ∙ sym made ∙ sym (seen_up y isup);
+        map = m.map ∙ seen_down t x isdown ∙ ap map_replay (sym same) ∙ sym made ∙ sym (seen_up t y isup);
         up = ap not (sym isup);
         plan = λ _. untold;
+        moment = m.moment;
       };
     })
 
 -- a map with nothing on its disk
-pub first_seen : (y : MapWithFile MemDisk) → y.file.stopped ≡ false → y.file.records ≡ [] → (memory_state y.file.disk).stop ≡ None → IsReplayed y → seen_of y ≡ new_map
+pub first_seen : (y : MapWithFile MemDisk) → y.file.stopped ≡ false → y.file.records ≡ [] → (memory_state y.file.disk).stop ≡ None → IsReplayed y → seen_of 0 y ≡ new_map
 first_seen y isup none untold made =
-    let map : (seen_of y).map ≡ map_replay [] = seen_up y isup ∙ made ∙ ap map_replay none in
-    λ i. record { map = map i; stopped = isup i; stop = untold i }
+    let map : (seen_of 0 y).map ≡ map_replay [] = seen_up 0 y isup ∙ made ∙ ap map_replay none in
+    λ i. record { map = map i; stopped = isup i; stop = untold i; moment = 0 }

@@ -1,5 +1,5 @@
 -- The real map beside the model's.
-use Rattle.std.specs.Prelude.{◌≡◌, ℕ, Bool, false, not, List, Option, None, if◌then◌else◌}
+use Rattle.std.specs.Prelude.{◌≡◌, ℕ, Bool, false, not, nat_lt, List, Option, None, if◌then◌else◌}
 use Rattle.disk.specs.declared.memory.MemDisk.{MemDisk}
 use Rattle.disk.specs.Memory.{memory_state}
 use Rattle.wire.specs.declared.packet.Packet.{Packet}
@@ -11,29 +11,33 @@ use Rattle.model_partition.specs.Cluster.{Cluster}
 use Rattle.world_stops.specs.Plan.{plan_of}
 use Rattle.pmap.specs.MapWithFile.{MapWithFile, map_of}
 
--- what is seen of the map: of one that has stopped, what its records make; whether it has; and its disk's plan to stop
+-- what is seen of the map: of one that has stopped, what its records make; whether it has; its disk's plan to stop; and the last
+-- moment of the clock
 pub record MapSeen : Type 0 where
   pub map : MapState
   pub stopped : Bool
   pub stop : Option (ℕ × Bool)
+  pub moment : ℕ
 
-abbrev pub seen_of : MapWithFile MemDisk → MapSeen
-seen_of x =
+abbrev pub seen_of : ℕ → MapWithFile MemDisk → MapSeen
+seen_of moment x =
     record {
       map = if x.file.stopped then map_replay x.file.records else map_of x;
       stopped = x.file.stopped;
       stop = (memory_state x.file.disk).stop;
+      moment = moment;
     }
 
--- the model's map, and whether it runs, are as is seen here
-pub record IsMap (x : MapSeen) (m : MapState) (cell : ActorCell) : Type 0 where
+-- the model's map, whether it runs, and the moment are as is seen here
+pub record IsMap (x : MapSeen) (m : MapState) (cell : ActorCell) (now : ℕ) : Type 0 where
   pub map : m ≡ x.map
   pub up : cell.up ≡ not x.stopped
   pub plan : x.stopped ≡ false → x.stop ≡ plan_of cell
+  pub moment : now ≡ x.moment
 
 -- the model's map mirrors what is seen of the real one
 abbrev pub MapMirrors : MapSeen → Cluster → Type 0
-MapMirrors x c = IsMap x c.map c.map_cell
+MapMirrors x c = IsMap x c.map c.map_cell c.now
 
 -- from c to d the map alone steps: y is seen of it then, and it sends these
 pub record MapSteps (y : MapSeen) (c d : Cluster) (packets : List Packet) : Type 0 where
@@ -47,13 +51,13 @@ pub record MapSteps (y : MapSeen) (c d : Cluster) (packets : List Packet) : Type
 abbrev pub MapSimulates : MapSeen → MapSeen → (Cluster → Cluster) → List Packet → Type 0
 MapSimulates x y step packets = (c : Cluster) → MapMirrors x c → MapSteps y c (step c) packets
 
--- the same, of a cluster at this moment
-abbrev pub MapSimulatesAt : ℕ → MapSeen → MapSeen → (Cluster → Cluster) → List Packet → Type 0
-MapSimulatesAt now x y step packets = (c : Cluster) → MapMirrors x c → c.now ≡ now → MapSteps y c (step c) packets
-
--- a map that runs, of a range that nobody holds
+-- a map that runs, of a range that nobody holds, at moment 0
 abbrev pub new_map : MapSeen
-new_map = record { map = first_map; stopped = false; stop = None }
+new_map = record { map = first_map; stopped = false; stop = None; moment = 0 }
+
+-- the clock shows this; a moment that goes back changes nothing
+abbrev pub moment_shown : ℕ → MapSeen → MapSeen
+moment_shown now x = if nat_lt now x.moment then x else record x { moment = now }
 
 -- why a call is refused; one that has stopped refuses nothing
 abbrev pub assign_refusal : MapSeen → ℕ → ℕ → ℕ → Option Refusal

@@ -1,24 +1,27 @@
 //! The map on a disk in memory.
-ghost use Rattle.std.specs.Prelude.{◌≡◌, ◌≢◌, ◌≤◌, [], Err, None, Some, IfOk, OnOk, OnErr, length};
+ghost use Rattle.std.specs.Prelude.{◌≡◌, ◌≢◌, [], Err, None, IfOk, OnOk, OnErr};
 ghost use Rattle.model_partition.specs.Cluster.{assigns, renews, map_takes, map_stops, map_starts};
 ghost use Rattle.world_map.specs.Outcome.{packets_of, refusal_of};
-ghost use Rattle.world_map.specs.Seen.{MapSimulates, MapSimulatesAt, assign_refusal, new_map, renew_refusal};
+ghost use Rattle.world_map.specs.Seen.{MapSimulates, assign_refusal, moment_shown, new_map, renew_refusal};
+ghost use Rattle.world_steps.specs.ActorStep.{IsFew, packets_alone};
 
 use disk::{DiskFault, MemDisk, RecordFile};
 use pmap::{MapFault, PartitionMap};
 use std::alloc::{AllocError, Global};
 use std::marker::Model;
-use wire::{Packet, Packets, RangeId, Refusal, ServerNo, Step};
+use wire::{Packet, RangeId, Refusal, ServerNo, Step};
+use world_steps::ActorStep;
 
-/// The map, on a disk in memory.
+/// The map, on a disk in memory, and the last moment of the clock.
 pub struct MapActor {
     map: PartitionMap<MemDisk>,
+    moment: u64,
 }
 
 // Written out, so that a crate above that lets one go has no proof of what is in it.
 impl Drop for MapActor {
     fn drop(self) {
-        let MapActor { map: _ } = self;
+        let MapActor { map: _, moment: _ } = self;
     }
 }
 
@@ -27,52 +30,35 @@ impl Model for MapActor {
 
     ghost Value = { MapSeen };
 
-    ghost view = { λ actor. seen_of actor.map };
+    ghost view = { λ actor. seen_of actor.moment actor.map };
 }
 
-/// What the map sends for a call, or why it refuses it: then it sends nothing.
-#[derive(Drop)]
-pub struct MapAnswer {
-    pub packets: Packets,
-    pub refusal: Option<Refusal>,
-}
-
-fn performed(packets: Packets) -> MapAnswer
-    ensures { (result.packets ≡ packets) × (result.refusal ≡ None) }
+/// What the map sends in a step; no rule of it shows anything.
+fn performed(alloc: Global, step: Step) -> ActorStep
+    ensures { result ≡ packets_alone step.packets }
 {
-    MapAnswer {
-        packets,
-        refusal: None,
-    }
-}
-
-fn refused(alloc: Global, refusal: Refusal) -> MapAnswer
-    ensures { (result.packets ≡ []) × (result.refusal ≡ Some refusal) }
-{
-    MapAnswer {
-        packets: Packets::new(alloc),
-        refusal: Some(refusal),
-    }
+    ActorStep::of_packets(alloc, step.packets)
 }
 
 /// What a call of the map comes to. A map that stops in it sends nothing.
-fn outcome(alloc: Global, done: Result<Step, MapFault>) -> Result<MapAnswer, AllocError>
-    ensures packets { IfOk result (λ answer. answer.packets ≡ packets_of done) }
-    ensures refusal { IfOk result (λ answer. answer.refusal ≡ refusal_of done) }
+fn outcome(alloc: Global, done: Result<Step, MapFault>) -> Result<ActorStep, AllocError>
+    ensures packets { IfOk result (λ step. step.packets ≡ packets_of done) }
+    ensures plain { IfOk result (λ step. (step.notes ≡ []) × (step.tables ≡ [])) }
+    ensures refusal { IfOk result (λ step. step.refusal ≡ refusal_of done) }
     ensures ok { OnOk result (done ≢ Err MapFault.Memory) }
     ensures err { OnErr result (done ≡ Err MapFault.Memory) }
 {
     match done {
-        Ok(step) => Ok(performed(step.packets)),
-        Err(MapFault::NotOwner) => Ok(refused(alloc, Refusal::NotOwner)),
-        Err(MapFault::LeaseHeld) => Ok(refused(alloc, Refusal::LeaseHeld)),
-        Err(MapFault::DiskFailed) => Ok(performed(Packets::new(alloc))),
+        Ok(step) => Ok(performed(alloc, step)),
+        Err(MapFault::NotOwner) => Ok(ActorStep::refused(alloc, Refusal::NotOwner)),
+        Err(MapFault::LeaseHeld) => Ok(ActorStep::refused(alloc, Refusal::LeaseHeld)),
+        Err(MapFault::DiskFailed) => Ok(ActorStep::silent(alloc)),
         Err(MapFault::Memory) => Err(AllocError),
     }
 }
 
 impl MapActor {
-    /// A map with nothing on its disk: range 1 has all keys, and nobody holds it. An error is out of memory (22).
+    /// A map with nothing on its disk: range 1 has all keys, nobody holds it, and the moment is 0. An error is out of memory (22).
     pub fn start(alloc: Global) -> Result<MapActor, AllocError>
         ensures { IfOk result (λ map. map ≡ new_map) }
     {
@@ -81,23 +67,25 @@ impl MapActor {
             Err((_fault, _disk)) => return Err(AllocError),
         };
         match PartitionMap::restart(alloc, file.into_disk()) {
-            Ok(map) => Ok(MapActor { map }),
+            Ok(map) => Ok(MapActor { map, moment: 0 }),
             Err((_fault, _disk)) => Err(AllocError),
         }
     }
 
     /// Gives it a packet, and answers what it sends. An error is out of memory (22), and nothing has changed.
-    pub fn give(&mut self, alloc: Global, packet: &Packet) -> Result<Packets, AllocError>
-        ensures ok { IfOk result (λ packets. MapSimulates self.old self.new (λ c. map_takes c packet.now) packets) }
+    pub fn give(&mut self, alloc: Global, packet: &Packet) -> Result<ActorStep, AllocError>
+        ensures ok { IfOk result (λ step. MapSimulates self.old self.new (λ c. map_takes c packet.now) step.packets) }
+        ensures moment { self.new.moment ≡ self.old.moment }
+        ensures plain { IfOk result (λ step. (step.notes ≡ []) × (step.tables ≡ []) × (step.refusal ≡ None)) }
         ensures err { OnErr result (self.new ≡ self.old) }
-        ensures few { IfOk result (λ packets. length packets ≤ 2048) }
+        ensures few { IfOk result IsFew }
     {
         if self.map.is_stopped() {
-            return Ok(Packets::new(alloc));
+            return Ok(ActorStep::silent(alloc));
         }
         match self.map.handle(alloc, packet) {
-            Ok(step) => Ok(step.packets),
-            Err(DiskFault::Failed) => Ok(Packets::new(alloc)),
+            Ok(step) => Ok(performed(alloc, step)),
+            Err(DiskFault::Failed) => Ok(ActorStep::silent(alloc)),
             Err(DiskFault::Memory) => Err(AllocError),
         }
     }
@@ -109,18 +97,19 @@ impl MapActor {
         alloc: Global,
         range: RangeId,
         server: ServerNo,
-        now: u64,
         until: u64,
-    ) -> Result<MapAnswer, AllocError>
-        ensures ok { IfOk result (λ answer. MapSimulatesAt now self.old self.new (λ c. assigns c range server until) answer.packets) }
-        ensures refusal { IfOk result (λ answer. answer.refusal ≡ assign_refusal self.old now range server) }
+    ) -> Result<ActorStep, AllocError>
+        ensures ok { IfOk result (λ step. MapSimulates self.old self.new (λ c. assigns c range server until) step.packets) }
+        ensures moment { self.new.moment ≡ self.old.moment }
+        ensures plain { IfOk result (λ step. (step.notes ≡ []) × (step.tables ≡ [])) }
+        ensures refusal { IfOk result (λ step. step.refusal ≡ assign_refusal self.old self.old.moment range server) }
         ensures err { OnErr result (self.new ≡ self.old) }
-        ensures few { IfOk result (λ answer. length answer.packets ≤ 2048) }
+        ensures few { IfOk result IsFew }
     {
         if self.map.is_stopped() {
-            return Ok(performed(Packets::new(alloc)));
+            return Ok(ActorStep::silent(alloc));
         }
-        let done = self.map.assign(alloc, range, server, now, until);
+        let done = self.map.assign(alloc, range, server, self.moment, until);
         outcome(alloc, done)
     }
 
@@ -132,14 +121,16 @@ impl MapActor {
         range: RangeId,
         server: ServerNo,
         until: u64,
-    ) -> Result<MapAnswer, AllocError>
-        ensures ok { IfOk result (λ answer. MapSimulates self.old self.new (λ c. renews c range server until) answer.packets) }
-        ensures refusal { IfOk result (λ answer. answer.refusal ≡ renew_refusal self.old range server) }
+    ) -> Result<ActorStep, AllocError>
+        ensures ok { IfOk result (λ step. MapSimulates self.old self.new (λ c. renews c range server until) step.packets) }
+        ensures moment { self.new.moment ≡ self.old.moment }
+        ensures plain { IfOk result (λ step. (step.notes ≡ []) × (step.tables ≡ [])) }
+        ensures refusal { IfOk result (λ step. step.refusal ≡ renew_refusal self.old range server) }
         ensures err { OnErr result (self.new ≡ self.old) }
-        ensures few { IfOk result (λ answer. length answer.packets ≤ 2048) }
+        ensures few { IfOk result IsFew }
     {
         if self.map.is_stopped() {
-            return Ok(performed(Packets::new(alloc)));
+            return Ok(ActorStep::silent(alloc));
         }
         let done = self.map.renew(alloc, range, server, until);
         outcome(alloc, done)
@@ -147,7 +138,8 @@ impl MapActor {
 
     /// Stops it at once, or in one of its next device calls. Nothing comes of it where it has stopped.
     pub fn stop(&mut self, call: u64, keep: bool)
-        ensures { MapSimulates self.old self.new (λ c. map_stops c call keep) [] }
+        ensures stops { MapSimulates self.old self.new (λ c. map_stops c call keep) [] }
+        ensures moment { self.new.moment ≡ self.old.moment }
     {
         if self.map.is_stopped() {
             return;
@@ -163,6 +155,7 @@ impl MapActor {
     /// nothing has changed.
     pub fn restart(&mut self, alloc: Global) -> Result<(), AllocError>
         ensures ok { OnOk result (MapSimulates self.old self.new map_starts []) }
+        ensures moment { self.new.moment ≡ self.old.moment }
         ensures err { OnErr result (self.new ≡ self.old) }
     {
         if !self.map.is_stopped() {
@@ -178,6 +171,15 @@ impl MapActor {
                 Ok(())
             }
             Err((_fault, _disk)) => Err(AllocError),
+        }
+    }
+
+    /// The clock of leases shows this. A moment that goes back changes nothing.
+    pub fn moment(&mut self, now: u64)
+        ensures { self.new ≡ moment_shown now self.old }
+    {
+        if now >= self.moment {
+            self.moment = now;
         }
     }
 }

@@ -1,4 +1,4 @@
-//! The partition servers of a run, each over its starts and stops, and the rows that a loaded table shows.
+//! The partition servers of a run, and the rows that a loaded table shows.
 //!
 //! This crate touches memory only. `Servers` is the list of the servers as model_partition/specs/Servers has it, and each call is
 //! a row of it exactly:
@@ -12,13 +12,11 @@
 //! An error is out of memory (22), and nothing has changed; that is the one error that no clause limits.
 #![tactic(auto)]
 
-mod cell;
 mod list;
 mod place;
 mod rows;
 mod seen;
 
-pub use cell::GiveUpAnswer;
 pub use list::Servers;
 pub use rows::rows_of;
 pub use seen::SeenByExtent;

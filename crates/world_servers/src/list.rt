@@ -1,126 +1,170 @@
 //! The servers of a run.
-ghost use Rattle.std.specs.Prelude.{◌≡◌, ◌<◌, suc, [], length, map, option_map, IfOk, OnErr, IfSome, IfNone};
+ghost use Rattle.std.specs.Prelude.{◌≡◌, ◌<◌, ℕ, suc, [], None, length, map, option_map, IfOk, OnErr, IfSome, IfNone};
 ghost use Rattle.model_streams.specs.Maps.{entry_at};
-ghost use Rattle.model_partition.specs.Servers.{first_servers, give_up_refusal, server_gives_up, server_loads, server_stops, server_starts, server_takes, told_moment};
-ghost use Rattle.world_servers.specs.Servers.{outcome, NoMore};
+ghost use Rattle.model_partition.specs.Servers.{first_servers, give_up_refusal, server_gives_up, server_loads, server_stops, server_starts, server_takes};
+ghost use Rattle.world_server.specs.Seen.{moment_shown};
+ghost use Rattle.world_steps.specs.ActorStep.{IsFew};
+ghost use Rattle.world_servers.specs.Servers.{AreServers, StayServers, all_shown, cells_of, new_servers, outcome};
 
-use crate::cell::{GiveUpAnswer, ServerCell};
 use block_types::Nodes;
 use bytes::Bytes;
 use memtable::Cell;
-use range::Sent;
 use std::alloc::{AllocError, Global};
 use std::collections::BTreeMap;
 use std::marker::Model;
 use wire::{Body, Packet, RangeId, ServerNo};
+use world_server::ServerActor;
+use world_steps::ActorStep;
 
-/// The servers, numbered from 1. What they hold goes with a stop.
+/// The servers, numbered from 1, the last moment that they saw, and how many transactions a group of their logs may hold. What a
+/// server holds goes with a stop.
 pub struct Servers {
-    cells: Vec<ServerCell>,
+    actors: Vec<ServerActor>,
+    moment: u64,
+    batch: u16,
 }
 
 // Written out, so that a crate above that lets one go has no proof of what is in it.
 impl Drop for Servers {
     fn drop(self) {
-        let Servers { cells: _ } = self;
+        let Servers {
+            actors: _,
+            moment: _,
+            batch: _,
+        } = self;
     }
 }
 
 impl Model for Servers {
-    ghost use Rattle.std.specs.Prelude.{List};
-    ghost use Rattle.model_partition.specs.Servers as specs;
+    ghost use Rattle.world_servers.specs.Servers.{AreServers, ServersSeen, cells_of};
 
-    ghost Value = { List specs.ServerCell };
+    ghost Value = { ServersSeen };
 
-    ghost view = { λ s. s.cells.items };
+    ghost view = { λ s. record { cells = cells_of s.actors.items; moment = s.moment; batch = s.batch } };
+
+    ghost invariant = { λ s. AreServers s.moment s.batch 1 s.actors.items };
 }
 
+#[tactic(auto, using(crate::proofs::ServerList::one_started, crate::proofs::ServerList::all_started))]
+fn started(alloc: Global, count: u8, batch: u16) -> Result<Vec<ServerActor>, AllocError>
+    ensures { IfOk result (λ actors. actors.items ≡ new_servers batch 1 count) }
+{
+    let mut actors = Vec::with_capacity(alloc, usize::from(count))?;
+    for before in 0..count {
+        actors.push(ServerActor::start(alloc, ServerNo(before + 1), batch))?;
+    }
+    Ok(actors)
+}
+
+/// The place of the server of a number; none where there is none.
+#[tactic(auto, using(crate::proofs::ServerList::nobody_there))]
+fn place(actors: &[ServerActor], server: ServerNo) -> Option<usize>
+    ensures some { IfSome result (λ at. (server ≡ suc at) × (at < length actors.now)) }
+    ensures none { IfNone result (entry_at (cells_of actors.now) server ≡ None) }
+{
+    let number = usize::from(server.0);
+    if number == 0 {
+        return None;
+    }
+    if number - 1 >= actors.len() {
+        return None;
+    }
+    Some(number - 1)
+}
+
+#[tactic(auto, using(crate::proofs::ServerList::one_stepped, crate::proofs::ServerList::one_stays, crate::proofs::ServerList::set_same))]
 fn give_at(
-    cells: &mut Vec<ServerCell>,
+    actors: &mut Vec<ServerActor>,
     at: usize,
     alloc: Global,
     packet: &Packet,
-) -> Result<Sent, AllocError>
-    requires { at < length cells.old.items }
-    ensures ok { IfOk result (λ t. server_takes cells.old.items (suc at) packet.now ≡ outcome cells.new.items t) }
-    ensures err { OnErr result (cells.new.items ≡ cells.old.items) }
-    ensures few { IfOk result NoMore }
+) -> Result<ActorStep, AllocError>
+    requires { at < length actors.old.items }
+    ensures ok { IfOk result (λ step. server_takes (cells_of actors.old.items) (suc at) packet.now ≡ outcome (cells_of actors.new.items) step) }
+    ensures stay { StayServers actors.old.items actors.new.items }
+    ensures plain { IfOk result (λ step. (step.notes ≡ []) × (step.refusal ≡ None)) }
+    ensures err { OnErr result (actors.new.items ≡ actors.old.items) }
+    ensures few { IfOk result IsFew }
 {
-    match cells[at].give(alloc, packet) {
-        Ok(sent) => Ok(sent),
-        Err(fault) => Err(fault),
+    match actors[at].give(alloc, packet) {
+        Ok(step) => Ok(step),
+        Err(full) => Err(full),
     }
 }
 
+#[tactic(auto, using(crate::proofs::ServerList::one_stepped, crate::proofs::ServerList::one_stays, crate::proofs::ServerList::set_same))]
 fn give_up_at(
-    cells: &mut Vec<ServerCell>,
+    actors: &mut Vec<ServerActor>,
     at: usize,
     alloc: Global,
     range: RangeId,
     pick: &Nodes,
-) -> Result<GiveUpAnswer, AllocError>
-    requires { at < length cells.old.items }
-    ensures ok { IfOk result (λ d. server_gives_up cells.old.items (suc at) range pick.now ≡ outcome cells.new.items d.sent) }
-    ensures refusal { IfOk result (λ d. d.refusal ≡ give_up_refusal range pick.now (entry_at cells.old.items (suc at))) }
-    ensures err { OnErr result (cells.new.items ≡ cells.old.items) }
-    ensures few { IfOk result (λ d. NoMore d.sent) }
+) -> Result<ActorStep, AllocError>
+    requires { at < length actors.old.items }
+    ensures ok { IfOk result (λ step. server_gives_up (cells_of actors.old.items) (suc at) range pick.now ≡ outcome (cells_of actors.new.items) step) }
+    ensures stay { StayServers actors.old.items actors.new.items }
+    ensures plain { IfOk result (λ step. step.notes ≡ []) }
+    ensures refusal { IfOk result (λ step. step.refusal ≡ give_up_refusal range pick.now (entry_at (cells_of actors.old.items) (suc at))) }
+    ensures err { OnErr result (actors.new.items ≡ actors.old.items) }
+    ensures few { IfOk result IsFew }
 {
-    match cells[at].give_up(alloc, range, pick) {
-        Ok(done) => Ok(done),
-        Err(fault) => Err(fault),
+    match actors[at].give_up(alloc, range, pick) {
+        Ok(step) => Ok(step),
+        Err(full) => Err(full),
     }
 }
 
-fn stop_at(cells: &mut Vec<ServerCell>, at: usize, call: u64)
-    requires { at < length cells.old.items }
-    ensures { server_stops cells.old.items (suc at) call ≡ record { servers = cells.new.items; packets = []; notes = [] } }
+#[tactic(auto, using(crate::proofs::ServerList::one_stopped, crate::proofs::ServerList::one_stays))]
+fn stop_at(actors: &mut Vec<ServerActor>, at: usize, call: u64)
+    requires { at < length actors.old.items }
+    ensures stops { server_stops (cells_of actors.old.items) (suc at) call ≡ record { servers = cells_of actors.new.items; packets = []; notes = [] } }
+    ensures stay { StayServers actors.old.items actors.new.items }
 {
-    cells[at].stop(call);
+    actors[at].stop(call);
 }
 
-fn start_at(cells: &mut Vec<ServerCell>, at: usize, alloc: Global, number: u8, now: u64, batch: u16)
-    requires place { at < length cells.old.items }
-    requires number { number ≡ suc at }
-    ensures { server_starts cells.old.items (suc at) now batch ≡ record { servers = cells.new.items; packets = []; notes = [] } }
+#[tactic(auto, using(crate::proofs::ServerList::one_restarted, crate::proofs::ServerList::one_stays))]
+fn restart_at(actors: &mut Vec<ServerActor>, at: usize, alloc: Global)
+    requires { at < length actors.old.items }
+    ensures starts { (moment batch : ℕ) → AreServers moment batch 1 actors.old.items →
+        server_starts (cells_of actors.old.items) (suc at) moment batch ≡ record { servers = cells_of actors.new.items; packets = []; notes = [] } }
+    ensures stay { StayServers actors.old.items actors.new.items }
 {
-    cells[at].start(alloc, number, now, batch);
+    actors[at].restart(alloc);
+}
+
+#[tactic(auto, using(crate::proofs::ServerList::shown_one, crate::proofs::ServerList::all_are_shown, crate::proofs::ServerList::length_shown))]
+fn show_all(actors: &mut Vec<ServerActor>, now: u64)
+    ensures { actors.new.items ≡ map (moment_shown now) actors.old.items }
+{
+    for at in 0..actors.len() {
+        actors[at].moment(now);
+    }
 }
 
 impl Servers {
-    /// So many servers, which run. An error is out of memory (22).
-    #[tactic(auto, using(crate::proofs::ServerList::one_started, crate::proofs::ServerList::all_started))]
+    /// So many servers, which run, at moment 0. An error is out of memory (22).
+    #[tactic(auto, using(crate::proofs::ServerList::new_cells, crate::proofs::ServerList::new_are))]
     pub fn start(alloc: Global, count: u8, batch: u16) -> Result<Servers, AllocError>
-        ensures { IfOk result (λ servers. servers ≡ first_servers batch 1 count) }
+        ensures { IfOk result (λ servers. servers ≡ record { cells = first_servers batch 1 count; moment = 0; batch = batch }) }
     {
-        let mut cells = Vec::with_capacity(alloc, usize::from(count))?;
-        for before in 0..count {
-            cells.push(ServerCell::first(alloc, before + 1, batch))?;
+        match started(alloc, count, batch) {
+            Ok(actors) => Ok(Servers {
+                actors,
+                moment: 0,
+                batch,
+            }),
+            Err(full) => Err(full),
         }
-        Ok(Servers { cells })
-    }
-
-    /// The place of the server of a number; none where there is none.
-    fn place(&self, server: ServerNo) -> Option<usize>
-        ensures some { IfSome result (λ at. (server ≡ suc at) × (at < length self.now)) }
-        ensures none { IfNone result (entry_at self.now server ≡ None) }
-    {
-        let number = usize::from(server.0);
-        if number == 0 {
-            return None;
-        }
-        if number - 1 >= self.cells.len() {
-            return None;
-        }
-        Some(number - 1)
     }
 
     /// The entries of the table that an answer to the server of a number is about to show.
     pub fn loading(&self, server: ServerNo, body: &Body) -> Option<&BTreeMap<Bytes, Cell>>
-        ensures { option_map (λ entries. entries.now.entries) result ≡ server_loads (entry_at self.now server) body.now }
+        ensures { option_map (λ entries. entries.now.entries) result ≡ server_loads (entry_at self.now.cells server) body.now }
     {
-        match self.place(server) {
+        match place(self.actors.as_slice(), server) {
             None => None,
-            Some(at) => self.cells[at].loading(body),
+            Some(at) => self.actors[at].loading(body),
         }
     }
 
@@ -131,14 +175,16 @@ impl Servers {
         alloc: Global,
         server: ServerNo,
         packet: &Packet,
-    ) -> Result<Sent, AllocError>
-        ensures ok { IfOk result (λ t. server_takes self.old server packet.now ≡ outcome self.new t) }
+    ) -> Result<ActorStep, AllocError>
+        ensures ok { IfOk result (λ step. server_takes self.old.cells server packet.now ≡ outcome self.new.cells step) }
+        ensures same { (self.new.moment ≡ self.old.moment) × (self.new.batch ≡ self.old.batch) }
+        ensures plain { IfOk result (λ step. (step.notes ≡ []) × (step.refusal ≡ None)) }
         ensures err { OnErr result (self.new ≡ self.old) }
-        ensures few { IfOk result NoMore }
+        ensures few { IfOk result IsFew }
     {
-        match self.place(server) {
-            None => Ok(Sent::nothing(alloc)),
-            Some(at) => give_at(&mut self.cells, at, alloc, packet),
+        match place(self.actors.as_slice(), server) {
+            None => Ok(ActorStep::silent(alloc)),
+            Some(at) => give_at(&mut self.actors, at, alloc, packet),
         }
     }
 
@@ -150,46 +196,49 @@ impl Servers {
         server: ServerNo,
         range: RangeId,
         pick: &Nodes,
-    ) -> Result<GiveUpAnswer, AllocError>
-        ensures ok { IfOk result (λ d. server_gives_up self.old server range pick.now ≡ outcome self.new d.sent) }
-        ensures refusal { IfOk result (λ d. d.refusal ≡ give_up_refusal range pick.now (entry_at self.old server)) }
+    ) -> Result<ActorStep, AllocError>
+        ensures ok { IfOk result (λ step. server_gives_up self.old.cells server range pick.now ≡ outcome self.new.cells step) }
+        ensures same { (self.new.moment ≡ self.old.moment) × (self.new.batch ≡ self.old.batch) }
+        ensures plain { IfOk result (λ step. step.notes ≡ []) }
+        ensures refusal { IfOk result (λ step. step.refusal ≡ give_up_refusal range pick.now (entry_at self.old.cells server)) }
         ensures err { OnErr result (self.new ≡ self.old) }
-        ensures few { IfOk result (λ d. NoMore d.sent) }
+        ensures few { IfOk result IsFew }
     {
-        match self.place(server) {
-            None => Ok(GiveUpAnswer {
-                sent: Sent::nothing(alloc),
-                refusal: None,
-            }),
-            Some(at) => give_up_at(&mut self.cells, at, alloc, range, pick),
+        match place(self.actors.as_slice(), server) {
+            None => Ok(ActorStep::silent(alloc)),
+            Some(at) => give_up_at(&mut self.actors, at, alloc, range, pick),
         }
     }
 
     /// Stops the server of a number, where the call is 0. A server has no device, so that at any other call nothing happens.
     pub fn stop(&mut self, server: ServerNo, call: u64)
-        ensures { server_stops self.old server call ≡ record { servers = self.new; packets = []; notes = [] } }
+        ensures stops { server_stops self.old.cells server call ≡ record { servers = self.new.cells; packets = []; notes = [] } }
+        ensures same { (self.new.moment ≡ self.old.moment) × (self.new.batch ≡ self.old.batch) }
     {
-        if let Some(at) = self.place(server) {
-            stop_at(&mut self.cells, at, call);
+        if let Some(at) = place(self.actors.as_slice(), server) {
+            stop_at(&mut self.actors, at, call);
         }
     }
 
     /// Starts the server of a number, if it has stopped.
-    pub fn restart(&mut self, alloc: Global, server: ServerNo, now: u64, batch: u16)
-        ensures { server_starts self.old server now batch ≡ record { servers = self.new; packets = []; notes = [] } }
+    pub fn restart(&mut self, alloc: Global, server: ServerNo)
+        ensures starts { server_starts self.old.cells server self.old.moment self.old.batch ≡ record { servers = self.new.cells; packets = []; notes = [] } }
+        ensures same { (self.new.moment ≡ self.old.moment) × (self.new.batch ≡ self.old.batch) }
     {
-        if let Some(at) = self.place(server) {
-            start_at(&mut self.cells, at, alloc, server.0, now, batch);
+        if let Some(at) = place(self.actors.as_slice(), server) {
+            restart_at(&mut self.actors, at, alloc);
         }
     }
 
-    /// The clock of leases shows this to all servers.
-    #[tactic(auto, using(crate::proofs::ServerList::told_one, crate::proofs::ServerList::all_told, crate::proofs::ServerList::length_told))]
+    /// The clock of leases shows this to all servers. A moment that goes back changes nothing.
+    #[tactic(auto, using(crate::proofs::ServerList::shown_to_all, crate::proofs::ServerList::are_shown))]
     pub fn moment(&mut self, now: u64)
-        ensures { self.new ≡ map (told_moment now) self.old }
+        ensures { self.new ≡ all_shown now self.old }
     {
-        for at in 0..self.cells.len() {
-            self.cells[at].moment(now);
+        if now < self.moment {
+            return;
         }
+        self.moment = now;
+        show_all(&mut self.actors, now);
     }
 }

@@ -2,6 +2,5 @@
 //!
 //! This crate has no code, and touches nothing. Its definition stands in specs/Plan: the plan of an actor's disk, where the
 //! model's actor is to stop. Its lemmas say what a rule's record leaves of the file and of the model's actor: it stands, or the
-//! actor stops in it, and then it stands or not as both plans say. `world_streams` and `world_map` use them, of nodes, the
-//! manager and the map.
+//! actor stops in it, and then it stands or not as both plans say. `world_nodes`, `world_manager` and `world_map` use them.
 #![tactic(auto)]

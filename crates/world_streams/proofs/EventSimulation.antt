@@ -1,5 +1,5 @@
 -- What each event does to the stream layer, beside what it does to the model's.
-use Rattle.std.proofs.Common.{◌≡◌, ◌≤◌, ◌<◌, ℕ, Bool, true, false, not, List, [], ◌∷◌, ◌++◌, Option, Some, None, Result, Ok, Err, IfOk, OnOk, refl, sym, ap, ◌∙◌, subst, take, ◌+◌, slice_get, slice_index_or, length, zero, suc, if◌then◌else◌, arith, append-nil}
+use Rattle.std.proofs.Common.{◌≡◌, ◌≤◌, ◌<◌, ℕ, Bool, true, false, List, [], ◌∷◌, ◌++◌, Option, Some, None, Result, Ok, Err, IfOk, OnOk, refl, sym, ap, ◌∙◌, subst, take, ◌+◌, slice_get, slice_index_or, length, zero, suc, if◌then◌else◌, arith, append-nil}
 use Rattle.std.proofs.Math.Seq.{take-suc}
 use Rattle.std.proofs.lemmas.Option.{same_Some}
 use Rattle.wire.specs.declared.actor.ActorId.{ActorId}
@@ -7,7 +7,6 @@ use Rattle.wire.specs.declared.actor.ActorId.TheVariants.{Node, Manager, Map, Se
 use Rattle.wire.specs.declared.body.Body.{Body}
 use Rattle.wire.specs.declared.note.Note.{Note}
 use Rattle.wire.specs.declared.packet.Packet.{Packet}
-use Rattle.wire.specs.declared.packet.Step.{Step}
 use Rattle.model_streams.specs.declared.event.Event.{Event}
 use Rattle.model_streams.specs.declared.event.Event.TheVariants.{Submit, Deliver, Decide}
 use Rattle.model_streams.specs.Node.{Replica}
@@ -16,11 +15,15 @@ use Rattle.model_streams.specs.StreamSystem.Move.{Asks}
 use Rattle.model_streams.specs.StreamSystem.{StreamSystem, ActorCell, happens, moved, is_request, is_server_call, sent_more, delivered, delivered_if, node_takes, manager_takes, manager_decides, restart, run, start}
 use Rattle.model_streams.proofs.Tests.{if_elim}
 use Rattle.world_streams.specs.declared.fault.WorldFault.{WorldFault}
-use Rattle.world_streams.specs.ManagerSeen.{ManagerSeen, ManagerMirrors, IsNewManager, RecordsMakeCatalog, ManagerSteps, CatalogMirrors}
-use Rattle.world_streams.specs.Nodes.{NodeSeen, NodesMirror, NodesStep, AreNew, nothing, plan_of}
+use Rattle.block_types.specs.Limits.{IsTarget}
+use Rattle.world_stops.specs.Plan.{plan_of}
+use Rattle.world_steps.specs.ActorStep.{ActorStep, nothing}
+use Rattle.world_nodes.specs.Seen.{NodeSeen}
+use Rattle.world_manager.specs.Seen.{ManagerSeen, ManagerMirrors, ManagerSimulates, ManagerSteps, RecordsMakeCatalog, CatalogMirrors, new_manager}
+use Rattle.world_manager.proofs.ManagerSimulation.{new_mirrors}
+use Rattle.world_streams.specs.Nodes.{NodesMirror, NodesStep, first_nodes}
 use Rattle.world_streams.specs.StreamLayer.{StreamLayerState, StreamLayerMirrors, ActorsStep}
-use Rattle.world_streams.proofs.Seen.{entry_beyond}
-use Rattle.world_streams.proofs.NodeSimulation.{nil}
+use Rattle.world_streams.proofs.Entries.{entry_beyond}
 use Rattle.world_streams.proofs.NodeList.{begun}
 use Rattle.model_streams.specs.Manager.{Catalog}
 
@@ -51,7 +54,7 @@ abbrev pub state : List NodeSeen → ManagerSeen → List Packet → List Note �
 state nodes manager post notes = record { nodes = nodes; manager = manager; post = post; notes = notes }
 
 -- a step of the actors is one of the run
-pub stepped : (r x : StreamLayerState) (w v : StreamSystem) (s : Step) → StreamLayerMirrors r w → ActorsStep x.nodes x.manager w v s → x.post ≡ r.post ++ s.packets → x.notes ≡ r.notes ++ s.notes → StreamLayerMirrors x v
+pub stepped : (r x : StreamLayerState) (w v : StreamSystem) (s : ActorStep) → StreamLayerMirrors r w → ActorsStep x.nodes x.manager w v s → x.post ≡ r.post ++ s.packets → x.notes ≡ r.notes ++ s.notes → StreamLayerMirrors x v
 stepped r x w v s m g sent told = record {
   post = sent ∙ ap (λ l. l ++ s.packets) m.post ∙ sym g.post;
   notes = told ∙ ap (λ l. l ++ s.notes) m.notes ∙ sym g.notes;
@@ -60,11 +63,11 @@ stepped r x w v s m g sent told = record {
 }
 
 -- a node steps
-moved_nodes : (ys : List NodeSeen) (d : ManagerSeen) (w v : StreamSystem) (s : Step) → NodesStep ys w v s → ManagerMirrors d w → ActorsStep ys d w v s
+moved_nodes : (ys : List NodeSeen) (d : ManagerSeen) (w v : StreamSystem) (s : ActorStep) → NodesStep ys w v s → ManagerMirrors d w → ActorsStep ys d w v s
 moved_nodes ys d w v s g k = record { post = g.post; notes = g.notes; nodes = g.nodes; manager = manager_as d w v k g.catalog g.manager }
 
 -- the manager steps
-moved_by_manager : (xs : List NodeSeen) (y : ManagerSeen) (w v : StreamSystem) (s : Step) → ManagerSteps y w v s → NodesMirror xs w → ActorsStep xs y w v s
+moved_by_manager : (xs : List NodeSeen) (y : ManagerSeen) (w v : StreamSystem) (s : ActorStep) → ManagerSteps y w v s → NodesMirror xs w → ActorsStep xs y w v s
 moved_by_manager xs y w v s g m = record { post = g.post; notes = g.notes; nodes = nodes_as xs w v m g.replica g.cell g.nodes; manager = g.manager }
 
 -- ---- a submission
@@ -121,23 +124,23 @@ is_unasked false body e = refl
 -- ---- a delivery
 
 -- a packet of a node
-pub moved_node : (xs ys : List NodeSeen) (d : ManagerSeen) (n : ℕ) (p : Packet) (s : Step) → p.to ≡ Node n →
+pub moved_node : (xs ys : List NodeSeen) (d : ManagerSeen) (n : ℕ) (p : Packet) (s : ActorStep) → p.to ≡ Node n →
     ((w : StreamSystem) → NodesMirror xs w → NodesStep ys w (node_takes w n p) s) →
     (w : StreamSystem) → NodesMirror xs w → ManagerMirrors d w → ActorsStep ys d w (delivered w p p.to) s
 moved_node xs ys d n p s to h w m k = subst (λ a. ActorsStep ys d w (delivered w p a) s) (sym to) (moved_nodes ys d w (node_takes w n p) s (h w m) k)
 
 -- a packet of the manager
-pub moved_manager : (xs : List NodeSeen) (d y : ManagerSeen) (p : Packet) (s : Step) → p.to ≡ Manager →
-    ((w : StreamSystem) → ManagerMirrors d w → ManagerSteps y w (manager_takes w p) s) →
+pub moved_manager : (xs : List NodeSeen) (d y : ManagerSeen) (p : Packet) (s : ActorStep) → p.to ≡ Manager →
+    ManagerSimulates d y (λ w. manager_takes w p) s →
     (w : StreamSystem) → NodesMirror xs w → ManagerMirrors d w → ActorsStep xs y w (delivered w p p.to) s
 moved_manager xs d y p s to h w m k = subst (λ a. ActorsStep xs y w (delivered w p a) s) (sym to) (moved_by_manager xs y w (manager_takes w p) s (h w k) m)
 
 -- a packet of somebody else
-pub moved_nowhere : (xs : List NodeSeen) (d : ManagerSeen) (p : Packet) (s : Step) → ((w : StreamSystem) → delivered w p p.to ≡ w) → s.packets ≡ [] → s.notes ≡ [] →
-    (w : StreamSystem) → NodesMirror xs w → ManagerMirrors d w → ActorsStep xs d w (delivered w p p.to) s
-moved_nowhere xs d p s same sent told w m k =
-    subst (λ v. ActorsStep xs d w v s) (sym (same w))
-    (record { post = nil w.post sent; notes = nil w.notes told; nodes = m; manager = k })
+pub moved_nowhere : (xs : List NodeSeen) (d : ManagerSeen) (p : Packet) → ((w : StreamSystem) → delivered w p p.to ≡ w) →
+    (w : StreamSystem) → NodesMirror xs w → ManagerMirrors d w → ActorsStep xs d w (delivered w p p.to) nothing
+moved_nowhere xs d p same w m k =
+    subst (λ v. ActorsStep xs d w v nothing) (sym (same w))
+    (record { post = sym (append-nil w.post); notes = sym (append-nil w.notes); nodes = m; manager = k })
 
 pub to_map : (p : Packet) → p.to ≡ Map → (w : StreamSystem) → delivered w p p.to ≡ w
 to_map p to w = ap (λ a. delivered w p a) to
@@ -160,7 +163,7 @@ get_at [] n d l = absurd (omega arith)
 get_at (x ∷ xs) zero d l = refl
 get_at (x ∷ xs) (suc n) d l = get_at xs n d (omega arith)
 
-pub delivered_one : (r x : StreamLayerState) (k : ℕ) (p : Packet) (s : Step) → k < length r.post → p ≡ slice_index_or r.post k p →
+pub delivered_one : (r x : StreamLayerState) (k : ℕ) (p : Packet) (s : ActorStep) → k < length r.post → p ≡ slice_index_or r.post k p →
     ((w : StreamSystem) → NodesMirror r.nodes w → ManagerMirrors r.manager w → ActorsStep x.nodes x.manager w (delivered w p p.to) s) →
     x.post ≡ r.post ++ s.packets → x.notes ≡ r.notes ++ s.notes →
     (w : StreamSystem) → StreamLayerMirrors r w → StreamLayerMirrors x (happens w (Deliver k))
@@ -179,16 +182,16 @@ pub nodes_go : (r : StreamLayerState) (ys : List NodeSeen) (goes : StreamSystem 
 nodes_go r ys goes h w m = stepped r (record r { nodes = ys }) w (goes w) nothing m (moved_nodes ys r.manager w (goes w) nothing (h w m.nodes) m.manager) (same_post r).0 (same_post r).1
 
 -- the manager becomes this, and nothing is sent
-pub manager_goes : (r : StreamLayerState) (y : ManagerSeen) (goes : StreamSystem → StreamSystem) → ((w : StreamSystem) → ManagerMirrors r.manager w → ManagerSteps y w (goes w) nothing) →
+pub manager_goes : (r : StreamLayerState) (y : ManagerSeen) (goes : StreamSystem → StreamSystem) → ManagerSimulates r.manager y goes nothing →
     (w : StreamSystem) → StreamLayerMirrors r w → StreamLayerMirrors (record r { manager = y }) (goes w)
 manager_goes r y goes h w m = stepped r (record r { manager = y }) w (goes w) nothing m (moved_by_manager r.nodes y w (goes w) nothing (h w m.manager) m.nodes) (same_post r).0 (same_post r).1
 
-pub manager_came : (r : StreamLayerState) (y : ManagerSeen) (actor : ActorId) (x : Result Unit WorldFault) → actor ≡ Manager → OnOk x ((w : StreamSystem) → ManagerMirrors r.manager w → ManagerSteps y w (restart w Manager) nothing) →
+pub manager_came : (r : StreamLayerState) (y : ManagerSeen) (actor : ActorId) (x : Result Unit WorldFault) → actor ≡ Manager → OnOk x (ManagerSimulates r.manager y (λ w. restart w Manager) nothing) →
     OnOk x ((w : StreamSystem) → StreamLayerMirrors r w → StreamLayerMirrors (record r { manager = y }) (restart w actor))
-manager_came r y actor (Ok x) is h = manager_goes r y (λ w. restart w actor) (subst (λ (a : ActorId). (w : StreamSystem) → ManagerMirrors r.manager w → ManagerSteps y w (restart w a) nothing) (sym is) h)
+manager_came r y actor (Ok x) is h = manager_goes r y (λ w. restart w actor) (subst (λ (a : ActorId). ManagerSimulates r.manager y (λ w. restart w a) nothing) (sym is) h)
 manager_came r y actor (Err x) is h = tt
 
-pub decided_one : (r x : StreamLayerState) (e : ℕ) (s : Step) → x.nodes ≡ r.nodes → ((w : StreamSystem) → ManagerMirrors r.manager w → ManagerSteps x.manager w (manager_decides w e) s) →
+pub decided_one : (r x : StreamLayerState) (e : ℕ) (s : ActorStep) → x.nodes ≡ r.nodes → ManagerSimulates r.manager x.manager (λ w. manager_decides w e) s →
     x.post ≡ r.post ++ s.packets → x.notes ≡ r.notes ++ s.notes →
     (w : StreamSystem) → StreamLayerMirrors r w → StreamLayerMirrors x (happens w (Decide e))
 decided_one r x e s nodes h sent told w m =
@@ -196,21 +199,8 @@ decided_one r x e s nodes h sent told w m =
 
 -- ---- a whole run
 
-begun_manager : (d : ManagerSeen) (nodes target : ℕ) → IsNewManager nodes target d → ManagerMirrors d (start nodes target)
-begun_manager d nodes target h = record {
-  running = λ _. h.tells;
-  stopped = λ isdown. absurd (let u = h.running in cc);
-  up = ap not (sym h.running);
-  plan = λ _. h.untold;
-}
-
-pub started : (xs : List NodeSeen) (d : ManagerSeen) (nodes target : ℕ) → AreNew xs → length xs ≡ nodes → IsNewManager nodes target d → StreamLayerMirrors (state xs d [] []) (start nodes target)
-started xs d nodes target h count new = record {
-  post = refl;
-  notes = refl;
-  nodes = subst (λ n. NodesMirror xs (start n target)) count (begun xs target h);
-  manager = begun_manager d nodes target new;
-}
+pub started : (nodes target : ℕ) → (3 ≤ nodes) × (nodes ≤ 12) → IsTarget target → StreamLayerMirrors (state (first_nodes nodes) (new_manager nodes target) [] []) (start nodes target)
+started nodes target are is = record { post = refl; notes = refl; nodes = begun nodes target; manager = new_mirrors nodes target are is }
 
 -- one event more
 pub ran : (r : StreamLayerState) (events : List Event) (event : Event) (w : StreamSystem) → StreamLayerMirrors r (happens (run events w) event) → StreamLayerMirrors r (run (events ++ event ∷ []) w)
@@ -230,14 +220,8 @@ ran_next r events i event w is l m =
 
 -- ---- in the words of the answers
 
-pub node_moved : (xs ys : List NodeSeen) (d : ManagerSeen) (n : ℕ) (p : Packet) (r : Result Step WorldFault) → p.to ≡ Node n →
+pub node_moved : (xs ys : List NodeSeen) (d : ManagerSeen) (n : ℕ) (p : Packet) (r : Result ActorStep WorldFault) → p.to ≡ Node n →
     IfOk r (λ s. (w : StreamSystem) → NodesMirror xs w → NodesStep ys w (node_takes w n p) s) →
     IfOk r (λ s. (w : StreamSystem) → NodesMirror xs w → ManagerMirrors d w → ActorsStep ys d w (delivered w p p.to) s)
 node_moved xs ys d n p (Ok s) to h = moved_node xs ys d n p s to h
 node_moved xs ys d n p (Err x) to h = tt
-
-pub manager_moved : (xs : List NodeSeen) (d y : ManagerSeen) (p : Packet) (r : Result Step WorldFault) → p.to ≡ Manager →
-    IfOk r (λ s. (w : StreamSystem) → ManagerMirrors d w → ManagerSteps y w (manager_takes w p) s) →
-    IfOk r (λ s. (w : StreamSystem) → NodesMirror xs w → ManagerMirrors d w → ActorsStep xs y w (delivered w p p.to) s)
-manager_moved xs d y p (Ok s) to h = moved_manager xs d y p s to h
-manager_moved xs d y p (Err x) to h = tt

@@ -1,9 +1,4 @@
-pub mod Seen
-pub mod NodeSimulation
+pub mod Entries
 pub mod NodeList
-pub mod Stopping
-pub mod ManagerNotes
-pub mod ManagerSimulation
-pub mod ManagerCalls
 pub mod EventSimulation
 pub mod ServerOutput

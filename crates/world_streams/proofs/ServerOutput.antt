@@ -10,8 +10,8 @@ use Rattle.model_partition.specs.declared.table_note.TableNote.{TableNote}
 use Rattle.model_partition.specs.declared.table_note.TableNote.TheVariants as tables
 use Rattle.model_partition.specs.Servers.{ArePlain, ShowsLoad, ServerCell, ServersOutcome, noted, rows_of, server_takes, told, with_told}
 use Rattle.world_streams.specs.StreamLayer.{StreamLayerState, StreamLayerMirrors}
-use Rattle.range.specs.ServerStep.{Sent}
 use Rattle.world_servers.specs.Servers.{outcome}
+use Rattle.world_steps.specs.ActorStep.{ActorStep}
 use Rattle.world_streams.specs.ServersStep.{AfterMap, ShowsRows, AfterServers, told_with, with_sent}
 use Rattle.world_streams.proofs.EventSimulation.{get_at, nodes_as, manager_as}
 
@@ -81,9 +81,9 @@ told_mirrors r packets notes w m = record {
 -- ---- steps of servers
 
 -- the layer after a step of the servers
-pub took : (r x : StreamLayerState) (after : List ServerCell) (o : ServersOutcome) (sent : Sent) → o ≡ outcome after sent → x.nodes ≡ r.nodes → x.manager ≡ r.manager →
-    x.post ≡ r.post ++ sent.packets → x.notes ≡ noted r.notes sent.notes → AfterServers r x after o
-took r x after o sent is nodes manager post notes =
+pub took : (r x : StreamLayerState) (after : List ServerCell) (o : ServersOutcome) (step : ActorStep) → o ≡ outcome after step → x.nodes ≡ r.nodes → x.manager ≡ r.manager →
+    x.post ≡ r.post ++ step.packets → x.notes ≡ noted r.notes step.tables → AfterServers r x after o
+took r x after o step is nodes manager post notes =
     let posts : x.post ≡ r.post ++ o.packets = post ∙ ap (λ (p : ServersOutcome). r.post ++ p.packets) (sym is) in
     let all : x.notes ≡ noted r.notes o.notes = notes ∙ ap (λ (p : ServersOutcome). noted r.notes p.notes) (sym is) in
     record {
@@ -92,12 +92,12 @@ took r x after o sent is nodes manager post notes =
     }
 
 -- the packet that was given is the one of the number
-pub took_packet : (r x : StreamLayerState) (before after : List ServerCell) (s k : ℕ) (d : Packet) (sent : Sent) → k < length r.post → d ≡ slice_index_or r.post k d →
-    server_takes before s d ≡ outcome after sent → x.nodes ≡ r.nodes → x.manager ≡ r.manager → x.post ≡ r.post ++ sent.packets → x.notes ≡ noted r.notes sent.notes →
+pub took_packet : (r x : StreamLayerState) (before after : List ServerCell) (s k : ℕ) (d : Packet) (step : ActorStep) → k < length r.post → d ≡ slice_index_or r.post k d →
+    server_takes before s d ≡ outcome after step → x.nodes ≡ r.nodes → x.manager ≡ r.manager → x.post ≡ r.post ++ step.packets → x.notes ≡ noted r.notes step.tables →
     (p : Packet) → slice_get r.post k ≡ Some p → AfterServers r x after (server_takes before s p)
-took_packet r x before after s k d sent there is gave nodes manager post notes p found =
+took_packet r x before after s k d step there is gave nodes manager post notes p found =
     subst (λ (q : Packet). AfterServers r x after (server_takes before s q)) (same_Some d p (ap Some is ∙ sym (get_at r.post k d there) ∙ found))
-    (took r x after (server_takes before s d) sent gave nodes manager post notes)
+    (took r x after (server_takes before s d) step gave nodes manager post notes)
 
 -- ---- steps of the map
 

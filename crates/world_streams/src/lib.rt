@@ -9,7 +9,6 @@
 
 mod calls;
 mod fault;
-mod manager_actor;
 mod nodes;
 mod observations;
 mod post;

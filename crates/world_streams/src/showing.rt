@@ -2,23 +2,24 @@
 ghost use Rattle.std.specs.Prelude.{◌≡◌, ◌+◌, ◌≤◌, Some, IfOk, OnErr, option_map, vec_len, vec_capacity};
 ghost use Rattle.memtable.specs.Entries.{Entries};
 ghost use Rattle.model_partition.specs.Servers.{noted, rows_of, server_takes};
-ghost use Rattle.world_servers.specs.Servers.{outcome, NoMore};
+ghost use Rattle.world_servers.specs.Servers.{outcome};
+ghost use Rattle.world_steps.specs.ActorStep.{IsFew};
 ghost use Rattle.world_streams.specs.ServersStep.{ShowsRows, told_with};
 
 use crate::observations::Observations;
 use bytes::Bytes;
 use memtable::Cell;
 use model_partition::TableNote;
-use range::Sent;
 use std::alloc::{AllocError, Global};
 use std::collections::BTreeMap;
 use wire::{Note, Packet, Rows, ServerNo};
 use world_servers::Servers;
+use world_steps::ActorStep;
 
 /// What a server sends and shows, and the rows of the one table that it may show as loaded.
 #[derive(Drop)]
 pub(crate) struct Given {
-    pub(crate) sent: Sent,
+    pub(crate) step: ActorStep,
     pub(crate) rows: Rows,
 }
 
@@ -50,18 +51,19 @@ pub(crate) fn give(
     packet: &Packet,
     observed: &mut Observations,
 ) -> Result<Given, AllocError>
-    ensures ok { IfOk result (λ t. server_takes servers.old server packet.now ≡ outcome servers.new t.sent) }
-    ensures rows { IfOk result (λ t. ShowsRows observed.old.items t.rows t.sent.notes) }
+    ensures ok { IfOk result (λ given. server_takes servers.old.cells server packet.now ≡ outcome servers.new.cells given.step) }
+    ensures rows { IfOk result (λ given. ShowsRows observed.old.items given.rows given.step.tables) }
     ensures same { observed.new ≡ observed.old }
+    ensures servers_same { (servers.new.moment ≡ servers.old.moment) × (servers.new.batch ≡ servers.old.batch) }
     ensures err { OnErr result (servers.new ≡ servers.old) }
-    ensures few { IfOk result (λ t. NoMore t.sent) }
+    ensures few { IfOk result (λ given. IsFew given.step) }
 {
     let rows = match rows_for(alloc, servers.loading(server, &packet.body), observed) {
         Ok(rows) => rows,
         Err(full) => return Err(full),
     };
     match servers.give(alloc, server, packet) {
-        Ok(sent) => Ok(Given { sent, rows }),
+        Ok(step) => Ok(Given { step, rows }),
         Err(full) => Err(full),
     }
 }

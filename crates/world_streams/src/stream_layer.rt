@@ -3,21 +3,22 @@ ghost use Rattle.std.specs.Prelude.{◌≡◌, ◌++◌, ◌<◌, [], ◌∷◌,
 ghost use Rattle.wire.specs.declared.actor.ActorId.TheVariants as actors;
 ghost use Rattle.wire.specs.declared.packet.Packet.{Packet};
 ghost use Rattle.model_streams.specs.Maps.{entry_at};
-ghost use Rattle.model_streams.specs.StreamSystem.{StreamSystem, happens, moved, delivered, start};
+ghost use Rattle.model_streams.specs.StreamSystem.{StreamSystem, happens, moved, delivered, restart, start};
 ghost use Rattle.model_streams.specs.StreamSystem.Move.{Asks};
 ghost use Rattle.model_streams.specs.declared.event.Event.TheVariants as events;
 ghost use Rattle.model_streams.specs.Outcome.{packet};
 ghost use Rattle.model_partition.specs.Servers.{give_up_refusal, server_gives_up, server_takes};
-ghost use Rattle.world_streams.specs.ManagerSeen.{ManagerMirrors, decision_refusal};
-ghost use Rattle.world_streams.specs.Nodes.{NodesMirror, seen_of, running_at};
-ghost use Rattle.world_streams.specs.StreamLayer.{IsFew, StreamLayerMirrors, ActorsStep, refusal_of};
+ghost use Rattle.world_steps.specs.ActorStep.{IsFew, nothing};
+ghost use Rattle.world_nodes.specs.Seen.{seen_of};
+ghost use Rattle.world_manager.specs.Seen.{ManagerMirrors, ManagerSimulates, decision_refusal};
+ghost use Rattle.world_streams.specs.Nodes.{NodesMirror, running_at};
+ghost use Rattle.world_streams.specs.StreamLayer.{StreamLayerMirrors, ActorsStep, refusal_of};
 ghost use Rattle.world_streams.specs.ServersStep.{AfterMap, AfterServers};
-ghost use Rattle.world_map.specs.Seen.{MapSimulates, MapSimulatesAt, assign_refusal, renew_refusal};
+ghost use Rattle.world_map.specs.Seen.{MapSimulates, assign_refusal, renew_refusal};
 ghost use Rattle.model_partition.specs.Cluster.{assigns, map_takes, renews};
 
 use crate::calls::is_call;
 use crate::fault::WorldFault;
-use crate::manager_actor::{Decision, ManagerActor};
 use crate::nodes::NodeList;
 use crate::observations::Observations;
 use crate::post::{make_room, move_in};
@@ -28,12 +29,13 @@ use block_types::Nodes;
 use disk::MemDisk;
 use enode::Node;
 use model_streams::Event;
-use range::Sent;
 use std::alloc::Global;
 use std::marker::Model;
-use wire::{ActorId, Body, ExtentId, Note, Packet, RangeId, Refusal, Rows, ServerNo, Step};
-use world_map::{MapActor, MapAnswer};
-use world_servers::{GiveUpAnswer, Servers};
+use wire::{ActorId, Body, ExtentId, Note, Packet, RangeId, Refusal, Rows, ServerNo};
+use world_manager::ManagerActor;
+use world_map::MapActor;
+use world_servers::Servers;
+use world_steps::ActorStep;
 
 /// Real extent nodes and the stream manager on disks in memory, all packets that were sent, numbered from 0, and all
 /// observations. The packets stay, since each may be delivered any number of times.
@@ -70,7 +72,7 @@ fn take(
     manager: &mut ManagerActor,
     alloc: Global,
     packet: &Packet,
-) -> Result<Step, WorldFault>
+) -> Result<ActorStep, WorldFault>
     ensures ok { IfOk result (λ step. (w : StreamSystem) → NodesMirror nodes.old w → ManagerMirrors manager.old w → ActorsStep nodes.new manager.new w (delivered w packet.now packet.now.to) step) }
     ensures nodes { OnErr result (nodes.new ≡ nodes.old) }
     ensures manager { OnErr result (manager.new ≡ manager.old) }
@@ -78,10 +80,24 @@ fn take(
 {
     match packet.to {
         ActorId::Node(number) => nodes.give(alloc, number, packet),
-        ActorId::Manager => manager.give(alloc, packet),
-        ActorId::Map => Ok(Step::silent(alloc)),
-        ActorId::Server(_) => Ok(Step::silent(alloc)),
-        ActorId::User(_) => Ok(Step::silent(alloc)),
+        ActorId::Manager => match manager.give(alloc, packet) {
+            Ok(step) => Ok(step),
+            Err(_full) => Err(WorldFault::Memory),
+        },
+        ActorId::Map => Ok(ActorStep::silent(alloc)),
+        ActorId::Server(_) => Ok(ActorStep::silent(alloc)),
+        ActorId::User(_) => Ok(ActorStep::silent(alloc)),
+    }
+}
+
+/// Brings the manager back, with what is on its disk. An error is out of memory (22), and nothing has changed.
+fn restart_manager(manager: &mut ManagerActor, alloc: Global) -> Result<(), WorldFault>
+    ensures ok { OnOk result (ManagerSimulates manager.old manager.new (λ w. restart w actors.Manager) nothing) }
+    ensures err { OnErr result (manager.new ≡ manager.old) }
+{
+    match manager.restart(alloc) {
+        Ok(()) => Ok(()),
+        Err(_full) => Err(WorldFault::Memory),
     }
 }
 
@@ -102,7 +118,7 @@ impl StreamLayer {
                 post: Vec::new(alloc),
                 notes: Observations::new(alloc),
             }),
-            Err(fault) => Err(fault),
+            Err(_full) => Err(WorldFault::Memory),
         }
     }
 
@@ -175,7 +191,7 @@ impl StreamLayer {
             &self.post[number],
         ) {
             Ok(step) => {
-                let Step { packets, notes } = step;
+                let ActorStep { packets, notes, .. } = step;
                 move_in(&mut self.post, packets.into_vec());
                 self.notes.move_in(notes.into_vec());
                 Ok(None)
@@ -204,7 +220,7 @@ impl StreamLayer {
     {
         match actor {
             ActorId::Node(number) => self.nodes.restart(alloc, number),
-            ActorId::Manager => self.manager.restart(alloc),
+            ActorId::Manager => restart_manager(&mut self.manager, alloc),
             ActorId::Map => Ok(()),
             ActorId::Server(_) => Ok(()),
             ActorId::User(_) => Ok(()),
@@ -221,17 +237,18 @@ impl StreamLayer {
         make_room(&mut self.post)?;
         self.notes.make_room()?;
         match self.manager.decide(alloc, extent) {
-            Ok(decision) => {
-                let Decision { step, refusal } = decision;
-                let Step {
+            Ok(step) => {
+                let ActorStep {
                     packets: sent,
                     notes: shown,
+                    refusal,
+                    ..
                 } = step;
                 move_in(&mut self.post, sent.into_vec());
                 self.notes.move_in(shown.into_vec());
                 Ok(refusal)
             }
-            Err(fault) => Err(fault),
+            Err(_full) => Err(WorldFault::Memory),
         }
     }
 
@@ -258,6 +275,9 @@ impl StreamLayer {
             Event::Assign { .. } => Ok(None),
             Event::Renew { .. } => Ok(None),
             Event::Moment { .. } => Ok(None),
+            Event::Checkpoint { .. } => Ok(None),
+            Event::Split { .. } => Ok(None),
+            Event::Merge { .. } => Ok(None),
         }
     }
 
@@ -274,10 +294,12 @@ impl StreamLayer {
             AfterMap self.old self.new (MapSimulates map.old map.new (λ c. map_takes c p))) }
         ensures err { OnErr result (self.new ≡ self.old) }
         ensures map_err { OnErr result (map.new ≡ map.old) }
+        ensures moment { map.new.moment ≡ map.old.moment }
     {
         make_room(&mut self.post)?;
         match map.give(alloc, &self.post[number]) {
-            Ok(packets) => {
+            Ok(step) => {
+                let ActorStep { packets, .. } = step;
                 move_in(&mut self.post, packets.into_vec());
                 Ok(())
             }
@@ -293,18 +315,22 @@ impl StreamLayer {
         map: &mut MapActor,
         range: RangeId,
         server: ServerNo,
-        now: u64,
         until: u64,
     ) -> Result<Option<Refusal>, WorldFault>
-        ensures ok { OnOk result (AfterMap self.old self.new (MapSimulatesAt now map.old map.new (λ c. assigns c range server until))) }
-        ensures refusal { IfOk result (λ refusal. refusal ≡ assign_refusal map.old now range server) }
+        ensures ok { OnOk result (AfterMap self.old self.new (MapSimulates map.old map.new (λ c. assigns c range server until))) }
+        ensures refusal { IfOk result (λ refusal. refusal ≡ assign_refusal map.old map.old.moment range server) }
         ensures err { OnErr result (self.new ≡ self.old) }
         ensures map_err { OnErr result (map.new ≡ map.old) }
+        ensures moment { map.new.moment ≡ map.old.moment }
     {
         make_room(&mut self.post)?;
-        match map.assign(alloc, range, server, now, until) {
-            Ok(answer) => {
-                let MapAnswer { packets, refusal } = answer;
+        match map.assign(alloc, range, server, until) {
+            Ok(step) => {
+                let ActorStep {
+                    packets,
+                    refusal,
+                    ..
+                } = step;
                 move_in(&mut self.post, packets.into_vec());
                 Ok(refusal)
             }
@@ -326,11 +352,16 @@ impl StreamLayer {
         ensures refusal { IfOk result (λ refusal. refusal ≡ renew_refusal map.old range server) }
         ensures err { OnErr result (self.new ≡ self.old) }
         ensures map_err { OnErr result (map.new ≡ map.old) }
+        ensures moment { map.new.moment ≡ map.old.moment }
     {
         make_room(&mut self.post)?;
         match map.renew(alloc, range, server, until) {
-            Ok(answer) => {
-                let MapAnswer { packets, refusal } = answer;
+            Ok(step) => {
+                let ActorStep {
+                    packets,
+                    refusal,
+                    ..
+                } = step;
                 move_in(&mut self.post, packets.into_vec());
                 Ok(refusal)
             }
@@ -348,18 +379,23 @@ impl StreamLayer {
         number: usize,
     ) -> Result<(), WorldFault>
         requires { number < length self.old.post }
-        ensures ok { OnOk result ((p : Packet) → slice_get self.old.post number ≡ Some p → AfterServers self.old self.new servers.new (server_takes servers.old server p)) }
+        ensures ok { OnOk result ((p : Packet) → slice_get self.old.post number ≡ Some p → AfterServers self.old self.new servers.new.cells (server_takes servers.old.cells server p)) }
         ensures err { OnErr result (self.new ≡ self.old) }
         ensures servers_err { OnErr result (servers.new ≡ servers.old) }
+        ensures servers_same { (servers.new.moment ≡ servers.old.moment) × (servers.new.batch ≡ servers.old.batch) }
     {
         make_room(&mut self.post)?;
         self.notes.make_room()?;
         match give(servers, alloc, server, &self.post[number], &mut self.notes) {
-            Ok(given) => {
-                let Given { sent, rows } = given;
-                let Sent { packets, notes } = sent;
-                move_in(&mut self.post, packets);
-                show(alloc, &mut self.notes, notes, rows);
+            Ok(taken) => {
+                let Given { step, rows } = taken;
+                let ActorStep {
+                    packets: given,
+                    tables: shown,
+                    ..
+                } = step;
+                move_in(&mut self.post, given.into_vec());
+                show(alloc, &mut self.notes, shown, rows);
                 Ok(())
             }
             Err(_full) => Err(WorldFault::Memory),
@@ -376,28 +412,27 @@ impl StreamLayer {
         range: RangeId,
         pick: &Nodes,
     ) -> Result<Option<Refusal>, WorldFault>
-        ensures ok { OnOk result (AfterServers self.old self.new servers.new (server_gives_up servers.old server range pick.now)) }
-        ensures refusal { IfOk result (λ refusal. refusal ≡ give_up_refusal range pick.now (entry_at servers.old server)) }
+        ensures ok { OnOk result (AfterServers self.old self.new servers.new.cells (server_gives_up servers.old.cells server range pick.now)) }
+        ensures refusal { IfOk result (λ refusal. refusal ≡ give_up_refusal range pick.now (entry_at servers.old.cells server)) }
         ensures err { OnErr result (self.new ≡ self.old) }
         ensures servers_err { OnErr result (servers.new ≡ servers.old) }
+        ensures servers_same { (servers.new.moment ≡ servers.old.moment) × (servers.new.batch ≡ servers.old.batch) }
     {
         make_room(&mut self.post)?;
         self.notes.make_room()?;
         match servers.give_up(alloc, server, range, pick) {
-            Ok(done) => {
-                let GiveUpAnswer {
-                    sent: given,
+            Ok(step) => {
+                let ActorStep {
+                    packets: again,
+                    tables: told,
                     refusal,
-                } = done;
-                let Sent {
-                    packets: sent,
-                    notes: shown,
-                } = given;
-                move_in(&mut self.post, sent);
+                    ..
+                } = step;
+                move_in(&mut self.post, again.into_vec());
                 show(
                     alloc,
                     &mut self.notes,
-                    shown,
+                    told,
                     Rows {
                         items: Vec::new(alloc),
                     },

@@ -1,6 +1,6 @@
 use Rattle.model_partition.specs.Cluster.{cluster_after_all, first_cluster}
 use Rattle.laws_servers.proofs.EventsAsMoves.{led_by, moves_agree, moves_keep}
-use Rattle.laws_clusters.proofs.Theorem.{led_replays, led_ordered}
+use Rattle.laws_clusters.proofs.Theorem.{led_replays, led_ordered, led_at_line}
 use Rattle.laws.proofs.clusters.runs_are_honest.Goals as goal
 
 pub returns-clause-honest : goal.returns-clause-honest
@@ -12,3 +12,6 @@ returns-clause-honest c = λ nodes servers target batch events. record {
 
 pub returns-clause-ordered : goal.returns-clause-ordered
 returns-clause-ordered c = led_ordered
+
+pub returns-clause-served : goal.returns-clause-served
+returns-clause-served c = led_at_line

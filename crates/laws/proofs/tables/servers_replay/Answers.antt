@@ -5,4 +5,4 @@ pub returns-clause-law : goal.returns-clause-law
 returns-clause-law c = λ batch servers texts events notes first order seen. run_replays texts batch servers events notes first order seen
 
 pub returns-clause-steps : goal.returns-clause-steps
-returns-clause-steps c = λ batch servers texts events s r first order stand serves. run_at_line texts batch servers events s r first order stand serves
+returns-clause-steps c = λ batch servers texts events s range r order stand serves. run_at_line texts batch servers events s range r order stand serves

@@ -1,6 +1,6 @@
 use Rattle.std.proofs.Common.{◌∙◌, ap, sym}
 use Rattle.model_streams.specs.Node.{contents}
-use Rattle.world_streams.proofs.Seen.{find-sorted}
+use Rattle.world_nodes.proofs.Seen.{find-sorted}
 use Rattle.script_run.specs.Output.{node_report, replica_report}
 use Rattle.script_run.proofs.happening.look.Goals as goal
 

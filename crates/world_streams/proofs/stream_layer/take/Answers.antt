@@ -1,17 +1,17 @@
-use Rattle.world_streams.proofs.EventSimulation.{node_moved, manager_moved, moved_nowhere, to_map, to_server, to_user}
+use Rattle.world_streams.proofs.EventSimulation.{node_moved, moved_manager, moved_nowhere, to_map, to_server, to_user}
 use Rattle.world_streams.proofs.stream_layer.take.Goals as goal
 
 pub returns-in-Node-clause-ok : goal.returns-in-Node-clause-ok
 returns-in-Node-clause-ok c = node_moved c.args.nodes.now c.give.new.self c.args.manager.now c.in-Node.number c.args.packet.now c.give.result c.in-Node.is c.give.ensures.ok
 
-pub returns-in-Manager-clause-ok : goal.returns-in-Manager-clause-ok
-returns-in-Manager-clause-ok c = manager_moved c.args.nodes.now c.args.manager.now c.give-in-Manager.new.self c.args.packet.now c.give-in-Manager.result c.in-Manager.is c.give-in-Manager.ensures.ok
+pub returns-in-Ok-clause-ok : goal.returns-in-Ok-clause-ok
+returns-in-Ok-clause-ok c = moved_manager c.args.nodes.now c.args.manager.now c.give-in-Manager.new.self c.args.packet.now c.in-Ok.step c.in-Manager.is c.in-Ok.ensures.ok
 
 pub returns-in-Map-clause-ok : goal.returns-in-Map-clause-ok
-returns-in-Map-clause-ok c = moved_nowhere c.args.nodes.now c.args.manager.now c.args.packet.now c.silent.result (to_map c.args.packet.now c.in-Map.is) c.silent.ensures.packets c.silent.ensures.notes
+returns-in-Map-clause-ok c = rw c.silent.ensures (moved_nowhere c.args.nodes.now c.args.manager.now c.args.packet.now (to_map c.args.packet.now c.in-Map.is))
 
 pub returns-in-Server-clause-ok : goal.returns-in-Server-clause-ok
-returns-in-Server-clause-ok c = moved_nowhere c.args.nodes.now c.args.manager.now c.args.packet.now c.silent-in-Server.result (to_server c.args.packet.now c.in-Server.field-0 c.in-Server.is) c.silent-in-Server.ensures.packets c.silent-in-Server.ensures.notes
+returns-in-Server-clause-ok c = rw c.silent-in-Server.ensures (moved_nowhere c.args.nodes.now c.args.manager.now c.args.packet.now (to_server c.args.packet.now c.in-Server.field-0 c.in-Server.is))
 
 pub returns-in-User-clause-ok : goal.returns-in-User-clause-ok
-returns-in-User-clause-ok c = moved_nowhere c.args.nodes.now c.args.manager.now c.args.packet.now c.silent-in-User.result (to_user c.args.packet.now c.in-User.field-0 c.in-User.is) c.silent-in-User.ensures.packets c.silent-in-User.ensures.notes
+returns-in-User-clause-ok c = rw c.silent-in-User.ensures (moved_nowhere c.args.nodes.now c.args.manager.now c.args.packet.now (to_user c.args.packet.now c.in-User.field-0 c.in-User.is))

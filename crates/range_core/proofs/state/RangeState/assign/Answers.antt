@@ -1,6 +1,6 @@
 use Rattle.std.proofs.Common.{ap, ◌∙◌}
 use Rattle.range_reads.specs.Lookups.{LookupsState}
-use Rattle.range_load.specs.Steps.{put}
+use Rattle.model_partition.specs.RangeSteps.{put}
 use Rattle.model_partition.specs.Range.{RangeState}
 use Rattle.model_partition.specs.Server.{new_range}
 use Rattle.range_core.proofs.state.RangeState.assign.Goals as goal

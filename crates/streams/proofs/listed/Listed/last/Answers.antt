@@ -13,4 +13,5 @@ last_is (x ∷ xs) =
     ap (λ (n : ℕ). slice_get (x ∷ xs) n) end ∙ last_at x xs
 
 pub returns : goal.returns
-returns c = rw (← c.self.view_is) (c.copied.ensures ∙ c.last.ensures.value ∙ ap (λ (xs : List ℕ). slice_get xs (length xs - 1)) c.deref.ensures.value ∙ last_is c.self.inside.extents.items)
+returns c =
+    c.copied.ensures ∙ c.last.ensures.value ∙ ap (λ (xs : List ℕ). slice_get xs (length xs - 1)) c.extents.ensures ∙ last_is c.args.self.now.stream.extents

@@ -1,35 +1,38 @@
-use Rattle.std.proofs.Common.{◌≡◌, false, IfOk, OnErr, sym, ◌∙◌, subst}
+use Rattle.std.proofs.Common.{◌≡◌, ℕ, false, IfOk, OnErr, sym, ◌∙◌, subst}
 use Rattle.disk.specs.declared.memory.MemDisk.{MemDisk}
 use Rattle.model_partition.specs.Cluster.{assigns}
 use Rattle.pmap.specs.MapWithFile.{MapWithFile}
-use Rattle.world_map.specs.Seen.{MapSeen, MapSimulatesAt, assign_refusal, seen_of}
+use Rattle.world_map.specs.Seen.{MapSeen, MapSimulates, assign_refusal, seen_of}
 use Rattle.world_map.proofs.MapCalls.{assign_went, assign_short, assign_refused, if_packets, if_refusal, if_short}
 use Rattle.world_map.proofs.map_actor.MapActor.assign.Goals as goal
 
 pub returns-clause-ok : goal.returns-clause-ok
 returns-clause-ok c =
+    let t : ℕ = c.self.inside.moment in
     let x : MapWithFile MemDisk = c.self.inside.map in
     let y : MapWithFile MemDisk = c.assign-done.new.self in
     let e = c.assign-done.ensures in
     let up : x.file.stopped ≡ false = sym c.is_stopped.ensures ∙ c.if-is_stopped.false in
-    subst (λ (s : MapSeen). IfOk c.outcome.result (λ answer. MapSimulatesAt c.args.now s (seen_of y) (λ k. assigns k c.args.range c.args.server c.args.until) answer.packets)) c.self.view_is
-    (if_packets c.outcome.result (MapSimulatesAt c.args.now (seen_of x) (seen_of y) (λ k. assigns k c.args.range c.args.server c.args.until)) c.assign-done.result c.outcome.ensures.packets c.outcome.ensures.ok
-    (assign_went x y c.args.range c.args.server c.args.now c.args.until c.assign-done.result up (e.refused up) (e.performed up) e.taken (sym (e.replays up).replays)))
+    subst (λ (s : MapSeen). IfOk c.outcome.result (λ step. MapSimulates s (seen_of t y) (λ k. assigns k c.args.range c.args.server c.args.until) step.packets)) c.self.view_is
+    (if_packets c.outcome.result (MapSimulates (seen_of t x) (seen_of t y) (λ k. assigns k c.args.range c.args.server c.args.until)) c.assign-done.result c.outcome.ensures.packets c.outcome.ensures.ok
+    (assign_went x y c.args.range c.args.server t c.args.until c.assign-done.result up (e.refused up) (e.performed up) e.taken (sym (e.replays up).replays)))
 
 pub returns-clause-refusal : goal.returns-clause-refusal
 returns-clause-refusal c =
+    let t : ℕ = c.self.inside.moment in
     let x : MapWithFile MemDisk = c.self.inside.map in
     let y : MapWithFile MemDisk = c.assign-done.new.self in
     let e = c.assign-done.ensures in
     let up : x.file.stopped ≡ false = sym c.is_stopped.ensures ∙ c.if-is_stopped.false in
-    subst (λ (s : MapSeen). IfOk c.outcome.result (λ answer. answer.refusal ≡ assign_refusal s c.args.now c.args.range c.args.server)) c.self.view_is
-    (if_refusal c.outcome.result c.assign-done.result (assign_refusal (seen_of x) c.args.now c.args.range c.args.server) c.outcome.ensures.refusal (assign_refused x y c.args.range c.args.server c.args.now c.args.until c.assign-done.result up (e.refused up) (e.performed up) e.taken))
+    subst (λ (s : MapSeen). IfOk c.outcome.result (λ step. step.refusal ≡ assign_refusal s s.moment c.args.range c.args.server)) c.self.view_is
+    (if_refusal c.outcome.result c.assign-done.result (assign_refusal (seen_of t x) t c.args.range c.args.server) c.outcome.ensures.refusal (assign_refused x y c.args.range c.args.server t c.args.until c.assign-done.result up (e.refused up) (e.performed up) e.taken))
 
 pub returns-clause-err : goal.returns-clause-err
 returns-clause-err c =
+    let t : ℕ = c.self.inside.moment in
     let x : MapWithFile MemDisk = c.self.inside.map in
     let y : MapWithFile MemDisk = c.assign-done.new.self in
     let e = c.assign-done.ensures in
     let up : x.file.stopped ≡ false = sym c.is_stopped.ensures ∙ c.if-is_stopped.false in
-    subst (λ (s : MapSeen). OnErr c.outcome.result (seen_of y ≡ s)) c.self.view_is
-    (if_short c.outcome.result c.assign-done.result c.outcome.ensures.err (assign_short x y c.args.range c.args.server c.args.now c.args.until c.assign-done.result up (e.refused up) (e.performed up) e.taken))
+    subst (λ (s : MapSeen). OnErr c.outcome.result (seen_of t y ≡ s)) c.self.view_is
+    (if_short c.outcome.result c.assign-done.result c.outcome.ensures.err (assign_short x y c.args.range c.args.server t c.args.until c.assign-done.result up (e.refused up) (e.performed up) e.taken))

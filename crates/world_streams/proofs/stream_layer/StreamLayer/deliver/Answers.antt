@@ -1,6 +1,7 @@
 use Rattle.std.proofs.Common.{◌++◌, ◌∙◌, ap, subst, arith, slice_index_or}
 use Rattle.model_streams.specs.declared.event.Event.TheVariants.{Deliver}
 use Rattle.model_streams.specs.StreamSystem.{StreamSystem, happens}
+use Rattle.world_steps.specs.ActorStep.{ActorStep}
 use Rattle.world_streams.specs.StreamLayer.{StreamLayerState, StreamLayerMirrors}
 use Rattle.world_streams.proofs.EventSimulation.{state, undelivered, delivered_one}
 use Rattle.world_streams.proofs.stream_layer.StreamLayer.deliver.Goals as goal
@@ -18,5 +19,5 @@ returns-in-Ok-clause-ok c =
     (omega (arith, c.self.inside.post.ok, c.len.ensures, c.if-number-len.false))
     (c.index.ensures ∙ ap (λ l. slice_index_or l c.args.number c.index.result.now) c.make_room.ensures.same)
     c.in-Ok.ensures.ok
-    (c.move_in.ensures ∙ (λ i. c.make_room.ensures.same i ++ c.into_vec.ensures i))
-    (c.move_in-in-Ok.ensures ∙ (λ i. c.make_room-2.ensures.same i ++ c.into_vec-in-Ok.ensures i)))
+    (c.move_in.ensures ∙ (λ i. c.make_room.ensures.same i ++ (c.into_vec.ensures ∙ ap (λ (s : ActorStep). s.packets) c.step.view_is) i))
+    (c.move_in-in-Ok.ensures ∙ (λ i. c.make_room-2.ensures.same i ++ (c.into_vec-in-Ok.ensures ∙ ap (λ (s : ActorStep). s.notes) c.step.view_is) i)))

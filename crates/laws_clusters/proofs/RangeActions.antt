@@ -1,0 +1,213 @@
+-- What the actions of a range leave of the stories of all streams, and of what servers see of extents.
+use Rattle.std.proofs.Common.{◌≡◌, ℕ, List, [], ◌∷◌, ◌++◌, map, Bool, true, false, ◌==◌, ◌&&◌, Option, Some, None, is_some, Contains, refl, ap, ◌∙◌, inl, inr, eqb-true, if◌then◌else◌}
+use Rattle.wire.specs.declared.actor.ReqNo.{ReqNo}
+use Rattle.wire.specs.declared.body.Body.{Body}
+use Rattle.wire.specs.declared.body.Body.TheVariants as bodies
+use Rattle.wire.specs.declared.body.StreamBody.{StreamBody}
+use Rattle.wire.specs.declared.body.StreamBody.TheVariants as streams
+use Rattle.wire.specs.declared.note.Note.{Note}
+use Rattle.wire.specs.declared.note.Note.TheVariants.{Acked}
+use Rattle.wire.specs.declared.streams.StreamKind.{StreamKind}
+use Rattle.wire.specs.declared.streams.StreamKind.TheVariants as kinds
+use Rattle.wire.specs.declared.streams.StreamName.{StreamName}
+use Rattle.replica.specs.Groups.{Group, joined, text}
+use Rattle.client.specs.declared.job.News.{News}
+use Rattle.client.specs.declared.job.News.TheVariants as news
+use Rattle.client.specs.declared.load.LoadPhase.{LoadPhase}
+use Rattle.client.specs.declared.load.LoadPhase.TheVariants as phases
+use Rattle.client.specs.Client.{ClientState, awaits, reply_rule}
+use Rattle.client.specs.Load.{load_awaits}
+use Rattle.streams.specs.Streams.{kind_number}
+use Rattle.streams.proofs.Names.{same_kind}
+use Rattle.model_streams.proofs.Tests.{if_elim}
+use Rattle.model_partition.specs.declared.server_context.ServerContext.{ServerContext}
+use Rattle.model_partition.specs.declared.stage.Stage.{Stage}
+use Rattle.model_partition.specs.declared.stage.Stage.TheVariants as stages
+use Rattle.model_partition.specs.Answering.{groups_of, is_taken}
+use Rattle.model_partition.specs.Range.{OutGroup, RangeState, RangeOutcome, request, picking, if_there, is_serving}
+use Rattle.model_partition.specs.ServerRun.{PlacedBytes, RangeHistory, ServerRun, place_number, placed_reads, placed_behind, with_event, is_kind, is_stream, stream_named, bytes_read, after_action, after_actions}
+use Rattle.model_partition.specs.Story.{Story, StreamEvent, Showed}
+use Rattle.model_partition.specs.StreamActions.{ExtentRead, StreamAction, Reads, Forms, Stands, Shows, group_of, formed, transact_actions, last_position, stood, serving_actions, loading_actions, confirmed_actions, load_actions, answer_actions}
+use Rattle.laws_loads.specs.RangeView.{RangeView, view_after_all}
+use Rattle.laws_log_reads.specs.Reads.{IsShown, AllShown}
+use Rattle.laws_clusters.proofs.ObservedBytes.{IsObserved, AsContent, AsSeen, AsAcked, AreObserved, observed_both}
+use Rattle.laws_clusters.proofs.Invariant.{IsOther}
+use Rattle.model_streams.specs.StreamSystem.{StreamSystem}
+
+-- ---- streams of other names
+
+pub same_stream : (a b : StreamName) → is_stream a b ≡ true → a ≡ b
+same_stream a b e = go (a.range == b.range) (is_kind a.kind b.kind) refl refl e
+  where
+    go : (t u : Bool) → (a.range == b.range) ≡ t → (kind_number a.kind == kind_number b.kind) ≡ u → (t && u) ≡ true → a ≡ b
+    go true true one two e =
+        let ranges : a.range ≡ b.range = eqb-true a.range b.range one in
+        let same : a.kind ≡ b.kind = same_kind a.kind b.kind (eqb-true (kind_number a.kind) (kind_number b.kind) two) in
+        (λ j. record { range = ranges j; kind = same j })
+    go true false one two e = absurd cc
+    go false u one two e = absurd cc
+
+none_there : (stories : StreamName → Story Group) (a b : StreamName) (event : StreamEvent Group) → (a ≡ b → ⊥) → (if is_stream a b then event ∷ stories a else stories a) ≡ stories a
+none_there stories a b event other = go (is_stream a b) refl
+  where
+    go : (t : Bool) → is_stream a b ≡ t → (if t then event ∷ stories a else stories a) ≡ stories a
+    go true e = absurd (other (same_stream a b e))
+    go false e = refl
+
+-- ---- what is formed, and what stands, is of the log
+
+abbrev pub IsOnLog : StreamAction → Type 0
+IsOnLog (Forms kind group) = kind ≡ kinds.Log
+IsOnLog (Stands kind extent at group) = kind ≡ kinds.Log
+IsOnLog action = Unit {0}
+
+abbrev pub AreOnLog : List StreamAction → Type 0
+AreOnLog [] = Unit {0}
+AreOnLog (action ∷ earlier) = IsOnLog action × AreOnLog earlier
+
+on_both : (xs ys : List StreamAction) → AreOnLog xs → AreOnLog ys → AreOnLog (xs ++ ys)
+on_both [] ys a b = b
+on_both (x ∷ xs) ys a b = (a.0, on_both xs ys a.1 b)
+
+formed_on : (o : Option RangeState) → AreOnLog (formed o)
+formed_on None = tt
+formed_on (Some r) = go r.out
+  where
+    go : (out : Option OutGroup) → AreOnLog (map (λ group. Forms kinds.Log (group_of group)) (if_there out))
+    go None = tt
+    go (Some group) = (refl, tt)
+
+pub transact_on : (r : RangeState) (o : RangeOutcome) → AreOnLog (transact_actions r o)
+transact_on r o = if_elim AreOnLog (is_some r.out) _ _ (λ t. tt) (λ t. formed_on o.after)
+
+stood_on : (r : RangeState) (out : Option OutGroup) (extent offset : ℕ) (o : RangeOutcome) → AreOnLog (stood r out extent offset o)
+stood_on r None extent offset o = tt
+stood_on r (Some out) extent offset o = on_both (formed o.after) _ (formed_on o.after) (refl, tt)
+
+serving_on : (r : RangeState) (told : Option News) (o : RangeOutcome) → AreOnLog (serving_actions r told o)
+serving_on r (Some (news.Appended extent offset)) o = stood_on r r.out extent offset o
+serving_on r told o = tt
+
+loading_on : (kind : StreamKind) (c : ClientState) (stage : Stage) (groups : List Group) (told : Option News) → AreOnLog (loading_actions kind c stage groups told)
+loading_on kind c (stages.Reading k position) groups (Some (news.Content extent upto)) = (tt, tt)
+loading_on kind c stage groups told = tt
+
+confirmed_on : (r : RangeState) (phase : LoadPhase) (body : StreamBody) → AreOnLog (confirmed_actions r phase body)
+confirmed_on r (phases.Confirming q) (streams.Confirmed w) = (tt, tt)
+confirmed_on r phase body = tt
+
+load_on : (r : RangeState) (body : Body) → AreOnLog (load_actions r body)
+load_on r (bodies.Stream body) = confirmed_on r r.load.phase body
+load_on r body = tt
+
+pub answer_on : (d : ServerContext) (r : RangeState) (w : ReqNo) (body : Body) (o : RangeOutcome) → AreOnLog (answer_actions d r w body o)
+answer_on d r w body o =
+    if_elim AreOnLog (is_some o.after) _ _
+    (λ a. if_elim AreOnLog (load_awaits r.load.phase w) _ _ (λ b. load_on r body)
+    (λ b. if_elim AreOnLog (awaits r.metadata.job w) _ _ (λ e. loading_on kinds.Metadata r.metadata r.stage (groups_of body) (reply_rule (picking d r.metadata) (request d) body).news)
+    (λ e. if_elim AreOnLog (awaits r.log.job w) _ _
+    (λ f. if_elim AreOnLog (is_taken r body) _ _
+    (λ g. if_elim AreOnLog (is_serving r.stage) _ _ (λ h. serving_on r (reply_rule (picking d r.log) (request d) body).news o)
+    (λ h. loading_on kinds.Log r.log r.stage (groups_of body) (reply_rule (picking d r.log) (request d) body).news))
+    (λ g. tt)) (λ f. tt))))
+    (λ a. tt)
+
+-- such actions add nothing to the story of a stream that is not of the range
+module _ (server range generation : ℕ) where
+  action_aside : (x : ServerRun) (action : StreamAction) → IsOnLog action → (name : StreamName) → IsOther range name → (after_action server range generation x action).story name ≡ x.story name
+  action_aside x (Reads kind read) on name other = refl
+  action_aside x (Forms kind group) on name other = none_there x.story name (stream_named range kind) _ (λ same. other.1 (same ∙ ap (stream_named range) on))
+  action_aside x (Stands kind extent at group) on name other = none_there x.story name (stream_named range kind) _ (λ same. other.1 (same ∙ ap (stream_named range) on))
+  action_aside x (Shows start log_end metadata_end) on name other =
+      let h : RangeHistory = x.history server range in
+      let metadata : StreamEvent Group = Showed generation 0 (place_number metadata_end) (placed_reads (h.reads kinds.Metadata)) in
+      let log : StreamEvent Group = Showed generation (place_number start) (place_number log_end) (placed_behind (place_number start) (placed_reads (h.reads kinds.Log))) in
+      none_there (with_event x.story (stream_named range kinds.Metadata) metadata) name (stream_named range kinds.Log) log other.1
+      ∙ none_there x.story name (stream_named range kinds.Metadata) metadata other.0
+
+  pub actions_aside : (x : ServerRun) (actions : List StreamAction) → AreOnLog actions → (name : StreamName) → IsOther range name → (after_actions server range generation x actions).story name ≡ x.story name
+  actions_aside x [] on name other = refl
+  actions_aside x (action ∷ earlier) on name other = action_aside (after_actions server range generation x earlier) action on.0 name other ∙ actions_aside x earlier on.1 name other
+
+-- ---- what servers see of extents
+
+-- what was read of an extent was observed
+pub reads_seen : (w : StreamSystem) (reads : List ExtentRead) → AllShown w reads → AreObserved w.notes (bytes_read reads)
+reads_seen w [] shown = tt
+reads_seen w (x ∷ older) shown = (one x shown.0, reads_seen w older shown.1)
+  where
+    one : (x : ExtentRead) → IsShown w.notes x.extent x.groups → IsObserved w.notes (record { extent = x.extent; offset = 0; bytes = text x.groups })
+    one x (n, inl there) = AsContent n x.groups there refl refl
+    one x (n, inr there) = AsSeen n there
+
+-- what loads showed and what appends were answered for was observed
+pub record SeesBytes (notes : List Note) (shown answered : List PlacedBytes) : Type 0 where
+  pub shown_there : AreObserved notes shown
+  pub answered_there : AreObserved notes answered
+
+module _ (generation : ℕ) (notes : List Note) (v : RangeView) (old : SeesBytes notes v.shown v.answered) where
+  abbrev pub Observed : List StreamAction → Type 0
+  Observed actions = SeesBytes notes (view_after_all generation v actions).shown (view_after_all generation v actions).answered
+
+  formed_seen : (o : Option RangeState) → Observed (formed o)
+  formed_seen None = old
+  formed_seen (Some r) = go r.out
+    where
+      go : (out : Option OutGroup) → Observed (map (λ group. Forms kinds.Log (group_of group)) (if_there out))
+      go None = old
+      go (Some group) = old
+
+  pub transact_seen : (r : RangeState) (o : RangeOutcome) → Observed (transact_actions r o)
+  transact_seen r o = if_elim Observed (is_some r.out) _ _ (λ t. old) (λ t. formed_seen o.after)
+
+  loading_seen : (kind : StreamKind) (c : ClientState) (stage : Stage) (groups : List Group) (told : Option News) → Observed (loading_actions kind c stage groups told)
+  loading_seen kind c (stages.Reading k position) groups (Some (news.Content extent upto)) = old
+  loading_seen kind c stage groups told = old
+
+  module _ (r : RangeState) where
+    -- the group that is out was acknowledged where it stands
+    abbrev pub OutAcked : Option News → Type 0
+    OutAcked told = (extent offset : ℕ) → told ≡ Some (news.Appended extent offset) → (group : OutGroup) → r.out ≡ Some group → Contains notes (Acked extent offset (group_of group))
+
+    stood_seen : (out : Option OutGroup) → r.out ≡ out → (extent offset : ℕ) → ((group : OutGroup) → r.out ≡ Some group → Contains notes (Acked extent offset (group_of group))) → (o : RangeOutcome) →
+        Observed (stood r out extent offset o)
+    stood_seen None e extent offset acked o = old
+    stood_seen (Some group) e extent offset acked o = go o.after
+      where
+        more : SeesBytes notes v.shown (record { extent = extent; offset = offset; bytes = joined (group_of group) } ∷ v.answered)
+        more = record { shown_there = old.shown_there; answered_there = (AsAcked (group_of group) (acked group e) refl, old.answered_there) }
+
+        by : (out : Option OutGroup) → Observed (map (λ g. Forms kinds.Log (group_of g)) (if_there out) ++ Stands kinds.Log extent (last_position r.log offset) (group_of group) ∷ [])
+        by None = more
+        by (Some g) = more
+
+        go : (a : Option RangeState) → Observed (formed a ++ Stands kinds.Log extent (last_position r.log offset) (group_of group) ∷ [])
+        go None = more
+        go (Some a) = by a.out
+
+    serving_seen : (told : Option News) → OutAcked told → (o : RangeOutcome) → Observed (serving_actions r told o)
+    serving_seen (Some (news.Appended extent offset)) acked o = stood_seen r.out refl extent offset (acked extent offset refl) o
+    serving_seen told acked o = old
+
+    module _ (reads : (q : ReqNo) → r.load.phase ≡ phases.Confirming q → AreObserved notes (bytes_read (v.history.reads kinds.Log))) where
+      confirmed_seen : (phase : LoadPhase) (body : StreamBody) → r.load.phase ≡ phase → Observed (confirmed_actions r phase body)
+      confirmed_seen (phases.Confirming q) (streams.Confirmed w) e =
+          record { shown_there = observed_both notes (bytes_read (v.history.reads kinds.Log)) v.shown (reads q e) old.shown_there; answered_there = old.answered_there }
+      confirmed_seen phase body e = old
+
+      load_seen : (body : Body) → Observed (load_actions r body)
+      load_seen (bodies.Stream body) = confirmed_seen r.load.phase body refl
+      load_seen body = old
+
+      pub answer_seen : (d : ServerContext) (w : ReqNo) (body : Body) (o : RangeOutcome) → (is_serving r.stage ≡ true → OutAcked (reply_rule (picking d r.log) (request d) body).news) →
+          Observed (answer_actions d r w body o)
+      answer_seen d w body o acked =
+          if_elim Observed (is_some o.after) _ _
+          (λ a. if_elim Observed (load_awaits r.load.phase w) _ _ (λ b. load_seen body)
+          (λ b. if_elim Observed (awaits r.metadata.job w) _ _ (λ e. loading_seen kinds.Metadata r.metadata r.stage (groups_of body) (reply_rule (picking d r.metadata) (request d) body).news)
+          (λ e. if_elim Observed (awaits r.log.job w) _ _
+          (λ f. if_elim Observed (is_taken r body) _ _
+          (λ g. if_elim Observed (is_serving r.stage) _ _ (λ h. serving_seen (reply_rule (picking d r.log) (request d) body).news (acked h) o)
+          (λ h. loading_seen kinds.Log r.log r.stage (groups_of body) (reply_rule (picking d r.log) (request d) body).news))
+          (λ g. old)) (λ f. old))))
+          (λ a. old)

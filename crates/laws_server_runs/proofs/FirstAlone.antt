@@ -1,0 +1,156 @@
+-- Where the map assigns the first range alone, servers hold and show no other.
+use Rattle.std.proofs.Common.{◌≡◌, ℕ, ◌-◌, List, [], ◌∷◌, ◌++◌, Some, None, slice_set, refl, sym, ap, ◌∙◌, subst, inl, inr}
+use Rattle.std.proofs.lemmas.Bool.{cases_eq}
+use Rattle.wire.specs.declared.actor.ActorId.TheVariants as actors
+use Rattle.wire.specs.declared.note.Note.{Note}
+use Rattle.model_streams.specs.Maps.{entry_at}
+use Rattle.model_partition.specs.declared.table_note.TableNote.{TableNote}
+use Rattle.model_partition.specs.Log.{only}
+use Rattle.model_partition.specs.Past.{Bytes, first_range}
+use Rattle.model_partition.specs.Range.{RangeState}
+use Rattle.model_partition.specs.Server.{ServerState, ServerOutcome, range_of, new_range}
+use Rattle.model_partition.specs.Servers.{ServerCell}
+use Rattle.model_partition.specs.ServerRun.{PlacedBytes, ServerRun, RangeEffect, ServerEvent, Takes, GivesUp, Stops, Starts, Moment, run_of, after_event}
+use Rattle.model_partition.specs.ServedTables.{IsOfFirst, IsFirst, AreFirst, AreSeenAs}
+use Rattle.laws_loads.proofs.Entries.{entry_set, entry_other}
+use Rattle.laws_loads.specs.RangeView.{view_after_all}
+use Rattle.laws_server_runs.specs.Places.{NotesWithin, StepLaid, RunLaid}
+use Rattle.laws_server_runs.specs.RunInvariant.{view_at}
+use Rattle.laws_server_runs.specs.Turns.{Turn, Idles, Opens, Acts, Calms, outcome_of, RunStep, Keeps, Passes, Turns}
+use Rattle.laws_server_runs.proofs.Fronts.{SeenBoth, seen_both}
+use Rattle.laws_server_runs.proofs.LaidRuns.{rule_laid, bare, all_laid, event_notes}
+use Rattle.laws_server_runs.proofs.OwnNotes.{only_both, own_notes}
+use Rattle.laws_server_runs.proofs.RangeLists.{inserted_other, left_other}
+use Rattle.laws_server_runs.proofs.RunSteps.{AllAssigned, event_step}
+
+abbrev IsTheFirst : ℕ → Type 0
+IsTheFirst range = range ≡ first_range
+
+first_assigned : (event : ServerEvent) → IsFirst event → AllAssigned IsTheFirst event
+first_assigned (Takes s p) first = λ range generation until from body. subst (λ b. IsOfFirst actors.Map b) body (subst (λ a. IsOfFirst a p.body) from first)
+first_assigned (GivesUp s range pick) first = tt
+first_assigned (Stops s call) first = tt
+first_assigned (Starts s now batch) first = tt
+first_assigned (Moment now) first = tt
+
+-- each range at a server is the first
+abbrev HoldsFirst : List ServerCell → Type 0
+HoldsFirst servers = (s : ℕ) (cell : ServerCell) (st : ServerState) → entry_at servers s ≡ Some cell → cell.state ≡ Some st → (k : ℕ) (r : RangeState) → range_of st.ranges k ≡ Some r → k ≡ first_range
+
+-- and these observations are of it
+abbrev AreOfFirst : List TableNote → Type 0
+AreOfFirst notes = (placed : List PlacedBytes) × NotesWithin first_range placed notes
+
+module _ (x : ServerRun) (laid : RunLaid x) (first : HoldsFirst x.servers) where
+  module _ (s : ℕ) (cell : ServerCell) (st : ServerState) (at : entry_at x.servers s ≡ Some cell) (is : cell.state ≡ Some st) where
+    one_first : (next : ServerState) → ((k : ℕ) (r : RangeState) → range_of next.ranges k ≡ Some r → k ≡ first_range) → HoldsFirst (slice_set x.servers (s - 1) (record cell { state = Some next }))
+    one_first next mine t c q there up k r held = elim (cases_eq t s) [
+      | inl same ↦
+          (let both : Some (record cell { state = Some next }) ≡ Some c =
+          sym (entry_set x.servers s cell (record cell { state = Some next }) at) ∙ subst (λ n. entry_at (slice_set x.servers (s - 1) (record cell { state = Some next })) n ≡ Some c) same there in
+          let is_cell : record cell { state = Some next } ≡ c = cc in
+          let state : Some next ≡ Some q = ap (λ (z : ServerCell). z.state) is_cell ∙ up in
+          let e : next ≡ q = cc in
+          mine k r (ap (λ (z : ServerState). range_of z.ranges k) e ∙ held))
+      | inr other ↦ first t c q (sym (entry_other x.servers s cell (record cell { state = Some next }) at t other) ∙ there) up k r held
+    ]
+
+    turn_first : (e : RangeEffect) (o : ServerOutcome) → Turn IsTheFirst st e o → HoldsFirst (slice_set x.servers (s - 1) (record cell { state = Some o.after })) × AreOfFirst o.notes
+    turn_first e o (Idles next packets same) = (one_first next (λ k r held. first s cell st at is k r (sym (ap (λ l. range_of l k) same) ∙ held)), ([], tt))
+    turn_first e o (Opens range assigned d generation until next packets new) = (one_first next mine, ([], tt))
+      where
+        mine : (k : ℕ) (r : RangeState) → range_of next.ranges k ≡ Some r → k ≡ first_range
+        mine k r held = elim (cases_eq k range) [
+          | inl same ↦ same ∙ assigned
+          | inr other ↦ first s cell st at is k r (sym (inserted_other st.ranges range (new_range d range generation until) k other) ∙ sym (ap (λ l. range_of l k) new) ∙ held)
+        ]
+    turn_first e o (Acts range r held actions ro rule next left) = (
+      one_first next mine,
+      ((view_after_all r.load.generation (view_at range x s) actions).shown, subst (λ n. NotesWithin n (view_after_all r.load.generation (view_at range x s) actions).shown ro.notes) is_first step.notes),
+    )
+      where
+        is_first : range ≡ first_range
+        is_first = first s cell st at is range r held
+
+        step : StepLaid range (view_at range x s) r.load.generation actions ro
+        step = rule_laid range (view_at range x s) r (laid.ranges s cell st at is range r held) actions ro rule
+
+        mine : (k : ℕ) (z : RangeState) → range_of next.ranges k ≡ Some z → k ≡ first_range
+        mine k z found = elim (cases_eq k range) [
+          | inl same ↦ same ∙ is_first
+          | inr other ↦ first s cell st at is k z (sym (left_other st.ranges range ro.after k other) ∙ sym (ap (λ l. range_of l k) left) ∙ found)
+        ]
+    turn_first e o (Calms range r held ro rule next left) = (
+      one_first next mine,
+      ((view_at range x s).shown, subst (λ n. NotesWithin n (view_at range x s).shown ro.notes) is_first step.notes),
+    )
+      where
+        is_first : range ≡ first_range
+        is_first = first s cell st at is range r held
+
+        step : StepLaid range (view_at range x s) r.load.generation [] ro
+        step = rule_laid range (view_at range x s) r (laid.ranges s cell st at is range r held) [] ro rule
+
+        mine : (k : ℕ) (z : RangeState) → range_of next.ranges k ≡ Some z → k ≡ first_range
+        mine k z found = elim (cases_eq k range) [
+          | inl same ↦ same ∙ is_first
+          | inr other ↦ first s cell st at is k z (sym (left_other st.ranges range ro.after k other) ∙ sym (ap (λ l. range_of l k) left) ∙ found)
+        ]
+
+  step_first : (notes : List TableNote) (y : ServerRun) → RunStep IsTheFirst x notes y → HoldsFirst y.servers × AreOfFirst notes
+  step_first notes y (Keeps servers packets like) = (
+    λ t c q there up k r held. elim (like t c q there up) [
+      | inl none ↦ absurd (let z : None ≡ Some r = sym (ap (λ l. range_of l k) none) ∙ held in cc)
+      | inr old ↦ first t old.0 old.1 old.2 old.3 k r (sym (ap (λ l. range_of l k) old.4) ∙ held)
+    ],
+    ([], tt),
+  )
+  step_first notes y (Passes servers like) = (
+    λ t c q there up k r held. elim (like t c q there up) [
+      | inl none ↦ absurd (let z : None ≡ Some r = sym (ap (λ l. range_of l k) none) ∙ held in cc)
+      | inr old ↦ first t old.0 old.1 old.2 old.3 k r (sym (ap (λ l. range_of l k) old.4) ∙ held)
+    ],
+    ([], tt),
+  )
+  step_first notes y (Turns s cell st at is e o turn) = turn_first s cell st at is e o turn
+
+module _ (texts : ℕ → Bytes) (batch servers : ℕ) where
+  -- so what is seen is of the first range alone
+  record IsOfTheFirst (x : ServerRun) : Type 0 where
+    holds : HoldsFirst x.servers
+    seen : (notes : List Note) → AreSeenAs texts x.notes notes → only first_range notes ≡ notes
+
+  one_more : (event : ServerEvent) (earlier : List ServerEvent) → IsFirst event → IsOfTheFirst (run_of batch servers earlier) → IsOfTheFirst (run_of batch servers (event ∷ earlier))
+  one_more event earlier first old = record { holds = step.0; seen = all }
+    where
+      x : ServerRun
+      x = run_of batch servers earlier
+
+      more : List TableNote
+      more = (outcome_of x.servers event).notes
+
+      step : HoldsFirst (after_event x event).servers × AreOfFirst more
+      step = step_first x (all_laid batch servers earlier) old.holds more (after_event x event) (event_step IsTheFirst x event (first_assigned event first))
+
+      all : (notes : List Note) → AreSeenAs texts (after_event x event).notes notes → only first_range notes ≡ notes
+      all notes seen =
+          let b : SeenBoth texts x.notes more notes = seen_both texts x.notes more notes (subst (λ l. AreSeenAs texts l notes) (event_notes batch servers x event) seen) in
+          ap (only first_range) b.is ∙ only_both first_range b.before b.later
+          ∙ (λ i. old.seen b.before b.first_seen i ++ own_notes texts step.1.0 first_range more b.later step.1.1 b.second_seen i) ∙ sym b.is
+
+  none_yet : IsOfTheFirst (run_of batch servers [])
+  none_yet = record {
+    holds = λ s cell st at up k r held. absurd (let z : None ≡ Some r = sym (ap (λ l. range_of l k) (bare batch servers s cell st at up)) ∙ held in cc);
+    seen = nothing;
+  }
+    where
+      nothing : (notes : List Note) → AreSeenAs texts [] notes → only first_range notes ≡ notes
+      nothing [] seen = refl
+      nothing (note ∷ notes) seen = absurd seen
+
+  of_first : (events : List ServerEvent) → AreFirst events → IsOfTheFirst (run_of batch servers events)
+  of_first [] first = none_yet
+  of_first (event ∷ earlier) first = one_more event earlier first.0 (of_first earlier first.1)
+
+  pub only_first : (events : List ServerEvent) → AreFirst events → (notes : List Note) → AreSeenAs texts (run_of batch servers events).notes notes → only first_range notes ≡ notes
+  only_first events first notes seen = (of_first events first).seen notes seen

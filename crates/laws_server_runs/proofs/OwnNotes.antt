@@ -1,0 +1,42 @@
+-- The observations of one range among those of all.
+use Rattle.std.proofs.Common.{◌≡◌, ℕ, List, [], ◌∷◌, ◌++◌, Bool, true, false, ◌==◌, refl, ap, ◌∙◌, if◌then◌else◌}
+use Rattle.wire.specs.declared.note.Note.{Note}
+use Rattle.model_partition.specs.declared.table_note.TableNote.{TableNote}
+use Rattle.model_partition.specs.declared.table_note.TableNote.TheVariants as tables
+use Rattle.model_partition.specs.Log.{is_of, only}
+use Rattle.model_partition.specs.Past.{Bytes}
+use Rattle.model_partition.specs.ServedTables.{IsSeenAs, AreSeenAs}
+use Rattle.model_partition.specs.ServerRun.{PlacedBytes}
+use Rattle.laws_server_runs.specs.Places.{NoteWithin, NotesWithin}
+use Rattle.laws_server_runs.proofs.Actions.{same_test, other_test}
+
+pub only_both : (k : ℕ) (xs ys : List Note) → only k (xs ++ ys) ≡ only k xs ++ only k ys
+only_both k [] ys = refl
+only_both k (x ∷ xs) ys = go (is_of k x) (only_both k xs ys)
+  where
+    go : (b : Bool) → only k (xs ++ ys) ≡ only k xs ++ only k ys → (if b then x ∷ only k (xs ++ ys) else only k (xs ++ ys)) ≡ (if b then x ∷ only k xs else only k xs) ++ only k ys
+    go true e = ap (λ l. x ∷ l) e
+    go false e = e
+
+module _ (texts : ℕ → Bytes) (placed : List PlacedBytes) where
+  -- whose observation it is
+  seen_of : (j k : ℕ) (told : TableNote) (note : Note) → NoteWithin j placed told → IsSeenAs texts told note → is_of k note ≡ (k == j)
+  seen_of j k (tables.Began range generation number changes) note within seen = ap (is_of k) seen ∙ ap (λ n. k == n) within
+  seen_of j k (tables.Done range generation number) note within seen = ap (is_of k) seen ∙ ap (λ n. k == n) within
+  seen_of j k (tables.Loaded range generation entries indexes next) note within seen = ap (is_of k) seen.1 ∙ ap (λ n. k == n) within.0
+
+  -- all that is seen of observations of the range
+  pub own_notes : (k : ℕ) (told : List TableNote) (notes : List Note) → NotesWithin k placed told → AreSeenAs texts told notes → only k notes ≡ notes
+  own_notes k [] [] within seen = refl
+  own_notes k [] (note ∷ notes) within seen = absurd seen
+  own_notes k (t ∷ told) [] within seen = absurd seen
+  own_notes k (t ∷ told) (note ∷ notes) within seen =
+      ap (λ b. if b then note ∷ only k notes else only k notes) (seen_of k k t note within.0 seen.0 ∙ same_test k) ∙ ap (λ l. note ∷ l) (own_notes k told notes within.1 seen.1)
+
+  -- and nothing of those of another
+  pub other_notes : (j k : ℕ) → (k ≡ j → ⊥) → (told : List TableNote) (notes : List Note) → NotesWithin j placed told → AreSeenAs texts told notes → only k notes ≡ []
+  other_notes j k apart [] [] within seen = refl
+  other_notes j k apart [] (note ∷ notes) within seen = absurd seen
+  other_notes j k apart (t ∷ told) [] within seen = absurd seen
+  other_notes j k apart (t ∷ told) (note ∷ notes) within seen =
+      ap (λ b. if b then note ∷ only k notes else only k notes) (seen_of j k t note within.0 seen.0 ∙ other_test k j apart) ∙ other_notes j k apart told notes within.1 seen.1

@@ -1,0 +1,3 @@
+pub mod ManagerNotes
+pub mod ManagerSimulation
+pub mod ManagerCalls
