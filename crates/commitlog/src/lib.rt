@@ -36,4 +36,4 @@ pub use log_record::{LogRecord, Transactions};
 pub use placing::{cells, cells_from, offset_after, put_cells};
 pub use reading::{decode, one_spelling};
 pub use replay::Replay;
-pub use writing::encode;
+pub use writing::{encode, pieces_of};

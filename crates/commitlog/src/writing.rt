@@ -82,8 +82,8 @@ pub(crate) fn put_transaction(
     put_changes(out, number, changes)
 }
 
-/// The pieces of a text, which share its buffer.
-pub(crate) fn pieces_of(alloc: Global, text: Vec<u8>) -> Result<Vec<Block>, AllocError>
+/// The pieces of a text, each but the last of 65,536 bytes, which share its buffer. An error is out of memory (22).
+pub fn pieces_of(alloc: Global, text: Vec<u8>) -> Result<Vec<Block>, AllocError>
     ensures { IfOk result (λ made. made.items ≡ pieces text.items) }
 {
     let count = (text.len() + (MAX_BLOCK as usize - 1)) / MAX_BLOCK as usize;

@@ -19,7 +19,7 @@ ghost use Rattle.laws_clusters.specs.ServerEvents.{servers_of_run};
 ghost use Rattle.laws_servers.specs.Sending.{ByMoves, MaySendAll};
 
 /// A server sends nothing but what servers may ask of nodes and of the manager, and what no node takes. Of loaded tables it
-/// shows at most one, of the memory table that the range has when the answer comes that confirms its generation.
+/// shows at most one, of the table that the range has when the answer comes that confirms its generation.
 pub fn servers_take_steps()
     ensures sent { (servers : List ServerCell) (s : ℕ) (p : Packet) → MaySendAll (server_takes servers s p).packets }
     ensures shown { (servers : List ServerCell) (s : ℕ) (p : Packet) →

@@ -5,7 +5,7 @@ ghost use Rattle.std.specs.Prelude.{ℕ, List, ◌++◌, ◌<◌};
 ghost use Rattle.model_streams.specs.Honest.{Agree, Kept};
 ghost use Rattle.model_streams.specs.StreamSystem.{run, start, Move, moved, run_moves};
 ghost use Rattle.model_streams.specs.declared.event.Event.{Event};
-ghost use Rattle.laws_streams.specs.Answers.{OpeningsAnswered, ConfirmationsAnswered, ExtensionsAnswered, SealsAnswered, ContentAnswered};
+ghost use Rattle.laws_streams.specs.Answers.{OpeningsAnswered, ConfirmationsAnswered, ExtensionsAnswered, SealsAnswered, ContentAnswered, BasesTrimmed};
 ghost use Rattle.laws_streams.specs.Fences.{FencesRise, MadeWithFences, Confirms, OpensIn, Settles, FencesHold};
 ghost use Rattle.laws_streams.specs.Listings.{ListsGrow};
 ghost use Rattle.laws_streams.specs.Origins.{Origins, OriginsOfMoves};
@@ -48,18 +48,22 @@ pub fn fences()
 /// a generation that this request confirmed, the extent that was last then or was added for this request, and the length at
 /// which an extent is sealed for good. Groups that were read begin what was appended to the extent, up to where it was asked.
 /// Blocks that were appended stand at the answered offset, as the ones of this request and its generation, and are
-/// acknowledged there: from then on no place ends before them, and no seal cuts them off. Nothing is said of a check that is
-/// answered with no length, nor of bytes and refusals.
+/// acknowledged there: from then on no place ends before them, and no seal cuts them off. The list of a log begins at index 0,
+/// or where a Trim named it, which one that is no user had sent under the generation that was the log's fence when it came.
+/// Nothing is said of a check that is answered with no length, nor of bytes and refusals.
 pub fn answers()
     ensures opened { (nodes target : ℕ) (moves : List Move) → OpeningsAnswered moves (start nodes target) }
     ensures confirmed { (nodes target : ℕ) (moves : List Move) → ConfirmationsAnswered moves (start nodes target) }
     ensures extended { (nodes target : ℕ) (moves : List Move) → ExtensionsAnswered moves (start nodes target) }
     ensures sealed { (nodes target : ℕ) (before after : List Move) → SealsAnswered before after (start nodes target) }
     ensures content { (nodes target : ℕ) (before after : List Move) → ContentAnswered before after (start nodes target) }
+    ensures bases { (nodes target : ℕ) (moves : List Move) → BasesTrimmed moves (start nodes target) }
 {}
 
-/// Whatever is lost, repeated, reordered or stopped: each extent of a stream is in the manager's catalog and stands in one list,
-/// once, in the order in which extents are made; each but the last of its list is sealed; and a list only grows.
+/// Whatever is lost, repeated, reordered or stopped: each extent of a stream is in the manager's catalog; while it is open it
+/// stands in one list, once; a list only grows, with those that have left it. Extents leave logs alone, never the last one, and
+/// for good. In each list but those of blob streams, to which extents of logs come, they stand in the order in which they were
+/// made, and each but the last is sealed.
 pub fn listed()
     ensures grow { (nodes target : ℕ) (before after : List Move) → ListsGrow before after (start nodes target) }
 {}

@@ -1,32 +1,44 @@
-//! Laws of tables, and of the streams that they are loaded from, said of the definitions of `model_partition` alone.
+//! Laws of tables, and of the streams that they are loaded from. Runs of a range and of those that it was split from are defined
+//! in `laws_tables`, and all else that is said here in `model_partition`.
 
 ghost use Rattle.std.specs.Prelude.{◌≡◌, List, ℕ, suc};
 ghost use Rattle.wire.specs.declared.note.Note.{Note};
 ghost use Rattle.wire.specs.declared.rows.Row.{Row};
+ghost use Rattle.memtable.specs.declared.cell.Place.{Place};
 ghost use Rattle.commitlog.specs.Replay.{Numbered as Group};
 ghost use Rattle.model_partition.specs.StreamMachine.{after, Extended, In, IsRun, MachineStep};
-ghost use Rattle.model_partition.specs.Log.{IsServed, observed, ShowsTables};
 ghost use Rattle.model_partition.specs.Past.{Bytes, Transaction, Replays, table_notes, first_range};
 ghost use Rattle.model_partition.specs.Range.{RangeState};
 ghost use Rattle.model_partition.specs.ServedTables.{AllStand, AreFirst, AreSeenAs, IsAtLine, ServesAt, StreamsInOrder};
 ghost use Rattle.model_partition.specs.ServerRun.{ServerEvent, log_name, run_of};
-ghost use Rattle.model_partition.specs.Story.{Story, KeepsOrder};
+ghost use Rattle.model_partition.specs.Story.{KeepsOrder, EndsRise};
 ghost use Rattle.model_partition.specs.ServerTurns.{after_all, AreMoves, Growing, Move};
-ghost use Rattle.laws_tables.specs.Ends.{EndsRise};
+ghost use Rattle.laws_tables.specs.Ends.{StandsBehind};
+ghost use Rattle.laws_tables.specs.Layers.{Layer};
+ghost use Rattle.laws_tables.specs.Runs.{Beginning, ChainReplays, IsBeginning, IsChainRun, KeepsKeys, Run, ShowsLayers, first_beginning, log_of, meta_of, seen};
 
-/// What is loaded of the first range replays, where its log keeps its order and its servers follow their rules: observations of
-/// extents may stand between those of tables.
+/// Each load of a range shows the table after every transaction whose append was answered under an earlier generation, in order,
+/// each once, where the streams of its log and of its metadata keep their order, loads of the log end in the order of their
+/// generations, and its servers follow their rules. Those may put transactions into indexes, let go of the front of the log, load
+/// from where the metadata says, and narrow the keys; and the range may begin with any table, at any place of its log (`chain`).
+/// Where nothing narrows the keys of the first range, all that is observed of it replays, and observations of extents may stand
+/// between those of tables (`law`). `rows` are what each load shows, by its number in the log's story, and `layer_at` is what the
+/// index at a place says.
 pub fn tables_replay()
-    ensures law { (rows : ℕ → List Row) (story : Story (Group Transaction)) (h : List Note) → ShowsTables rows story → IsServed story
-        → KeepsOrder story → table_notes h ≡ observed first_range rows story → Replays h }
+    ensures chain { (layer_at : Place → Layer) (b : Beginning) (rows : ℕ → List Row) (run : Run) (order : KeepsOrder (log_of run)) →
+        IsBeginning layer_at b → IsChainRun layer_at b run → ShowsLayers layer_at b rows run → EndsRise (log_of run) → StandsBehind b.place (log_of run) order
+        → KeepsOrder (meta_of run) → ChainReplays b rows run }
+    ensures law { (layer_at : Place → Layer) (rows : ℕ → List Row) (run : Run) (h : List Note) → IsChainRun layer_at first_beginning run → KeepsKeys run
+        → ShowsLayers layer_at first_beginning rows run → KeepsOrder (log_of run) → EndsRise (log_of run) → KeepsOrder (meta_of run)
+        → table_notes h ≡ seen first_beginning rows first_range run → Replays h }
 {}
 
 /// Whatever comes to servers, from whomever and however often, wherever they stop, start or give up: if what they see of the
-/// metadata and the log of a range keeps its order, no generation is confirmed twice, and what was shown of that log keeps its
-/// bytes, then what they load replays, where the map assigns the first range alone (`law`). If what was answered keeps its bytes too,
-/// the tables of any range that is served are at any moment the table of the line that ends at its log position, whatever other
-/// ranges its server holds (`steps`). Nothing is said of who answers them: any streams, of any number of any machines, are
-/// allowed that keep their order.
+/// metadata and the log of a range keeps its order, no generation is confirmed twice, loads of that log end in the order of their
+/// generations, and what was shown of it keeps its bytes, then what they load replays, where the map assigns the first range
+/// alone (`law`). If what was answered keeps its bytes too, the tables of any range that is served are at any moment the table of
+/// the line that ends at its log position, whatever other ranges its server holds (`steps`). Nothing is said of who answers
+/// them: any streams, of any number of any machines, are allowed that keep their order.
 pub fn servers_replay()
     ensures law { (batch servers : ℕ) (texts : ℕ → Bytes) (events : List ServerEvent) (notes : List Note) → AreFirst events →
         StreamsInOrder texts first_range (run_of batch servers events) → AreSeenAs texts (run_of batch servers events).notes (table_notes notes) → Replays notes }

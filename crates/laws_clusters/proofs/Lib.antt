@@ -20,5 +20,4 @@ pub mod Senders
 pub mod Invariant
 pub mod ServerRules
 pub mod ServerPackets
-pub mod ServersOfRun
 pub mod Theorem

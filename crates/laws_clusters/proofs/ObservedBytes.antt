@@ -54,7 +54,7 @@ pub tables_behind : (placed : ℕ → List PlacedBytes) (before shown : List Tab
 tables_behind placed [] shown laid = laid
 tables_behind placed (tables.Began range generation number changes ∷ before) shown laid = tables_behind placed before shown laid
 tables_behind placed (tables.Done range generation number ∷ before) shown laid = tables_behind placed before shown laid
-tables_behind placed (tables.Loaded range generation entries indexes next ∷ before) shown laid = tables_behind placed before shown laid.1
+tables_behind placed (tables.Loaded range generation table next ∷ before) shown laid = tables_behind placed before shown laid.1
 
 -- ---- a place that observed bytes cover
 
@@ -156,18 +156,18 @@ module _ (texts : ℕ → Bytes) where
   seen_now : (seen : List Note) (placed : ℕ → List PlacedBytes) (n : TableNote) → AllTellRightly texts seen → ((range : ℕ) → AreObserved seen (placed range)) → TablesWithin placed (n ∷ []) → IsSeenAs texts n (told seen n)
   seen_now seen placed (tables.Began range generation number changes) all are laid = refl
   seen_now seen placed (tables.Done range generation number) all are laid = refl
-  seen_now seen placed (tables.Loaded range generation entries indexes next) all are laid =
-      (rows_of seen entries, refl, rows_say texts seen entries laid.0.0 (are_shown seen (placed range) entries all (are range) laid.0.1))
+  seen_now seen placed (tables.Loaded range generation table next) all are laid =
+      (rows_of seen table, refl, rows_say texts seen table.live laid.0.0 (are_shown seen (placed range) table.live all (are range) laid.0.1))
 
   table_told : (seen : List Note) (n : TableNote) → table_notes (seen ++ told seen n ∷ []) ≡ table_notes seen ++ told seen n ∷ []
   table_told seen (tables.Began range generation number changes) = others-append seen _
   table_told seen (tables.Done range generation number) = others-append seen _
-  table_told seen (tables.Loaded range generation entries indexes next) = others-append seen _
+  table_told seen (tables.Loaded range generation table next) = others-append seen _
 
   tables_first : (placed : ℕ → List PlacedBytes) (n : TableNote) (shown : List TableNote) → TablesWithin placed (n ∷ shown) → TablesWithin placed (n ∷ []) × TablesWithin placed shown
   tables_first placed (tables.Began range generation number changes) shown laid = (tt, laid)
   tables_first placed (tables.Done range generation number) shown laid = (tt, laid)
-  tables_first placed (tables.Loaded range generation entries indexes next) shown laid = ((laid.0, tt), laid.1)
+  tables_first placed (tables.Loaded range generation table next) shown laid = ((laid.0, tt), laid.1)
 
   kept_first : (seen : List Note) (note : Note) → Keeps seen (seen ++ note ∷ [])
   kept_first seen note x there = Contains-append_left seen (note ∷ []) x there

@@ -68,11 +68,11 @@ module _ (generation : ℕ → ℕ) (nodes target : ℕ) (c : Cluster) (y : Serv
   both = record {
     metadata = record {
       made = below_made generation (metadata_of range) nodes target x.moves (after_all Group generation z.m) z.m_sent metadata_below;
-      once = below_index generation (metadata_of range) nodes target x.moves;
+      once = below_index generation (metadata_of range) nodes target (λ k. cc) x.moves;
     };
     log = record {
       made = below_made generation (log_of range) nodes target x.moves (after_all Group generation z.l) z.l_sent log_below;
-      once = below_index generation (log_of range) nodes target x.moves;
+      once = below_index generation (log_of range) nodes target (λ k. cc) x.moves;
     };
     apart = λ j k e one two unsealed. below_alone generation (log_of range) nodes target x.moves (metadata_of range) (kinds_differ range) j k e one (two, unsealed);
   }

@@ -1,5 +1,5 @@
 -- What an event does in the stream layer: it shows nothing of tables, and sends nothing in the name of a server or of the map.
-use Rattle.std.proofs.Common.{◌≡◌, ◌⊎◌, ℕ, Bool, not, ◌&&◌, ◌||◌, ◌==◌, nat_lt, List, [], ◌∷◌, ◌++◌, take, Option, Some, None, Result, Ok, Err, slice_get, Contains, refl, sym, ap, ◌∙◌, subst, inl, inr, append-nil}
+use Rattle.std.proofs.Common.{◌≡◌, ◌⊎◌, ℕ, Bool, true, false, not, ◌&&◌, ◌||◌, ◌==◌, nat_lt, List, [], ◌∷◌, ◌++◌, take, Option, Some, None, Result, Ok, Err, slice_get, Contains, refl, sym, ap, ◌∙◌, subst, inl, inr, append-nil}
 use Rattle.std.proofs.lemmas.List.Elements.{Contains-append_cases}
 use Rattle.block_types.specs.declared.record.Nodes.{Nodes}
 use Rattle.wire.specs.declared.actor.ActorId.{ActorId}
@@ -28,7 +28,7 @@ use Rattle.replica.specs.declared.phase.Phase.{Phase}
 use Rattle.replica.specs.declared.phase.Phase.TheVariants as phases
 use Rattle.replica.specs.Groups.{Group, text, text_length}
 use Rattle.replica.specs.Reading.{groups_to, groups_from}
-use Rattle.streams.specs.Streams.{stream_of, extending}
+use Rattle.streams.specs.Streams.{stream_of, extending, trimming}
 use Rattle.model_streams.specs.declared.checking.Checking.{Checking}
 use Rattle.model_streams.specs.declared.event.Event.{Event}
 use Rattle.model_streams.specs.declared.event.Event.TheVariants.{Submit, Deliver, Stop, Restart, Decide, GiveUp, Assign, Renew, Moment, Checkpoint, Split, Merge}
@@ -237,6 +237,16 @@ module _ (b : Catalog) (p : Packet) where
       if_elim IsBare (catalog.is_foreign p.from s.range) (refused b Manager p q Stale) (catalog.extend_answered b p s generation pick q x)
       (λ t. refl) (λ t. extend_answered_bare s generation pick q x)
 
+  trim_bare : (range generation before : ℕ) (to_blob : Bool) (q : ReqNo) → IsBare (catalog.trim_rule b p range generation before to_blob q)
+  trim_bare range generation before to_blob q =
+      if_elim IsBare (is_user p.from) (refused b Manager p q Stale) (catalog.trim_answered b p range before to_blob q (trimming b.stream range generation before))
+      (λ t. refl) (λ t. by_answer (trimming b.stream range generation before))
+    where
+      by_answer : (x : Result Bool Refusal) → IsBare (catalog.trim_answered b p range before to_blob q x)
+      by_answer (Err refusal) = refl
+      by_answer (Ok false) = refl
+      by_answer (Ok true) = refl
+
   no_users_bare : (q : ReqNo) → IsBare (catalog.no_users b p q)
   no_users_bare q = if_elim IsBare (is_user p.from) (refused b Manager p q Stale) (silent b) (λ t. refl) (λ t. refl)
 
@@ -248,7 +258,7 @@ module _ (b : Catalog) (p : Packet) where
   stream_body_bare (Confirm range generation q) =
       unless_bare b Manager p q (catalog.confirm_refusal b p range generation) (catalog.answer b p (Confirmed q)) refl
   stream_body_bare (Extend s generation last pick q) = extend_bare s (generation_of p.from generation) last pick q
-  stream_body_bare (Trim range generation before to_blob q) = no_users_bare q
+  stream_body_bare (Trim range generation before to_blob q) = trim_bare range generation before to_blob q
   stream_body_bare (MultiModify list q) = no_users_bare q
   stream_body_bare body = refl
 

@@ -72,12 +72,12 @@ module _ (generation : ℕ → ℕ) (nodes target : ℕ) where
 
     hm : (n : ℕ) → Happened generation (metadata_of (suc n)) nodes target (m_at n) x.moves event (x.machines (suc n)).m_sent
     hm n =
-        below_happens generation (metadata_of (suc n)) nodes target (omega arith) (m_at n) (x.beside (suc n)).m_are x.moves (x.machines (suc n)).m_sent
+        below_happens generation (metadata_of (suc n)) nodes target (omega arith) (λ k. cc) (m_at n) (x.beside (suc n)).m_are x.moves (x.machines (suc n)).m_sent
         ((x.beside (suc n)).metadata (omega arith)) event
 
     hl : (n : ℕ) → Happened generation (log_of (suc n)) nodes target (l_at n) x.moves event (x.machines (suc n)).l_sent
     hl n =
-        below_happens generation (log_of (suc n)) nodes target (omega arith) (l_at n) (x.beside (suc n)).l_are x.moves (x.machines (suc n)).l_sent
+        below_happens generation (log_of (suc n)) nodes target (omega arith) (λ k. cc) (l_at n) (x.beside (suc n)).l_are x.moves (x.machines (suc n)).l_sent
         ((x.beside (suc n)).log (omega arith)) event
 
     abbrev next_machines : ℕ → Machines generation

@@ -24,14 +24,13 @@ use Rattle.model_partition.specs.Range.{RangeState}
 use Rattle.model_partition.specs.Server.{ServerState, range_of, started}
 use Rattle.model_partition.specs.ServedTables.{IsAtLine, IsOfFirst, AreFirst, LoadsOnce, ServesAt}
 use Rattle.model_partition.specs.ServerRun.{ServerRun, ServerEvent, Takes, GivesUp, Moment as MomentSo, stream_named, first_run, run_of, metadata_name, log_name}
-use Rattle.model_partition.specs.Story.{Copy, KeepsOrder, Story}
+use Rattle.model_partition.specs.Story.{Copy, KeepsOrder, Story, EndsRise}
 use Rattle.model_partition.specs.TableContents.{AllTellRightly}
 use Rattle.laws_stream_machine.proofs.LowerLayer.{below_start}
 use Rattle.laws_ranges.specs.Serves.{Apart, metadata_of, log_of}
 use Rattle.laws_streams.proofs.Choices.{contains_get}
 use Rattle.laws_server_runs.proofs.LaidRuns.{loaded_within}
 use Rattle.laws_server_runs.proofs.Theorem.{run_replays, run_at_line}
-use Rattle.laws_tables.specs.Ends.{EndsRise}
 use Rattle.laws_tables.proofs.Turns.{clients_keep_order, clients_ends_rise}
 use Rattle.laws_clusters.specs.Orders.{ComesOfStreams}
 use Rattle.laws_clusters.specs.ServerEvents.{packet_events, delivery_events, stop_events, start_events, server_events, server_events_after, servers_of_run}
@@ -286,6 +285,10 @@ module _ (nodes target batch count : ℕ) where
       ordered = each (λ z. KeepsOrder z) m_order l_order empty_order;
       once = each (λ z. LoadsOnce z) m_once l_once (λ l m g start end start' end' groups groups' e. absurd cc);
       ends = each (λ z. EndsRise z) m_ends l_ends (λ l m g h start end start' end' groups groups' e. absurd cc);
+      contents = (
+        texts nodes target x.moves,
+        subst (λ (w : StreamSystem). AllTellRightly (texts nodes target x.moves) w.notes) x.leads (all_right nodes target x.moves),
+      );
       shown = λ texts all range. observed_stand texts c.stream_layer.notes (y.shown range) all (x.observed range);
       answered = λ texts all range. observed_stand texts c.stream_layer.notes (y.answered range) all (x.acked range);
       told = x.told;
@@ -295,10 +298,17 @@ module _ (nodes target batch count : ℕ) where
   stands_replays : (c : Cluster) (coming : List ServerEvent) → StandsWith c coming → Replays c.stream_layer.notes
   stands_replays c coming x =
       let o : ComesOfStreams c (run coming) = stands_ordered c (run coming) x.stands in
-      let bytes : ℕ → Bytes = texts nodes target x.stands.moves in
-      let right : AllTellRightly bytes c.stream_layer.notes = subst (λ (w : StreamSystem). AllTellRightly bytes w.notes) x.stands.leads (all_right nodes target x.stands.moves) in
+      let bytes : ℕ → Bytes = (o.contents).0 in
+      let right : AllTellRightly bytes c.stream_layer.notes = (o.contents).1 in
       run_replays bytes batch count coming c.stream_layer.notes x.first
-      (record { metadata = o.ordered (metadata_name first_range); log = o.ordered (log_name first_range); once = o.once (log_name first_range); shown = o.shown bytes right first_range }) (o.told bytes right)
+      (record {
+        metadata = o.ordered (metadata_name first_range);
+        log = o.ordered (log_name first_range);
+        once = o.once (log_name first_range);
+        ends = o.ends (log_name first_range);
+        shown = o.shown bytes right first_range;
+      })
+      (o.told bytes right)
 
   -- each range that is served is at its line, over any texts that have all that was observed
   stands_at_line : (c : Cluster) (coming : List ServerEvent) → StandsWith c coming → (texts : ℕ → Bytes) → AllTellRightly texts c.stream_layer.notes → (s range : ℕ) (r : RangeState) →
@@ -306,7 +316,14 @@ module _ (nodes target batch count : ℕ) where
   stands_at_line c coming x texts all s range r at =
       let o : ComesOfStreams c (run coming) = stands_ordered c (run coming) x.stands in
       run_at_line texts batch count coming s range r
-      (record { metadata = o.ordered (metadata_name range); log = o.ordered (log_name range); once = o.once (log_name range); shown = o.shown texts all range }) (o.answered texts all range) at
+      (record {
+        metadata = o.ordered (metadata_name range);
+        log = o.ordered (log_name range);
+        once = o.once (log_name range);
+        ends = o.ends (log_name range);
+        shown = o.shown texts all range;
+      })
+      (o.answered texts all range) at
 
 abbrev pub after_run : (nodes servers target batch : ℕ) → List Event → Cluster
 after_run nodes servers target batch events = cluster_after_all (first_cluster nodes servers target batch) events

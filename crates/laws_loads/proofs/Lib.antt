@@ -1,6 +1,5 @@
 pub mod Cells
 pub mod Renaming
-pub mod Replaying
 pub mod Rows
 pub mod WaitingIsSound
 pub mod WaitingStays

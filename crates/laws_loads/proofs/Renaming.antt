@@ -48,7 +48,7 @@ mapped_parts {X} {Y} f (x ∷ xs) (z ∷ front) y back e =
 -- ---- stories
 
 module _ {A B : Type 0} (f : A → B) where
-  abbrev renamed_if : Option (StreamEvent A) → Option (StreamEvent B)
+  abbrev pub renamed_if : Option (StreamEvent A) → Option (StreamEvent B)
   renamed_if None = None
   renamed_if (Some e) = Some ((renamed_event f) e)
 

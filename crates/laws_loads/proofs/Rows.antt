@@ -16,7 +16,7 @@ use Rattle.memtable.specs.declared.cell.Cell.TheVariants.{Deleted, Inline, Place
 use Rattle.memtable.specs.declared.cell.Place.{Place}
 use Rattle.memtable.specs.Entries.{Entries, key_cmp, found, put_all}
 use Rattle.replica.specs.Groups.{joined, text}
-use Rattle.model_partition.specs.Servers.{part, shown_in, first_shown, or_later, row_if, row_of, rows_of}
+use Rattle.model_partition.specs.Servers.{part, shown_in, first_shown, or_later, row_if, row_of, rows_in}
 use Rattle.model_partition.specs.Past.{Bytes, stored}
 use Rattle.model_partition.specs.TableContents.{StandsAt, value_in, value_of, table_in, TellsRightly, AllTellRightly}
 use Rattle.laws_loads.proofs.Cells.{same_key}
@@ -171,16 +171,16 @@ module _ (texts : ℕ → Bytes) where
   none_step false key q rows es is later more = more
 
   -- the rows of a layer are its table
-  pub rows_say : (notes : List Note) (es : Entries) → Ordered es → AreShown notes es → (q : Bytes) → stored (rows_of notes es) q ≡ table_in texts es q
+  pub rows_say : (notes : List Note) (es : Entries) → Ordered es → AreShown notes es → (q : Bytes) → stored (rows_in notes es) q ≡ table_in texts es q
   rows_say notes [] o shown q = refl
   rows_say notes ((key, Deleted) ∷ es) o shown q =
       ap (λ rows. stored rows q) (flat_map-cons (λ entry. row_of notes entry.0 entry.1) (key, Deleted) es)
-      ∙ none_step (is_eq (key_cmp q key)) key q (rows_of notes es) es refl o.0 (rows_say notes es o.1 shown q)
+      ∙ none_step (is_eq (key_cmp q key)) key q (rows_in notes es) es refl o.0 (rows_say notes es o.1 shown q)
   rows_say notes ((key, Inline value) ∷ es) o shown q =
       ap (λ rows. stored rows q) (flat_map-cons (λ entry. row_of notes entry.0 entry.1) (key, Inline value) es)
-      ∙ row_step (is_eq (key_cmp q key)) key q value (rows_of notes es) es (Inline value) refl refl (rows_say notes es o.1 shown q)
+      ∙ row_step (is_eq (key_cmp q key)) key q value (rows_in notes es) es (Inline value) refl refl (rows_say notes es o.1 shown q)
   rows_say notes ((key, Placed place) ∷ es) o shown q =
       let value : Bytes = take place.length (drop place.offset (texts place.extent)) in
       ap (λ rows. stored rows q) (flat_map-cons (λ entry. row_of notes entry.0 entry.1) (key, Placed place) es)
-      ∙ ap (λ x. stored (row_if key x ++ rows_of notes es) q) shown.0
-      ∙ row_step (is_eq (key_cmp q key)) key q value (rows_of notes es) es (Placed place) refl refl (rows_say notes es o.1 shown.1 q)
+      ∙ ap (λ x. stored (row_if key x ++ rows_in notes es) q) shown.0
+      ∙ row_step (is_eq (key_cmp q key)) key q value (rows_in notes es) es (Placed place) refl refl (rows_say notes es o.1 shown.1 q)

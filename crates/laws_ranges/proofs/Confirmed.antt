@@ -13,7 +13,7 @@ use Rattle.model_streams.specs.StreamSystem.{StreamSystem}
 use Rattle.model_partition.specs.declared.server_context.ServerContext.{ServerContext}
 use Rattle.model_partition.specs.declared.table_note.TableNote.TheVariants as notes
 use Rattle.model_partition.specs.Range.{RangeState, RangeOutcome, request, dropped, waiting_out}
-use Rattle.model_partition.specs.Loading.{serves, serves_from, serves_region, are_counted, open_region}
+use Rattle.model_partition.specs.Loading.{serves, serves_from, serves_region, shown_table, are_counted, open_region}
 use Rattle.model_partition.specs.StreamMachine as machine
 use Rattle.model_partition.specs.ServerTurns as turns
 use Rattle.laws_stream_machine.specs.Refinement.{Sent, purpose_of, Means, StreamMeans}
@@ -76,7 +76,7 @@ module _ (generation : ℕ → ℕ) (range : ℕ) (w : StreamSystem) (i : ℕ) (
           let went = shows_goes (log_of range) l.stand l.sent q (by.log d.count (omega arith)) r.log b.q b.log two_fact in
           let two = went.0 in
           let goes : RuleGoes generation range w i m l d (serves_region d r region) =
-          both_step generation range w i m l d by _ _ None None one two _ _ (notes.Loaded r.load.range r.load.generation r.live r.said.indexes region.next ∷ [])
+          both_step generation range w i m l d by _ _ None None one two _ _ (notes.Loaded r.load.range r.load.generation (shown_table r) region.next ∷ [])
           (subst (λ z. Apart z (sent_with q two.purpose l.sent)) (sym one.then.1) (subst (λ z. Apart m.sent z) (sym two.then.1) by.apart))
           (record {
             range_is = range_is;

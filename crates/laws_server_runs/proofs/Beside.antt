@@ -5,20 +5,17 @@ use Rattle.wire.specs.declared.streams.StreamKind.{StreamKind}
 use Rattle.wire.specs.declared.streams.StreamKind.TheVariants as kinds
 use Rattle.model_streams.specs.Maps.{entry_at}
 use Rattle.model_partition.specs.declared.server_context.ServerContext.{ServerContext}
-use Rattle.model_partition.specs.Loading.{Group}
-use Rattle.model_partition.specs.Log.{IsServed, only}
+use Rattle.model_partition.specs.Log.{only}
 use Rattle.model_partition.specs.Past.{Bytes}
 use Rattle.model_partition.specs.Range.{RangeState, is_serving}
-use Rattle.model_partition.specs.Renaming.{renamed, decoded}
 use Rattle.model_partition.specs.Server.{ServerState, range_of, new_range}
 use Rattle.model_partition.specs.Servers.{ServerCell}
-use Rattle.model_partition.specs.ServerRun.{ServerRun, first_history, stream_named, log_name}
+use Rattle.model_partition.specs.ServerRun.{ServerRun, first_history, stream_named}
 use Rattle.model_partition.specs.ServedTables.{AreSeenAs, ServesAt}
-use Rattle.model_partition.specs.Story.{Story}
-use Rattle.laws_server_runs.specs.RangeInvariant.{RangeKept, AreObserved, AllSpelled, IsUnmade, GoesOn, Rests}
+use Rattle.laws_server_runs.specs.RangeInvariant.{RangeKept, AreObserved, Rests}
 use Rattle.laws_server_runs.specs.RunInvariant.{view_at, RunKept}
 use Rattle.laws_server_runs.proofs.Loads.{new_kept}
-use Rattle.laws_server_runs.proofs.Others.{others_kept}
+use Rattle.laws_server_runs.proofs.Others.{streams_same, others_kept}
 
 module _ (texts : ℕ → Bytes) (subject : ℕ) (x : ServerRun) (kept : RunKept texts subject x) (y : ServerRun) where
   -- the server had the range before, and the range did nothing
@@ -40,14 +37,14 @@ module _ (texts : ℕ → Bytes) (subject : ℕ) (x : ServerRun) (kept : RunKept
     no_more : (n : ℕ) → n ≡ suc n → ⊥
     no_more n e = omega (arith, e)
 
-    was_kept : (t : ℕ) (r : RangeState) → Was t r → RangeKept texts subject (view_at subject y t) r
+    was_kept : (t : ℕ) (r : RangeState) → Was t r → RangeKept texts subject kept.run (view_at subject y t) r
     was_kept t r (cell, st, there, up, held, same) =
-        others_kept texts subject (view_at subject x t) r (view_at subject y t) same (kept.ranges t cell st there up r held) (suc r.load.generation)
-        (subst (λ z. GoesOn texts (suc r.load.generation) (x.story (log_name subject)) z) (sym (b.story kinds.Log)) Rests) ([], b.answered) (λ e same. no_more r.load.generation same)
+        others_kept texts subject kept.run kept.run (view_at subject x t) r (view_at subject y t) same (kept.ranges t cell st there up r held) (suc r.load.generation) Rests
+        ([], b.answered) (λ e same. no_more r.load.generation same)
 
-    is_kept : (t : ℕ) (r : RangeState) → Was t r ⊎ IsNew t r → RangeKept texts subject (view_at subject y t) r
+    is_kept : (t : ℕ) (r : RangeState) → Was t r ⊎ IsNew t r → RangeKept texts subject kept.run (view_at subject y t) r
     is_kept t r (inl was) = was_kept t r was
-    is_kept t r (inr (d, generation, until, is, none)) = subst (λ z. RangeKept texts subject (view_at subject y t) z) (sym is) (new_kept texts subject (view_at subject y t) d none generation until)
+    is_kept t r (inr (d, generation, until, is, none)) = subst (λ z. RangeKept texts subject kept.run (view_at subject y t) z) (sym is) (new_kept texts subject kept.run (view_at subject y t) d none generation until)
 
     served_before : (t : ℕ) (r : RangeState) → ServesAt y t subject r → ServesAt x t subject r
     served_before t r s = go (b.holds t s.cell s.state s.there s.runs r s.held)
@@ -58,14 +55,9 @@ module _ (texts : ℕ → Bytes) (subject : ℕ) (x : ServerRun) (kept : RunKept
 
     pub beside_kept : RunKept texts subject y
     beside_kept = record {
+      run = kept.run;
       ranges = λ t c q there up r held. is_kept t r (b.holds t c q there up r held);
       own = λ s t r u one two same. kept.own s t r u (served_before s r one) (served_before t u two) same;
-      streams = record {
-        served = subst (λ z. IsServed (renamed decoded z)) (sym (b.story kinds.Log)) kept.streams.served;
-        spelled = subst (λ (z : Story Group). AllSpelled texts z) (sym (b.story kinds.Log)) kept.streams.spelled;
-        unmade = subst (λ (z : Story Group). IsUnmade texts z) (sym (b.story kinds.Metadata)) kept.streams.unmade;
-      };
-      seen = λ notes seen.
-          let n = b.notes notes seen in
-          subst (λ z. AreObserved texts subject z (only subject notes)) (sym (b.story kinds.Log)) (subst (λ l. AreObserved texts subject (x.story (log_name subject)) l) (sym n.2) (kept.seen n.0 n.1));
+      streams = streams_same texts kept.run (view_at subject x 0) (view_at subject y 0) (b.story kinds.Log) (b.story kinds.Metadata) kept.streams;
+      seen = λ notes seen. let n = b.notes notes seen in subst (λ l. AreObserved texts subject kept.run l) (sym n.2) (kept.seen n.0 n.1);
     }

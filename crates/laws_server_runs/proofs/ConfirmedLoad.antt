@@ -1,26 +1,42 @@
--- What follows where a generation is confirmed, and the streams keep their order with that load: nothing stands in the metadata, the
--- log is read from its first place on, and the range has the table of the line that the load shows.
-use Rattle.std.proofs.Common.{◌≡◌, ℕ, ◌<◌, List, [], ◌∷◌, length, map, Some, sym, ap, ◌∙◌, subst, arith}
+-- What follows where a generation is confirmed, and the streams keep their order with that load: the metadata says the fold of the records
+-- that the load shows, and where it names one region without end, the range has what the load replays of the log from the region's start
+-- on. No record is made yet, so that is the whole log.
+use Rattle.std.proofs.Common.{◌≡◌, ℕ, ◌+◌, ◌<◌, ◌^◌, List, [], ◌∷◌, length, map, true, Some, is_some, refl, sym, ap, ◌∙◌, subst, inl, arith}
+use Rattle.std.specs.Prelude.{if◌then◌else◌}
 use Rattle.streams.specs.declared.table.Position.{Position}
+use Rattle.memtable.specs.declared.cell.Place.{Place}
 use Rattle.wire.specs.declared.streams.StreamKind.TheVariants as kinds
+use Rattle.client.specs.Client.{last_extent}
+use Rattle.metadata.specs.declared.record.MetaItem.{MetaItem}
 use Rattle.metadata.specs.declared.record.Region.{Region}
 use Rattle.metadata.specs.Fold.{MetadataState, first_metadata}
+use Rattle.metadata.specs.Keys.{within}
 use Rattle.commitlog.specs.declared.log_record.LogRecord.{LogRecord}
+use Rattle.commitlog.specs.Replay.{Numbered}
+use Rattle.commitlog.specs.Replay.{replayed as replay}
 use Rattle.model_partition.specs.Range.{RangeState}
-use Rattle.model_partition.specs.Loading.{Group, open_region, said_after}
-use Rattle.model_partition.specs.Log.{IsServed, line_shown}
-use Rattle.model_partition.specs.Past.{Bytes}
-use Rattle.model_partition.specs.Renaming.{renamed, renamed_placed, decoded}
-use Rattle.model_partition.specs.Story.{Placed, StreamEvent, Made, Showed, event_at}
-use Rattle.model_partition.specs.StreamActions.{StreamAction, Shows, first_start, read_end}
+use Rattle.model_partition.specs.Loading.{Group, open_region, log_end}
+use Rattle.model_partition.specs.Log.{line_shown}
+use Rattle.model_partition.specs.Past.{Bytes, Transaction}
+use Rattle.model_partition.specs.Renaming.{renamed_placed, renamed_event, decoded, decoded_record}
+use Rattle.model_partition.specs.Story.{Placed, StreamEvent, Showed, event_at}
+use Rattle.model_partition.specs.StreamActions.{ExtentRead, StreamAction, Shows, first_start, read_end}
 use Rattle.model_partition.specs.ServerRun.{place_number, placed_reads, placed_behind, bytes_read}
-use Rattle.laws_loads.proofs.Renaming.{made_at, showed_from}
-use Rattle.laws_loads.proofs.Replaying.{AreRead, After}
+use Rattle.laws_loads.proofs.Renaming.{showed_from}
 use Rattle.laws_tables.proofs.Range.{newest, bound, older}
-use Rattle.laws_server_runs.specs.RangeInvariant.{groups_read, replayed_all, ReadsLog, IsShownUnder, AllSpelled, IsUnmade, StreamsKept, InOrder}
+use Rattle.laws_tables.proofs.Layers.{in_all}
+use Rattle.laws_tables.proofs.Loads.{greater_left}
+use Rattle.laws_tables.specs.Layers.{Layer, empty_layer, over, indexed, layer_line}
+use Rattle.laws_tables.specs.Runs as chains
+use Rattle.laws_tables.specs.Runs.{Run, first_beginning, first_next, start_number, added, greater, said, replayed_by, next_loaded, loaded_layer, IsServing, MayStart}
+use Rattle.laws_server_runs.specs.RangeInvariant.{groups_read, replayed_all, layer_in, ReadsLog, no_index, AllSpelled, IsUnmade, StreamsKept, InOrder}
 use Rattle.laws_loads.specs.RangeView.{RangeView, view_after, log_of, metadata_of}
-use Rattle.laws_server_runs.proofs.LoadedLine.{line_read, reads_groups, behind_first, shown_line, first_stand, extents_replayed, the_region}
-use Rattle.laws_server_runs.proofs.Order.{groups_shown, unmade_shows_nothing, shown_spelled, IsLoaded, made_was_shown, made_before}
+use Rattle.laws_server_runs.proofs.Behind.{groups_shown, all_behind, left_is_all, end_behind}
+use Rattle.laws_server_runs.proofs.Folding.{IsFoldOf, groups_folded}
+use Rattle.laws_server_runs.proofs.LoadedLine.{line_read, reads_groups, groups_renamed, first_stand, extents_replayed, the_region}
+use Rattle.laws_server_runs.proofs.OneRegion.{IsOneRegion, AllKeepOneRegion, all_kept, first_one}
+use Rattle.laws_server_runs.proofs.Order.{unmade_shows_nothing, shown_spelled, shown_behind, made_before}
+use Rattle.laws_server_runs.proofs.Replaying.{AreRead, After}
 
 module _ (r : RangeState) where
   -- the position that the log is read from
@@ -48,92 +64,167 @@ module _ (v : RangeView) (r : RangeState) where
   abbrev pub view_shown : RangeView
   view_shown = view_after r.load.generation v (shows r)
 
-module _ (texts : ℕ → Bytes) (v : RangeView) (r : RangeState) (h : ReadsLog v.history r) (streams : StreamsKept texts v) (order : InOrder texts (view_shown v r)) where
+  -- what it shows, by what it spells
+  abbrev pub spelled_groups : List (Placed (Numbered Transaction))
+  spelled_groups = map (renamed_placed decoded) shown_groups
+
+  abbrev pub shown_records : List (Placed (Numbered MetaItem))
+  shown_records = map (renamed_placed decoded_record) (placed_reads (v.history.reads kinds.Metadata))
+
+-- the run with that load
+abbrev pub run_loaded : Run → RangeView → RangeState → Run
+run_loaded run v r =
+    chains.Confirms r.load.generation (place_number (start_of r)) (place_number (read_end r.log (start_of r))) (spelled_groups v r) (place_number (metadata_end r)) (shown_records v r) ∷ run
+
+module _ (texts : ℕ → Bytes) (run : Run) (v : RangeView) (r : RangeState) (h : ReadsLog v.history r) (streams : StreamsKept texts run v) (order : InOrder texts (view_shown v r)) where
   -- ---- the metadata
 
-  pub unmade_still : IsUnmade texts (metadata_load v r ∷ metadata_of v)
-  unmade_still a g group at =
-      streams.unmade a g group
-      (made_before (metadata_of v) r.load.generation 0 (place_number (metadata_end r)) (placed_reads (v.history.reads kinds.Metadata)) a g group at)
-
-  nothing_placed : placed_reads (v.history.reads kinds.Metadata) ≡ []
-  nothing_placed =
-      unmade_shows_nothing texts (metadata_load v r ∷ metadata_of v) order.metadata unmade_still (length (metadata_of v)) r.load.generation 0 (place_number (metadata_end r))
-      (placed_reads (v.history.reads kinds.Metadata)) (newest Group (metadata_load v r) (metadata_of v))
-
-  nothing_read : groups_read (v.history.reads kinds.Metadata) ≡ []
-  nothing_read = sym (reads_groups (v.history.reads kinds.Metadata)) ∙ ap groups_shown nothing_placed
-
-  pub said_first : r.said ≡ first_metadata
-  said_first =
-      let e : said_after first_metadata (groups_read (v.history.reads kinds.Metadata)) ≡ Some first_metadata = ap (said_after first_metadata) nothing_read in
-      let both : Some first_metadata ≡ Some r.said = sym e ∙ h.said in
-      let same : first_metadata ≡ r.said = cc in
-      sym same
+  -- what it says is the fold of the records that the load shows
+  pub said_is : r.said ≡ said first_beginning (line_shown (shown_records v r))
+  said_is =
+      let reads : List ExtentRead = v.history.reads kinds.Metadata in
+      let is_fold : IsFoldOf first_metadata (replay [] (map decoded_record (groups_read reads))) r.said =
+      groups_folded first_metadata (groups_read reads) [] first_metadata (record { says = refl; next = refl }) r.said h.said in
+      is_fold.says
+      ∙ ap (λ l. said first_beginning (replay [] l)) (sym (groups_renamed decoded_record (placed_reads reads) ∙ ap (map decoded_record) (reads_groups reads)))
 
   -- ---- the log
-
-  -- it is read from its first place on
-  pub start_is : start_of r ≡ record { index = 0; offset = 0 }
-  start_is = ap (λ (m : MetadataState). first_start m.regions) said_first
-
-  pub place_is : place_number (start_of r) ≡ 0
-  place_is = ap place_number start_is
-
-  -- so the load shows all that was read
-  all_shown : shown_groups v r ≡ placed_reads (v.history.reads kinds.Log)
-  all_shown = ap (λ n. placed_behind n (placed_reads (v.history.reads kinds.Log))) place_is ∙ behind_first (placed_reads (v.history.reads kinds.Log))
-
-  pub line_is : line_shown (map (renamed_placed decoded) (shown_groups v r)) ≡ line_read (v.history.reads kinds.Log)
-  line_is = ap (λ (l : List (Placed Group)). line_shown (map (renamed_placed decoded) l)) all_shown ∙ shown_line (v.history.reads kinds.Log)
 
   pub load_stands : event_at (log_load v r ∷ log_of v) (length (log_of v)) ≡ Some (log_load v r)
   load_stands = newest Group (log_load v r) (log_of v)
 
-  pub spelled_still : AllSpelled texts (log_load v r ∷ log_of v)
+  spelled_still : AllSpelled texts (log_load v r ∷ log_of v)
   spelled_still a g group at =
       streams.spelled a g group
       (made_before (log_of v) r.load.generation (place_number (start_of r)) (place_number (read_end r.log (start_of r))) (shown_groups v r) a g group at)
 
-  -- all that was read was handed to appends
-  read_back : (rs : List LogRecord) × AreRead (groups_read (v.history.reads kinds.Log)) rs
+  -- all that it shows was handed to appends
+  read_back : (rs : List LogRecord) × AreRead (groups_shown (shown_groups v r)) rs
   read_back =
-      subst (λ (l : List Group). (rs : List LogRecord) × AreRead l rs) (ap groups_shown all_shown ∙ reads_groups (v.history.reads kinds.Log))
-      (shown_spelled texts (log_load v r ∷ log_of v) order.log spelled_still (length (log_of v)) r.load.generation (place_number (start_of r))
-      (place_number (read_end r.log (start_of r))) (shown_groups v r) load_stands)
+      shown_spelled texts (log_load v r ∷ log_of v) order.log spelled_still (length (log_of v)) r.load.generation (place_number (start_of r))
+      (place_number (read_end r.log (start_of r))) (shown_groups v r) load_stands
 
-  pub loaded : After texts (line_read (v.history.reads kinds.Log)) (r.regions, r.live)
-  loaded =
-      extents_replayed texts (v.history.reads kinds.Log) read_back.0 read_back.1 (first_stand texts (bytes_read (v.history.reads kinds.Log)) v.shown order.shown) (r.regions, r.live)
-      (subst (λ (m : MetadataState). replayed_all m.keys (v.history.reads kinds.Log) (m.regions, []) ≡ Some (r.regions, r.live)) said_first h.made)
+  -- and is all that was read from its start on
+  all_shown : all_behind (place_number (start_of r)) (placed_reads (v.history.reads kinds.Log)) ≡ shown_groups v r
+  all_shown =
+      left_is_all (place_number (start_of r)) (placed_reads (v.history.reads kinds.Log))
+      (shown_behind texts (log_load v r ∷ log_of v) order.log (length (log_of v)) r.load.generation (place_number (start_of r)) (place_number (read_end r.log (start_of r)))
+      (shown_groups v r) load_stands)
 
-  -- the region without end is the one that the load made
-  pub region_is : (region : Region) → open_region r.regions ≡ Some region → loaded.region ≡ region
-  region_is region found =
-      let known : Some loaded.region ≡ Some region = sym (the_region loaded.region loaded.has.open_end) ∙ ap open_region (sym loaded.only) ∙ found in
-      cc
+  -- what it adds to the line
+  abbrev pub line : List Transaction
+  line = line_read (first_next r.said.regions) (groups_shown (shown_groups v r))
 
-  -- ---- the story of the log
+  pub replayed_is : replayed_by first_beginning (spelled_groups v r) (shown_records v r) ≡ line
+  replayed_is =
+      ap (λ (m : MetadataState). added (first_next m.regions) (map (λ p. p.group) (spelled_groups v r))) (sym said_is)
+      ∙ ap (added (first_next r.said.regions)) (groups_renamed decoded (shown_groups v r))
 
-  -- no load of this generation stands there yet
-  pub first_load : IsShownUnder (log_of v) r.load.generation → ⊥
+  -- ---- where the records leave one region without end
+
+  module _ (keep : AllKeepOneRegion first_metadata (line_shown (shown_records v r))) where
+    pub one : IsOneRegion r.said
+    one = subst IsOneRegion (sym said_is) (all_kept first_metadata (line_shown (shown_records v r)) first_one keep)
+
+    first_is : one.region.start ≡ start_of r
+    first_is = ap first_start (sym one.only)
+
+    number_is : one.region.next ≡ first_next r.said.regions
+    number_is = ap first_next (sym one.only)
+
+    taken_is : groups_shown (all_behind (place_number one.region.start) (placed_reads (v.history.reads kinds.Log))) ≡ groups_shown (shown_groups v r)
+    taken_is = ap (λ p. groups_shown (all_behind (place_number p) (placed_reads (v.history.reads kinds.Log)))) first_is ∙ ap groups_shown all_shown
+
+    pub loaded : After texts r.said.keys one.region line (r.regions, r.live)
+    loaded =
+        subst (λ l. After texts r.said.keys one.region l (r.regions, r.live)) (λ i. line_read (number_is i) (taken_is i))
+        (extents_replayed texts r.said.keys one.region one.open_end one.short (v.history.reads kinds.Log) read_back.0
+        (subst (λ l. AreRead l read_back.0) (sym taken_is) read_back.1) (first_stand texts (bytes_read (v.history.reads kinds.Log)) v.shown order.shown) (r.regions, r.live)
+        (subst (λ regions. replayed_all r.said.keys (v.history.reads kinds.Log) (regions, []) ≡ Some (r.regions, r.live)) one.only h.made))
+
+    -- the layer is what the load of the run replays
+    pub layer_is : (key : Bytes) → within r.said.keys key ≡ true →
+        layer_in texts r.live key ≡ layer_line (replayed_by first_beginning (spelled_groups v r) (shown_records v r)) empty_layer key
+    layer_is key there = loaded.has.says key there (one.inside key there) ∙ ap (λ l. layer_line l empty_layer key) (sym replayed_is)
+
+    -- over its indexes it is the layer of that load, whatever the indexes say
+    pub layers_are : (layer_at : Place → Layer) (key : Bytes) → within r.said.keys key ≡ true →
+        over (layer_in texts r.live) (indexed layer_at r.said.indexes) key ≡ loaded_layer first_beginning layer_at (spelled_groups v r) (shown_records v r) key
+    layers_are layer_at key there = λ i. if is_some (layer_is key there i) then layer_is key there i else indexed layer_at (said_is i).indexes key
+
+    -- the region without end is the one that the load made
+    module _ (region : Region) (found : open_region r.regions ≡ Some region) where
+      pub region_is : loaded.region ≡ region
+      region_is =
+          let known : Some loaded.region ≡ Some region = sym (the_region loaded.region loaded.has.open_end) ∙ ap open_region (sym loaded.only) ∙ found in
+          cc
+
+      pub next_is : region.next ≡ next_loaded first_beginning (spelled_groups v r) (shown_records v r)
+      next_is =
+          ap (λ (z : Region). z.next) (sym region_is) ∙ loaded.has.next
+          ∙ (λ i. (number_is ∙ ap (λ (m : MetadataState). first_next m.regions) said_is) i + length (sym replayed_is i))
+
+      pub position_is : place_number (log_end r.log (last_extent r.log.extents) region.start) ≡ greater (place_number (read_end r.log (start_of r))) (place_number (start_of r))
+      position_is =
+          let there : region.start ≡ start_of r = ap (λ (z : Region). z.start) (sym region_is) ∙ loaded.has.start ∙ first_is in
+          let short : (start_of r).offset < 2 ^ 32 = subst (λ (p : Position). p.offset < 2 ^ 32) first_is one.short in
+          ap (λ p. place_number (log_end r.log (last_extent r.log.extents) p)) there
+          ∙ sym (greater_left (place_number (read_end r.log (start_of r))) (place_number (start_of r)) (end_behind r.log (start_of r) short))
+
+  -- ---- the run
+
+  -- no load of this generation was confirmed yet
+  pub first_load : IsServing run r.load.generation → ⊥
   first_load (l, start, end, groups, at) =
+      let old = showed_from decoded (log_of v) l r.load.generation start end groups (ap (λ z. event_at z l) (sym streams.log) ∙ at) in
+      let there : event_at (log_of v) l ≡ Some (Showed r.load.generation start end old.0) = old.1 in
       let same : l ≡ length (log_of v) =
-      order.once l (length (log_of v)) r.load.generation start end (place_number (start_of r)) (place_number (read_end r.log (start_of r))) groups (shown_groups v r)
-      (older Group (log_load v r) (log_of v) l (Showed r.load.generation start end groups) at) load_stands in
-      let less : l < length (log_of v) = bound Group (log_of v) l (Showed r.load.generation start end groups) at in
-      omega arith
+      order.once l (length (log_of v)) r.load.generation start end (place_number (start_of r)) (place_number (read_end r.log (start_of r))) old.0 (shown_groups v r)
+      (older Group (log_load v r) (log_of v) l (Showed r.load.generation start end old.0) there) load_stands in
+      let less : l < length (log_of v) = bound Group (log_of v) l (Showed r.load.generation start end old.0) there in
+      omega (arith, same, less)
 
-  unloaded : IsLoaded (renamed decoded (log_of v)) r.load.generation → ⊥
-  unloaded (l, start, end, groups, at) = let old = showed_from decoded (log_of v) l r.load.generation start end groups at in first_load (l, start, end, old.0, old.1)
+  -- it begins where its metadata says, since no Trim named a base
+  may_start : MayStart no_index first_beginning run r.load.generation (place_number (start_of r)) (line_shown (shown_records v r))
+  may_start =
+      let start : ℕ = start_number (said first_beginning (line_shown (shown_records v r))).regions in
+      (0, inl (omega arith), ap (λ (m : MetadataState). start_number m.regions) said_is ∙ sym (greater_left start 0 (omega arith)))
+
+  -- ---- no records yet
+
+  unmade_still : IsUnmade texts (metadata_load v r ∷ metadata_of v)
+  unmade_still a g group at =
+      streams.unmade a g group
+      (made_before (metadata_of v) r.load.generation 0 (place_number (metadata_end r)) (placed_reads (v.history.reads kinds.Metadata)) a g group at)
+
+  -- the load shows none
+  pub no_records : shown_records v r ≡ []
+  no_records =
+      ap (map (renamed_placed decoded_record))
+      (unmade_shows_nothing texts (metadata_load v r ∷ metadata_of v) order.metadata unmade_still (length (metadata_of v)) r.load.generation 0 (place_number (metadata_end r))
+      (placed_reads (v.history.reads kinds.Metadata)) (newest Group (metadata_load v r) (metadata_of v)))
+
+  said_first : r.said ≡ first_metadata
+  said_first = said_is ∙ ap (λ l. said first_beginning (line_shown l)) no_records
+
+  pub none_keep : AllKeepOneRegion first_metadata (line_shown (shown_records v r))
+  none_keep = subst (λ l. AllKeepOneRegion first_metadata (line_shown l)) (sym no_records) tt
+
+  place_is : place_number (start_of r) ≡ 0
+  place_is = ap (λ (m : MetadataState). place_number (first_start m.regions)) said_first
+
+  -- so the layer is that of all keys
+  pub whole_layer : (key : Bytes) → layer_in texts r.live key ≡ layer_line (replayed_by first_beginning (spelled_groups v r) (shown_records v r)) empty_layer key
+  whole_layer key = layer_is none_keep key (ap (λ (m : MetadataState). within m.keys key) said_first ∙ in_all key)
 
   -- servers may load it now
-  pub served_still : IsServed (renamed decoded (log_load v r ∷ log_of v))
-  served_still = ((place_is, λ l start end groups at. unloaded (l, start, end, groups, at)), streams.served)
-
-  -- and no group of this generation was formed
-  pub none_made : (a : ℕ) (group : Group) → event_at (log_load v r ∷ log_of v) a ≡ Some (Made r.load.generation group) → ⊥
-  none_made a group at =
-      let old : event_at (log_of v) a ≡ Some (Made r.load.generation group) =
-      made_before (log_of v) r.load.generation (place_number (start_of r)) (place_number (read_end r.log (start_of r))) (shown_groups v r) a r.load.generation group at in
-      unloaded (made_was_shown (renamed decoded (log_of v)) streams.served a r.load.generation (decoded group) (made_at decoded (log_of v) a r.load.generation group old))
+  pub streams_loaded : StreamsKept texts (run_loaded run v r) (view_shown v r)
+  streams_loaded = record {
+    log = ap (λ l. renamed_event decoded (log_load v r) ∷ l) streams.log;
+    metadata = ap (λ l. renamed_event decoded_record (metadata_load v r) ∷ l) streams.metadata;
+    chain = ((first_load, may_start), streams.chain);
+    keys = streams.keys;
+    plain = (place_is, no_records, streams.plain);
+    spelled = spelled_still;
+    unmade = unmade_still;
+  }

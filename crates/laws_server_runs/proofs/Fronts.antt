@@ -1,60 +1,36 @@
 -- What stood before more events came: a story keeps its order if a longer one does, and so do the other premises.
-use Rattle.std.proofs.Common.{◌≡◌, ⊎_elim, ℕ, ◌<◌, ◌≤◌, List, [], ◌∷◌, ◌++◌, length, Bool, true, false, Some, refl, sym, ap, ◌∙◌, subst, arith, append_assoc, if◌then◌else◌}
-use Rattle.std.specs.Prelude.{Contains}
+use Rattle.std.proofs.Common.{◌≡◌, ℕ, List, [], ◌∷◌, ◌++◌, Bool, true, false, refl, sym, ap, ◌∙◌, subst, append_assoc, if◌then◌else◌}
 use Rattle.wire.specs.declared.note.Note.{Note}
 use Rattle.wire.specs.declared.streams.StreamKind.{StreamKind}
 use Rattle.wire.specs.declared.streams.StreamKind.TheVariants as kinds
 use Rattle.model_partition.specs.declared.table_note.TableNote.{TableNote}
 use Rattle.model_partition.specs.Loading.{Group}
 use Rattle.model_partition.specs.Past.{Bytes}
-use Rattle.model_partition.specs.Story.{Copy, StreamEvent, Made, Answered, Showed, Story, event_at, KeepsOrder}
+use Rattle.model_partition.specs.Story.{StreamEvent, Made, Showed, Story, KeepsOrder, EndsRise}
 use Rattle.model_partition.specs.StreamActions.{StreamAction, Reads, Forms, Stands, Shows}
 use Rattle.model_partition.specs.ServerRun.{PlacedBytes, is_kind}
 use Rattle.model_partition.specs.ServedTables.{AllStand, AreSeenAs, LoadsOnce}
-use Rattle.laws_tables.proofs.Range.{older, bound, event_cases}
+use Rattle.laws_tables.proofs.Range.{older}
+use Rattle.laws_tables.proofs.Whole.{order_before, ends_before}
 use Rattle.laws_loads.specs.RangeView.{RangeView, view_after, view_after_all, with_kind, log_of, metadata_of}
 use Rattle.laws_server_runs.specs.RangeInvariant.{InOrder, IsLonger}
 
 -- ---- one event less
 
 module _ (A : Type 0) where
-  -- with the same copies
-  order_before : (e : StreamEvent A) (earlier : Story A) → KeepsOrder (e ∷ earlier) → KeepsOrder earlier
-  order_before e earlier order = record {
-    copies = order.copies;
-    shown = λ l g start end groups h. order.shown l g start end groups (older A e earlier l (Showed g start end groups) h);
-    ascending = order.ascending;
-    not_empty = order.not_empty;
-    ends = λ l g start end groups c h i. order.ends l g start end groups c (older A e earlier l (Showed g start end groups) h) i;
-    handed = λ l g start end groups c h i.
-        let r : (g' : ℕ) × (event_at (e ∷ earlier) c.append ≡ Some (Made g' c.group)) × (g' < g) × (c.append < l) =
-        order.handed l g start end groups c (older A e earlier l (Showed g start end groups) h) i in
-        let low : l < length earlier = bound A earlier l (Showed g start end groups) h in
-        let lt : c.append < l = r.3 in (
-          r.0,
-          ⊎_elim {C = event_at earlier c.append ≡ Some (Made r.0 c.group)}
-              (λ (q : (c.append ≡ length earlier) × (e ≡ Made r.0 c.group)). let z : c.append ≡ length earlier = q.0 in absurd (omega (arith, z, low, lt)))
-              (λ o. o) (event_cases A e earlier c.append (Made r.0 c.group) r.1),
-          r.2,
-          r.3,
-        );
-    answered = λ l g start end a g' k from to groups group h ha lt hk.
-        order.answered l g start end a g' k from to groups group (older A e earlier l (Showed g start end groups) h) (older A e earlier a (Made g' group) ha) lt
-        (older A e earlier k (Answered a from to) hk);
-    after = λ l a k from to c i hk lt. order.after l a k from to c i (older A e earlier k (Answered a from to) hk) lt;
-    begins = λ l m g h start end start' end' groups groups' hl hm lt.
-        let r : (rest : List (Copy A)) × (order.copies m ≡ order.copies l ++ rest)
-        × ((c : Copy A) → Contains rest c → (end ≤ c.from) × ((g' : ℕ) (group : A) → event_at (e ∷ earlier) c.append ≡ Some (Made g' group) → g ≤ g')) =
-        order.begins l m g h start end start' end' groups groups' (older A e earlier l (Showed g start end groups) hl) (older A e earlier m (Showed h start' end' groups') hm) lt in
-        (r.0, r.1, λ c i. ((r.2 c i).0, λ g' group made. (r.2 c i).1 g' group (older A e earlier c.append (Made g' group) made)));
-  }
-
   order_front : (more story : Story A) → KeepsOrder (more ++ story) → KeepsOrder story
   order_front [] story order = order
-  order_front (e ∷ more) story order = order_front more story (order_before e (more ++ story) order)
+  order_front (e ∷ more) story order = order_front more story (order_before A e (more ++ story) order)
 
   pub order_shorter : (story longer : Story A) → IsLonger story longer → KeepsOrder longer → KeepsOrder story
   order_shorter story longer is order = order_front is.0 story (subst (λ z. KeepsOrder z) is.1 order)
+
+  ends_front : (more story : Story A) → EndsRise (more ++ story) → EndsRise story
+  ends_front [] story ends = ends
+  ends_front (e ∷ more) story ends = ends_front more story (ends_before A e (more ++ story) ends)
+
+  pub ends_shorter : (story longer : Story A) → IsLonger story longer → EndsRise longer → EndsRise story
+  ends_shorter story longer is ends = ends_front is.0 story (subst (λ z. EndsRise z) is.1 ends)
 
   once_front : (more story : Story A) → LoadsOnce (more ++ story) → LoadsOnce story
   once_front [] story once = once
@@ -140,5 +116,6 @@ module _ (texts : ℕ → Bytes) where
           log = order_shorter Group (log_of v) (log_of w) (actions_longer v actions kinds.Log) o.log;
           metadata = order_shorter Group (metadata_of v) (metadata_of w) (actions_longer v actions kinds.Metadata) o.metadata;
           once = once_shorter Group (log_of v) (log_of w) (actions_longer v actions kinds.Log) o.once;
+          ends = ends_shorter Group (log_of v) (log_of w) (actions_longer v actions kinds.Log) o.ends;
           shown = stand_shorter v.shown w.shown (actions_shown v actions) o.shown;
         }

@@ -40,14 +40,14 @@ within_tables : (k : ℕ) (placed : ℕ → List PlacedBytes) (notes : List Tabl
 within_tables k placed [] w = tt
 within_tables k placed (tables.Began range generation number changes ∷ notes) w = within_tables k placed notes w.1
 within_tables k placed (tables.Done range generation number ∷ notes) w = within_tables k placed notes w.1
-within_tables k placed (tables.Loaded range generation entries indexes next ∷ notes) w = (subst (λ n. IsLaid (placed n) entries) (sym w.0.0) w.0.1, within_tables k placed notes w.1)
+within_tables k placed (tables.Loaded range generation table next ∷ notes) w = (subst (λ n. IsLaid (placed n) table.live) (sym w.0.0) w.0.1, within_tables k placed notes w.1)
 
 tables_later : (placed later : ℕ → List PlacedBytes) → ((k : ℕ) → IsLonger (placed k) (later k)) → (notes : List TableNote) → TablesWithin placed notes → TablesWithin later notes
 tables_later placed later longer [] w = tt
 tables_later placed later longer (tables.Began range generation number changes ∷ notes) w = tables_later placed later longer notes w
 tables_later placed later longer (tables.Done range generation number ∷ notes) w = tables_later placed later longer notes w
-tables_later placed later longer (tables.Loaded range generation entries indexes next ∷ notes) w = (
-  subst (λ l. IsLaid l entries) (sym (longer range).1) (laid_behind (longer range).0 (placed range) entries w.0),
+tables_later placed later longer (tables.Loaded range generation table next ∷ notes) w = (
+  subst (λ l. IsLaid l table.live) (sym (longer range).1) (laid_behind (longer range).0 (placed range) table.live w.0),
   tables_later placed later longer notes w.1,
 )
 
@@ -55,7 +55,7 @@ tables_both : (placed : ℕ → List PlacedBytes) (xs ys : List TableNote) → T
 tables_both placed [] ys a b = b
 tables_both placed (tables.Began range generation number changes ∷ xs) ys a b = tables_both placed xs ys a b
 tables_both placed (tables.Done range generation number ∷ xs) ys a b = tables_both placed xs ys a b
-tables_both placed (tables.Loaded range generation entries indexes next ∷ xs) ys a b = (a.0, tables_both placed xs ys a.1 b)
+tables_both placed (tables.Loaded range generation table next ∷ xs) ys a b = (a.0, tables_both placed xs ys a.1 b)
 
 -- ---- steps
 

@@ -6,6 +6,10 @@ pub mod LoadsAnswers
 pub mod LoadsAnswered
 pub mod ConfirmedLoad
 pub mod Confirms
+pub mod Behind
+pub mod LayerCells
+pub mod Replaying
+pub mod HeldLine
 pub mod LoadedLine
 pub mod ObservedLoad
 pub mod Order
@@ -30,4 +34,6 @@ pub mod OwnNotes
 pub mod Beside
 pub mod Kept
 pub mod FirstAlone
+pub mod Folding
+pub mod OneRegion
 pub mod WorkedRanges

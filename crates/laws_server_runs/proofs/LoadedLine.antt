@@ -1,29 +1,28 @@
--- What a load has made of all extents that it read of a log: one region without end, whose next number is the one after the line,
--- and a layer that is the table of the line.
-use Rattle.std.proofs.Common.{◌≡◌, ℕ, ◌+◌, List, [], ◌∷◌, ◌++◌, map, Option, Some, None, is_some, Bool, false, nat_lt, refl, sym, ap, ◌∙◌, subst, arith}
+-- What a load has made of all extents that it read of a log for a region without end: the groups that stand before the region's start
+-- are passed over, the next number is the one after the line that the others make, and the layer is that of the line.
+use Rattle.std.proofs.Common.{◌≡◌, ℕ, ◌+◌, ◌-◌, ◌^◌, ◌<◌, List, [], ◌∷◌, ◌++◌, length, map, drop, Option, Some, None, is_some, refl, sym, ap, ◌∙◌, subst, arith, append_assoc}
 use Rattle.std.specs.Prelude.{if◌then◌else◌}
-use Rattle.std.proofs.lemmas.Bool.Decides.{nat_tests}
-use Rattle.blocks.specs.Format.{◌>>=◌}
+use Rattle.std.proofs.lemmas.List.{length-append}
 use Rattle.block_types.specs.Limits.{group_size}
+use Rattle.streams.specs.declared.table.Position.{Position}
 use Rattle.memtable.specs.Entries.{Entries}
+use Rattle.metadata.specs.declared.record.KeyRange.{KeyRange}
 use Rattle.metadata.specs.declared.record.Region.{Region}
-use Rattle.metadata.specs.Fold.{all_keys, first_metadata}
 use Rattle.commitlog.specs.declared.log_record.LogRecord.{LogRecord}
-use Rattle.commitlog.specs.Replay.{Numbered, taken}
-use Rattle.commitlog.specs.Replay.{replayed as replay}
+use Rattle.commitlog.specs.Replay.{Numbered}
 use Rattle.model_partition.specs.Loading.{Group, open_region, replayed}
-use Rattle.model_partition.specs.Log.{line_shown}
 use Rattle.model_partition.specs.Past.{Bytes, Transaction}
 use Rattle.model_partition.specs.Renaming.{renamed_placed, numbered, numbered_if, decoded}
 use Rattle.model_partition.specs.Story.{Placed}
 use Rattle.model_partition.specs.StreamActions.{ExtentRead}
 use Rattle.model_partition.specs.StreamMachine.{base}
-use Rattle.model_partition.specs.ServerRun.{PlacedBytes, placed_from, placed_reads, placed_behind, bytes_read}
+use Rattle.model_partition.specs.ServerRun.{PlacedBytes, place_number, placed_from, placed_reads, bytes_read}
 use Rattle.model_partition.specs.ServedTables.{AllStand}
 use Rattle.laws_loads.proofs.Renaming.{mapped_both}
-use Rattle.laws_loads.proofs.Replaying.{AreRead, After, extent_replayed}
 use Rattle.laws_server_runs.specs.RangeInvariant.{groups_read, replayed_all}
-use Rattle.laws_server_runs.proofs.Order.{groups_shown}
+use Rattle.laws_tables.specs.Runs.{added}
+use Rattle.laws_server_runs.proofs.Behind.{groups_shown, all_behind, behind_both}
+use Rattle.laws_server_runs.proofs.Replaying.{AreRead, After, found_both, extent_replayed}
 
 -- ---- what was read, as a load shows it
 
@@ -37,22 +36,14 @@ reads_groups (x ∷ older) =
     mapped_both (λ (p : Placed Group). p.group) (placed_reads older) (placed_from (base x.index) x.groups)
     ∙ (λ i. reads_groups older i ++ placed_groups (base x.index) x.groups i)
 
--- nothing stands before the first place
-pub behind_first : (placed : List (Placed Group)) → placed_behind 0 placed ≡ placed
-behind_first [] = refl
-behind_first (p ∷ placed) = let t : nat_lt p.from 0 ≡ false = grind (arith, nat_tests) in ap (λ (b : Bool). if b then placed_behind 0 placed else p ∷ placed) t
+-- what these groups add to a line whose next number is this one
+abbrev pub line_read : ℕ → List Group → List Transaction
+line_read next groups = added next (map decoded groups)
 
--- the line that these extents make
-abbrev pub line_read : List ExtentRead → List Transaction
-line_read reads = replay [] (map decoded (groups_read reads))
-
-groups_decoded : (shown : List (Placed Group)) → map (λ (p : Placed (Numbered Transaction)). p.group) (map (renamed_placed decoded) shown) ≡ map decoded (groups_shown shown)
-groups_decoded [] = refl
-groups_decoded (p ∷ shown) = ap (λ l. decoded p.group ∷ l) (groups_decoded shown)
-
--- it is the line that a load of them shows
-pub shown_line : (reads : List ExtentRead) → line_shown (map (renamed_placed decoded) (placed_reads reads)) ≡ line_read reads
-shown_line reads = ap (λ l. replay [] l) (groups_decoded (placed_reads reads)) ∙ ap (λ (l : List Group). replay [] (map decoded l)) (reads_groups reads)
+-- what they spell
+pub groups_renamed : {B : Type 0} (f : Group → B) (shown : List (Placed Group)) → map (λ (p : Placed B). p.group) (map (renamed_placed f) shown) ≡ map f (groups_shown shown)
+groups_renamed {B} f [] = refl
+groups_renamed {B} f (p ∷ shown) = ap (λ l. f p.group ∷ l) (groups_renamed f shown)
 
 -- ---- parts
 
@@ -72,21 +63,23 @@ all_decoded (g ∷ gs) [] read = absurd read
 all_decoded (g ∷ gs) (r ∷ rs) read =
     ap (λ d. d ∷ map decoded gs) (ap numbered_if read.1) ∙ ap (λ l. numbered r ∷ l) (all_decoded gs rs read.2)
 
-replay_both : (line : List Transaction) (xs ys : List (Numbered Transaction)) → replay line (xs ++ ys) ≡ replay (replay line xs) ys
-replay_both line [] ys = refl
-replay_both line (x ∷ xs) ys = replay_both (taken line x) xs ys
+added_both : (next : ℕ) (xs ys : List (Numbered Transaction)) → added next (xs ++ ys) ≡ added next xs ++ added (next + length (added next xs)) ys
+added_both next [] ys = ap (λ n. added n ys) (let same : next ≡ next + 0 = omega arith in same)
+added_both next (x ∷ xs) ys =
+    let d : List Transaction = drop (next - x.first) x.items in
+    let older : List Transaction = added (next + length d) xs in
+    let number : (next + length d) + length older ≡ next + length (d ++ older) = omega (arith, length-append d older) in
+    ap (λ l. d ++ l) (added_both (next + length d) xs ys ∙ ap (λ n. older ++ added n ys) number)
+    ∙ sym (append_assoc d older (added (next + length (d ++ older)) ys))
 
-line_more : (x : ExtentRead) (older : List ExtentRead) (rs : List LogRecord) → AreRead x.groups rs → replay (line_read older) (map numbered rs) ≡ line_read (x ∷ older)
-line_more x older rs read =
-    ap (λ l. replay (line_read older) l) (sym (all_decoded x.groups rs read))
-    ∙ sym (replay_both [] (map decoded (groups_read older)) (map decoded x.groups))
-    ∙ ap (λ l. replay [] l) (sym (mapped_both decoded (groups_read older) x.groups))
+line_more : (next : ℕ) (xs ys : List Group) (rs : List LogRecord) → AreRead ys rs →
+    line_read next xs ++ added (next + length (line_read next xs)) (map numbered rs) ≡ line_read next (xs ++ ys)
+line_more next xs ys rs read =
+    ap (λ l. line_read next xs ++ added (next + length (line_read next xs)) l) (sym (all_decoded ys rs read))
+    ∙ sym (added_both next (map decoded xs) (map decoded ys))
+    ∙ ap (added next) (sym (mapped_both decoded xs ys))
 
-found_both : {A B : Type 0} (o : Option A) (f : A → Option B) (z : B) → (o >>= f) ≡ Some z → (y : A) × (o ≡ Some y) × (f y ≡ Some z)
-found_both {A} {B} None f z e = absurd cc
-found_both {A} {B} (Some y) f z e = (y, refl, e)
-
--- ---- the table
+-- ---- the layer
 
 -- the only region is without end
 pub the_region : (region : Region) → region.end ≡ None → open_region (region ∷ []) ≡ Some region
@@ -96,25 +89,58 @@ the_region region none = go region.end none
     go None e = refl
     go (Some end) e = absurd cc
 
-module _ (texts : ℕ → Bytes) where
+module _ (texts : ℕ → Bytes) (keys : KeyRange) (first : Region) (open_end : first.end ≡ None) (short : first.start.offset < 2 ^ 32) where
+  -- those of the groups read that do not stand before the first region's start
+  abbrev pub groups_taken : List ExtentRead → List Group
+  groups_taken reads = groups_shown (all_behind (place_number first.start) (placed_reads reads))
+
+  -- those of one extent more, which is read from its first position on
+  abbrev extent_start : ExtentRead → Position
+  extent_start x = record { index = x.index; offset = 0 }
+
+  abbrev more_taken : ExtentRead → List Group
+  more_taken x = groups_shown (all_behind (place_number first.start) (placed_from (place_number (extent_start x)) x.groups))
+
+  taken_both : (x : ExtentRead) (older : List ExtentRead) → groups_taken (x ∷ older) ≡ groups_taken older ++ more_taken x
+  taken_both x older =
+      let start : ℕ = place_number first.start in
+      let place : base x.index ≡ place_number (extent_start x) = omega arith in
+      ap groups_shown (behind_both start (placed_reads older) (placed_from (base x.index) x.groups))
+      ∙ mapped_both (λ (p : Placed Group). p.group) (all_behind start (placed_reads older)) (all_behind start (placed_from (base x.index) x.groups))
+      ∙ ap (λ n. groups_taken older ++ groups_shown (all_behind start (placed_from n x.groups))) place
+
+  -- the line that all of them make
+  abbrev line_of : List ExtentRead → List Transaction
+  line_of reads = line_read first.next (groups_taken reads)
+
+  Leaves : List ExtentRead → Type 0
+  Leaves reads =
+      (rs : List LogRecord) → AreRead (groups_taken reads) rs → AllStand texts (bytes_read reads) →
+      (z : List Region × Entries) → replayed_all keys reads (first ∷ [], []) ≡ Some z → After texts keys first (line_of reads) z
+
+  next_extent : (x : ExtentRead) (older : List ExtentRead) → Leaves older → Leaves (x ∷ older)
+  unfolding Leaves
+  next_extent x older leaves rs read stand z is =
+      let p = parts_read (groups_taken older) (more_taken x) rs (subst (λ l. AreRead l rs) (taken_both x older) read) in
+      let f = found_both (replayed_all keys older (first ∷ [], [])) (λ (y : List Region × Entries). replayed keys x.extent (extent_start x) y x.groups) z is in
+      let a : After texts keys first (line_of older) f.0 = leaves p.0 p.2 stand.1 f.0 f.1 in
+      let one : replayed keys x.extent (extent_start x) (a.region ∷ [], f.0.1) x.groups ≡ Some z =
+      subst (λ (l : List Region). replayed keys x.extent (extent_start x) (l, f.0.1) x.groups ≡ Some z) a.only f.2 in
+      let more : line_of older ++ added (first.next + length (line_of older)) (map numbered p.1) ≡ line_of (x ∷ older) =
+      line_more first.next (groups_taken older) (more_taken x) p.1 p.3 ∙ ap (line_read first.next) (sym (taken_both x older)) in
+      subst (λ l. After texts keys first l z) more
+      (extent_replayed texts keys first short x.extent (extent_start x) x.groups p.1 (line_of older) a.region f.0.1 z p.3 stand.0 a.has one)
+
   -- what all extents leave
-  pub extents_replayed : (reads : List ExtentRead) (rs : List LogRecord) → AreRead (groups_read reads) rs → AllStand texts (bytes_read reads) →
-      (z : List Region × Entries) → replayed_all all_keys reads (first_metadata.regions, []) ≡ Some z → After texts (line_read reads) z
+  pub extents_replayed : (reads : List ExtentRead) (rs : List LogRecord) → AreRead (groups_taken reads) rs → AllStand texts (bytes_read reads) →
+      (z : List Region × Entries) → replayed_all keys reads (first ∷ [], []) ≡ Some z → After texts keys first (line_read first.next (groups_taken reads)) z
+  unfolding Leaves
   extents_replayed [] rs read stand z is =
-      let same : (first_metadata.regions, []) ≡ z = cc in
-      subst (λ w. After texts [] w) same
+      let same : (first ∷ [], []) ≡ z = cc in
+      subst (λ w. After texts keys first [] w) same
       (record {
-        region = record { start = record { index = 0; offset = 0 }; end = None; next = 1; keys = all_keys };
+        region = first;
         only = refl;
-        has = record { start = refl; open_end = refl; keys = refl; next = refl; says = λ key. refl };
+        has = record { start = refl; open_end = open_end; own_keys = refl; next = omega arith; says = λ key in_keys in_own. refl };
       })
-  extents_replayed (x ∷ older) rs read stand z is =
-      let p = parts_read (groups_read older) x.groups rs read in
-      let f = found_both (replayed_all all_keys older (first_metadata.regions, []))
-      (λ (y : List Region × Entries). replayed all_keys x.extent (record { index = x.index; offset = 0 }) y x.groups) z is in
-      let y : List Region × Entries = f.0 in
-      let a : After texts (line_read older) y = extents_replayed older p.0 p.2 stand.1 y f.1 in
-      let one : replayed all_keys x.extent (record { index = x.index; offset = 0 }) (a.region ∷ [], y.1) x.groups ≡ Some z =
-      subst (λ (l : List Region). replayed all_keys x.extent (record { index = x.index; offset = 0 }) (l, y.1) x.groups ≡ Some z) a.only f.2 in
-      subst (λ l. After texts l z) (line_more x older p.1 p.3)
-      (extent_replayed texts x.extent (record { index = x.index; offset = 0 }) x.groups p.1 (line_read older) a.region y.1 z p.3 stand.0 a.has one)
+  extents_replayed (x ∷ older) rs read stand z is = next_extent x older (extents_replayed older) rs read stand z is

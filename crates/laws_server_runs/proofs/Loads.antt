@@ -24,21 +24,20 @@ use Rattle.model_partition.specs.declared.stage.Stage.{Stage}
 use Rattle.model_partition.specs.declared.stage.Stage.TheVariants as stages
 use Rattle.model_partition.specs.declared.waiting.WaitingGet.{WaitingGet}
 use Rattle.model_partition.specs.Past.{Bytes}
-use Rattle.model_partition.specs.Story.{Story}
-use Rattle.model_partition.specs.Range.{RangeState, request, used, picking, dropped}
-use Rattle.model_partition.specs.Loading.{Group}
+use Rattle.model_partition.specs.Range.{RangeState, RangeOutcome, request, used, picking, dropped}
 use Rattle.model_partition.specs.Getting.{get_fault, gets, get_rule}
 use Rattle.model_partition.specs.Answering.{load_refused, bytes_reply, gets_reply, give_up_all}
 use Rattle.model_partition.specs.Server.{new_range}
 use Rattle.model_partition.specs.ServerRun.{first_history}
-use Rattle.model_partition.specs.ServedTables.{AreSeenAs, IsAtLine}
+use Rattle.model_partition.specs.ServedTables.{AreSeenAs}
 use Rattle.laws_loads.proofs.WaitingStays.{new_sound}
-use Rattle.laws_loads.specs.RangeView.{RangeView, log_of}
-use Rattle.laws_server_runs.specs.RangeInvariant.{ReadsMetadata, ReadsLog, StageIs, RangeKept, StreamsKept, AreObserved, Rests, StepKept}
+use Rattle.laws_loads.specs.RangeView.{RangeView}
+use Rattle.laws_tables.specs.Runs.{Run, Serving, first_beginning, held as held_by}
+use Rattle.laws_server_runs.specs.RangeInvariant.{ReadsMetadata, ReadsLog, Matches, StageIs, RangeKept, StreamsKept, AreObserved, Rests, KeptIf, ServesAnew, StepKept}
 
 -- ---- the same range, but for what nothing is kept of
 
-module _ (texts : ℕ → Bytes) (subject : ℕ) (v : RangeView) (r : RangeState) (until : ℕ) (metadata log : ClientState) (row_data blob_data : StreamList) (gets : List WaitingGet) (held : List (Place × List ℕ))
+module _ (texts : ℕ → Bytes) (subject : ℕ) (run : Run) (v : RangeView) (r : RangeState) (until : ℕ) (metadata log : ClientState) (row_data blob_data : StreamList) (gets : List WaitingGet) (held : List (Place × List ℕ))
     (metadata_idle : r.metadata.job ≡ jobs.Idle → metadata.job ≡ jobs.Idle) (log_idle : r.log.job ≡ jobs.Idle → log.job ≡ jobs.Idle) where
   abbrev other : RangeState
   other = record r { until = until; metadata = metadata; log = log; row_data = row_data; blob_data = blob_data; gets = gets; held = held }
@@ -49,10 +48,20 @@ module _ (texts : ℕ → Bytes) (subject : ℕ) (v : RangeView) (r : RangeState
   log_same : ReadsLog v.history r → ReadsLog v.history other
   log_same h = record { said = h.said; made = h.made; fixed = h.fixed; idle = metadata_idle h.idle }
 
-  line_same : IsAtLine texts (log_of v) r → IsAtLine texts (log_of v) other
-  line_same h = record { position = h.position; next = h.next; table = h.table }
+  matches_same : (s : Serving) → Matches texts v s r → Matches texts v s other
+  matches_same s m = record {
+    position = m.position;
+    next = m.next;
+    out = m.out;
+    live = m.live;
+    fixed = m.fixed;
+    fixed_layer = m.fixed_layer;
+    noted = m.noted;
+    record_out = m.record_out;
+    records = m.records;
+  }
 
-  stage_same : (stage : Stage) → StageIs texts v r stage → StageIs texts v other stage
+  stage_same : (stage : Stage) → StageIs texts run v r stage → StageIs texts run v other stage
   stage_same stages.Opening h = record { metadata = h.metadata; log = h.log; live = h.live; fixed = h.fixed }
   stage_same (stages.Checking kinds.Metadata) h = metadata_same h
   stage_same (stages.Checking kinds.Log) h = log_same h
@@ -63,19 +72,19 @@ module _ (texts : ℕ → Bytes) (subject : ℕ) (v : RangeView) (r : RangeState
   stage_same (stages.Reading kinds.RowData position) h = h
   stage_same (stages.Reading kinds.BlobData position) h = h
   stage_same stages.Confirming h = log_same h
-  stage_same stages.Serving h = record { shown = h.shown; groups = h.groups; out = h.out; next = h.next; fixed = h.fixed; line = λ all. line_same (h.line all) }
+  stage_same stages.Serving h = record { shown = h.shown; matches = matches_same (held_by first_beginning run r.load.generation) h.matches }
 
   -- the end of the lease, what the clients know, the other streams and the Gets may be others
-  pub same_kept : RangeKept texts subject v r → RangeKept texts subject v other
+  pub same_kept : RangeKept texts subject run v r → RangeKept texts subject run v other
   same_kept kept = record { range = kept.range; phase = kept.phase; sound = kept.sound; stage = stage_same r.stage kept.stage }
 
 -- the lease of a range is renewed
-pub renewed_kept : (texts : ℕ → Bytes) (subject : ℕ) (v : RangeView) (r : RangeState) → RangeKept texts subject v r → (until : ℕ) → RangeKept texts subject v (record r { until = until })
-renewed_kept texts subject v r kept until = same_kept texts subject v r until r.metadata r.log r.row_data r.blob_data r.gets r.held (λ e. e) (λ e. e) kept
+pub renewed_kept : (texts : ℕ → Bytes) (subject : ℕ) (run : Run) (v : RangeView) (r : RangeState) → RangeKept texts subject run v r → (until : ℕ) → RangeKept texts subject run v (record r { until = until })
+renewed_kept texts subject run v r kept until = same_kept texts subject run v r until r.metadata r.log r.row_data r.blob_data r.gets r.held (λ e. e) (λ e. e) kept
 
 -- a range whose load begins
-pub new_kept : (texts : ℕ → Bytes) (subject : ℕ) (v : RangeView) (d : ServerContext) → v.history ≡ first_history → (generation until : ℕ) → RangeKept texts subject v (new_range d subject generation until)
-new_kept texts subject v d first generation until =
+pub new_kept : (texts : ℕ → Bytes) (subject : ℕ) (run : Run) (v : RangeView) (d : ServerContext) → v.history ≡ first_history → (generation until : ℕ) → RangeKept texts subject run v (new_range d subject generation until)
+new_kept texts subject run v d first generation until =
     record {
       range = refl;
       phase = (request d, refl);
@@ -86,55 +95,57 @@ new_kept texts subject v d first generation until =
 -- ---- a step that shows nothing
 
 -- where nothing is shown the observations are as they were
-pub silent_seen : (texts : ℕ → Bytes) (subject : ℕ) (story : Story Group) (before later : List Note) → AreObserved texts subject story before → AreSeenAs texts [] later → AreObserved texts subject story (before ++ later)
-silent_seen texts subject story before [] old told = subst (λ notes. AreObserved texts subject story notes) (sym (append-nil before)) old
-silent_seen texts subject story before (note ∷ later) old told = absurd told
+pub silent_seen : (texts : ℕ → Bytes) (subject : ℕ) (run : Run) (before later : List Note) → AreObserved texts subject run before → AreSeenAs texts [] later → AreObserved texts subject run (before ++ later)
+silent_seen texts subject run before [] old told = subst (λ notes. AreObserved texts subject run notes) (sym (append-nil before)) old
+silent_seen texts subject run before (note ∷ later) old told = absurd told
 
-module _ (texts : ℕ → Bytes) (subject : ℕ) (v : RangeView) (r : RangeState) (kept : RangeKept texts subject v r) (streams : StreamsKept texts v) (d : ServerContext) where
+-- a step that does nothing with streams and shows nothing
+pub calm_kept : (texts : ℕ → Bytes) (subject : ℕ) (run : Run) (v : RangeView) (r : RangeState) (o : RangeOutcome) → StreamsKept texts run v → o.notes ≡ [] →
+    KeptIf texts subject run v r.load.generation o.after → ServesAnew texts run r o.after → StepKept texts subject run v r [] o
+calm_kept texts subject run v r o streams quiet kept anew = record {
+  next = run;
+  goes = Rests;
+  alone = inl refl;
+  kept = kept;
+  streams = streams;
+  longer = ([], refl);
+  anew = anew;
+  seen = λ before later old told. silent_seen texts subject run before later old (subst (λ notes. AreSeenAs texts notes later) quiet told);
+}
+
+module _ (texts : ℕ → Bytes) (subject : ℕ) (run : Run) (v : RangeView) (r : RangeState) (kept : RangeKept texts subject run v r) (streams : StreamsKept texts run v) (d : ServerContext) where
   -- nothing is done with a stream, and the range stays at its stage
   pub rests_kept : (until : ℕ) (metadata log : ClientState) (gets : List WaitingGet) (held : List (Place × List ℕ)) (count : ℕ) (packets : List Packet) →
       (r.metadata.job ≡ jobs.Idle → metadata.job ≡ jobs.Idle) → (r.log.job ≡ jobs.Idle → log.job ≡ jobs.Idle) →
-      StepKept texts subject v r []
+      StepKept texts subject run v r []
       (record { after = Some (record r { until = until; metadata = metadata; log = log; gets = gets; held = held }); count = count; packets = packets; notes = [] })
   rests_kept until metadata log gets held count packets metadata_idle log_idle =
-      record {
-        kept = (same_kept texts subject v r until metadata log r.row_data r.blob_data gets held metadata_idle log_idle kept, refl);
-        streams = streams;
-        goes = Rests;
-        longer = ([], refl);
-        anew = λ serves. inl serves;
-        seen = λ before later old told. silent_seen texts subject (log_of v) before later old told;
-      }
+      calm_kept texts subject run v r
+      (record { after = Some (record r { until = until; metadata = metadata; log = log; gets = gets; held = held }); count = count; packets = packets; notes = [] })
+      streams refl (same_kept texts subject run v r until metadata log r.row_data r.blob_data gets held metadata_idle log_idle kept, refl) (λ serves. inl serves)
 
-  gets_kept : (from : ActorId) (q : ReqNo) (key : List ℕ) (fault : Option Refusal) → StepKept texts subject v r [] (gets d r from q key fault)
+  gets_kept : (from : ActorId) (q : ReqNo) (key : List ℕ) (fault : Option Refusal) → StepKept texts subject run v r [] (gets d r from q key fault)
   gets_kept from q key (Some refusal) = rests_kept r.until r.metadata r.log r.gets r.held _ _ (λ e. e) (λ e. e)
   gets_kept from q key None = rests_kept r.until r.metadata r.log _ _ _ _ (λ e. e) (λ e. e)
 
   -- a Get
-  pub get_kept : (from : ActorId) (q : ReqNo) (key : List ℕ) → StepKept texts subject v r [] (get_rule d r from q key)
+  pub get_kept : (from : ActorId) (q : ReqNo) (key : List ℕ) → StepKept texts subject run v r [] (get_rule d r from q key)
   get_kept from q key = gets_kept from q key (get_fault d r key)
 
-  bytes_kept : (w : ReqNo) (body : ReadBody) → StepKept texts subject v r [] (bytes_reply d r w body)
+  bytes_kept : (w : ReqNo) (body : ReadBody) → StepKept texts subject run v r [] (bytes_reply d r w body)
   bytes_kept w (reads.Bytes n e offset bytes) = rests_kept r.until r.metadata r.log _ _ _ _ (λ e. e) (λ e. e)
   bytes_kept w body = rests_kept r.until r.metadata r.log r.gets r.held _ _ (λ e. e) (λ e. e)
 
   -- a range of an old generation is dropped
-  dropped_kept : StepKept texts subject v r [] (dropped d r)
-  dropped_kept = record {
-    kept = tt;
-    streams = streams;
-    goes = Rests;
-    longer = ([], refl);
-    anew = tt;
-    seen = λ before later old told. silent_seen texts subject (log_of v) before later old told;
-  }
+  dropped_kept : StepKept texts subject run v r [] (dropped d r)
+  dropped_kept = calm_kept texts subject run v r (dropped d r) streams refl tt tt
 
-  refused_kept : (body : AppendBody) → StepKept texts subject v r [] (load_refused d r body)
+  refused_kept : (body : AppendBody) → StepKept texts subject run v r [] (load_refused d r body)
   refused_kept (appends.Refused n refusals.Stale) = dropped_kept
   refused_kept body = rests_kept r.until r.metadata r.log r.gets r.held _ _ (λ e. e) (λ e. e)
 
   -- an answer to a Get's read
-  pub gets_reply_kept : (w : ReqNo) (body : Body) → StepKept texts subject v r [] (gets_reply d r w body)
+  pub gets_reply_kept : (w : ReqNo) (body : Body) → StepKept texts subject run v r [] (gets_reply d r w body)
   gets_reply_kept w (bodies.Read body) = bytes_kept w body
   gets_reply_kept w (bodies.Append body) = refused_kept body
   gets_reply_kept w body = rests_kept r.until r.metadata r.log r.gets r.held _ _ (λ e. e) (λ e. e)
@@ -144,5 +155,5 @@ module _ (texts : ℕ → Bytes) (subject : ℕ) (v : RangeView) (r : RangeState
   idle_rests c q pick idle = subst (λ j. (give_up_job (record c { pick = pick }) q j).after.job ≡ jobs.Idle) (sym idle) idle
 
   -- the jobs of the range give up
-  pub give_up_kept : StepKept texts subject v r [] (give_up_all d r)
+  pub give_up_kept : StepKept texts subject run v r [] (give_up_all d r)
   give_up_kept = rests_kept r.until _ _ _ r.held _ _ (idle_rests (picking d r.metadata) (request (used d)) d.pick) (idle_rests (picking d r.log) (request d) d.pick)

@@ -38,6 +38,7 @@ use Rattle.model_partition.specs.Answering.{groups_of, metadata_reply, serving_n
 use Rattle.model_partition.specs.ServerRun.{one_more_read}
 use Rattle.model_partition.specs.StreamActions.{ExtentRead, StreamAction, Reads, loading_actions, metadata_actions, serving_actions, log_actions}
 use Rattle.laws_loads.specs.RangeView.{RangeView}
+use Rattle.laws_tables.specs.Runs.{Run}
 use Rattle.laws_server_runs.specs.RangeInvariant.{groups_read, ReadsMetadata, ReadsLog, PhaseIs, StageIs, RangeKept, StreamsKept, StepKept}
 use Rattle.laws_server_runs.proofs.Loads.{rests_kept}
 use Rattle.laws_server_runs.proofs.LoadsSteps.{Left, IsLoading, drops_left, reads_log_left, reads_log_from_left, reads_metadata_left}
@@ -133,35 +134,35 @@ said_both m (group ∷ first) more = by_group (λ said. said_both said first mor
 
 -- ---- answers
 
-module _ (texts : ℕ → Bytes) (subject : ℕ) (v : RangeView) (r : RangeState) (kept : RangeKept texts subject v r) (streams : StreamsKept texts v) (d : ServerContext) where
+module _ (texts : ℕ → Bytes) (subject : ℕ) (run : Run) (v : RangeView) (r : RangeState) (kept : RangeKept texts subject run v r) (streams : StreamsKept texts run v) (d : ServerContext) where
   -- an extent of a stream was read
   abbrev MoreRead : StreamKind → ExtentRead → RangeOutcome → Type 0
-  MoreRead kind read o = Left texts subject v r streams d (Reads kind read ∷ []) (one_more_read v.history kind read) refl o
+  MoreRead kind read o = Left texts subject run v r streams d (Reads kind read ∷ []) (one_more_read v.history kind read) refl o
 
   abbrev NoneRead : RangeOutcome → Type 0
-  NoneRead o = Left texts subject v r streams d [] v.history refl o
+  NoneRead o = Left texts subject run v r streams d [] v.history refl o
 
   -- ---- the metadata
 
   module _ (w : ReqNo) (waited : awaits r.metadata.job w ≡ true) (groups : List Group) (packets : List Packet) (c : ClientState) where
-    metadata_rests : (count : ℕ) → StepKept texts subject v r [] (record { after = Some (record r { metadata = c }); count = count; packets = packets; notes = [] })
+    metadata_rests : (count : ℕ) → StepKept texts subject run v r [] (record { after = Some (record r { metadata = c }); count = count; packets = packets; notes = [] })
     metadata_rests count =
-        rests_kept texts subject v r kept streams d r.until c r.log r.gets r.held count packets (λ idle. absurd (busy r.metadata.job w waited idle)) (λ idle. idle)
+        rests_kept texts subject run v r kept streams d r.until c r.log r.gets r.held count packets (λ idle. absurd (busy r.metadata.job w waited idle)) (λ idle. idle)
 
     -- the next extent is read, or the log
     metadata_next : r.load.phase ≡ phases.Opened → ReadsMetadata v.history r → c.job ≡ jobs.Idle → (position : ℕ) → NoneRead (reads_metadata d (record r { metadata = c }) position)
     metadata_next opened s idle position =
-        reads_metadata_left texts subject v r streams d [] v.history refl (record r { metadata = c })
+        reads_metadata_left texts subject run v r streams d [] v.history refl (record r { metadata = c })
         (record { range = kept.range; generation = refl; opened = opened; sound = kept.sound })
         (record { said = s.said; log = s.log; live = s.live; fixed = s.fixed; idle = s.idle }) idle position
 
     metadata_read : r.load.phase ≡ phases.Opened → ReadsMetadata v.history r → c.job ≡ jobs.Idle → (position index extent : ℕ) (x : Option MetadataState) → said_after r.said groups ≡ x →
         MoreRead kinds.Metadata (record { index = index; extent = extent; groups = groups }) (says d (record r { metadata = c }) position x)
     metadata_read opened s idle position index extent None e =
-        drops_left texts subject v r streams d (Reads kinds.Metadata (record { index = index; extent = extent; groups = groups }) ∷ [])
+        drops_left texts subject run v r streams d (Reads kinds.Metadata (record { index = index; extent = extent; groups = groups }) ∷ [])
         (one_more_read v.history kinds.Metadata (record { index = index; extent = extent; groups = groups })) refl _ _
     metadata_read opened s idle position index extent (Some said) e =
-        reads_metadata_left texts subject v r streams d (Reads kinds.Metadata (record { index = index; extent = extent; groups = groups }) ∷ [])
+        reads_metadata_left texts subject run v r streams d (Reads kinds.Metadata (record { index = index; extent = extent; groups = groups }) ∷ [])
         (one_more_read v.history kinds.Metadata (record { index = index; extent = extent; groups = groups })) refl
         (record r { metadata = c; said = said })
         (record { range = kept.range; generation = refl; opened = opened; sound = kept.sound })
@@ -176,12 +177,12 @@ module _ (texts : ℕ → Bytes) (subject : ℕ) (v : RangeView) (r : RangeState
 
     abbrev MetadataStep : Stage → Option News → Type 0
     MetadataStep stage told =
-        StepKept texts subject v r
+        StepKept texts subject run v r
         (if is_some (metadata_news d (record r { metadata = c }) groups stage told packets).after then loading_actions kinds.Metadata r.metadata stage groups told else [])
         (metadata_news d (record r { metadata = c }) groups stage told packets)
 
-    metadata_step : (stage : Stage) → PhaseIs texts stage r.load.phase → StageIs texts v r stage → (told : Option News) → IsIdleIf told c.job → MetadataStep stage told
-    metadata_step stage p s (Some news.Fenced) idle = drops_left texts subject v r streams d [] v.history refl _ _
+    metadata_step : (stage : Stage) → PhaseIs texts stage r.load.phase → StageIs texts run v r stage → (told : Option News) → IsIdleIf told c.job → MetadataStep stage told
+    metadata_step stage p s (Some news.Fenced) idle = drops_left texts subject run v r streams d [] v.history refl _ _
     metadata_step (stages.Checking kinds.Metadata) p s (Some (news.Checked e l)) idle = metadata_next p s idle 0
     metadata_step (stages.Checking kinds.Metadata) p s (Some (news.Sealed e l)) idle = metadata_next p s idle 0
     metadata_step (stages.Checking kinds.Log) p s told idle = absurd (busy r.metadata.job w waited s.idle)
@@ -197,7 +198,7 @@ module _ (texts : ℕ → Bytes) (subject : ℕ) (v : RangeView) (r : RangeState
 
   -- an answer to the metadata's client
   pub metadata_kept : (w : ReqNo) (body : Body) → awaits r.metadata.job w ≡ true →
-      StepKept texts subject v r (if is_some (metadata_reply d r body).after then metadata_actions d r body else []) (metadata_reply d r body)
+      StepKept texts subject run v r (if is_some (metadata_reply d r body).after then metadata_actions d r body else []) (metadata_reply d r body)
   metadata_kept w body waited =
       let o : Outcome = reply_rule (picking d r.metadata) (request d) body in
       metadata_step w waited (groups_of body) (option_to_list o.packet) o.after r.stage kept.phase kept.stage o.news (reply_takes (picking d r.metadata) (request d) body).idle
@@ -205,14 +206,14 @@ module _ (texts : ℕ → Bytes) (subject : ℕ) (v : RangeView) (r : RangeState
   -- ---- the log
 
   module _ (w : ReqNo) (waited : awaits r.log.job w ≡ true) (groups : List Group) (packets : List Packet) (c : ClientState) where
-    log_rests : (count : ℕ) → StepKept texts subject v r [] (record { after = Some (record r { log = c }); count = count; packets = packets; notes = [] })
+    log_rests : (count : ℕ) → StepKept texts subject run v r [] (record { after = Some (record r { log = c }); count = count; packets = packets; notes = [] })
     log_rests count =
-        rests_kept texts subject v r kept streams d r.until r.metadata c r.gets r.held count packets (λ idle. idle) (λ idle. absurd (busy r.log.job w waited idle))
+        rests_kept texts subject run v r kept streams d r.until r.metadata c r.gets r.held count packets (λ idle. idle) (λ idle. absurd (busy r.log.job w waited idle))
 
     abbrev now : RangeState
     now = record r { log = c }
 
-    is_loading : r.load.phase ≡ phases.Opened → IsLoading texts subject v r streams d [] v.history refl now
+    is_loading : r.load.phase ≡ phases.Opened → IsLoading texts subject run v r streams d [] v.history refl now
     is_loading opened = record { range = kept.range; generation = refl; opened = opened; sound = kept.sound }
 
     log_same : ReadsLog v.history r → ReadsLog v.history now
@@ -220,10 +221,10 @@ module _ (texts : ℕ → Bytes) (subject : ℕ) (v : RangeView) (r : RangeState
 
     -- the log is read from its first extent on
     log_begins : r.load.phase ≡ phases.Opened → ReadsLog v.history r → (position : Option ℕ) → NoneRead (reads_log_from d now position)
-    log_begins opened s position = reads_log_from_left texts subject v r streams d [] v.history refl now (is_loading opened) (log_same s) position
+    log_begins opened s position = reads_log_from_left texts subject run v r streams d [] v.history refl now (is_loading opened) (log_same s) position
 
     log_next : r.load.phase ≡ phases.Opened → ReadsLog v.history r → (position : ℕ) → NoneRead (reads_log d now position)
-    log_next opened s position = reads_log_left texts subject v r streams d [] v.history refl now (is_loading opened) (log_same s) position
+    log_next opened s position = reads_log_left texts subject run v r streams d [] v.history refl now (is_loading opened) (log_same s) position
 
     module _ (position extent : ℕ) where
       abbrev read : ExtentRead
@@ -233,7 +234,7 @@ module _ (texts : ℕ → Bytes) (subject : ℕ) (v : RangeView) (r : RangeState
       LogRead o = MoreRead kinds.Log read o
 
       log_dropped : LogRead (dropped d now)
-      log_dropped = drops_left texts subject v r streams d (Reads kinds.Log read ∷ []) (one_more_read v.history kinds.Log read) refl _ _
+      log_dropped = drops_left texts subject run v r streams d (Reads kinds.Log read ∷ []) (one_more_read v.history kinds.Log read) refl _ _
 
       abbrev replayed_from : ℕ → List Region × Entries → Option (List Region × Entries)
       replayed_from base z = replayed r.said.keys extent (record { index = base + position; offset = 0 }) z groups
@@ -242,7 +243,7 @@ module _ (texts : ℕ → Bytes) (subject : ℕ) (v : RangeView) (r : RangeState
           LogRead (replays d now position x)
       log_replayed opened s base None e = log_dropped
       log_replayed opened s base (Some x) e =
-          reads_log_left texts subject v r streams d (Reads kinds.Log read ∷ []) (one_more_read v.history kinds.Log read) refl
+          reads_log_left texts subject run v r streams d (Reads kinds.Log read ∷ []) (one_more_read v.history kinds.Log read) refl
           (record r { log = c; regions = x.0; live = x.1 })
           (record { range = kept.range; generation = refl; opened = opened; sound = kept.sound })
           (record {
@@ -261,12 +262,12 @@ module _ (texts : ℕ → Bytes) (subject : ℕ) (v : RangeView) (r : RangeState
 
     abbrev LogStep : Stage → Option News → Type 0
     LogStep stage told =
-        StepKept texts subject v r
+        StepKept texts subject run v r
         (if is_some (log_news d now groups stage told packets).after then loading_actions kinds.Log r.log stage groups told else [])
         (log_news d now groups stage told packets)
 
-    log_step : (stage : Stage) → PhaseIs texts stage r.load.phase → StageIs texts v r stage → (told : Option News) → c.base ≡ r.log.base → LogStep stage told
-    log_step stage p s (Some news.Fenced) base = drops_left texts subject v r streams d [] v.history refl _ _
+    log_step : (stage : Stage) → PhaseIs texts stage r.load.phase → StageIs texts run v r stage → (told : Option News) → c.base ≡ r.log.base → LogStep stage told
+    log_step stage p s (Some news.Fenced) base = drops_left texts subject run v r streams d [] v.history refl _ _
     log_step (stages.Checking kinds.Metadata) p s told base = absurd (busy r.log.job w waited s.idle)
     log_step (stages.Checking kinds.Log) p s (Some (news.Checked e l)) base = log_begins p s (first_position now r.regions)
     log_step (stages.Checking kinds.Log) p s (Some (news.Sealed e l)) base = log_begins p s (first_position now r.regions)
@@ -293,7 +294,7 @@ module _ (texts : ℕ → Bytes) (subject : ℕ) (v : RangeView) (r : RangeState
     taken_actions t o = if t then serving_actions r answer.news o else loading_actions kinds.Log r.log r.stage (groups_of body) answer.news
 
     taken_kept : (t : Bool) → t ≡ false →
-        StepKept texts subject v r (if is_some (if t then served else loaded).after then taken_actions t (if t then served else loaded) else []) (if t then served else loaded)
+        StepKept texts subject run v r (if is_some (if t then served else loaded).after then taken_actions t (if t then served else loaded) else []) (if t then served else loaded)
     taken_kept true e = absurd cc
     taken_kept false e =
         log_step w waited (groups_of body) (option_to_list answer.packet) answer.after r.stage kept.phase kept.stage answer.news (reply_takes (picking d r.log) (request d) body).base
@@ -301,11 +302,11 @@ module _ (texts : ℕ → Bytes) (subject : ℕ) (v : RangeView) (r : RangeState
     abbrev replied : Bool → RangeOutcome
     replied t = if t then log_taken d r body else answers d r []
 
-    replied_kept : is_serving r.stage ≡ false → (t : Bool) → StepKept texts subject v r (if is_some (replied t).after then (if t then log_actions d r body (replied t) else []) else []) (replied t)
+    replied_kept : is_serving r.stage ≡ false → (t : Bool) → StepKept texts subject run v r (if is_some (replied t).after then (if t then log_actions d r body (replied t) else []) else []) (replied t)
     replied_kept unserved true = taken_kept (is_serving r.stage) unserved
-    replied_kept unserved false = rests_kept texts subject v r kept streams d r.until r.metadata r.log r.gets r.held d.count [] (λ idle. idle) (λ idle. idle)
+    replied_kept unserved false = rests_kept texts subject run v r kept streams d r.until r.metadata r.log r.gets r.held d.count [] (λ idle. idle) (λ idle. idle)
 
   -- an answer to the log's client of a range that is not served yet
   pub log_loading_kept : is_serving r.stage ≡ false → (w : ReqNo) (body : Body) → awaits r.log.job w ≡ true →
-      StepKept texts subject v r (if is_some (log_reply d r body).after then (if is_taken r body then log_actions d r body (log_reply d r body) else []) else []) (log_reply d r body)
+      StepKept texts subject run v r (if is_some (log_reply d r body).after then (if is_taken r body then log_actions d r body (log_reply d r body) else []) else []) (log_reply d r body)
   log_loading_kept unserved w body waited = replied_kept w body waited unserved (is_taken r body)

@@ -1,5 +1,5 @@
 -- A load goes on: what is kept through each of its steps, from the opening of the streams up to the confirmation.
-use Rattle.std.proofs.Common.{◌≡◌, ℕ, Bool, List, [], ◌++◌, length, ◌&&◌, ◌==◌, nat_lt, true, false, Option, Some, None, is_some, refl, sym, ap, ◌∙◌, subst, inl}
+use Rattle.std.proofs.Common.{◌≡◌, ℕ, Bool, List, [], length, ◌&&◌, ◌==◌, nat_lt, true, false, Option, Some, None, is_some, refl, sym, ap, ◌∙◌, subst, inl}
 use Rattle.std.specs.Prelude.{if◌then◌else◌}
 use Rattle.wire.specs.declared.packet.Packet.{Packet}
 use Rattle.wire.specs.declared.streams.StreamExtent.{StreamExtent}
@@ -18,42 +18,48 @@ use Rattle.model_partition.specs.Loading.{said_after, confirms, reads_log, open_
 use Rattle.model_partition.specs.ServerRun.{RangeHistory}
 use Rattle.model_partition.specs.StreamActions.{StreamAction}
 use Rattle.laws_loads.specs.Sound.{IsSound}
-use Rattle.laws_loads.specs.RangeView.{RangeView, view_after_all, log_of}
-use Rattle.laws_server_runs.specs.RangeInvariant.{groups_read, replayed_all, HasReadNothing, ReadsMetadata, ReadsLog, StageIs, RangeKept, StreamsKept, AreObserved, GoesOn, Rests, IsLonger, KeptIf, StepKept}
+use Rattle.laws_loads.specs.RangeView.{RangeView, view_after_all}
+use Rattle.laws_tables.specs.Runs.{Run}
+use Rattle.laws_server_runs.specs.RangeInvariant.{groups_read, replayed_all, HasReadNothing, ReadsMetadata, ReadsLog, StageIs, RangeKept, StreamsKept, Rests, IsLonger, KeptIf, StepKept}
 use Rattle.laws_server_runs.proofs.Loads.{silent_seen}
+use Rattle.laws_server_runs.proofs.Others.{streams_same}
 
 -- Actions of a load, which leave the streams as they were.
-module _ (texts : ℕ → Bytes) (subject : ℕ) (v : RangeView) (r : RangeState) (streams : StreamsKept texts v) (d : ServerContext) (actions : List StreamAction) (h : RangeHistory)
+module _ (texts : ℕ → Bytes) (subject : ℕ) (run : Run) (v : RangeView) (r : RangeState) (streams : StreamsKept texts run v) (d : ServerContext) (actions : List StreamAction) (h : RangeHistory)
     (same : view_after_all r.load.generation v actions ≡ record v { history = h }) where
   abbrev pub view : RangeView
   view = record v { history = h }
 
   abbrev pub Left : RangeOutcome → Type 0
-  Left o = StepKept texts subject v r (if is_some o.after then actions else []) o
+  Left o = StepKept texts subject run v r (if is_some o.after then actions else []) o
 
   -- the range is dropped
   pub drops_left : (count : ℕ) (packets : List Packet) → Left (record { after = None; count = count; packets = packets; notes = [] })
   drops_left count packets =
       record {
+        next = run;
+        goes = Rests;
+        alone = inl refl;
         kept = tt;
         streams = streams;
-        goes = Rests;
         longer = ([], refl);
         anew = tt;
-        seen = λ before later old told. silent_seen texts subject (log_of v) before later old told;
+        seen = λ before later old told. silent_seen texts subject run before later old told;
       }
 
   -- the load goes on
-  pub goes_left : (next : RangeState) (count : ℕ) (packets : List Packet) → RangeKept texts subject view next → next.load.generation ≡ r.load.generation →
+  pub goes_left : (next : RangeState) (count : ℕ) (packets : List Packet) → RangeKept texts subject run view next → next.load.generation ≡ r.load.generation →
       (is_serving next.stage ≡ true → is_serving r.stage ≡ true) → Left (record { after = Some next; count = count; packets = packets; notes = [] })
   goes_left next count packets kept generation served =
       record {
-        kept = subst (λ w. KeptIf texts subject w r.load.generation (Some next)) (sym same) (kept, generation);
-        streams = subst (λ w. StreamsKept texts w) (sym same) (record { served = streams.served; spelled = streams.spelled; unmade = streams.unmade });
-        goes = subst (λ w. GoesOn texts r.load.generation (log_of v) (log_of w)) (sym same) Rests;
+        next = run;
+        goes = Rests;
+        alone = inl refl;
+        kept = subst (λ w. KeptIf texts subject run w r.load.generation (Some next)) (sym same) (kept, generation);
+        streams = subst (λ w. StreamsKept texts run w) (sym same) (streams_same texts run v view refl refl streams);
         longer = subst (λ w. IsLonger v.answered w.answered) (sym same) ([], refl);
         anew = λ serves. inl (served serves);
-        seen = λ before later old told. subst (λ w. AreObserved texts subject (log_of w) (before ++ later)) (sym same) (silent_seen texts subject (log_of v) before later old told);
+        seen = λ before later old told. silent_seen texts subject run before later old told;
       }
 
   -- a state of the load, as of this range
@@ -66,10 +72,10 @@ module _ (texts : ℕ → Bytes) (subject : ℕ) (v : RangeView) (r : RangeState
   -- ---- the log
 
   -- a request of the log's client is out
-  log_reads : (s : RangeState) → IsLoading s → (c : ClientState) → ReadsLog h s → (position : ℕ) → RangeKept texts subject view (record s { stage = stages.Reading kinds.Log position; log = c })
+  log_reads : (s : RangeState) → IsLoading s → (c : ClientState) → ReadsLog h s → (position : ℕ) → RangeKept texts subject run view (record s { stage = stages.Reading kinds.Log position; log = c })
   log_reads s b c reads position = record { range = b.range; phase = b.opened; sound = b.sound; stage = record { said = reads.said; made = reads.made; fixed = reads.fixed; idle = reads.idle } }
 
-  log_checks : (s : RangeState) → IsLoading s → (c : ClientState) → ReadsLog h s → RangeKept texts subject view (record s { stage = stages.Checking kinds.Log; log = c })
+  log_checks : (s : RangeState) → IsLoading s → (c : ClientState) → ReadsLog h s → RangeKept texts subject run view (record s { stage = stages.Checking kinds.Log; log = c })
   log_checks s b c reads = record { range = b.range; phase = b.opened; sound = b.sound; stage = record { said = reads.said; made = reads.made; fixed = reads.fixed; idle = reads.idle } }
 
   confirms_left : (s : RangeState) → IsLoading s → ReadsLog h s → Left (confirms d s)
@@ -108,10 +114,10 @@ module _ (texts : ℕ → Bytes) (subject : ℕ) (v : RangeView) (r : RangeState
       made = ap (λ read. replayed_all s.said.keys read (s.said.regions, [])) reads.log ∙ ap (λ live. Some (s.said.regions, live)) (sym reads.live)
 
   -- a request of the metadata's client is out
-  metadata_reads : (s : RangeState) → IsLoading s → (c : ClientState) → ReadsMetadata h s → (position : ℕ) → RangeKept texts subject view (record s { stage = stages.Reading kinds.Metadata position; metadata = c })
+  metadata_reads : (s : RangeState) → IsLoading s → (c : ClientState) → ReadsMetadata h s → (position : ℕ) → RangeKept texts subject run view (record s { stage = stages.Reading kinds.Metadata position; metadata = c })
   metadata_reads s b c reads position = record { range = b.range; phase = b.opened; sound = b.sound; stage = record { said = reads.said; log = reads.log; live = reads.live; fixed = reads.fixed; idle = reads.idle } }
 
-  metadata_checks : (s : RangeState) → IsLoading s → (c : ClientState) → ReadsMetadata h s → RangeKept texts subject view (record s { stage = stages.Checking kinds.Metadata; metadata = c })
+  metadata_checks : (s : RangeState) → IsLoading s → (c : ClientState) → ReadsMetadata h s → RangeKept texts subject run view (record s { stage = stages.Checking kinds.Metadata; metadata = c })
   metadata_checks s b c reads = record { range = b.range; phase = b.opened; sound = b.sound; stage = record { said = reads.said; log = reads.log; live = reads.live; fixed = reads.fixed; idle = reads.idle } }
 
   pub reads_metadata_left : (s : RangeState) → IsLoading s → ReadsMetadata h s → s.metadata.job ≡ jobs.Idle → (position : ℕ) → Left (reads_metadata d s position)
@@ -144,17 +150,17 @@ module _ (texts : ℕ → Bytes) (subject : ℕ) (v : RangeView) (r : RangeState
       refl (last_extent lists.metadata.extents)
 
 -- a step without actions
-pub without_actions : (texts : ℕ → Bytes) (subject : ℕ) (v : RangeView) (r : RangeState) (o : RangeOutcome) → StepKept texts subject v r (if is_some o.after then [] else []) o → StepKept texts subject v r [] o
-without_actions texts subject v r o step = subst (λ actions. StepKept texts subject v r actions o) (none (is_some o.after) []) step
+pub without_actions : (texts : ℕ → Bytes) (subject : ℕ) (run : Run) (v : RangeView) (r : RangeState) (o : RangeOutcome) → StepKept texts subject run v r (if is_some o.after then [] else []) o → StepKept texts subject run v r [] o
+without_actions texts subject run v r o step = subst (λ actions. StepKept texts subject run v r actions o) (none (is_some o.after) []) step
   where
     none : (t : Bool) (actions : List StreamAction) → (if t then actions else actions) ≡ actions
     none true actions = refl
     none false actions = refl
 
-module _ (texts : ℕ → Bytes) (subject : ℕ) (v : RangeView) (r : RangeState) (kept : RangeKept texts subject v r) (streams : StreamsKept texts v) (d : ServerContext) where
+module _ (texts : ℕ → Bytes) (subject : ℕ) (run : Run) (v : RangeView) (r : RangeState) (kept : RangeKept texts subject run v r) (streams : StreamsKept texts run v) (d : ServerContext) where
   -- the streams of the range are opened
-  pub opens_kept : r.stage ≡ stages.Opening → (lists : StreamLists) → StepKept texts subject v r [] (opens d r lists)
+  pub opens_kept : r.stage ≡ stages.Opening → (lists : StreamLists) → StepKept texts subject run v r [] (opens d r lists)
   opens_kept opening lists =
-      without_actions texts subject v r (opens d r lists)
-      (opens_left texts subject v r streams d [] v.history refl (record { range = kept.range; generation = refl; opened = refl; sound = kept.sound })
-      (subst (λ stage. StageIs texts v r stage) opening kept.stage) lists)
+      without_actions texts subject run v r (opens d r lists)
+      (opens_left texts subject run v r streams d [] v.history refl (record { range = kept.range; generation = refl; opened = refl; sound = kept.sound })
+      (subst (λ stage. StageIs texts run v r stage) opening kept.stage) lists)

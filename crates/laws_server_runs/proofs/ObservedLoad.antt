@@ -1,69 +1,85 @@
 -- What is observed of a load: its rows are those of its number, and what was observed before stays.
-use Rattle.std.proofs.Common.{◌≡◌, ◌⊎◌, inl, inr, ℕ, suc, ◌<◌, Bool, true, false, List, [], ◌∷◌, ◌++◌, length, map, Some, refl, sym, ap, ◌∙◌, arith, ◌==◌}
+use Rattle.std.proofs.Common.{◌≡◌, ℕ, ◌<◌, Bool, true, false, List, [], ◌∷◌, ◌++◌, length, refl, sym, ap, ◌∙◌, arith, ◌==◌}
 use Rattle.std.specs.Prelude.{if◌then◌else◌}
 use Rattle.std.proofs.lemmas.Bool.Decides.{nat_tests}
 use Rattle.wire.specs.declared.note.Note.{Note}
 use Rattle.wire.specs.declared.note.Note.TheVariants.{Loaded}
 use Rattle.wire.specs.declared.rows.Row.{Row}
+use Rattle.metadata.specs.declared.record.MetaItem.{MetaItem}
 use Rattle.commitlog.specs.Replay.{Numbered}
-use Rattle.model_partition.specs.Loading.{Group}
-use Rattle.model_partition.specs.Log.{line_shown, notes, observed, ShowsTables}
-use Rattle.model_partition.specs.Past.{Bytes, Transaction, stored, after_line, empty_table}
-use Rattle.model_partition.specs.Renaming.{renamed, renamed_placed, decoded}
-use Rattle.model_partition.specs.Story.{Placed, Made, Answered, Showed, Story, event_at}
-use Rattle.laws_tables.proofs.Range.{bound, event_cases}
-use Rattle.laws_server_runs.specs.RangeInvariant.{AreObserved}
+use Rattle.model_partition.specs.Log.{line_shown, begins_of, dones_at}
+use Rattle.model_partition.specs.Past.{Bytes, Transaction, stored, kept}
+use Rattle.model_partition.specs.Story.{Placed, event_at}
+use Rattle.laws_tables.specs.Layers.{empty_layer, flat, layer_line}
+use Rattle.laws_tables.specs.Runs as chains
+use Rattle.laws_tables.specs.Runs.{Run, first_beginning, said, replayed_by, next_loaded, loaded_layer, seen, ShowsLayers}
+use Rattle.laws_tables.proofs.Layers.{kept_all, pick_none}
+use Rattle.laws_server_runs.specs.RangeInvariant.{no_index, AreObserved}
 
 -- what rows a load shows matters only for loads
 abbrev AgreeBelow : ℕ → (ℕ → List Row) → (ℕ → List Row) → Type 0
 AgreeBelow n rows others = (l : ℕ) → l < n → rows l ≡ others l
 
-observed_same : (subject : ℕ) (rows others : ℕ → List Row) (story : Story (Numbered Transaction)) → AgreeBelow (length story) rows others → observed subject rows story ≡ observed subject others story
-observed_same subject rows others [] agree = refl
-observed_same subject rows others (Made g group ∷ earlier) agree = ap (λ l. l ++ notes subject rows earlier (Made g group)) (observed_same subject rows others earlier (λ l less. agree l (omega (arith, less))))
-observed_same subject rows others (Answered a from to ∷ earlier) agree = ap (λ l. l ++ notes subject rows earlier (Answered a from to)) (observed_same subject rows others earlier (λ l less. agree l (omega (arith, less))))
-observed_same subject rows others (Showed g start end groups ∷ earlier) agree =
-    (λ j. observed_same subject rows others earlier (λ l less. agree l (omega (arith, less))) j ++ Loaded subject g (agree (length earlier) (omega arith) j) (suc (length (line_shown groups))) ∷ [])
+-- these rows are what the layers of a load say
+abbrev pub SaysLoad : List Row → List (Placed (Numbered Transaction)) → List (Placed (Numbered MetaItem)) → Type 0
+SaysLoad rows groups records =
+    (key : Bytes) → stored rows key ≡ kept (said first_beginning (line_shown records)).keys (λ k. flat (loaded_layer first_beginning no_index groups records k)) key
+
+-- where it shows no records, they are the line that is replayed
+pub plain_load : (rows : List Row) (groups : List (Placed (Numbered Transaction))) (records : List (Placed (Numbered MetaItem))) → records ≡ [] →
+    ((key : Bytes) → stored rows key ≡ flat (layer_line (replayed_by first_beginning groups records) empty_layer key)) → SaysLoad rows groups records
+plain_load rows groups records none says key =
+    says key ∙ ap (λ z. flat (layer_line (replayed_by first_beginning groups z) empty_layer key)) none
+    ∙ sym (pick_none (layer_line (replayed_by first_beginning groups []) empty_layer key))
+    ∙ sym (kept_all (λ k. flat (loaded_layer first_beginning no_index groups [] k)) key)
+    ∙ ap (λ z. kept (said first_beginning (line_shown z)).keys (λ k. flat (loaded_layer first_beginning no_index groups z k)) key) (sym none)
+
+module _ (subject : ℕ) (rows others : ℕ → List Row) where
+  seen_same : (run : Run) → AgreeBelow (length (chains.log_of run)) rows others → seen first_beginning rows subject run ≡ seen first_beginning others subject run
+  seen_same [] agree = refl
+  seen_same (chains.Forms g group ∷ run) agree = ap (λ l. l ++ begins_of subject g group.first group.items) (seen_same run (λ l less. agree l (omega (arith, less))))
+  seen_same (chains.Logged g append from to ∷ run) agree = ap (λ l. l ++ dones_at subject (event_at (chains.log_of run) append)) (seen_same run (λ l less. agree l (omega (arith, less))))
+  seen_same (chains.Notes g ∷ run) agree = seen_same run agree
+  seen_same (chains.Records g number item ∷ run) agree = seen_same run agree
+  seen_same (chains.Recorded g append from to ∷ run) agree = seen_same run agree
+  seen_same (chains.Trims g place ∷ run) agree = seen_same run agree
+  seen_same (chains.Confirms g start end groups metadata_end records ∷ run) agree =
+      (λ j. seen_same run (λ l less. agree l (omega (arith, less))) j
+      ++ Loaded subject g (agree (length (chains.log_of run)) (omega arith) j) (next_loaded first_beginning groups records) ∷ [])
+
+  layers_same : (run : Run) → AgreeBelow (length (chains.log_of run)) rows others → ShowsLayers no_index first_beginning rows run → ShowsLayers no_index first_beginning others run
+  layers_same [] agree shows = tt
+  layers_same (chains.Forms g group ∷ run) agree shows = layers_same run (λ l less. agree l (omega (arith, less))) shows
+  layers_same (chains.Logged g append from to ∷ run) agree shows = layers_same run (λ l less. agree l (omega (arith, less))) shows
+  layers_same (chains.Notes g ∷ run) agree shows = layers_same run agree shows
+  layers_same (chains.Records g number item ∷ run) agree shows = layers_same run agree shows
+  layers_same (chains.Recorded g append from to ∷ run) agree shows = layers_same run agree shows
+  layers_same (chains.Trims g place ∷ run) agree shows = layers_same run agree shows
+  layers_same (chains.Confirms g start end groups metadata_end records ∷ run) agree shows =
+      (λ key. ap (λ z. stored z key) (sym (agree (length (chains.log_of run)) (omega arith))) ∙ shows.0 key, layers_same run (λ l less. agree l (omega (arith, less))) shows.1)
 
 -- the rows of one load more
 abbrev rows_with : (ℕ → List Row) → ℕ → List Row → ℕ → List Row
 rows_with rows n new l = if l == n then new else rows l
 
-module _ (subject : ℕ) (story : Story (Numbered Transaction)) (g start end : ℕ) (shown : List (Placed (Numbered Transaction))) (rows : ℕ → List Row) (new : List Row) where
-  abbrev new_rows : ℕ → List Row
-  new_rows = rows_with rows (length story) new
+-- one load more is observed, where its rows are what its layers say
+pub load_observed : (texts : ℕ → Bytes) (subject : ℕ) (run : Run) (g start end metadata_end : ℕ) (groups : List (Placed (Numbered Transaction))) (records : List (Placed (Numbered MetaItem)))
+    (new : List Row) (before : List Note) → SaysLoad new groups records → AreObserved texts subject run before →
+    AreObserved texts subject (chains.Confirms g start end groups metadata_end records ∷ run) (before ++ Loaded subject g new (next_loaded first_beginning groups records) ∷ [])
+load_observed texts subject run g start end metadata_end groups records new before says (rows, shows, is) = (
+  with_new,
+  (λ key. ap (λ z. stored z key) here ∙ says key, layers_same subject rows with_new run below shows),
+  (λ j. (is ∙ seen_same subject rows with_new run below) j ++ Loaded subject g (sym here j) (next_loaded first_beginning groups records) ∷ []),
+)
+  where
+    n : ℕ
+    n = length (chains.log_of run)
 
-  new_here : new_rows (length story) ≡ new
-  new_here = let same : (length story == length story) ≡ true = grind (arith, nat_tests) in ap (λ (b : Bool). if b then new else rows (length story)) same
+    with_new : ℕ → List Row
+    with_new = rows_with rows n new
 
-  new_below : (l : ℕ) → l < length story → new_rows l ≡ rows l
-  new_below l less = let other : (l == length story) ≡ false = grind (arith, nat_tests) in ap (λ (b : Bool). if b then new else rows l) other
+    here : with_new n ≡ new
+    here = let same : (n == n) ≡ true = grind (arith, nat_tests) in ap (λ (b : Bool). if b then new else rows n) same
 
-  -- what is observed of the load comes behind what was observed before
-  load_told : observed subject rows story ++ Loaded subject g new (suc (length (line_shown shown))) ∷ [] ≡ observed subject new_rows (Showed g start end shown ∷ story)
-  load_told = (λ j. observed_same subject rows new_rows story (λ l less. sym (new_below l less)) j ++ Loaded subject g (sym new_here j) (suc (length (line_shown shown))) ∷ [])
-
-  -- and its rows are the table of the line that it shows
-  load_shows : ((key : Bytes) → stored new key ≡ after_line (line_shown shown) empty_table key) → ShowsTables rows story → ShowsTables new_rows (Showed g start end shown ∷ story)
-  load_shows says shows l h s e groups at key = go (event_cases (Numbered Transaction) (Showed g start end shown) story l (Showed h s e groups) at)
-    where
-      go : ((l ≡ length story) × (Showed g start end shown ≡ Showed h s e groups)) ⊎ (event_at story l ≡ Some (Showed h s e groups)) → stored (new_rows l) key ≡ after_line (line_shown groups) empty_table key
-      go (inl here) =
-          let load : Showed g start end shown ≡ Showed h s e groups = here.1 in
-          let same : shown ≡ groups = cc in
-          ap (λ k. stored (new_rows k) key) here.0 ∙ ap (λ z. stored z key) new_here ∙ says key ∙ ap (λ z. after_line (line_shown z) empty_table key) same
-      go (inr old) =
-          let less : l < length story = bound (Numbered Transaction) story l (Showed h s e groups) old in
-          ap (λ z. stored z key) (new_below l less) ∙ shows l h s e groups old key
-
--- one load more is observed, where its rows are the table of the line that it shows
-pub load_observed : (texts : ℕ → Bytes) (subject : ℕ) (story : Story Group) (g start end : ℕ) (shown : List (Placed Group)) (new : List Row) (before : List Note) →
-    ((key : Bytes) → stored new key ≡ after_line (line_shown (map (renamed_placed decoded) shown)) empty_table key) → AreObserved texts subject story before →
-    AreObserved texts subject (Showed g start end shown ∷ story) (before ++ Loaded subject g new (suc (length (line_shown (map (renamed_placed decoded) shown)))) ∷ [])
-load_observed texts subject story g start end shown new before says (rows, shows, is) =
-    let story' : Story (Numbered Transaction) = renamed decoded story in
-    let shown' : List (Placed (Numbered Transaction)) = map (renamed_placed decoded) shown in (
-      new_rows subject story' g start end shown' rows new,
-      load_shows subject story' g start end shown' rows new says shows,
-      ap (λ (l : List Note). l ++ Loaded subject g new (suc (length (line_shown shown'))) ∷ []) is ∙ load_told subject story' g start end shown' rows new,
-    )
+    below : AgreeBelow n rows with_new
+    below l less = let other : (l == n) ≡ false = grind (arith, nat_tests) in ap (λ (b : Bool). if b then new else rows l) (sym other)

@@ -1,28 +1,24 @@
--- What the order of a stream says of the groups that its loads show, and that a range is loaded before it forms groups.
-use Rattle.std.proofs.Common.{◌≡◌, ⊎_elim, ℕ, zero, suc, List, [], ◌∷◌, map, Some, nat_lt, refl, sym, ap, ◌∙◌, subst, arith}
+-- What the order of a stream says of the groups that its loads show.
+use Rattle.std.proofs.Common.{◌≡◌, ⊎_elim, ℕ, zero, suc, ◌<◌, ◌≤◌, List, [], ◌∷◌, map, Some, nat_lt, refl, sym, ap, ◌∙◌, subst, arith}
 use Rattle.std.specs.Prelude.{Contains}
+use Rattle.std.proofs.lemmas.Bool.{ltb-false}
 use Rattle.model_streams.proofs.Tests.{if_elim}
 use Rattle.commitlog.specs.declared.log_record.LogRecord.{LogRecord}
 use Rattle.commitlog.specs.Reading.{record_at}
 use Rattle.commitlog.specs.Record.{spelling}
-use Rattle.commitlog.specs.Replay.{Numbered}
-use Rattle.model_partition.specs.Log.{IsServed}
 use Rattle.model_partition.specs.Past.{Bytes}
-use Rattle.model_partition.specs.Story.{Placed, StreamEvent, Made, Answered, Showed, Story, event_at, Copy, placed, from_place, KeepsOrder}
+use Rattle.model_partition.specs.Story.{Placed, Made, Showed, Story, event_at, Copy, placed, from_place, Ascending, KeepsOrder}
 use Rattle.model_partition.specs.Loading.{Group}
-use Rattle.laws_loads.proofs.Replaying.{AreRead}
-use Rattle.laws_tables.proofs.Range.{event_cases, made_cases, older}
+use Rattle.laws_tables.proofs.Range.{event_cases}
 use Rattle.laws_server_runs.specs.RangeInvariant.{AllSpelled, IsUnmade}
+use Rattle.laws_server_runs.proofs.Behind.{groups_shown, AreBehind}
+use Rattle.laws_server_runs.proofs.Replaying.{AreRead}
 
 first_there : {A : Type 0} (x : A) (xs : List A) → Contains (x ∷ xs) x
 first_there {A} x xs = (zero, omega arith, refl)
 
 later_there : {A : Type 0} (y x : A) (xs : List A) → Contains xs x → Contains (y ∷ xs) x
 later_there {A} y x xs (k, l, e) = (suc k, omega (arith, l), e)
-
--- the groups that a load shows
-abbrev pub groups_shown : List (Placed Group) → List Group
-groups_shown groups = map (λ (p : Placed Group). p.group) groups
 
 -- what is read back
 abbrev IsSpelled : Group → Type 0
@@ -44,7 +40,35 @@ copies_read start (c ∷ cs) all =
     if_elim (λ (x : List (Copy Group)). (rs : List LogRecord) × AreRead (groups_shown (map placed x)) rs) (nat_lt c.from start) (from_place start cs) (c ∷ cs)
     (λ t. copies_read start cs (λ d there. all d (later_there c d cs there))) (λ f. all_read (c ∷ cs) all)
 
+-- ---- places
+
+rest_ascends : (c : Copy Group) (cs : List (Copy Group)) → Ascending (c ∷ cs) → Ascending cs
+rest_ascends c cs ascends front back x y e there = ascends (c ∷ front) back x y (ap (λ l. c ∷ l) e) (later_there c y front there)
+
+abbrev AreNotEmpty : List (Copy Group) → Type 0
+AreNotEmpty cs = (c : Copy Group) → Contains cs c → c.from < c.to
+
+-- behind the first copy stand the others
+all_rise : (start : ℕ) (c : Copy Group) (cs : List (Copy Group)) → start ≤ c.from → Ascending (c ∷ cs) → AreNotEmpty (c ∷ cs) → AreBehind start (map placed (c ∷ cs))
+all_rise start c [] low ascends filled = (low, tt)
+all_rise start c (d ∷ cs) low ascends filled =
+    let next : c.to ≤ d.from = ascends (c ∷ []) cs d c refl (first_there c []) in
+    let some : c.from < c.to = filled c (first_there c (d ∷ cs)) in
+    (low, all_rise start d cs (omega (arith, low, next, some)) (rest_ascends c (d ∷ cs) ascends) (λ x there. filled x (later_there c x (d ∷ cs) there)))
+
+from_place_on : (start : ℕ) (cs : List (Copy Group)) → Ascending cs → AreNotEmpty cs → AreBehind start (map placed (from_place start cs))
+from_place_on start [] ascends filled = tt
+from_place_on start (c ∷ cs) ascends filled =
+    if_elim (λ (x : List (Copy Group)). AreBehind start (map placed x)) (nat_lt c.from start) (from_place start cs) (c ∷ cs)
+    (λ t. from_place_on start cs (rest_ascends c cs ascends) (λ x there. filled x (later_there c x cs there)))
+    (λ f. all_rise start c cs (ltb-false c.from start f) ascends filled)
+
 module _ (texts : ℕ → Bytes) (story : Story Group) (k : KeepsOrder story) where
+  -- what a load shows stands at its start or behind it
+  pub shown_behind : (l g start end : ℕ) (groups : List (Placed Group)) → event_at story l ≡ Some (Showed g start end groups) → AreBehind start groups
+  shown_behind l g start end groups at =
+      subst (AreBehind start) (sym (k.shown l g start end groups at)) (from_place_on start (k.copies l) (k.ascending l) (k.not_empty l))
+
   -- where no append was begun, a load shows nothing
   pub unmade_shows_nothing : IsUnmade texts story → (l g start end : ℕ) (groups : List (Placed Group)) → event_at story l ≡ Some (Showed g start end groups) → groups ≡ []
   unmade_shows_nothing unmade l g start end groups at = go (k.copies l) refl
@@ -61,32 +85,6 @@ module _ (texts : ℕ → Bytes) (story : Story Group) (k : KeepsOrder story) wh
   shown_spelled spelled l g start end groups at =
       subst (λ (xs : List (Placed Group)). (rs : List LogRecord) × AreRead (groups_shown xs) rs) (sym (k.shown l g start end groups at))
       (copies_read start (k.copies l) (λ c there. let h = k.handed l g start end groups c at there in spelled c.append h.0 c.group h.1))
-
--- some load under this generation stands in the story
-abbrev pub IsLoaded : {A : Type 0} → Story A → ℕ → Type 0
-IsLoaded {A} story g = (l : ℕ) × (start : ℕ) × (end : ℕ) × (groups : List (Placed A)) × (event_at story l ≡ Some (Showed g start end groups))
-
-loaded_later : {A : Type 0} (e : StreamEvent A) (earlier : Story A) (g : ℕ) → IsLoaded earlier g → IsLoaded (e ∷ earlier) g
-loaded_later {A} e earlier g h = (h.0, h.1, h.2, h.3, older A e earlier h.0 (Showed g h.1 h.2 h.3) h.4)
-
--- a group is formed after a load of its generation
-pub made_was_shown : {A : Type 0} (story : Story (Numbered A)) → IsServed story → (a g : ℕ) (group : Numbered A) → event_at story a ≡ Some (Made g group) → IsLoaded story g
-made_was_shown {A} [] served a g group at = absurd cc
-made_was_shown {A} (Made h new ∷ earlier) served a g group at =
-    ⊎_elim {C = IsLoaded (Made h new ∷ earlier) g}
-    (λ s. loaded_later (Made h new) earlier g (subst (λ k. IsLoaded earlier k) s.1 served.0.0))
-    (λ old. loaded_later (Made h new) earlier g (made_was_shown earlier served.1 a g group old))
-    (made_cases A h new earlier a g group at)
-made_was_shown {A} (Answered x from to ∷ earlier) served a g group at =
-    ⊎_elim {C = IsLoaded (Answered x from to ∷ earlier) g}
-    (λ s. let e : Answered x from to ≡ Made g group = s.1 in absurd cc)
-    (λ old. loaded_later (Answered x from to) earlier g (made_was_shown earlier served.1 a g group old))
-    (event_cases (Numbered A) (Answered x from to) earlier a (Made g group) at)
-made_was_shown {A} (Showed h start end groups ∷ earlier) served a g group at =
-    ⊎_elim {C = IsLoaded (Showed h start end groups ∷ earlier) g}
-    (λ s. let e : Showed h start end groups ≡ Made g group = s.1 in absurd cc)
-    (λ old. loaded_later (Showed h start end groups) earlier g (made_was_shown earlier served.1 a g group old))
-    (event_cases (Numbered A) (Showed h start end groups) earlier a (Made g group) at)
 
 -- what was formed before a load
 pub made_before : {A : Type 0} (story : Story A) (h start end : ℕ) (shown : List (Placed A)) (a g : ℕ) (group : A) →

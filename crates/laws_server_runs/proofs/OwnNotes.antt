@@ -23,7 +23,7 @@ module _ (texts : ℕ → Bytes) (placed : List PlacedBytes) where
   seen_of : (j k : ℕ) (told : TableNote) (note : Note) → NoteWithin j placed told → IsSeenAs texts told note → is_of k note ≡ (k == j)
   seen_of j k (tables.Began range generation number changes) note within seen = ap (is_of k) seen ∙ ap (λ n. k == n) within
   seen_of j k (tables.Done range generation number) note within seen = ap (is_of k) seen ∙ ap (λ n. k == n) within
-  seen_of j k (tables.Loaded range generation entries indexes next) note within seen = ap (is_of k) seen.1 ∙ ap (λ n. k == n) within.0
+  seen_of j k (tables.Loaded range generation table next) note within seen = ap (is_of k) seen.1 ∙ ap (λ n. k == n) within.0
 
   -- all that is seen of observations of the range
   pub own_notes : (k : ℕ) (told : List TableNote) (notes : List Note) → NotesWithin k placed told → AreSeenAs texts told notes → only k notes ≡ notes

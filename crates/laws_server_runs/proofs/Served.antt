@@ -36,10 +36,12 @@ use Rattle.model_partition.specs.StreamActions.{StreamAction, Forms, Stands, gro
 use Rattle.laws_loads.specs.Sound.{IsSound, OutFits}
 use Rattle.laws_loads.proofs.WaitingIsSound.{is_next, pushed_sound, taken_served}
 use Rattle.laws_loads.specs.RangeView.{RangeView}
+use Rattle.laws_tables.specs.Runs.{Run}
 use Rattle.laws_server_runs.specs.RangeInvariant.{Serves, RangeKept, StreamsKept, StepKept}
-use Rattle.laws_server_runs.proofs.ServedNotes.{serves_of, kept_served, serves_with, calm_kept, then_kept}
+use Rattle.laws_server_runs.proofs.Loads.{calm_kept}
+use Rattle.laws_server_runs.proofs.ServedNotes.{serves_of, kept_served, serves_with, then_kept}
 use Rattle.laws_server_runs.proofs.ServedForms.{forms_kept}
-use Rattle.laws_server_runs.proofs.ServedStands.{stood_view, stood_range, stood_serves, stood_streams, stood_kept, stood_outcome, stands_kept}
+use Rattle.laws_server_runs.proofs.ServedStands.{stood_view, stood_range, stood_outcome, stands_kept}
 
 -- ---- the log's client
 
@@ -125,7 +127,7 @@ there_after d r =
     if_elim (λ (o : RangeOutcome). is_some o.after ≡ true) (not (is_some r.out) && (nat_lt 0 (group_count d r) && nat_lt (r.next + group_count d r) (2 ^ 64)))
     (appending d r (group_count d r)) (goes d r [] []) (λ t. refl) (λ f. refl)
 
-module _ (texts : ℕ → Bytes) (subject : ℕ) (v : RangeView) (r : RangeState) (kept : RangeKept texts subject v r) (kept_streams : StreamsKept texts v) (d : ServerContext) where
+module _ (texts : ℕ → Bytes) (subject : ℕ) (run : Run) (v : RangeView) (r : RangeState) (kept : RangeKept texts subject run v r) (kept_streams : StreamsKept texts run v) (d : ServerContext) where
   -- ---- a transaction
 
   -- what is out is no new group
@@ -137,35 +139,35 @@ module _ (texts : ℕ → Bytes) (subject : ℕ) (v : RangeView) (r : RangeState
     abbrev pushed : RangeState
     pushed = record r { queue = r.queue ++ record { from = from; request = q; changes = changes } ∷ [] }
 
-    pushed_serves : is_serving r.stage ≡ true → Serves texts v pushed
-    pushed_serves serving = serves_with texts subject v r r.log (r.queue ++ record { from = from; request = q; changes = changes } ∷ []) (serves_of texts subject v r serving kept)
+    pushed_serves : is_serving r.stage ≡ true → Serves texts run v pushed
+    pushed_serves serving = serves_with texts subject run v r r.log (r.queue ++ record { from = from; request = q; changes = changes } ∷ []) (serves_of texts subject run v r serving kept)
 
-    pushed_kept : transact_fault d r changes ≡ None → RangeKept texts subject v pushed
+    pushed_kept : transact_fault d r changes ≡ None → RangeKept texts subject run v pushed
     pushed_kept e =
         let serving : is_serving r.stage ≡ true = taken_served d r changes e in
-        kept_served texts subject v v r pushed kept serving refl refl (pushed_sound d r from q changes e kept.sound) (pushed_serves serving)
+        kept_served texts subject run run v v r pushed kept serving refl refl (pushed_sound d r from q changes e kept.sound) (pushed_serves serving)
 
     -- it goes to the queue, and a group is formed where none is out
-    taken_kept : (x : Option OutGroup) → r.out ≡ x → transact_fault d r changes ≡ None → StepKept texts subject v r (if is_some x then [] else formed (forms d pushed).after) (forms d pushed)
+    taken_kept : (x : Option OutGroup) → r.out ≡ x → transact_fault d r changes ≡ None → StepKept texts subject run v r (if is_some x then [] else formed (forms d pushed).after) (forms d pushed)
     taken_kept None none e =
         let serving : is_serving r.stage ≡ true = taken_served d r changes e in
-        let s : StepKept texts subject v pushed (formed (forms d pushed).after) (forms d pushed) =
-        forms_kept texts subject v pushed d (pushed_kept e) kept_streams serving (pushed_serves serving) none in
-        record { kept = s.kept; streams = s.streams; goes = s.goes; longer = s.longer; anew = s.anew; seen = s.seen }
+        let s : StepKept texts subject run v pushed (formed (forms d pushed).after) (forms d pushed) =
+        forms_kept texts subject run v pushed d (pushed_kept e) kept_streams serving (pushed_serves serving) none in
+        record { next = s.next; goes = s.goes; alone = s.alone; kept = s.kept; streams = s.streams; longer = s.longer; anew = s.anew; seen = s.seen }
     taken_kept (Some out) there e =
-        if_elim (λ (o : RangeOutcome). StepKept texts subject v r [] o) (not (is_some pushed.out) && (nat_lt 0 (group_count d pushed) && nat_lt (pushed.next + group_count d pushed) (2 ^ 64)))
+        if_elim (λ (o : RangeOutcome). StepKept texts subject run v r [] o) (not (is_some pushed.out) && (nat_lt 0 (group_count d pushed) && nat_lt (pushed.next + group_count d pushed) (2 ^ 64)))
         (appending d pushed (group_count d pushed)) (goes d pushed [] [])
         (λ t. absurd (let z : Some out ≡ None = sym there ∙ (is_next d pushed (pushed_sound d r from q changes e kept.sound) t).none in cc))
-        (λ f. calm_kept texts subject v r (goes d pushed [] []) kept_streams refl (pushed_kept e, refl) (λ s. inl s))
+        (λ f. calm_kept texts subject run v r (goes d pushed [] []) kept_streams refl (pushed_kept e, refl) (λ s. inl s))
 
-    by_fault : (fault : Option Refusal) → transact_fault d r changes ≡ fault → StepKept texts subject v r (transact_actions r (transacts d r from q changes fault)) (transacts d r from q changes fault)
+    by_fault : (fault : Option Refusal) → transact_fault d r changes ≡ fault → StepKept texts subject run v r (transact_actions r (transacts d r from q changes fault)) (transacts d r from q changes fault)
     by_fault (Some refusal) e =
-        subst (λ (actions : List StreamAction). StepKept texts subject v r actions (transacts d r from q changes (Some refusal))) (sym (no_group r.out))
-        (calm_kept texts subject v r (transacts d r from q changes (Some refusal)) kept_streams refl (kept, refl) (λ s. inl s))
+        subst (λ (actions : List StreamAction). StepKept texts subject run v r actions (transacts d r from q changes (Some refusal))) (sym (no_group r.out))
+        (calm_kept texts subject run v r (transacts d r from q changes (Some refusal)) kept_streams refl (kept, refl) (λ s. inl s))
     by_fault None e = taken_kept r.out refl e
 
   -- a transaction
-  pub transact_kept : (from : ActorId) (q : ReqNo) (changes : List Change) → StepKept texts subject v r (transact_actions r (transact_rule d r from q changes)) (transact_rule d r from q changes)
+  pub transact_kept : (from : ActorId) (q : ReqNo) (changes : List Change) → StepKept texts subject run v r (transact_actions r (transact_rule d r from q changes)) (transact_rule d r from q changes)
   transact_kept from q changes = by_fault from q changes (transact_fault d r changes) refl
 
   -- ---- an answer to the log
@@ -174,42 +176,41 @@ module _ (texts : ℕ → Bytes) (subject : ℕ) (v : RangeView) (r : RangeState
     abbrev now : RangeState
     now = record r { log = c }
 
-    now_kept : RangeKept texts subject v now
-    now_kept = kept_served texts subject v v r now kept serving refl refl kept.sound (serves_with texts subject v r c r.queue (serves_of texts subject v r serving kept))
+    now_kept : RangeKept texts subject run v now
+    now_kept = kept_served texts subject run run v v r now kept serving refl refl kept.sound (serves_with texts subject run v r c r.queue (serves_of texts subject run v r serving kept))
 
     -- news that tell nothing of the group
-    still_kept : (packets : List Packet) → StepKept texts subject v r [] (goes d now packets [])
-    still_kept packets = calm_kept texts subject v r (goes d now packets []) kept_streams refl (now_kept, refl) (λ s. inl s)
+    still_kept : (packets : List Packet) → StepKept texts subject run v r [] (goes d now packets [])
+    still_kept packets = calm_kept texts subject run v r (goes d now packets []) kept_streams refl (now_kept, refl) (λ s. inl s)
 
     -- the group that is out stands, and the next one is formed
     applied_kept : (out : OutGroup) → r.out ≡ Some out → (c.base ≡ r.log.base) → (length c.extents ≡ length r.log.extents) → (e offset : ℕ) →
-        StepKept texts subject v r (if is_some (applies d now out e offset).after then stood r (Some out) e offset (applies d now out e offset) else []) (applies d now out e offset)
+        StepKept texts subject run v r (if is_some (applies d now out e offset).after then stood r (Some out) e offset (applies d now out e offset) else []) (applies d now out e offset)
     applied_kept out there based counted e offset =
-        let k : Serves texts v r = serves_of texts subject v r serving kept in
+        let k : Serves texts run v r = serves_of texts subject run v r serving kept in
         let fits : OutFits (Some out) = subst OutFits there kept.sound.out_fits in
-        let after : RangeState = stood_range texts subject v r k out there fits c based counted e offset in
-        let seen : RangeView = stood_view texts subject v r k out there fits c based counted e offset in
+        let after : RangeState = stood_range texts subject run v r k out there fits c based counted e offset in
+        let seen : RangeView = stood_view texts subject run v r k out there fits c based counted e offset in
         let sound : IsSound after = record { queue_fits = kept.sound.queue_fits; out_fits = tt; counted = omega (arith, kept.sound.counted); numbered = kept.sound.numbered } in
-        let stands : StepKept texts subject v r (Stands kinds.Log e (last_position r.log offset) (group_of out) ∷ []) (stood_outcome texts subject v r k out there fits c based counted e offset) =
-        stands_kept texts subject v r k out there fits c based counted e offset kept kept_streams serving sound in
-        let forming : StepKept texts subject seen after (formed (forms d after).after) (forms d after) =
-        forms_kept texts subject seen after d (stood_kept texts subject v r k out there fits c based counted e offset kept serving sound)
-        (stood_streams texts subject v r k out there fits c based counted e offset kept_streams) serving (stood_serves texts subject v r k out there fits c based counted e offset) refl in
-        let both : StepKept texts subject v r (formed (forms d after).after ++ Stands kinds.Log e (last_position r.log offset) (group_of out) ∷ []) (applies d now out e offset) =
-        then_kept texts subject v r after (Stands kinds.Log e (last_position r.log offset) (group_of out) ∷ []) (formed (forms d after).after) (committed d out.first out.transactions)
-        (stood_outcome texts subject v r k out there fits c based counted e offset) (forms d after) serving refl stands forming in
+        let stands : StepKept texts subject run v r (Stands kinds.Log e (last_position r.log offset) (group_of out) ∷ []) (stood_outcome texts subject run v r k out there fits c based counted e offset) =
+        stands_kept texts subject run v r k out there fits c based counted e offset kept kept_streams serving sound in
+        let forming : StepKept texts subject stands.next seen after (formed (forms d after).after) (forms d after) =
+        forms_kept texts subject stands.next seen after d stands.kept.0 stands.streams serving (serves_of texts subject stands.next seen after serving stands.kept.0) refl in
+        let both : StepKept texts subject run v r (formed (forms d after).after ++ Stands kinds.Log e (last_position r.log offset) (group_of out) ∷ []) (applies d now out e offset) =
+        then_kept texts subject run v r after (Stands kinds.Log e (last_position r.log offset) (group_of out) ∷ []) (formed (forms d after).after) (committed d out.first out.transactions)
+        (stood_outcome texts subject run v r k out there fits c based counted e offset) (forms d after) serving refl stands forming in
         subst
-        (λ b. StepKept texts subject v r (if b then formed (forms d after).after ++ Stands kinds.Log e (last_position r.log offset) (group_of out) ∷ [] else []) (applies d now out e offset))
+        (λ b. StepKept texts subject run v r (if b then formed (forms d after).after ++ Stands kinds.Log e (last_position r.log offset) (group_of out) ∷ [] else []) (applies d now out e offset))
         (sym (there_after d after)) both
 
     done_kept : (x : Option OutGroup) → r.out ≡ x → (c.base ≡ r.log.base) → (length c.extents ≡ length r.log.extents) → (e offset : ℕ) →
-        StepKept texts subject v r (if is_some (log_done d now x e offset).after then stood r x e offset (log_done d now x e offset) else []) (log_done d now x e offset)
+        StepKept texts subject run v r (if is_some (log_done d now x e offset).after then stood r x e offset (log_done d now x e offset) else []) (log_done d now x e offset)
     done_kept None none based counted e offset = still_kept []
     done_kept (Some out) there based counted e offset = applied_kept out there based counted e offset
 
     news_kept : (told : Option News) (packets : List Packet) → EndsAsBefore r.log.base (length r.log.extents) c told →
-        StepKept texts subject v r (if is_some (serving_news d now told packets).after then serving_actions r told (serving_news d now told packets) else []) (serving_news d now told packets)
-    news_kept (Some news.Fenced) packets ends = calm_kept texts subject v r (dropped d now) kept_streams refl tt tt
+        StepKept texts subject run v r (if is_some (serving_news d now told packets).after then serving_actions r told (serving_news d now told packets) else []) (serving_news d now told packets)
+    news_kept (Some news.Fenced) packets ends = calm_kept texts subject run v r (dropped d now) kept_streams refl tt tt
     news_kept (Some (news.Appended e offset)) packets ends = done_kept r.out refl ends.0 ends.1 e offset
     news_kept told packets ends = still_kept packets
 
@@ -226,7 +227,7 @@ module _ (texts : ℕ → Bytes) (subject : ℕ) (v : RangeView) (r : RangeState
         else log_news d with_answer (groups_of body) r.stage answer.news (option_to_list answer.packet)
 
     by_stage : (b : Bool) → b ≡ true →
-        StepKept texts subject v r
+        StepKept texts subject run v r
         (if is_some (at_stage b).after
         then (if b then serving_actions r answer.news (at_stage b) else loading_actions kinds.Log r.log r.stage (groups_of body) answer.news)
         else [])
@@ -237,11 +238,11 @@ module _ (texts : ℕ → Bytes) (subject : ℕ) (v : RangeView) (r : RangeState
     abbrev if_taken : Bool → RangeOutcome
     if_taken b = if b then log_taken d r body else answers d r []
 
-    by_place : (b : Bool) → StepKept texts subject v r (if is_some (if_taken b).after then (if b then log_actions d r body (if_taken b) else []) else []) (if_taken b)
+    by_place : (b : Bool) → StepKept texts subject run v r (if is_some (if_taken b).after then (if b then log_actions d r body (if_taken b) else []) else []) (if_taken b)
     by_place true = by_stage (is_serving r.stage) serving
-    by_place false = calm_kept texts subject v r (answers d r []) kept_streams refl (kept, refl) (λ s. inl s)
+    by_place false = calm_kept texts subject run v r (answers d r []) kept_streams refl (kept, refl) (λ s. inl s)
 
   -- an answer to the log
   pub log_serving_kept : is_serving r.stage ≡ true → (w : ReqNo) (body : Body) → awaits r.log.job w ≡ true →
-      StepKept texts subject v r (if is_some (log_reply d r body).after then (if is_taken r body then log_actions d r body (log_reply d r body) else []) else []) (log_reply d r body)
+      StepKept texts subject run v r (if is_some (log_reply d r body).after then (if is_taken r body then log_actions d r body (log_reply d r body) else []) else []) (log_reply d r body)
   log_serving_kept serving w body awaited = by_place serving body (is_taken r body)

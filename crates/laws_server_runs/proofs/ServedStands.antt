@@ -1,47 +1,42 @@
 -- The group that is out comes to stand in the log, and is applied.
-use Rattle.std.proofs.Common.{◌≡◌, ◌⊎◌, ⊎_elim, ℕ, ◌+◌, ◌-◌, true, List, [], ◌∷◌, ◌++◌, length, map, Option, Some, None, is_some, if◌then◌else◌, refl, sym, ap, ◌∙◌, subst, inl, arith}
+use Rattle.std.proofs.Common.{◌≡◌, ⊎_elim, ℕ, ◌+◌, ◌-◌, true, List, [], ◌∷◌, ◌++◌, length, map, Some, None, refl, sym, ap, ◌∙◌, subst, inl, inr, arith}
 use Rattle.std.specs.List.{flat_map}
-use Rattle.std.proofs.lemmas.List.{length-append}
 use Rattle.block_types.specs.Limits.{group_size}
 use Rattle.wire.specs.declared.note.Note.{Note}
 use Rattle.wire.specs.declared.streams.StreamKind.TheVariants as kinds
 use Rattle.streams.specs.declared.table.Position.{Position}
 use Rattle.client.specs.Client.{ClientState}
-use Rattle.memtable.specs.declared.cell.Cell.{Cell}
-use Rattle.memtable.specs.Entries.{Entries, found, put_all}
-use Rattle.memtable.specs.Layers.{found_in, or_else}
+use Rattle.memtable.specs.Entries.{Entries, put_all}
 use Rattle.commitlog.specs.Places.{kept}
 use Rattle.commitlog.specs.Record as record_specs
 use Rattle.commitlog.specs.Replay.{Numbered}
 use Rattle.commitlog.proofs.Laws.{record_again}
 use Rattle.replica.specs.Groups.{joined}
-use Rattle.model_partition.specs.Past.{Bytes, Table, Transaction, after_line, empty_table}
+use Rattle.model_partition.specs.Past.{Bytes, Transaction}
 use Rattle.model_partition.specs.Log.{dones_of}
 use Rattle.model_partition.specs.Story.{StreamEvent, Made, Answered, event_at}
 use Rattle.model_partition.specs.StreamMachine.{base}
-use Rattle.model_partition.specs.Range.{OutGroup, RangeState, RangeOutcome, waiting_out, is_serving}
+use Rattle.model_partition.specs.Range.{OutGroup, RangeState, RangeOutcome, is_serving}
 use Rattle.model_partition.specs.Serving.{record_of, dones, out_size}
 use Rattle.model_partition.specs.Loading.{Group}
-use Rattle.model_partition.specs.Renaming.{renamed, numbered, numbered_if, decoded}
-use Rattle.model_partition.specs.TableContents.{value_of}
+use Rattle.model_partition.specs.Renaming.{numbered, numbered_if, decoded}
 use Rattle.model_partition.specs.StreamActions.{Stands, group_of, last_position}
 use Rattle.model_partition.specs.ServerRun.{place_number}
-use Rattle.model_partition.specs.ServedTables.{AllStand, AreSeenAs, IsAtLine, items_under, is_under, line_to, end_to}
+use Rattle.model_partition.specs.ServedTables.{AllStand, AreSeenAs}
 use Rattle.laws_loads.specs.Sound.{IsSound, OutFits}
-use Rattle.laws_loads.proofs.Cells.{Says, all_transactions}
-use Rattle.laws_loads.proofs.Renaming.{mapped_length, made_at}
-use Rattle.laws_loads.proofs.Replaying.{line_both, values_stand}
-use Rattle.laws_tables.proofs.Range.{bound, newest, event_cases}
+use Rattle.laws_tables.proofs.Range.{event_cases}
 use Rattle.laws_loads.specs.RangeView.{RangeView, view_after, log_of}
-use Rattle.laws_server_runs.specs.RangeInvariant.{Serves, RangeKept, StreamsKept, IsAnswered, AreObserved, Rests, Adds, StepKept}
-use Rattle.laws_server_runs.proofs.Others.{shown_on, answered_on}
-use Rattle.laws_server_runs.proofs.ServedNotes.{same_here, dones_seen, observed_answered, kept_served}
+use Rattle.laws_tables.specs.Layers.{layer_line}
+use Rattle.laws_tables.specs.Runs as chains
+use Rattle.laws_tables.specs.Runs.{Run, Serving, first_beginning, held, items_out, logged, MayInChain}
+use Rattle.laws_server_runs.specs.RangeInvariant.{append_of, layer_in, Matches, Serves, RangeKept, StreamsKept, AreObserved, Rests, Adds, StepKept}
+use Rattle.laws_server_runs.proofs.HeldLine.{out_made}
+use Rattle.laws_server_runs.proofs.LayerCells.{all_transactions}
+use Rattle.laws_server_runs.proofs.Others.{serving_on}
+use Rattle.laws_server_runs.proofs.Replaying.{values_stand}
+use Rattle.laws_server_runs.proofs.ServedNotes.{same_here, dones_seen, observed_logged, kept_served}
 
-or_none : (x : Option Cell) → or_else x None ≡ x
-or_none None = refl
-or_none (Some cell) = refl
-
-module _ (texts : ℕ → Bytes) (subject : ℕ) (v : RangeView) (r : RangeState) (k : Serves texts v r) (out : OutGroup) (is : r.out ≡ Some out) (fits : OutFits (Some out)) where
+module _ (texts : ℕ → Bytes) (subject : ℕ) (run : Run) (v : RangeView) (r : RangeState) (k : Serves texts run v r) (out : OutGroup) (is : r.out ≡ Some out) (fits : OutFits (Some out)) where
   abbrev generation : ℕ
   generation = r.load.generation
 
@@ -51,25 +46,35 @@ module _ (texts : ℕ → Bytes) (subject : ℕ) (v : RangeView) (r : RangeState
   abbrev transactions : List Transaction
   transactions = map (λ t. t.changes) out.transactions
 
-  abbrev old_line : List Transaction
-  old_line = line_to (renamed decoded (log_of v)) generation
+  -- the group, by what it spells
+  abbrev group : Numbered Transaction
+  group = decoded (group_of out)
 
-  spells : decoded (group_of out) ≡ numbered (record_of out.first out.transactions)
+  spells : group ≡ numbered (record_of out.first out.transactions)
   spells = ap numbered_if (record_again (record_of out.first out.transactions) fits)
 
-  made : event_at (log_of v) append ≡ Some (Made generation (group_of out))
-  made = k.out out is
+  abbrev old_held : Serving
+  old_held = held first_beginning run generation
+
+  out_is : old_held.out ≡ Some (record { append = append; group = group })
+  out_is = k.matches.out ∙ ap (append_of append) is
 
   -- the group stands at an offset of the last extent that the log's client knows
   module _ (c : ClientState) (based : c.base ≡ r.log.base) (counted : length c.extents ≡ length r.log.extents) (extent offset : ℕ) where
     abbrev at : Position
     at = last_position r.log offset
 
+    abbrev end : ℕ
+    end = place_number at + group_size (group_of out)
+
     abbrev told : StreamEvent Group
-    told = Answered append (place_number at) (place_number at + group_size (group_of out))
+    told = Answered append (place_number at) end
 
     abbrev pub stood_view : RangeView
     stood_view = view_after generation v (Stands kinds.Log extent at (group_of out))
+
+    abbrev stood_run : Run
+    stood_run = chains.Logged generation append (place_number at) end ∷ run
 
     abbrev more_live : Entries
     more_live = put_all r.live (flat_map (λ changes. changes) (kept (record_of out.first out.transactions) extent offset))
@@ -83,99 +88,78 @@ module _ (texts : ℕ → Bytes) (subject : ℕ) (v : RangeView) (r : RangeState
           out = None;
         }
 
-    -- the line goes on with the group's transactions
-    line_is : line_to (renamed decoded (log_of stood_view)) generation ≡ old_line ++ transactions
-    line_is =
-        ap (λ x. old_line ++ items_under generation x) (made_at decoded (log_of v) append generation (group_of out) made)
-        ∙ ap (λ l. old_line ++ l) (same_here generation (decoded (group_of out)).items [])
-        ∙ ap (λ (x : Numbered Transaction). old_line ++ x.items) spells
-
-    end_is : end_to (log_of stood_view) generation ≡ place_number at + group_size (group_of out)
-    end_is =
-        ap (λ x. if is_under generation x then place_number at + group_size (group_of out) else end_to (log_of v) generation) made
-        ∙ same_here generation (place_number at + group_size (group_of out)) (end_to (log_of v) generation)
-
-    position_is : place_number stood_range.position ≡ end_to (log_of stood_view) generation
+    position_is : place_number stood_range.position ≡ end
     position_is =
         let index : (c.base + length c.extents) - 1 ≡ (r.log.base + length r.log.extents) - 1 =
         ap (λ b. (b + length c.extents) - 1) based ∙ ap (λ l. (r.log.base + l) - 1) counted in
         let size : ℕ = group_size (group_of out) in
         let sum : (i : ℕ) → base i + (offset + size) ≡ (base i + offset) + size = λ i. omega arith in
-        ap (λ i. base i + (offset + size)) index ∙ sum ((r.log.base + length r.log.extents) - 1) ∙ sym end_is
+        ap (λ i. base i + (offset + size)) index ∙ sum ((r.log.base + length r.log.extents) - 1)
 
-    standing_is : (live : Entries) (key : Bytes) → or_else (found live key) (found_in r.fixed key) ≡ found live key
-    standing_is live key = ap (λ f. or_else (found live key) (found_in f key)) k.fixed ∙ or_none (found live key)
+    -- the layer gets the group's transactions
+    live_is : AllStand texts stood_view.answered → (key : Bytes) → layer_in texts more_live key ≡ layer_line (items_out old_held.out) old_held.live key
+    live_is all key =
+        let items : items_out old_held.out ≡ transactions = ap items_out out_is ∙ ap (λ (x : Numbered Transaction). x.items) spells in
+        all_transactions texts extent (offset + length (record_specs.text (record_of out.first out.transactions))) transactions r.live old_held.live key
+        (values_stand (texts extent) offset (record_of out.first out.transactions) all.0) (k.matches.live all.1 key)
+        ∙ ap (λ l. layer_line l old_held.live key) (sym items)
 
-    stood_line : AllStand texts stood_view.answered → IsAtLine texts (log_of v) r → IsAtLine texts (log_of stood_view) stood_range
-    stood_line all old =
-        let before : length (waiting_out r.out) ≡ length out.transactions = ap (λ o. length (waiting_out o)) is in
-        let longer : length (line_to (renamed decoded (log_of stood_view)) generation) ≡ length (old_line ++ transactions) = ap length line_is in
-        let both : length (old_line ++ transactions) ≡ length old_line + length transactions = length-append old_line transactions in
-        let count : length transactions ≡ length out.transactions = mapped_length (λ t. t.changes) out.transactions in
-        let layer : Says texts r.live (after_line old_line empty_table) = λ key. ap (value_of texts) (sym (standing_is r.live key)) ∙ old.table key in
-        let put : Says texts more_live (after_line transactions (after_line old_line empty_table)) =
-        all_transactions texts extent (offset + length (record_specs.text (record_of out.first out.transactions))) transactions r.live (after_line old_line empty_table)
-        (values_stand (texts extent) offset (record_of out.first out.transactions) all.0) layer in
-        record {
-          position = position_is;
-          next = omega (arith, old.next, before, longer, both, count);
-          table = λ key.
-              ap (value_of texts) (standing_is more_live key) ∙ put key ∙ ap (λ (t : Table). t key) (sym (line_both old_line transactions empty_table))
-              ∙ ap (λ l. after_line l empty_table key) (sym line_is);
-        }
-
-    -- what was made is as before
-    made_before : (a g : ℕ) (group : Group) → event_at (log_of stood_view) a ≡ Some (Made g group) → event_at (log_of v) a ≡ Some (Made g group)
-    made_before a g group there =
-        ⊎_elim {C = event_at (log_of v) a ≡ Some (Made g group)} (λ new. (let z : told ≡ Made g group = new.1 in absurd cc)) (λ old. old)
-        (event_cases Group told (log_of v) a (Made g group) there)
-
-    out_answered : (a : ℕ) → a ≡ append → IsAnswered (log_of stood_view) a
-    out_answered a same =
-        subst (λ n. IsAnswered (log_of stood_view) n) (sym same)
-        (length (log_of v), place_number at, place_number at + group_size (group_of out), bound Group (log_of v) append (Made generation (group_of out)) made, newest Group told (log_of v))
-
-    pub stood_serves : Serves texts stood_view stood_range
-    stood_serves = record {
-      shown = shown_on told (log_of v) generation k.shown;
-      groups = λ a group there.
-          ⊎_elim {C = IsAnswered (log_of stood_view) a ⊎ ((a ≡ append) × (is_some stood_range.out ≡ true))}
-          (λ z. inl (answered_on told (log_of v) a z)) (λ z. inl (out_answered a z.0)) (k.groups a group (made_before a generation group there));
-      out = λ o same. absurd cc;
-      next = k.next;
-      fixed = k.fixed;
-      line = λ all. stood_line all (k.line all.1);
+    stood_matches : Matches texts stood_view (logged end old_held) stood_range
+    stood_matches = record {
+      position = position_is;
+      next = k.matches.next;
+      out = refl;
+      live = live_is;
+      fixed = k.matches.fixed;
+      fixed_layer = k.matches.fixed_layer;
+      noted = k.matches.noted;
+      record_out = k.matches.record_out;
+      records = k.matches.records;
     }
 
-    pub stood_streams : StreamsKept texts v → StreamsKept texts stood_view
+    -- what was made is as before
+    made_before : (a g : ℕ) (other : Group) → event_at (log_of stood_view) a ≡ Some (Made g other) → event_at (log_of v) a ≡ Some (Made g other)
+    made_before a g other there =
+        ⊎_elim {C = event_at (log_of v) a ≡ Some (Made g other)} (λ new. (let z : told ≡ Made g other = new.1 in absurd cc)) (λ old. old)
+        (event_cases Group told (log_of v) a (Made g other) there)
+
+    stood_serves : Serves texts stood_run stood_view stood_range
+    stood_serves = record {
+      shown = serving_on (chains.Logged generation append (place_number at) end) run generation k.shown;
+      matches = subst (λ s. Matches texts stood_view s stood_range) (sym (same_here generation _ _)) stood_matches;
+    }
+
+    stood_streams : StreamsKept texts run v → StreamsKept texts stood_run stood_view
     stood_streams streams = record {
-      served = ((generation, decoded (group_of out), made_at decoded (log_of v) append generation (group_of out) made), streams.served);
-      spelled = λ a g group there. streams.spelled a g group (made_before a g group there);
+      log = ap (λ l. Answered append (place_number at) end ∷ l) streams.log;
+      metadata = streams.metadata;
+      chain = ((k.shown, group, out_is), streams.chain);
+      keys = streams.keys;
+      plain = streams.plain;
+      spelled = λ a g other there. streams.spelled a g other (made_before a g other there);
       unmade = streams.unmade;
     }
 
-    stood_seen : r.load.range ≡ subject → (before later : List Note) → AreObserved texts subject (log_of v) before → AreSeenAs texts (dones r.load.range generation out.first out.transactions) later →
-        AreObserved texts subject (log_of stood_view) (before ++ later)
+    stood_seen : r.load.range ≡ subject → (before later : List Note) → AreObserved texts subject run before →
+        AreSeenAs texts (dones r.load.range generation out.first out.transactions) later → AreObserved texts subject stood_run (before ++ later)
     stood_seen range before later old seen =
         let here : later ≡ dones_of subject generation out.first transactions =
         dones_seen texts subject generation out.first out.transactions later (subst (λ z. AreSeenAs texts (dones z generation out.first out.transactions) later) range seen) in
-        subst (λ (l : List Note). AreObserved texts subject (log_of stood_view) (before ++ l)) (ap (λ (x : Numbered Transaction). dones_of subject generation x.first x.items) spells ∙ sym here)
-        (observed_answered texts subject (log_of v) append (place_number at) (place_number at + group_size (group_of out)) generation (group_of out) before made old)
-
-    -- the range after the group is applied
-    pub stood_kept : RangeKept texts subject v r → is_serving r.stage ≡ true → IsSound stood_range → RangeKept texts subject stood_view stood_range
-    stood_kept before serving sound = kept_served texts subject v stood_view r stood_range before serving refl refl sound stood_serves
+        subst (λ (l : List Note). AreObserved texts subject stood_run (before ++ l)) (ap (λ (x : Numbered Transaction). dones_of subject generation x.first x.items) spells ∙ sym here)
+        (observed_logged texts subject run append (place_number at) end generation group before (out_made first_beginning generation run (record { append = append; group = group }) out_is) old)
 
     -- what is left once the group stands
     abbrev pub stood_outcome : RangeOutcome
     stood_outcome = record { after = Some stood_range; count = 0; packets = []; notes = dones r.load.range generation out.first out.transactions }
 
-    pub stands_kept : RangeKept texts subject v r → StreamsKept texts v → is_serving r.stage ≡ true → IsSound stood_range →
-        StepKept texts subject v r (Stands kinds.Log extent at (group_of out) ∷ []) stood_outcome
+    pub stands_kept : RangeKept texts subject run v r → StreamsKept texts run v → is_serving r.stage ≡ true → IsSound stood_range →
+        StepKept texts subject run v r (Stands kinds.Log extent at (group_of out) ∷ []) stood_outcome
     stands_kept before streams serving sound = record {
-      kept = (stood_kept before serving sound, refl);
+      next = stood_run;
+      goes = Adds _ run Rests refl;
+      alone = inr (inl serving);
+      kept = (kept_served texts subject run stood_run v stood_view r stood_range before serving refl refl sound stood_serves, refl);
       streams = stood_streams streams;
-      goes = Adds told (log_of v) Rests (group_of out, made);
       longer = (record { extent = extent; offset = at.offset; bytes = joined (group_of out) } ∷ [], refl);
       anew = λ s. inl serving;
       seen = stood_seen before.range;

@@ -1,5 +1,5 @@
 -- A step of a range at one server keeps what is kept of it at all servers.
-use Rattle.std.proofs.Common.{◌≡◌, ◌⊎◌, ⊎_elim, ℕ, suc, ◌-◌, List, ◌++◌, true, ◌&&◌, ◌==◌, Some, slice_set, sym, ap, ◌∙◌, subst, inl, inr, arith}
+use Rattle.std.proofs.Common.{◌≡◌, ⊎_elim, ℕ, suc, ◌-◌, List, ◌++◌, true, ◌&&◌, ◌==◌, Some, slice_set, refl, sym, ap, ◌∙◌, subst, inl, inr, arith}
 use Rattle.std.proofs.lemmas.Bool.{cases_eq}
 use Rattle.wire.specs.declared.note.Note.{Note}
 use Rattle.wire.specs.declared.packet.Packet.{Packet}
@@ -12,28 +12,24 @@ use Rattle.model_partition.specs.Range.{RangeState, RangeOutcome, is_serving}
 use Rattle.model_partition.specs.Server.{ServerState, range_of}
 use Rattle.model_partition.specs.Servers.{ServerCell}
 use Rattle.model_partition.specs.StreamActions.{StreamAction}
-use Rattle.model_partition.specs.ServerRun.{ServerRun, after_actions, with_outcome, log_name}
+use Rattle.model_partition.specs.ServerRun.{ServerRun, after_actions, with_outcome}
 use Rattle.model_partition.specs.ServedTables.{AreSeenAs, ServesAt}
 use Rattle.laws_loads.proofs.Entries.{entry_set, entry_other}
-use Rattle.laws_loads.specs.RangeView.{RangeView, view_after_all, log_of}
-use Rattle.laws_server_runs.specs.RangeInvariant.{IsShownUnder, StageIs, RangeKept, StreamsKept, AreObserved, GoesOn, Rests, IsLonger, KeptIf, ServesAnew, StepKept}
+use Rattle.laws_loads.specs.RangeView.{RangeView, view_after_all}
+use Rattle.laws_tables.specs.Runs.{Run, IsServing}
+use Rattle.laws_server_runs.specs.RangeInvariant.{StageIs, RangeKept, StreamsKept, AreObserved, GoesOn, Rests, IsLonger, IsAlone, KeptIf, ServesAnew, StepKept}
 use Rattle.laws_server_runs.specs.RunInvariant.{view_at, RunKept}
 use Rattle.laws_server_runs.proofs.Actions.{other_test, actions_here, actions_apart, actions_rest}
 use Rattle.laws_server_runs.proofs.Fronts.{SeenBoth, seen_both}
-use Rattle.laws_server_runs.proofs.Others.{others_kept}
+use Rattle.laws_server_runs.proofs.Others.{streams_same, others_kept}
 use Rattle.laws_server_runs.proofs.OwnNotes.{only_both}
-
-module _ (texts : ℕ → Bytes) where
-  -- what the others need: the range was served before, or its load is the first of its generation, or the log's story is as it was
-  abbrev pub IsAlone : RangeView → RangeState → RangeView → Type 0
-  IsAlone v r w = (is_serving r.stage ≡ true) ⊎ ((IsShownUnder (log_of v) r.load.generation → ⊥) ⊎ (log_of w ≡ log_of v))
 
 module _ (texts : ℕ → Bytes) (subject : ℕ) where
   -- a load of its generation was confirmed
-  shown_at : (v : RangeView) (u : RangeState) → RangeKept texts subject v u → is_serving u.stage ≡ true → IsShownUnder (log_of v) u.load.generation
-  shown_at v u k serves = by u.stage k.stage serves
+  shown_at : (run : Run) (v : RangeView) (u : RangeState) → RangeKept texts subject run v u → is_serving u.stage ≡ true → IsServing run u.load.generation
+  shown_at run v u k serves = by u.stage k.stage serves
     where
-      by : (stage : Stage) → StageIs texts v u stage → is_serving stage ≡ true → IsShownUnder (log_of v) u.load.generation
+      by : (stage : Stage) → StageIs texts run v u stage → is_serving stage ≡ true → IsServing run u.load.generation
       by stages.Serving b e = b.shown
       by stages.Opening b e = absurd cc
       by (stages.Checking kind) b e = absurd cc
@@ -41,12 +37,12 @@ module _ (texts : ℕ → Bytes) (subject : ℕ) where
       by stages.Confirming b e = absurd cc
 
   -- the range that is served at a server, and what is kept of it
-  pub kept_at : (x : ServerRun) → RunKept texts subject x → (t : ℕ) (u : RangeState) → ServesAt x t subject u → RangeKept texts subject (view_at subject x t) u
+  pub kept_at : (x : ServerRun) (k : RunKept texts subject x) (t : ℕ) (u : RangeState) → ServesAt x t subject u → RangeKept texts subject k.run (view_at subject x t) u
   kept_at x k t u at = k.ranges t at.cell at.state at.there at.runs u at.held
 
   module _ (x : ServerRun) (k : RunKept texts subject x) (s : ℕ) (cell : ServerCell) (st : ServerState) (at : entry_at x.servers s ≡ Some cell) (is : cell.state ≡ Some st)
       (r : RangeState) (held : range_of st.ranges subject ≡ Some r) (actions : List StreamAction) (o : RangeOutcome)
-      (step : StepKept texts subject (view_at subject x s) r actions o) (alone : IsAlone texts (view_at subject x s) r (view_after_all r.load.generation (view_at subject x s) actions))
+      (step : StepKept texts subject k.run (view_at subject x s) r actions o)
       (own_seen : (notes : List Note) → AreSeenAs texts o.notes notes → only subject notes ≡ notes)
       (after : ServerState) (left : range_of after.ranges subject ≡ o.after) (packets : List Packet) where
     abbrev g : ℕ
@@ -70,15 +66,13 @@ module _ (texts : ℕ → Bytes) (subject : ℕ) where
 
     -- ---- the range itself
 
-    own_range : (z : RangeState) → range_of after.ranges subject ≡ Some z → RangeKept texts subject (view_at subject next_run s) z × (z.load.generation ≡ g)
+    own_range : (z : RangeState) → range_of after.ranges subject ≡ Some z → RangeKept texts subject step.next (view_at subject next_run s) z × (z.load.generation ≡ g)
     own_range z found =
-        let h : KeptIf texts subject (view_after_all g (view_at subject x s) actions) g (Some z) = subst (λ q. KeptIf texts subject (view_after_all g (view_at subject x s) actions) g q) (sym left ∙ found) step.kept in
-        (subst (λ v. RangeKept texts subject v z) (sym here) h.0, h.1)
+        let h : KeptIf texts subject step.next (view_after_all g (view_at subject x s) actions) g (Some z) =
+        subst (λ q. KeptIf texts subject step.next (view_after_all g (view_at subject x s) actions) g q) (sym left ∙ found) step.kept in
+        (subst (λ v. RangeKept texts subject step.next v z) (sym here) h.0, h.1)
 
     -- ---- the others
-
-    goes : GoesOn texts g (x.story (log_name subject)) (next_run.story (log_name subject))
-    goes = subst (λ v. GoesOn texts g (x.story (log_name subject)) (log_of v)) (sym here) step.goes
 
     longer : IsLonger (x.answered subject) (next_run.answered subject)
     longer = subst (λ (v : RangeView). IsLonger (x.answered subject) v.answered) (sym here) step.longer
@@ -89,19 +83,20 @@ module _ (texts : ℕ → Bytes) (subject : ℕ) where
     history_apart : (t : ℕ) → (t ≡ s → ⊥) → next_run.history t subject ≡ x.history t subject
     history_apart t apart = actions_apart s subject g t subject (ap (λ b. b && (subject == subject)) (other_test t s apart)) x actions
 
-    other_range : (t : ℕ) → (t ≡ s → ⊥) → (u : RangeState) → ((is_serving u.stage ≡ true) → ServesAt x t subject u) → RangeKept texts subject (view_at subject x t) u → RangeKept texts subject (view_at subject next_run t) u
-    other_range t apart u serves h = elim alone [
-      | inl served ↦ on (λ e same. apart (k.own t s u r (serves e) (r_serves served) same))
-      | inr rest ↦ elim rest [
-        | inl none ↦ on (λ e same. none (subst (λ z. IsShownUnder (x.story (log_name subject)) z) same (shown_at (view_at subject x t) u h e)))
-        | inr still ↦
-            others_kept texts subject (view_at subject x t) u (view_at subject next_run t) (history_apart t apart) h (suc u.load.generation)
-            (subst (λ z. GoesOn texts (suc u.load.generation) (x.story (log_name subject)) z) (sym still ∙ sym (ap log_of here)) Rests) longer (λ e same. no_more u.load.generation same)
+    other_range : (t : ℕ) → (t ≡ s → ⊥) → (u : RangeState) → ((is_serving u.stage ≡ true) → ServesAt x t subject u) → RangeKept texts subject k.run (view_at subject x t) u →
+        RangeKept texts subject step.next (view_at subject next_run t) u
+    other_range t apart u serves h = elim step.alone [
+      | inl still ↦
+          others_kept texts subject k.run step.next (view_at subject x t) u (view_at subject next_run t) (history_apart t apart) h (suc u.load.generation)
+          (subst (λ z. GoesOn (suc u.load.generation) k.run z) (sym still) Rests) longer (λ e same. no_more u.load.generation same)
+      | inr first ↦ elim first [
+        | inl served ↦ on (λ e same. apart (k.own t s u r (serves e) (r_serves served) same))
+        | inr none ↦ on (λ e same. none (subst (λ z. IsServing k.run z) same (shown_at k.run (view_at subject x t) u h e)))
       ]
     ]
       where
-        on : (is_serving u.stage ≡ true → u.load.generation ≡ g → ⊥) → RangeKept texts subject (view_at subject next_run t) u
-        on never = others_kept texts subject (view_at subject x t) u (view_at subject next_run t) (history_apart t apart) h g goes longer never
+        on : (is_serving u.stage ≡ true → u.load.generation ≡ g → ⊥) → RangeKept texts subject step.next (view_at subject next_run t) u
+        on never = others_kept texts subject k.run step.next (view_at subject x t) u (view_at subject next_run t) (history_apart t apart) h g step.goes longer never
 
     -- ---- all servers
 
@@ -116,11 +111,11 @@ module _ (texts : ℕ → Bytes) (subject : ℕ) where
         cc
 
     all_ranges : (t : ℕ) (c : ServerCell) (q : ServerState) → entry_at next_run.servers t ≡ Some c → c.state ≡ Some q → (u : RangeState) → range_of q.ranges subject ≡ Some u →
-        RangeKept texts subject (view_at subject next_run t) u
+        RangeKept texts subject step.next (view_at subject next_run t) u
     all_ranges t c q there up u found = elim (cases_eq t s) [
       | inl same ↦
           (let e : after ≡ q = at_here c q (subst (λ n. entry_at next_run.servers n ≡ Some c) same there) up in
-          subst (λ n. RangeKept texts subject (view_at subject next_run n) u) (sym same) (own_range u (ap (λ (z : ServerState). range_of z.ranges subject) e ∙ found)).0)
+          subst (λ n. RangeKept texts subject step.next (view_at subject next_run n) u) (sym same) (own_range u (ap (λ (z : ServerState). range_of z.ranges subject) e ∙ found)).0)
       | inr apart ↦
           (let old : entry_at x.servers t ≡ Some c = there_before t apart c there in
           other_range t apart u (λ e. record { cell = c; state = q; there = old; runs = up; held = found; serves = e }) (k.ranges t c q old up u found))
@@ -131,13 +126,13 @@ module _ (texts : ℕ → Bytes) (subject : ℕ) where
     -- the range that the server serves after the step
     record IsOwn (u : RangeState) : Type 0 where
       generation : u.load.generation ≡ g
-      was : (is_serving r.stage ≡ true) ⊎ (IsShownUnder (x.story (log_name subject)) g → ⊥)
+      was : IsAlone texts k.run r
 
     own_after : (u : RangeState) → ServesAt next_run s subject u → IsOwn u
     own_after u b =
         let e : after ≡ b.state = at_here b.cell b.state b.there b.runs in
         let found : range_of after.ranges subject ≡ Some u = ap (λ (z : ServerState). range_of z.ranges subject) e ∙ b.held in
-        let new : ServesAnew texts (x.story (log_name subject)) r (Some u) = subst (λ q. ServesAnew texts (x.story (log_name subject)) r q) (sym left ∙ found) step.anew in
+        let new : ServesAnew texts k.run r (Some u) = subst (λ q. ServesAnew texts k.run r q) (sym left ∙ found) step.anew in
         record { generation = (own_range u found).1; was = new b.serves }
 
     before : (t : ℕ) → (t ≡ s → ⊥) → (u : RangeState) → ServesAt next_run t subject u → ServesAt x t subject u
@@ -149,7 +144,7 @@ module _ (texts : ℕ → Bytes) (subject : ℕ) where
         let theirs : ServesAt x t subject w = before t apart w two in
         let equal : g ≡ w.load.generation = sym mine.generation ∙ same in
         ⊎_elim {C = ⊥} (λ served. apart (k.own t s w r theirs (r_serves served) (sym equal)))
-        (λ none. none (subst (λ z. IsShownUnder (x.story (log_name subject)) z) (sym equal) (shown_at (view_at subject x t) w (kept_at x k t w theirs) theirs.serves)))
+        (λ none. none (subst (λ z. IsServing k.run z) (sym equal) (shown_at k.run (view_at subject x t) w (kept_at x k t w theirs) theirs.serves)))
         mine.was
 
     own_one : (a b : ℕ) (u w : RangeState) → ServesAt next_run a subject u → ServesAt next_run b subject w → u.load.generation ≡ w.load.generation → a ≡ b
@@ -166,15 +161,19 @@ module _ (texts : ℕ → Bytes) (subject : ℕ) where
 
     -- ---- what is seen
 
-    all_seen : (notes : List Note) → AreSeenAs texts next_run.notes notes → AreObserved texts subject (next_run.story (log_name subject)) (only subject notes)
+    all_seen : (notes : List Note) → AreSeenAs texts next_run.notes notes → AreObserved texts subject step.next (only subject notes)
     all_seen notes seen =
         let b : SeenBoth texts y.notes o.notes notes = seen_both texts y.notes o.notes notes seen in
-        let old : AreObserved texts subject (x.story (log_name subject)) (only subject b.before) = k.seen b.before (subst (λ l. AreSeenAs texts l b.before) (actions_rest s subject g x actions).1 b.first_seen) in
-        let new : AreObserved texts subject (log_of (view_after_all g (view_at subject x s) actions)) (only subject b.before ++ b.later) = step.seen (only subject b.before) b.later old b.second_seen in
+        let old : AreObserved texts subject k.run (only subject b.before) = k.seen b.before (subst (λ l. AreSeenAs texts l b.before) (actions_rest s subject g x actions).1 b.first_seen) in
+        let new : AreObserved texts subject step.next (only subject b.before ++ b.later) = step.seen (only subject b.before) b.later old b.second_seen in
         let all : only subject notes ≡ only subject b.before ++ b.later = ap (only subject) b.is ∙ only_both subject b.before b.later ∙ ap (λ l. only subject b.before ++ l) (own_seen b.later b.second_seen) in
-        subst (λ l. AreObserved texts subject (next_run.story (log_name subject)) l) (sym all) (subst (λ v. AreObserved texts subject (log_of v) (only subject b.before ++ b.later)) (sym here) new)
+        subst (λ l. AreObserved texts subject step.next l) (sym all) new
 
     pub stepped_kept : RunKept texts subject next_run
-    stepped_kept =
-        let streams : StreamsKept texts (view_at subject next_run s) = subst (λ v. StreamsKept texts v) (sym here) step.streams in
-        record { ranges = all_ranges; own = own_one; streams = record { served = streams.served; spelled = streams.spelled; unmade = streams.unmade }; seen = all_seen }
+    stepped_kept = record {
+      run = step.next;
+      ranges = all_ranges;
+      own = own_one;
+      streams = streams_same texts step.next (view_at subject next_run s) (view_at subject next_run 0) refl refl (subst (λ v. StreamsKept texts step.next v) (sym here) step.streams);
+      seen = all_seen;
+    }

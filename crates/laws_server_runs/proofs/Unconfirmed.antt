@@ -18,11 +18,11 @@ use Rattle.model_partition.specs.Loading.{Group, replays, replayed}
 use Rattle.model_partition.specs.Range.{RangeState}
 use Rattle.model_partition.specs.Server.{new_range, started}
 use Rattle.model_partition.specs.Servers.{first_pick}
-use Rattle.model_partition.specs.Story.{KeepsOrder}
+use Rattle.model_partition.specs.Story.{KeepsOrder, EndsRise}
 use Rattle.model_partition.specs.StreamActions.{ExtentRead, Reads}
 use Rattle.model_partition.specs.ServerRun.{ServerRun, ServerEvent, after_actions, run_of, log_name, metadata_name}
 use Rattle.model_partition.specs.ServedTables.{AllStand, LoadsOnce, StreamsInOrder}
-use Rattle.laws_tables.proofs.Fenced.{keeps_order}
+use Rattle.laws_tables.proofs.Fenced.{keeps_order, ends_rise}
 use Rattle.laws_server_runs.proofs.Worked.{comes, asked, lists, extent}
 
 -- whatever is found in the extent
@@ -78,5 +78,6 @@ module _ (found : List Group) where
     metadata = subst KeepsOrder (sym quiet.2) (keeps_order Group [] tt);
     log = subst KeepsOrder (sym quiet.1) (keeps_order Group [] tt);
     once = subst LoadsOnce (sym quiet.1) (λ l m g start end start' end' groups groups' one two. absurd cc);
+    ends = subst EndsRise (sym quiet.1) (ends_rise Group [] tt);
     shown = subst (AllStand texts) (sym quiet.3) tt;
   }

@@ -29,6 +29,7 @@ use Rattle.metadata.specs.Fold.{all_keys, first_metadata}
 use Rattle.commitlog.specs.Reading as reading
 use Rattle.commitlog.specs.Record.{spelling}
 use Rattle.replica.specs.Groups.{joined}
+use Rattle.model_partition.specs.declared.shown_table.ShownTable.{ShownTable}
 use Rattle.model_partition.specs.declared.stage.Stage.TheVariants as stages
 use Rattle.model_partition.specs.declared.table_note.TableNote.{TableNote}
 use Rattle.model_partition.specs.declared.table_note.TableNote.TheVariants as tables
@@ -38,12 +39,12 @@ use Rattle.model_partition.specs.Range.{RangeState}
 use Rattle.model_partition.specs.Getting.{standing}
 use Rattle.model_partition.specs.Server.{ServerState, started}
 use Rattle.model_partition.specs.Servers.{first_pick}
-use Rattle.model_partition.specs.Story.{Placed, StreamEvent, Made, Answered, Showed, Story, Copy, placed, event_at, KeepsOrder}
+use Rattle.model_partition.specs.Story.{Placed, StreamEvent, Made, Answered, Showed, Story, Copy, placed, event_at, KeepsOrder, EndsRise}
 use Rattle.model_partition.specs.ServerRun.{PlacedBytes, ServerRun, ServerEvent, Takes, run_of, log_name, metadata_name}
 use Rattle.model_partition.specs.TableContents.{StandsAt, value_of}
 use Rattle.model_partition.specs.ServedTables.{AreFirst, AreSeenAs, AllStand, LoadsOnce, StreamsInOrder, IsAtLine, ServesAt}
 use Rattle.laws_tables.specs.Fenced.{Seen, Landed, Fenced, LogRun, IsLogRun, visible}
-use Rattle.laws_tables.proofs.Fenced.{keeps_order}
+use Rattle.laws_tables.proofs.Fenced.{keeps_order, ends_rise}
 use Rattle.laws_tables.proofs.Range.{event_cases}
 use Rattle.laws_loads.proofs.Rows.{rows_say}
 use Rattle.laws_server_runs.proofs.Theorem.{run_replays, run_at_line}
@@ -112,8 +113,12 @@ metadata = Showed 2 0 0 [] ∷ Showed 1 0 0 [] ∷ []
 abbrev pub loaded : Entries
 loaded = (97 ∷ [], Inline (120 ∷ [])) ∷ []
 
+-- what is shown of this layer, over no index
+abbrev pub whole_table : Entries → ShownTable
+whole_table entries = record { live = entries; indexes = []; keys = all_keys }
+
 abbrev told : List TableNote
-told = tables.Loaded 1 1 [] [] 1 ∷ tables.Began 1 1 1 put ∷ tables.Done 1 1 1 ∷ tables.Loaded 1 2 loaded [] 2 ∷ []
+told = tables.Loaded 1 1 (whole_table []) 1 ∷ tables.Began 1 1 1 put ∷ tables.Done 1 1 1 ∷ tables.Loaded 1 2 (whole_table loaded) 2 ∷ []
 
 -- the bytes of the group, at the begin of the extent
 abbrev pub stands : PlacedBytes
@@ -191,6 +196,9 @@ module _ (A : Type 0) (block : A) where
   pub log_keeps : KeepsOrder (visible fenced)
   log_keeps = keeps_order A fenced is_fenced
 
+  pub log_ends : EndsRise (visible fenced)
+  log_ends = ends_rise A fenced is_fenced
+
   pub metadata_keeps : KeepsOrder {A = A} (Showed 2 0 0 [] ∷ Showed 1 0 0 [] ∷ [])
   metadata_keeps = keeps_order A (Seen (Showed 2 0 0 []) ∷ Fenced 2 0 ∷ at_first) ((at_first, [], refl, refl), ((omega arith, omega arith), is_at_first))
 
@@ -235,6 +243,7 @@ module _ (texts : ℕ → Bytes) (there : StandsAt (texts 7) 0 (joined group)) w
     metadata = subst KeepsOrder (sym makes.1) (metadata_keeps Group group);
     log = subst KeepsOrder (sym makes.0) (log_keeps Group group);
     once = subst LoadsOnce (sym makes.0) (once Group group);
+    ends = subst EndsRise (sym makes.0) (log_ends Group group);
     shown = subst (AllStand texts) (sym makes.3) (there, tt);
   }
 

@@ -15,13 +15,13 @@ use Rattle.model_partition.specs.Past.{Bytes, first_range}
 use Rattle.model_partition.specs.Range.{RangeState}
 use Rattle.model_partition.specs.Server.{ServerState, new_range, started}
 use Rattle.model_partition.specs.Servers.{first_pick}
-use Rattle.model_partition.specs.Story.{Showed, Story, KeepsOrder}
+use Rattle.model_partition.specs.Story.{Showed, Story, KeepsOrder, EndsRise}
 use Rattle.model_partition.specs.ServerRun.{ServerRun, ServerEvent, run_of, log_name, metadata_name}
 use Rattle.model_partition.specs.ServedTables.{AreFirst, AllStand, LoadsOnce, StreamsInOrder, IsAtLine, ServesAt}
 use Rattle.model_partition.specs.TableContents.{StandsAt}
-use Rattle.laws_server_runs.proofs.NeededPremises.{one_keeps, one_once}
+use Rattle.laws_server_runs.proofs.NeededPremises.{one_keeps, one_once, one_ends}
 use Rattle.laws_server_runs.proofs.Theorem.{run_at_line}
-use Rattle.laws_server_runs.proofs.Worked.{comes, asked, lists, group, events, log, metadata, stands, served, log_keeps, metadata_keeps, once}
+use Rattle.laws_server_runs.proofs.Worked.{comes, asked, lists, group, events, log, metadata, stands, served, log_keeps, log_ends, metadata_keeps, once}
 
 -- the second server takes another range as well
 abbrev both : List ServerEvent
@@ -74,6 +74,7 @@ module _ (texts : ℕ → Bytes) where
     metadata = subst KeepsOrder (sym makes.3) (one_keeps Group);
     log = subst KeepsOrder (sym makes.2) (one_keeps Group);
     once = subst LoadsOnce (sym makes.2) (one_once Group (Showed 1 0 0 []));
+    ends = subst EndsRise (sym makes.2) (one_ends Group (Showed 1 0 0 []));
     shown = subst (AllStand texts) (sym makes.6) tt;
   }
 
@@ -87,6 +88,7 @@ module _ (texts : ℕ → Bytes) where
       metadata = subst KeepsOrder (sym makes.1) (metadata_keeps Group group);
       log = subst KeepsOrder (sym makes.0) (log_keeps Group group);
       once = subst LoadsOnce (sym makes.0) (once Group group);
+      ends = subst EndsRise (sym makes.0) (log_ends Group group);
       shown = subst (AllStand texts) (sym makes.4) (there, tt);
     }
 

@@ -45,7 +45,7 @@ IsLaid placed es = Ordered es × AreWithin placed es
 abbrev pub NoteWithin : ℕ → List PlacedBytes → TableNote → Type 0
 NoteWithin k placed (tables.Began range generation number changes) = range ≡ k
 NoteWithin k placed (tables.Done range generation number) = range ≡ k
-NoteWithin k placed (tables.Loaded range generation entries indexes next) = (range ≡ k) × IsLaid placed entries
+NoteWithin k placed (tables.Loaded range generation table next) = (range ≡ k) × IsLaid placed table.live
 
 abbrev pub NotesWithin : ℕ → List PlacedBytes → List TableNote → Type 0
 NotesWithin k placed [] = Unit {0}
@@ -54,7 +54,7 @@ NotesWithin k placed (note ∷ notes) = NoteWithin k placed note × NotesWithin 
 -- each loaded table is laid within the bytes of its range
 abbrev pub TablesWithin : (ℕ → List PlacedBytes) → List TableNote → Type 0
 TablesWithin placed [] = Unit {0}
-TablesWithin placed (tables.Loaded range generation entries indexes next ∷ notes) = IsLaid (placed range) entries × TablesWithin placed notes
+TablesWithin placed (tables.Loaded range generation table next ∷ notes) = IsLaid (placed range) table.live × TablesWithin placed notes
 TablesWithin placed (note ∷ notes) = TablesWithin placed notes
 
 -- ---- any range

@@ -1,12 +1,13 @@
--- What is kept of a range at a server: while it loads, what it made of what it read; while it is served, that its tables are those
--- of the line that its generation has come to.
-use Rattle.std.specs.Prelude.{◌≡◌, ◌⊎◌, ℕ, ◌<◌, true, List, [], ◌∷◌, ◌++◌, Option, Some, None, is_some}
+-- What is kept of a range at a server: while it loads, what it made of what it read; while it is served, that it holds what a run of
+-- its servers says that its generation holds.
+use Rattle.std.specs.Prelude.{◌≡◌, ◌⊎◌, ℕ, true, List, [], ◌∷◌, ◌++◌, Option, Some, None, option_map}
 use Rattle.blocks.specs.Format.{◌>>=◌}
 use Rattle.wire.specs.declared.actor.ReqNo.{ReqNo}
 use Rattle.wire.specs.declared.note.Note.{Note}
 use Rattle.wire.specs.declared.rows.Row.{Row}
 use Rattle.wire.specs.declared.streams.StreamKind.TheVariants as kinds
-use Rattle.memtable.specs.Entries.{Entries}
+use Rattle.memtable.specs.declared.cell.Place.{Place}
+use Rattle.memtable.specs.Entries.{Entries, found}
 use Rattle.metadata.specs.declared.record.KeyRange.{KeyRange}
 use Rattle.metadata.specs.declared.record.Region.{Region}
 use Rattle.metadata.specs.Fold.{first_metadata}
@@ -18,17 +19,21 @@ use Rattle.client.specs.declared.load.LoadPhase.{LoadPhase}
 use Rattle.client.specs.declared.load.LoadPhase.TheVariants as phases
 use Rattle.model_partition.specs.declared.stage.Stage.{Stage}
 use Rattle.model_partition.specs.declared.stage.Stage.TheVariants as stages
-use Rattle.model_partition.specs.Log.{IsServed, next_number, observed, ShowsTables}
-use Rattle.model_partition.specs.Past.{Bytes}
-use Rattle.model_partition.specs.Story.{Placed, StreamEvent, Made, Answered, Showed, Story, event_at, KeepsOrder}
+use Rattle.model_partition.specs.Past.{Bytes, Transaction}
+use Rattle.model_partition.specs.Story.{Made, Story, event_at, KeepsOrder, EndsRise}
 use Rattle.model_partition.specs.Range.{OutGroup, RangeState, RangeOutcome, is_serving}
 use Rattle.model_partition.specs.Loading.{Group, said_after, replayed}
-use Rattle.model_partition.specs.Renaming.{renamed, decoded}
+use Rattle.model_partition.specs.Renaming.{renamed, decoded, decoded_record}
 use Rattle.model_partition.specs.StreamActions.{ExtentRead, StreamAction, group_of}
-use Rattle.model_partition.specs.ServerRun.{RangeHistory}
-use Rattle.model_partition.specs.ServedTables.{AllStand, AreSeenAs, IsAtLine, LoadsOnce}
+use Rattle.model_partition.specs.ServerRun.{RangeHistory, place_number}
+use Rattle.model_partition.specs.ServedTables.{AllStand, AreSeenAs, LoadsOnce}
+use Rattle.model_partition.specs.TableContents.{value_in}
 use Rattle.laws_loads.specs.Sound.{IsSound}
 use Rattle.laws_loads.specs.RangeView.{RangeView, view_after_all, log_of, metadata_of}
+use Rattle.laws_tables.specs.Layers.{Layer, empty_layer}
+use Rattle.laws_tables.specs.Runs as chains
+use Rattle.laws_tables.specs.Runs.{Event, Run, Serving, first_beginning, held, seen, IsServing, IsChainRun, ShowsLayers, KeepsKeys}
+use Rattle.laws_tables.specs.Through.{OutAppend}
 
 -- ---- what a load makes of what it reads
 
@@ -64,30 +69,66 @@ pub record ReadsLog (h : RangeHistory) (r : RangeState) : Type 0 where
   pub fixed : r.fixed ≡ None
   pub idle : r.metadata.job ≡ jobs.Idle
 
+-- ---- the run of a range
+
+-- no record names an index yet
+abbrev pub no_index : Place → Layer
+no_index place = empty_layer
+
+-- no checkpoint, no split and no Trim: a load shows the log from its first place on, and no records
+abbrev pub IsPlain : Run → Type 0
+IsPlain [] = Unit {0}
+IsPlain (chains.Forms g group ∷ earlier) = IsPlain earlier
+IsPlain (chains.Logged g append from to ∷ earlier) = IsPlain earlier
+IsPlain (chains.Confirms g start end groups metadata_end records ∷ earlier) = (start ≡ 0) × (records ≡ []) × IsPlain earlier
+IsPlain (event ∷ earlier) = ⊥
+
+-- the generation under which this is done
+abbrev pub generation_of : Event → ℕ
+generation_of (chains.Forms g group) = g
+generation_of (chains.Logged g append from to) = g
+generation_of (chains.Notes g) = g
+generation_of (chains.Records g number item) = g
+generation_of (chains.Recorded g append from to) = g
+generation_of (chains.Trims g place) = g
+generation_of (chains.Confirms g start end groups metadata_end records) = g
+
+-- a run goes on with events of this generation alone
+pub data GoesOn (g : ℕ) (run : Run) : Run → Type 0 where
+  Rests : GoesOn g run run
+  Adds : (event : Event) (earlier : Run) (on : GoesOn g run earlier) (under : generation_of event ≡ g) → GoesOn g run (event ∷ earlier)
+
 -- ---- a range that is served
-
--- a load under this generation was confirmed
-abbrev pub IsShownUnder : Story Group → ℕ → Type 0
-IsShownUnder story g = (l : ℕ) × (start : ℕ) × (end : ℕ) × (groups : List (Placed Group)) × (event_at story l ≡ Some (Showed g start end groups))
-
--- an append was answered
-abbrev pub IsAnswered : Story Group → ℕ → Type 0
-IsAnswered story a = (k : ℕ) × (from : ℕ) × (to : ℕ) × (a < k) × (event_at story k ≡ Some (Answered a from to))
 
 -- a list with more before it
 abbrev pub IsLonger : {A : Type 0} → List A → List A → Type 0
 IsLonger {A} old new = (more : List A) × (new ≡ more ++ old)
 
+-- the append of a group that is out, which began with this event
+abbrev pub append_of : ℕ → Option OutGroup → Option (OutAppend Transaction)
+append_of event out = option_map (λ o. record { append = event; group = decoded (group_of o) }) out
+
 module _ (texts : ℕ → Bytes) where
-  pub record Serves (v : RangeView) (r : RangeState) : Type 0 where
-    pub shown : IsShownUnder (log_of v) r.load.generation
-    -- each group of the generation is answered, or is the one that is out
-    pub groups : (a : ℕ) (group : Group) → event_at (log_of v) a ≡ Some (Made r.load.generation group) →
-        IsAnswered (log_of v) a ⊎ ((a ≡ v.history.append kinds.Log) × (is_some r.out ≡ true))
-    pub out : (o : OutGroup) → r.out ≡ Some o → event_at (log_of v) (v.history.append kinds.Log) ≡ Some (Made r.load.generation (group_of o))
-    pub next : r.next ≡ next_number (renamed decoded (log_of v)) r.load.generation
+  -- the layer of a memory table: what its cells say
+  abbrev pub layer_in : Entries → Layer
+  layer_in entries key = option_map (value_in texts) (found entries key)
+
+  -- what a range holds is what its run says that its generation holds
+  pub record Matches (v : RangeView) (s : Serving) (r : RangeState) : Type 0 where
+    pub position : place_number r.position ≡ s.position
+    pub next : r.next ≡ s.next
+    pub out : s.out ≡ append_of (v.history.append kinds.Log) r.out
+    pub live : AllStand texts v.answered → (key : Bytes) → layer_in r.live key ≡ s.live key
+    -- no checkpoint is under way, and none was made
     pub fixed : r.fixed ≡ None
-    pub line : AllStand texts v.answered → IsAtLine texts (log_of v) r
+    pub fixed_layer : s.fixed ≡ empty_layer
+    pub noted : s.noted ≡ None
+    pub record_out : s.record_out ≡ None
+    pub records : s.records ≡ []
+
+  pub record Serves (run : Run) (v : RangeView) (r : RangeState) : Type 0 where
+    pub shown : IsServing run r.load.generation
+    pub matches : Matches v (held first_beginning run r.load.generation) r
 
   -- ---- any range
 
@@ -98,27 +139,27 @@ module _ (texts : ℕ → Bytes) where
   PhaseIs stages.Confirming phase = (q : ReqNo) × (phase ≡ phases.Confirming q)
   PhaseIs stages.Serving phase = phase ≡ phases.Confirmed
 
-  abbrev pub StageIs : RangeView → RangeState → Stage → Type 0
-  StageIs v r stages.Opening = HasReadNothing v.history r
-  StageIs v r (stages.Checking kinds.Metadata) = ReadsMetadata v.history r
-  StageIs v r (stages.Checking kinds.Log) = ReadsLog v.history r
-  StageIs v r (stages.Checking kinds.RowData) = ⊥
-  StageIs v r (stages.Checking kinds.BlobData) = ⊥
-  StageIs v r (stages.Reading kinds.Metadata position) = ReadsMetadata v.history r
-  StageIs v r (stages.Reading kinds.Log position) = ReadsLog v.history r
-  StageIs v r (stages.Reading kinds.RowData position) = ⊥
-  StageIs v r (stages.Reading kinds.BlobData position) = ⊥
-  StageIs v r stages.Confirming = ReadsLog v.history r
-  StageIs v r stages.Serving = Serves v r
+  abbrev pub StageIs : Run → RangeView → RangeState → Stage → Type 0
+  StageIs run v r stages.Opening = HasReadNothing v.history r
+  StageIs run v r (stages.Checking kinds.Metadata) = ReadsMetadata v.history r
+  StageIs run v r (stages.Checking kinds.Log) = ReadsLog v.history r
+  StageIs run v r (stages.Checking kinds.RowData) = ⊥
+  StageIs run v r (stages.Checking kinds.BlobData) = ⊥
+  StageIs run v r (stages.Reading kinds.Metadata position) = ReadsMetadata v.history r
+  StageIs run v r (stages.Reading kinds.Log position) = ReadsLog v.history r
+  StageIs run v r (stages.Reading kinds.RowData position) = ⊥
+  StageIs run v r (stages.Reading kinds.BlobData position) = ⊥
+  StageIs run v r stages.Confirming = ReadsLog v.history r
+  StageIs run v r stages.Serving = Serves run v r
 
   -- what is kept of a range of this number at a server
-  pub record RangeKept (subject : ℕ) (v : RangeView) (r : RangeState) : Type 0 where
+  pub record RangeKept (subject : ℕ) (run : Run) (v : RangeView) (r : RangeState) : Type 0 where
     pub range : r.load.range ≡ subject
     pub phase : PhaseIs r.stage r.load.phase
     pub sound : IsSound r
-    pub stage : StageIs v r r.stage
+    pub stage : StageIs run v r r.stage
 
-  -- ---- the story of the log
+  -- ---- the streams of a range
 
   -- each group can be read back
   abbrev pub AllSpelled : Story Group → Type 0
@@ -128,13 +169,17 @@ module _ (texts : ℕ → Bytes) where
   abbrev pub IsUnmade : Story Group → Type 0
   IsUnmade story = (a g : ℕ) (group : Group) → event_at story a ≡ Some (Made g group) → ⊥
 
-  -- these observations are those of the story, whose loads show tables
-  abbrev pub AreObserved : ℕ → Story Group → List Note → Type 0
-  AreObserved subject story notes = (rows : ℕ → List Row) × ShowsTables rows (renamed decoded story) × (notes ≡ observed subject rows (renamed decoded story))
+  -- these observations are those of a run, whose loads show what their layers say
+  abbrev pub AreObserved : ℕ → Run → List Note → Type 0
+  AreObserved subject run notes = (rows : ℕ → List Row) × ShowsLayers no_index first_beginning rows run × (notes ≡ seen first_beginning rows subject run)
 
-  -- what is kept of the streams of a range
-  pub record StreamsKept (v : RangeView) : Type 0 where
-    pub served : IsServed (renamed decoded (log_of v))
+  -- What is kept of the streams of a range: their stories are those of a run of its servers, who do what they may.
+  pub record StreamsKept (run : Run) (v : RangeView) : Type 0 where
+    pub log : chains.log_of run ≡ renamed decoded (log_of v)
+    pub metadata : chains.meta_of run ≡ renamed decoded_record (metadata_of v)
+    pub chain : IsChainRun no_index first_beginning run
+    pub keys : KeepsKeys run
+    pub plain : IsPlain run
     pub spelled : AllSpelled (log_of v)
     pub unmade : IsUnmade (metadata_of v)
 
@@ -143,35 +188,32 @@ module _ (texts : ℕ → Bytes) where
     pub log : KeepsOrder (log_of v)
     pub metadata : KeepsOrder (metadata_of v)
     pub once : LoadsOnce (log_of v)
+    pub ends : EndsRise (log_of v)
     pub shown : AllStand texts v.shown
 
   -- ---- one step of a range
 
-  -- an event of this generation: its groups, their answers, and its load
-  abbrev pub IsUnder : ℕ → Story Group → StreamEvent Group → Type 0
-  IsUnder g earlier (Made g' group) = g' ≡ g
-  IsUnder g earlier (Answered append from to) = (group : Group) × (event_at earlier append ≡ Some (Made g group))
-  IsUnder g earlier (Showed g' start end groups) = g' ≡ g
+  abbrev pub KeptIf : ℕ → Run → RangeView → ℕ → Option RangeState → Type 0
+  KeptIf subject run v g None = Unit {0}
+  KeptIf subject run v g (Some r) = RangeKept subject run v r × (r.load.generation ≡ g)
 
-  -- a story goes on with events of this generation alone
-  pub data GoesOn (g : ℕ) (story : Story Group) : Story Group → Type 0 where
-    Rests : GoesOn g story story
-    Adds : (event : StreamEvent Group) (earlier : Story Group) (on : GoesOn g story earlier) (under : IsUnder g earlier event) → GoesOn g story (event ∷ earlier)
+  -- no other server serves under the generation: the range is served, or its load is the first of its generation
+  abbrev pub IsAlone : Run → RangeState → Type 0
+  IsAlone run r = (is_serving r.stage ≡ true) ⊎ (IsServing run r.load.generation → ⊥)
 
-  abbrev pub KeptIf : ℕ → RangeView → ℕ → Option RangeState → Type 0
-  KeptIf subject v g None = Unit {0}
-  KeptIf subject v g (Some r) = RangeKept subject v r × (r.load.generation ≡ g)
-
-  -- the range begins to be served where its load is the first of its generation
-  abbrev pub ServesAnew : Story Group → RangeState → Option RangeState → Type 0
-  ServesAnew story r None = Unit {0}
-  ServesAnew story r (Some next) = is_serving next.stage ≡ true → (is_serving r.stage ≡ true) ⊎ (IsShownUnder story r.load.generation → ⊥)
+  -- a range that is served after the step was served before it, or its load is the first of its generation
+  abbrev pub ServesAnew : Run → RangeState → Option RangeState → Type 0
+  ServesAnew run r None = Unit {0}
+  ServesAnew run r (Some next) = is_serving next.stage ≡ true → IsAlone run r
 
   -- what a step of a range that did these actions leaves
-  pub record StepKept (subject : ℕ) (v : RangeView) (r : RangeState) (actions : List StreamAction) (o : RangeOutcome) : Type 0 where
-    pub kept : KeptIf subject (view_after_all r.load.generation v actions) r.load.generation o.after
-    pub streams : StreamsKept (view_after_all r.load.generation v actions)
-    pub goes : GoesOn r.load.generation (log_of v) (log_of (view_after_all r.load.generation v actions))
+  pub record StepKept (subject : ℕ) (run : Run) (v : RangeView) (r : RangeState) (actions : List StreamAction) (o : RangeOutcome) : Type 0 where
+    pub next : Run
+    pub goes : GoesOn r.load.generation run next
+    -- where the run goes on
+    pub alone : (next ≡ run) ⊎ IsAlone run r
+    pub kept : KeptIf subject next (view_after_all r.load.generation v actions) r.load.generation o.after
+    pub streams : StreamsKept next (view_after_all r.load.generation v actions)
     pub longer : IsLonger v.answered (view_after_all r.load.generation v actions).answered
-    pub anew : ServesAnew (log_of v) r o.after
-    pub seen : (before later : List Note) → AreObserved subject (log_of v) before → AreSeenAs texts o.notes later → AreObserved subject (log_of (view_after_all r.load.generation v actions)) (before ++ later)
+    pub anew : ServesAnew run r o.after
+    pub seen : (before later : List Note) → AreObserved subject run before → AreSeenAs texts o.notes later → AreObserved subject next (before ++ later)

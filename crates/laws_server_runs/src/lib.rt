@@ -2,7 +2,8 @@
 //! load replays, and the tables of a range that is served are those of the line that ends at its log position.
 //!
 //! This crate has no code, and touches nothing. Its lemmas are about the rules of servers alone (`model_partition`): no number of a
-//! request, no fence, no node and no machine of a stream occurs in them. What a range has read while it loads, and what it holds
-//! while it is served, stands in specs/; the lemmas follow each rule (`Loads`, `Confirms`, `Forms`, `Stands`), then one server
-//! beside the others, and then a list of events. `laws` states the two clauses.
+//! request, no fence, no node and no machine of a stream occurs in them. What all servers do to the tables of a range is a run of
+//! the law of chains (`laws_tables`), and what one of them holds while it serves is what the run says that its generation holds.
+//! That, and what a range has read while it loads, stands in specs/; the lemmas follow each rule (`Loads`, `Confirms`,
+//! `ServedForms`, `ServedStands`), then one server beside the others, and then a list of events. `laws` states the two clauses.
 #![tactic(auto)]

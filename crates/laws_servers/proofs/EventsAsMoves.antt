@@ -61,7 +61,7 @@ sent_by w (p ∷ packets) h =
 pub is_shown : (notes : List Note) (note : TableNote) → is_table_note (told notes note) ≡ true
 is_shown notes (Began range generation number changes) = refl
 is_shown notes (Done range generation number) = refl
-is_shown notes (Loaded range generation entries indexes next) = refl
+is_shown notes (Loaded range generation table next) = refl
 
 one_note : (w : StreamSystem) (note : TableNote) → ByMoves w (record w { notes = w.notes ++ told w.notes note ∷ [] })
 one_note w note = record {

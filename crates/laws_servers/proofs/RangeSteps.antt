@@ -33,6 +33,7 @@ use Rattle.metadata.specs.Fold.{MetadataState, first_metadata}
 use Rattle.metadata.specs.declared.record.Region.{Region}
 use Rattle.model_streams.proofs.Tests.{if_elim}
 use Rattle.model_partition.specs.declared.server_context.ServerContext.{ServerContext}
+use Rattle.model_partition.specs.declared.shown_table.ShownTable.{ShownTable}
 use Rattle.model_partition.specs.declared.stage.Stage.{Stage}
 use Rattle.model_partition.specs.declared.stage.Stage.TheVariants.{Checking, Reading}
 use Rattle.model_partition.specs.declared.table_note.TableNote.{TableNote}
@@ -42,7 +43,7 @@ use Rattle.model_partition.specs.declared.waiting.WaitingGet.{WaitingGet}
 use Rattle.model_partition.specs.declared.waiting.WaitingTransaction.{WaitingTransaction}
 use Rattle.model_partition.specs.Range.{OutGroup, RangeState, RangeOutcome, request, used, refuses, waiting_out, refused_users, dropped, given, picking, is_serving}
 use Rattle.model_partition.specs.Serving.{record_of, group_count, began, appends as appends_next, forms, transact_fault, lease_ended, transacts, transact_rule, dones, committed, out_size, after_these, applies, log_done}
-use Rattle.model_partition.specs.Loading.{Group, said_after, replayed, read_by, read_of, reads_log, first_position, reads_log_from, checks_log, begins_log, reads_metadata, begins_metadata, opens, says, metadata_news, replays, log_read, log_news, open_region, serves_from, serves, are_counted}
+use Rattle.model_partition.specs.Loading.{Group, said_after, replayed, read_by, read_of, reads_log, first_position, reads_log_from, checks_log, begins_log, reads_metadata, begins_metadata, opens, says, metadata_news, replays, log_read, log_news, open_region, serves_from, serves, shown_table, are_counted}
 use Rattle.model_partition.specs.Getting.{Lookup, Is, Needs, Tried, asks_place, answered, try, try_all, get_fault, gets, get_rule, bytes_rule, came, place_of, gives_up_read, gives_up_get, asks_again, moved_on, places_of, look, read_at, standing, without}
 use Rattle.model_partition.specs.Answering.{load_refused, load_told, load_reply, metadata_reply, serving_news, is_taken, log_taken, log_reply, bytes_reply, gets_reply, answer_rule, gives_up_job, give_up_all, groups_of}
 use Rattle.model_partition.specs.Servers.{ArePlain, ShowsLoad}
@@ -53,7 +54,7 @@ use Rattle.laws_servers.proofs.ClientPackets.{all_both, all_map, all_flat, liste
 
 plain_both : (xs ys : List TableNote) → ArePlain xs → ArePlain ys → ArePlain (xs ++ ys)
 plain_both [] ys a b = b
-plain_both (Loaded range generation entries indexes next ∷ xs) ys a b = absurd a
+plain_both (Loaded range generation table next ∷ xs) ys a b = absurd a
 plain_both (note ∷ xs) ys a b = plain_both xs ys a b
 
 began_plain : (range g s : ℕ) (ts : List WaitingTransaction) → ArePlain (began range g s ts)
@@ -69,10 +70,10 @@ abbrev pub IsTidy : RangeOutcome → Type 0
 IsTidy o = AllFromServers o.packets × ArePlain o.notes
 
 -- what it sends is from a server, and it shows no loaded table but this
-abbrev pub ShowsFrom : Option Entries → RangeOutcome → Type 0
+abbrev pub ShowsFrom : Option ShownTable → RangeOutcome → Type 0
 ShowsFrom loading o = AllFromServers o.packets × ShowsLoad loading o.notes
 
-pub tidy_shows : (loading : Option Entries) (o : RangeOutcome) → IsTidy o → ShowsFrom loading o
+pub tidy_shows : (loading : Option ShownTable) (o : RangeOutcome) → IsTidy o → ShowsFrom loading o
 tidy_shows loading o h = (h.0, inl h.1)
 
 -- ---- steps
@@ -252,27 +253,27 @@ log_news_tidy d r groups stage told packets h = (h, tt)
 
 -- ---- the loaded table
 
-serves_from_shows : (d : ServerContext) (r : RangeState) (region : Option Region) → ShowsFrom (Some r.live) (serves_from d r region)
-serves_from_shows d r None = tidy_shows (Some r.live) (dropped d r) (dropped_tidy d r)
+serves_from_shows : (d : ServerContext) (r : RangeState) (region : Option Region) → ShowsFrom (Some (shown_table r)) (serves_from d r region)
+serves_from_shows d r None = tidy_shows (Some (shown_table r)) (dropped d r) (dropped_tidy d r)
 serves_from_shows d r (Some region) =
-    if_elim (ShowsFrom (Some r.live)) (nat_lt 0 region.next) _ _
-    (λ t. (tt, inr (record { range = r.load.range; generation = r.load.generation; entries = r.live; indexes = r.said.indexes; next = region.next; is = refl; from = refl })))
-    (λ f. tidy_shows (Some r.live) (dropped d r) (dropped_tidy d r))
+    if_elim (ShowsFrom (Some (shown_table r))) (nat_lt 0 region.next) _ _
+    (λ t. (tt, inr (record { range = r.load.range; generation = r.load.generation; table = shown_table r; next = region.next; is = refl; from = refl })))
+    (λ f. tidy_shows (Some (shown_table r)) (dropped d r) (dropped_tidy d r))
 
-serves_shows : (d : ServerContext) (r : RangeState) → ShowsFrom (Some r.live) (serves d r)
+serves_shows : (d : ServerContext) (r : RangeState) → ShowsFrom (Some (shown_table r)) (serves d r)
 serves_shows d r =
-    if_elim (ShowsFrom (Some r.live)) (are_counted r.log) _ _
+    if_elim (ShowsFrom (Some (shown_table r))) (are_counted r.log) _ _
     (λ t. serves_from_shows d r (open_region r.regions))
-    (λ f. tidy_shows (Some r.live) (dropped d r) (dropped_tidy d r))
+    (λ f. tidy_shows (Some (shown_table r)) (dropped d r) (dropped_tidy d r))
 
--- the memory table that a range shows with this answer, where it is confirmed
-abbrev pub live_by : RangeState → StreamBody → Option Entries
-live_by r (streams.Confirmed w) = Some r.live
-live_by r body = None
+-- what a range shows with this answer, where it is confirmed
+abbrev pub table_by : RangeState → StreamBody → Option ShownTable
+table_by r (streams.Confirmed w) = Some (shown_table r)
+table_by r body = None
 
-abbrev pub live_with : RangeState → Body → Option Entries
-live_with r (bodies.Stream body) = live_by r body
-live_with r body = None
+abbrev pub table_with : RangeState → Body → Option ShownTable
+table_with r (bodies.Stream body) = table_by r body
+table_with r body = None
 
 -- ---- answers
 
@@ -280,12 +281,12 @@ load_refused_tidy : (d : ServerContext) (r : RangeState) (body : AppendBody) →
 load_refused_tidy d r (appends.Refused w refusals.Stale) = dropped_tidy d r
 load_refused_tidy d r body = (tt, tt)
 
-load_told_shows : (d : ServerContext) (r : RangeState) (phase : LoadPhase) (body : StreamBody) → ShowsFrom (live_by r body) (load_told d r phase body)
+load_told_shows : (d : ServerContext) (r : RangeState) (phase : LoadPhase) (body : StreamBody) → ShowsFrom (table_by r body) (load_told d r phase body)
 load_told_shows d r (phases.Opening q) (streams.Opened w lists) = tidy_shows None (opens d r lists) (opens_tidy d r lists)
 load_told_shows d r (phases.Confirming q) (streams.Confirmed w) = serves_shows d r
 load_told_shows d r phase body = (tt, inl tt)
 
-load_reply_shows : (d : ServerContext) (r : RangeState) (body : Body) → ShowsFrom (live_with r body) (load_reply d r body)
+load_reply_shows : (d : ServerContext) (r : RangeState) (body : Body) → ShowsFrom (table_with r body) (load_reply d r body)
 load_reply_shows d r (bodies.Append body) = tidy_shows None (load_refused d r body) (load_refused_tidy d r body)
 load_reply_shows d r (bodies.Stream body) = load_told_shows d r r.load.phase body
 load_reply_shows d r body = (tt, inl tt)
@@ -322,15 +323,15 @@ gets_reply_tidy d r w (bodies.Read body) = bytes_reply_tidy d r w body
 gets_reply_tidy d r w (bodies.Append body) = load_refused_tidy d r body
 gets_reply_tidy d r w body = (tt, tt)
 
-pub answer_shows : (d : ServerContext) (r : RangeState) (w : ReqNo) (body : Body) → ShowsFrom (live_with r body) (answer_rule d r w body)
+pub answer_shows : (d : ServerContext) (r : RangeState) (w : ReqNo) (body : Body) → ShowsFrom (table_with r body) (answer_rule d r w body)
 answer_shows d r w body =
-    if_elim (ShowsFrom (live_with r body)) (load_awaits r.load.phase w) _ _
+    if_elim (ShowsFrom (table_with r body)) (load_awaits r.load.phase w) _ _
     (λ t. load_reply_shows d r body)
-    (λ f. if_elim (ShowsFrom (live_with r body)) (awaits r.metadata.job w) _ _
-    (λ t. tidy_shows (live_with r body) (metadata_reply d r body) (metadata_reply_tidy d r body))
-    (λ g. if_elim (ShowsFrom (live_with r body)) (awaits r.log.job w) _ _
-    (λ t. tidy_shows (live_with r body) (log_reply d r body) (log_reply_tidy d r body))
-    (λ h. tidy_shows (live_with r body) (gets_reply d r w body) (gets_reply_tidy d r w body))))
+    (λ f. if_elim (ShowsFrom (table_with r body)) (awaits r.metadata.job w) _ _
+    (λ t. tidy_shows (table_with r body) (metadata_reply d r body) (metadata_reply_tidy d r body))
+    (λ g. if_elim (ShowsFrom (table_with r body)) (awaits r.log.job w) _ _
+    (λ t. tidy_shows (table_with r body) (log_reply d r body) (log_reply_tidy d r body))
+    (λ h. tidy_shows (table_with r body) (gets_reply d r w body) (gets_reply_tidy d r w body))))
 
 -- ---- giving up
 

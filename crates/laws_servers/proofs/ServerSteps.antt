@@ -15,27 +15,27 @@ use Rattle.wire.specs.declared.body.Body.{Body}
 use Rattle.wire.specs.declared.body.Body.TheVariants as bodies
 use Rattle.wire.specs.declared.packet.Packet.{Packet}
 use Rattle.wire.specs.declared.transaction.Change.{Change}
-use Rattle.memtable.specs.Entries.{Entries}
 use Rattle.model_streams.proofs.Tests.{if_elim}
 use Rattle.model_streams.specs.Maps.{entry_at}
 use Rattle.model_partition.specs.declared.server_context.ServerContext.{ServerContext}
+use Rattle.model_partition.specs.declared.shown_table.ShownTable.{ShownTable}
 use Rattle.model_partition.specs.Range.{RangeState}
 use Rattle.model_partition.specs.Answering.{answered_number, is_answerer, answer_rule, give_up_all}
 use Rattle.model_partition.specs.Server.{ServerState, ServerOutcome, range_of, awaiting, users_of, is_newer, assign_rule, renew_rule, told_by_map, map_rule, transacts_in, gets_in, table_rule, answer_in, answer_of, numbered_rule, taken_rule, has_numbers, server_rule, gives_up, picked}
-use Rattle.model_partition.specs.Servers.{ArePlain, ShowsLoad, ServerCell, ServersOutcome, live_of, live_at, loads, cell_loads, server_loads, cell_takes, cell_given_up, cell_gives_up, cell_stops, cell_starts, at_server, server_takes, server_gives_up, server_stops, server_starts}
+use Rattle.model_partition.specs.Servers.{ArePlain, ShowsLoad, ServerCell, ServersOutcome, range_table, table_at, loads, cell_loads, server_loads, cell_takes, cell_given_up, cell_gives_up, cell_stops, cell_starts, at_server, server_takes, server_gives_up, server_stops, server_starts}
 use Rattle.laws_servers.specs.Sending.{MaySendAll, AllFromServers}
 use Rattle.laws_servers.proofs.ClientPackets.{all_both, may_send_all}
-use Rattle.laws_servers.proofs.RangeSteps.{ShowsFrom, live_with, refused_all, transact_tidy, get_tidy, answer_shows, give_up_tidy}
+use Rattle.laws_servers.proofs.RangeSteps.{ShowsFrom, table_with, refused_all, transact_tidy, get_tidy, answer_shows, give_up_tidy}
 
 -- what it sends is from a server, and it shows no loaded table
 abbrev pub AreTidy : ServerOutcome → Type 0
 AreTidy o = AllFromServers o.packets × ArePlain o.notes
 
 -- what it sends is from a server, and it shows no loaded table but this
-abbrev pub Shows : Option Entries → ServerOutcome → Type 0
+abbrev pub Shows : Option ShownTable → ServerOutcome → Type 0
 Shows loading o = AllFromServers o.packets × ShowsLoad loading o.notes
 
-plainly : (loading : Option Entries) (o : ServerOutcome) → AreTidy o → Shows loading o
+plainly : (loading : Option ShownTable) (o : ServerOutcome) → AreTidy o → Shows loading o
 plainly loading o h = (h.0, inl h.1)
 
 -- ---- what the map tells
@@ -81,22 +81,22 @@ table_tidy s p body = (tt, tt)
 -- ---- answers
 
 -- the range that shows its table is the one that waits for the answer
-live_is : (s : ServerState) (body : StreamBody) (w : ReqNo) (range : ℕ) (r : RangeState) → answered_number (bodies.Stream body) ≡ Some w → awaiting s.ranges w ≡ Some range →
-    range_of s.ranges range ≡ Some r → live_with r (bodies.Stream body) ≡ loads s (bodies.Stream body)
-live_is s (streams.Confirmed q) w range r number waits known =
-    sym (ap (λ (x : ReqNo). live_at s (awaiting s.ranges x)) (same_Some q w number) ∙ ap (live_at s) waits ∙ ap live_of known)
-live_is s body w range r number waits known = refl
+table_is : (s : ServerState) (body : StreamBody) (w : ReqNo) (range : ℕ) (r : RangeState) → answered_number (bodies.Stream body) ≡ Some w → awaiting s.ranges w ≡ Some range →
+    range_of s.ranges range ≡ Some r → table_with r (bodies.Stream body) ≡ loads s (bodies.Stream body)
+table_is s (streams.Confirmed q) w range r number waits known =
+    sym (ap (λ (x : ReqNo). table_at s (awaiting s.ranges x)) (same_Some q w number) ∙ ap (table_at s) waits ∙ ap range_table known)
+table_is s body w range r number waits known = refl
 
-live_loads : (s : ServerState) (body : Body) (w : ReqNo) (range : ℕ) (r : RangeState) → answered_number body ≡ Some w → awaiting s.ranges w ≡ Some range →
-    range_of s.ranges range ≡ Some r → live_with r body ≡ loads s body
-live_loads s (bodies.Stream body) w range r number waits known = live_is s body w range r number waits known
-live_loads s body w range r number waits known = refl
+table_loads : (s : ServerState) (body : Body) (w : ReqNo) (range : ℕ) (r : RangeState) → answered_number body ≡ Some w → awaiting s.ranges w ≡ Some range →
+    range_of s.ranges range ≡ Some r → table_with r body ≡ loads s body
+table_loads s (bodies.Stream body) w range r number waits known = table_is s body w range r number waits known
+table_loads s body w range r number waits known = refl
 
 answer_in_shows : (s : ServerState) (p : Packet) (w : ReqNo) (range : ℕ) (known : Option RangeState) → answered_number p.body ≡ Some w → awaiting s.ranges w ≡ Some range →
     range_of s.ranges range ≡ known → Shows (loads s p.body) (answer_in s p w range known)
 answer_in_shows s p w range None number waits known = (tt, inl tt)
 answer_in_shows s p w range (Some r) number waits known =
-    subst (λ (loading : Option Entries). ShowsFrom loading (answer_rule s.context r w p.body)) (live_loads s p.body w range r number waits known)
+    subst (λ (loading : Option ShownTable). ShowsFrom loading (answer_rule s.context r w p.body)) (table_loads s p.body w range r number waits known)
     (answer_shows s.context r w p.body)
 
 answer_of_shows : (s : ServerState) (p : Packet) (w : ReqNo) (range : Option ℕ) → answered_number p.body ≡ Some w → awaiting s.ranges w ≡ range →
@@ -133,7 +133,7 @@ abbrev pub AllTidy : ServersOutcome → Type 0
 AllTidy o = MaySendAll o.packets × ArePlain o.notes
 
 -- all servers send what servers may send, and show no loaded table but this
-abbrev pub AllShow : Option Entries → ServersOutcome → Type 0
+abbrev pub AllShow : Option ShownTable → ServersOutcome → Type 0
 AllShow loading o = MaySendAll o.packets × ShowsLoad loading o.notes
 
 cell_shows : (cell : ServerCell) (p : Packet) (state : Option ServerState) →

@@ -1,5 +1,5 @@
 -- Whatever happens, as steps of the machine of one stream; and what the answers in the post mean.
-use Rattle.std.proofs.Common.{◌≡◌, ℕ, suc, ◌+◌, ◌≤◌, Bool, not, ◌||◌, List, [], map, Option, Some, None, slice_get, Contains, refl, sym, ap, ◌∙◌, subst, arith, append-nil, ◌==◌}
+use Rattle.std.proofs.Common.{◌≡◌, ◌≢◌, ℕ, suc, ◌+◌, ◌≤◌, Bool, not, ◌||◌, List, [], map, Option, Some, None, slice_get, Contains, refl, sym, ap, ◌∙◌, subst, arith, append-nil, ◌==◌}
 use Rattle.wire.specs.declared.actor.ActorId.{ActorId}
 use Rattle.wire.specs.declared.actor.ActorId.TheVariants.{Node, Manager, Map, Server, User}
 use Rattle.wire.specs.declared.actor.ReqNo.{ReqNo}
@@ -16,6 +16,7 @@ use Rattle.wire.specs.declared.body.StreamBody.TheVariants.{Created, Opened, Con
 use Rattle.wire.specs.declared.body.Body.{Body}
 use Rattle.wire.specs.declared.body.Body.TheVariants as bodies
 use Rattle.wire.specs.declared.packet.Packet.{Packet}
+use Rattle.wire.specs.declared.streams.StreamKind.TheVariants.{BlobData}
 use Rattle.wire.specs.declared.streams.StreamName.{StreamName}
 use Rattle.replica.specs.Groups.{Group, text_length}
 use Rattle.streams.specs.Streams.{Stream, stream_of}
@@ -49,7 +50,8 @@ use Rattle.laws_stream_machine.proofs.ToldLists.{sealed_or_last}
 use Rattle.laws_stream_machine.proofs.ManagerSteps.{manager_event, decide_event}
 use Rattle.laws_stream_machine.proofs.NodeSteps.{node_event}
 
-module _ (generation : ℕ → ℕ) (name : StreamName) (sent : List Sent) (w : StreamSystem) (s : MachineState Group) (a : Follows generation name w s sent) where
+module _ (generation : ℕ → ℕ) (name : StreamName) (sent : List Sent) (w : StreamSystem) (s : MachineState Group) (a : Follows generation name w s sent)
+    (plain : name.kind ≢ BlobData) where
   abbrev Leads : StreamSystem → Type 0
   Leads v = Walk generation s (λ t. Follows generation name v t sent)
 
@@ -69,7 +71,7 @@ module _ (generation : ℕ → ℕ) (name : StreamName) (sent : List Sent) (w : 
   manager_halted_stays : Goes w.catalog (manager_halted w).catalog → Leads (manager_halted w)
   manager_halted_stays goes =
       stand generation s _ (next_follows generation name w s sent a (manager_halted w) s a.ground (later_refl a.ground) a.appended (manager_halted_holds w a.ground a.holds)
-      (ahead_goes name w s (manager_halted w) s goes (a.holds.catalog.fresh (suc w.catalog.count) (omega arith)) (onward_refl s)) a.shaped [] (sym (append-nil w.post)) tt)
+      (ahead_goes name plain w s (manager_halted w) s goes (a.holds.catalog.fresh (suc w.catalog.count) (omega arith)) (onward_refl s)) a.shaped [] (sym (append-nil w.post)) tt)
 
   stop_stays : (actor : ActorId) (call : ℕ) (keep : Bool) → Goes w.catalog (stop w actor call keep).catalog → Leads (stop w actor call keep)
   stop_stays (Node n) call keep goes =
@@ -92,7 +94,7 @@ module _ (generation : ℕ → ℕ) (name : StreamName) (sent : List Sent) (w : 
   module _ (own : 1 ≤ name.range) (lawful : Lawful Group generation s) (listed : (x : Stream) → stream_of w.catalog.stream name ≡ Some x → Listed w.catalog name x) where
     delivered_walk : (number : ℕ) (p : Packet) (to : ActorId) → p.to ≡ to → slice_get w.post number ≡ Some p → Goes w.catalog (delivered w p to).catalog → Leads (delivered w p to)
     delivered_walk number p (Node n) to at goes = node_event generation name sent w s a lawful n number p at to
-    delivered_walk number p Manager to at goes = manager_event generation name sent w s a own lawful listed number p at to goes
+    delivered_walk number p Manager to at goes = manager_event generation name sent w s a plain own lawful listed number p at to goes
     delivered_walk number p Map to at goes = stays
     delivered_walk number p (Server n) to at goes = stays
     delivered_walk number p (User u) to at goes = stays
@@ -109,7 +111,7 @@ module _ (generation : ℕ → ℕ) (name : StreamName) (sent : List Sent) (w : 
         by_event (Deliver number) goes = delivered_if_walk number (slice_get w.post number) refl goes
         by_event (Stop actor call keep) goes = stop_stays actor call keep goes
         by_event (Restart actor) goes = restart_stays actor
-        by_event (Decide e) goes = decide_event generation name sent w s a e goes
+        by_event (Decide e) goes = decide_event generation name sent w s a plain e goes
         by_event (GiveUp server range pick) goes = stays
         by_event (Assign range server until) goes = stays
         by_event (Renew range server until) goes = stays

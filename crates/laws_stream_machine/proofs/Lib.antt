@@ -13,4 +13,3 @@ pub mod NodeSteps
 pub mod EventSteps
 pub mod ServerRequests
 pub mod LowerLayer
-pub mod Guards

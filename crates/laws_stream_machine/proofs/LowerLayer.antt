@@ -1,12 +1,14 @@
 -- The nodes and the manager are the lower layer of the machine of one stream of a range, whatever happens.
-use Rattle.std.proofs.Common.{◌≡◌, ℕ, suc, ◌≤◌, true, List, [], ◌∷◌, ◌++◌, Option, Some, None, slice_get, refl, sym, ap, ◌∙◌, arith, subst}
+use Rattle.std.proofs.Common.{◌≡◌, ◌≢◌, ℕ, suc, ◌≤◌, true, List, [], ◌∷◌, ◌++◌, Option, Some, None, slice_get, refl, sym, ap, ◌∙◌, arith, subst}
 use Rattle.wire.specs.declared.actor.ActorId.{ActorId}
 use Rattle.wire.specs.declared.body.Body.{Body}
 use Rattle.wire.specs.declared.note.Note.{Note}
+use Rattle.wire.specs.declared.streams.StreamKind.TheVariants.{BlobData}
 use Rattle.wire.specs.declared.streams.StreamName.{StreamName}
 use Rattle.replica.specs.Groups.{Group}
 use Rattle.streams.specs.Streams.{Stream, stream_of}
 use Rattle.model_streams.specs.declared.event.Event.{Event}
+use Rattle.model_streams.specs.Manager.{sealed_in}
 use Rattle.model_streams.specs.StreamSystem.{StreamSystem, start, is_server_call, Move, moved, run_moves}
 use Rattle.model_streams.specs.StreamSystem.Move.{Happens, Asks, Says, Observes}
 use Rattle.laws_streams.specs.Listings.{Listed}
@@ -69,26 +71,26 @@ module _ (generation : ℕ → ℕ) (name : StreamName) (nodes target : ℕ) whe
   listed_now moves s x there = (lists_grow nodes target moves []).listed s x there
 
   -- lists grow by new extents alone
-  pub below_ahead : (moves : List Move) (whole : Whole Group generation) (sent : List Sent) → Below moves whole sent → (move : Move) (t : MachineState Group) → Onward whole.state t →
+  pub below_ahead : name.kind ≢ BlobData → (moves : List Move) (whole : Whole Group generation) (sent : List Sent) → Below moves whole sent → (move : Move) (t : MachineState Group) → Onward whole.state t →
       Ahead name (system moves) whole.state (system (moves ++ move ∷ [])) t
-  below_ahead moves whole sent a move t on =
+  below_ahead plain moves whole sent a move t on =
       let w : StreamSystem = system moves in
       let fresh = a.follows.holds.catalog.fresh (suc w.catalog.count) (omega arith) in
-      subst (λ v. Ahead name w whole.state v t) (sym (run_moves_push moves move (start nodes target))) (ahead_goes name w whole.state (moved w move) t (moved_goes w fresh move) fresh on)
+      subst (λ v. Ahead name w whole.state v t) (sym (run_moves_push moves move (start nodes target))) (ahead_goes name plain w whole.state (moved w move) t (moved_goes w fresh move) fresh on)
 
-  pub below_happens : 1 ≤ name.range → (ms : List (machine.Move Group generation)) → AreMoves Group generation ms → (moves : List Move) (sent : List Sent) →
+  pub below_happens : 1 ≤ name.range → name.kind ≢ BlobData → (ms : List (machine.Move Group generation)) → AreMoves Group generation ms → (moves : List Move) (sent : List Sent) →
       Below moves (after_all Group generation ms) sent → (event : Event) → Happened ms moves event sent
-  below_happens own ms are moves sent a event =
+  below_happens own plain ms are moves sent a event =
       let whole : Whole Group generation = after_all Group generation ms in
       let walk : Walk generation whole.state (λ t. Follows generation name (moved (system moves) (Happens event)) t sent) =
-      happens_walk generation name sent (system moves) whole.state a.follows own (lawful Group generation ms are) (λ x there. listed_now moves name x there) event in
+      happens_walk generation name sent (system moves) whole.state a.follows plain own (lawful Group generation ms are) (λ x there. listed_now moves name x there) event in
       let (all, same) = walked generation ms are walk.steps walk.run walk.layer in
       let next : Whole Group generation = after_all Group generation (below_all generation walk.steps ++ ms) in
       record {
         steps = walk.steps;
         are = all;
         phase = phase_stays ms walk.steps;
-        ahead = below_ahead moves whole sent a (Happens event) next.state (subst (Onward whole.state) (sym same) (all_onward generation whole.state walk.steps));
+        ahead = below_ahead plain moves whole sent a (Happens event) next.state (subst (Onward whole.state) (sym same) (all_onward generation whole.state walk.steps));
         below = pushed moves (Happens event) next sent (subst (λ t. Follows generation name (moved (system moves) (Happens event)) t sent) (sym same) walk.there);
       }
 
@@ -129,11 +131,11 @@ module _ (generation : ℕ → ℕ) (name : StreamName) (nodes target : ℕ) whe
   stream_at (Some x) index e at = (x, refl)
 
   -- an extent of the stream stands at one index
-  pub below_index : (moves : List Move) (i j e : ℕ) → IsAt (system moves) name i e → IsAt (system moves) name j e → i ≡ j
-  below_index moves i j e at there =
+  pub below_index : name.kind ≢ BlobData → (moves : List Move) (i j e : ℕ) → IsAt (system moves) name i e → IsAt (system moves) name j e → i ≡ j
+  below_index plain moves i j e at there =
       let w : StreamSystem = system moves in
       let (x, is) = stream_at (stream_of w.catalog.stream name) i e at in
-      same_index w.catalog name x (listed_now moves name x is) i j e (subst (λ o. slice_get (extents_of o) i ≡ Some e) is at) (subst (λ o. slice_get (extents_of o) j ≡ Some e) is there)
+      same_index w.catalog name x plain (listed_now moves name x is) i j e (subst (λ o. slice_get (extents_of o) i ≡ Some e) is at) (subst (λ o. slice_get (extents_of o) j ≡ Some e) is there)
 
   -- while it is not sealed it stands in no other list
   pub below_alone : (moves : List Move) (other : StreamName) → (other ≡ name → ⊥) → (i j e : ℕ) → IsAt (system moves) other i e → IsUnsealedAt (system moves) name j e → ⊥
@@ -141,4 +143,6 @@ module _ (generation : ℕ → ℕ) (name : StreamName) (nodes target : ℕ) whe
       let w : StreamSystem = system moves in
       let (z, is) = stream_at (stream_of w.catalog.stream other) i e here in
       let (x, own) = stream_at (stream_of w.catalog.stream name) j e there.0 in
-      apart ((listed_now moves other z is).apart name x i j e own (subst (λ o. slice_get (extents_of o) i ≡ Some e) is here) (subst (λ o. slice_get (extents_of o) j ≡ Some e) own there.0))
+      let l = listed_now moves other z is in
+      let (y, made) = l.there i e (subst (λ o. slice_get (extents_of o) i ≡ Some e) is here) in
+      apart (l.alone name x i j e y own made (ap sealed_in (sym made) ∙ there.1) (subst (λ o. slice_get (extents_of o) i ≡ Some e) is here) (subst (λ o. slice_get (extents_of o) j ≡ Some e) own there.0)).0

@@ -9,7 +9,7 @@ use Rattle.wire.specs.declared.actor.ReqNo.{ReqNo}
 use Rattle.wire.specs.declared.body.AppendBody.TheVariants.{Append}
 use Rattle.wire.specs.declared.body.Body.TheVariants as bodies
 use Rattle.replica.specs.Groups.{Group, size}
-use Rattle.streams.specs.Streams.{Stream}
+use Rattle.streams.specs.Streams.{Stream, whole}
 use Rattle.model_streams.specs.Actors.{generation_of}
 use Rattle.model_streams.proofs.Tests.{if_elim}
 use Rattle.laws_streams.specs.Origins.{Origin, Begins}
@@ -76,6 +76,26 @@ pub record Settled (o : Option Stream) (g : Ground) (s : MachineState Group) (se
 pub record Shaped (o : Option Stream) (g : Ground) (s : MachineState Group) (sent : List Sent) : Type 0 where
   pub settled : Settled o g s sent
   pub live : (v : OpenExtent Group) → s.core.live ≡ Some v → LiveThere o g sent s v
+
+-- a stream with the same list and the same fence
+pub same_shape : (x y : Stream) (g : Ground) (s : MachineState Group) (sent : List Sent) → whole y ≡ whole x → y.fence ≡ x.fence → Shaped (Some x) g s sent → Shaped (Some y) g s sent
+same_shape x y g s sent list fence a = record {
+  settled = record {
+    fence = elim a.settled.fence [ inl f ↦ inl (f ∙ sym fence) | inr f ↦ inr f ];
+    counts = ap (λ (es : List ℕ). length es) list ∙ a.settled.counts;
+    born = λ index e at. a.settled.born index e (was index e at);
+    made = λ index e at. a.settled.made index e (was index e at);
+    shut = λ index e at l. let b = a.settled.shut index e (was index e at) l in record { shut = b.shut; is = b.is; tied = b.tied; sources = b.sources };
+    checked = λ i index stood end m. let c = a.settled.checked i index stood end m in record { extent = c.extent; at = now index c.extent c.at; begins = c.begins; chain = c.chain; sized = c.sized };
+  };
+  live = λ v is. let b = a.live v is in record { extent = b.extent; at = now (length s.core.shut) b.extent b.at; tied = b.tied; sources = b.sources };
+}
+  where
+    was : (index e : ℕ) → slice_get (whole y) index ≡ Some e → slice_get (whole x) index ≡ Some e
+    was index e at = subst (λ xs. slice_get xs index ≡ Some e) list at
+
+    now : (index e : ℕ) → slice_get (whole x) index ≡ Some e → slice_get (whole y) index ≡ Some e
+    now index e at = subst (λ xs. slice_get xs index ≡ Some e) (sym list) at
 
 -- ---- lists
 

@@ -1,5 +1,5 @@
 -- What the manager does, as steps of the machine of one stream.
-use Rattle.std.proofs.Common.{◌≡◌, ℕ, suc, ◌≤◌, List, [], ◌∷◌, Some, None, slice_get, Contains, refl, sym, ap, ◌∙◌, subst, inl, arith, append-nil}
+use Rattle.std.proofs.Common.{◌≡◌, ◌≢◌, ℕ, suc, ◌≤◌, List, [], ◌∷◌, Some, None, slice_get, Contains, refl, sym, ap, ◌∙◌, subst, inl, arith, append-nil}
 use Rattle.wire.specs.declared.actor.ActorId.TheVariants.{Manager, Server}
 use Rattle.wire.specs.declared.actor.ReqNo.TheVariants.{NoRequest}
 use Rattle.wire.specs.declared.body.AppendBody.TheVariants.{Appended}
@@ -8,6 +8,7 @@ use Rattle.wire.specs.declared.body.ReadBody.TheVariants.{Groups}
 use Rattle.wire.specs.declared.body.SealBody.TheVariants.{SealExtent}
 use Rattle.wire.specs.declared.body.Body.TheVariants as bodies
 use Rattle.wire.specs.declared.packet.Packet.{Packet}
+use Rattle.wire.specs.declared.streams.StreamKind.TheVariants.{BlobData}
 use Rattle.wire.specs.declared.streams.StreamName.{StreamName}
 use Rattle.replica.specs.Groups.{Group}
 use Rattle.streams.specs.Streams.{Stream, stream_of}
@@ -24,6 +25,7 @@ use Rattle.laws_streams.proofs.EventSteps.{recelled}
 use Rattle.laws_streams.proofs.ManagerRules.{manager_keeps}
 use Rattle.laws_streams.proofs.DecisionRules.{SealsNow, decide_keeps}
 use Rattle.laws_streams.proofs.ListRules.{Goes}
+use Rattle.laws_streams.proofs.KeptStreams.{decide_same}
 use Rattle.laws_streams.proofs.ManagerAnswers as manager
 use Rattle.laws_streams.proofs.DecisionAnswers as decision
 use Rattle.model_partition.specs.StreamMachine.{MachineState}
@@ -34,14 +36,14 @@ use Rattle.laws_stream_machine.proofs.MachineCore.{Shaped, ground_walk}
 use Rattle.laws_stream_machine.proofs.SentPackets.{Called, manager_calls_not, decision_calls_not, AllAppended, unmoved_appended, Ahead, ahead_same, stream_on}
 use Rattle.laws_stream_machine.proofs.Refines.{Follows}
 use Rattle.laws_stream_machine.proofs.SystemSteps.{ahead_goes, Answered, next_follows}
-use Rattle.laws_stream_machine.proofs.ToldLists.{decide_same}
 use Rattle.laws_stream_machine.proofs.StreamRules.{ToldOf, rule_walk}
 
 -- no append is delivered
 abbrev no_append : Moment
 no_append = record { told = []; number = 0; packet = packet Manager Manager (bodies.Seal (SealExtent 0 NoRequest)) }
 
-module _ (generation : ℕ → ℕ) (name : StreamName) (sent : List Sent) (w : StreamSystem) (s : MachineState Group) (a : Follows generation name w s sent) where
+module _ (generation : ℕ → ℕ) (name : StreamName) (sent : List Sent) (w : StreamSystem) (s : MachineState Group) (a : Follows generation name w s sent)
+    (plain : name.kind ≢ BlobData) where
   abbrev pub Leads : StreamSystem → Type 0
   Leads v = Walk generation s (λ t. Follows generation name v t sent)
 
@@ -125,16 +127,16 @@ module _ (generation : ℕ → ℕ) (name : StreamName) (sent : List Sent) (w : 
         (λ stands goes. walk_weaker generation s _ _ performed
         (λ t on there. next_follows generation name w s sent a (manager_halted (after_manager_rule w (unsent o))) t h rule_fine.later appended
         (manager_halted_holds (after_manager_rule w (unsent o)) h (manager_rule_holds News w a.ground h (unsent o) a.holds (manager_rule_unsent News w.notes a.ground h o rule_fine)))
-        (ahead_goes name w s (manager_halted (after_manager_rule w (unsent o))) t goes fresh_is on) there.0 [] refl tt))
+        (ahead_goes name plain w s (manager_halted (after_manager_rule w (unsent o))) t goes fresh_is on) there.0 [] refl tt))
         (λ lost goes. stand generation s _
         (next_follows generation name w s sent a (manager_halted w) s a.ground (later_refl a.ground) a.appended (manager_halted_holds w a.ground a.holds)
-        (ahead_goes name w s (manager_halted w) s goes fresh_is (onward_refl s)) a.shaped [] (sym (append-nil w.post)) tt)))
+        (ahead_goes name plain w s (manager_halted w) s goes fresh_is (onward_refl s)) a.shaped [] (sym (append-nil w.post)) tt)))
         (λ runs goes. walk_weaker generation s _ _ performed
         (λ t on there.
         let v : StreamSystem = after_manager_rule (record w { manager_cell = burnt w.manager_cell o.written }) o in
         next_follows generation name w s sent a v t h rule_fine.later appended
         (manager_rule_holds News (record w { manager_cell = burnt w.manager_cell o.written }) a.ground h o (recelled w w.cell (burnt w.manager_cell o.written) a.ground a.holds) rule_fine)
-        (ahead_goes name w s v t goes fresh_is on) there.0 o.packets refl (all_answered (after_manager_rule w o) v t h refl o.packets from there.1)))
+        (ahead_goes name plain w s v t goes fresh_is on) there.0 o.packets refl (all_answered (after_manager_rule w o) v t h refl o.packets from there.1)))
 
   -- ---- a packet to the manager, and a decision
 
@@ -146,7 +148,7 @@ module _ (generation : ℕ → ℕ) (name : StreamName) (sent : List Sent) (w : 
       if_elim (λ v. Goes w.catalog v.catalog → Leads v) w.manager_cell.up (manager_performs w (manager_rule w.catalog p p.body)) w
       (λ up. does_walk (λ e l. Unit {0}) (manager_rule w.catalog p p.body) h rule_fine (from_rule w.catalog p (manager_rule w.catalog p p.body).packets (manager.manager_tells w.catalog p))
       (λ t on shaped.
-      rule_walk generation name sent w s a.asked a.called lawful listed h t on shaped (λ e none. (rule_fine.unmoved e).0 ∙ (a.holds.sound.unmade e (a.holds.catalog.places e ∙ ap places_of none)).0) fresh_is p stood to own p.body refl rule_fine.catalog))
+      rule_walk generation name sent w s a.asked a.called lawful listed h t on shaped (λ e none. (rule_fine.unmoved e).0 ∙ (a.holds.sound.unmade e (a.holds.catalog.places e ∙ ap places_of none)).0) fresh_is p stood to own plain p.body refl rule_fine.catalog))
       (λ down goes. stand generation s _ a)
 
   pub decide_event : (e : ℕ) → Goes w.catalog (manager_decides w e).catalog → Leads (manager_decides w e)

@@ -8,7 +8,7 @@ use Rattle.wire.specs.declared.body.AppendBody.TheVariants.{Append, Appended}
 use Rattle.wire.specs.declared.body.CheckBody.TheVariants.{Checked as CheckedAt}
 use Rattle.wire.specs.declared.body.ReadBody.TheVariants.{Groups}
 use Rattle.wire.specs.declared.body.StreamBody.{StreamBody}
-use Rattle.wire.specs.declared.body.StreamBody.TheVariants.{CreateStream, OpenStreams, Confirm, Extend}
+use Rattle.wire.specs.declared.body.StreamBody.TheVariants.{CreateStream, OpenStreams, Confirm, Extend, Trim}
 use Rattle.wire.specs.declared.body.Body.{Body}
 use Rattle.wire.specs.declared.body.Body.TheVariants as bodies
 use Rattle.wire.specs.declared.note.Note.{Note}
@@ -117,6 +117,7 @@ stream_call_number (CreateStream s f q) t = refl
 stream_call_number (OpenStreams r g q) t = refl
 stream_call_number (Confirm r g q) t = refl
 stream_call_number (Extend s g l p q) t = refl
+stream_call_number (Trim r g n k q) t = refl
 stream_call_number b t = absurd cc
 
 stream_request_number : (b : StreamBody) → is_request (bodies.Stream b) ≡ true → stream_meant b ≡ None

@@ -11,7 +11,7 @@ use Rattle.wire.specs.declared.body.CheckBody.TheVariants.{Check, Checked as Che
 use Rattle.wire.specs.declared.body.ReadBody.TheVariants.{ReadAt, ReadGroups, Groups}
 use Rattle.wire.specs.declared.body.SealBody.TheVariants.{SealExtent}
 use Rattle.wire.specs.declared.body.StreamBody.{StreamBody}
-use Rattle.wire.specs.declared.body.StreamBody.TheVariants.{CreateStream, OpenStreams, Opened, Confirm, Confirmed, Extend, Extended}
+use Rattle.wire.specs.declared.body.StreamBody.TheVariants.{CreateStream, OpenStreams, Opened, Confirm, Confirmed, Extend, Extended, Trim}
 use Rattle.wire.specs.declared.body.Body.{Body}
 use Rattle.wire.specs.declared.body.Body.TheVariants as bodies
 use Rattle.wire.specs.declared.note.Note.{Note}
@@ -71,6 +71,7 @@ manager_calls_not b taken to (bodies.Stream (CreateStream s f q)) tells t = tell
 manager_calls_not b taken to (bodies.Stream (OpenStreams r g q)) tells t = tells
 manager_calls_not b taken to (bodies.Stream (Confirm r g q)) tells t = tells
 manager_calls_not b taken to (bodies.Stream (Extend s g l p q)) tells t = tells
+manager_calls_not b taken to (bodies.Stream (Trim r g n k q)) tells t = tells
 manager_calls_not b taken to body tells t = cc
 
 pub decision_calls_not : (b : Catalog) (e : ℕ) (after : Catalog) (to : ActorId) (body : Body) → decision.BodyTells b e after to body → is_server_call body ≡ true → ⊥

@@ -7,7 +7,7 @@ use Rattle.wire.specs.declared.actor.ActorId.{ActorId}
 use Rattle.wire.specs.declared.actor.ActorId.TheVariants.{Manager, Server}
 use Rattle.wire.specs.declared.actor.ReqNo.{ReqNo}
 use Rattle.wire.specs.declared.body.StreamBody.{StreamBody}
-use Rattle.wire.specs.declared.body.StreamBody.TheVariants.{CreateStream, Created, OpenStreams, Opened, Confirm, Confirmed, Extend, Extended, Trim, MultiModify}
+use Rattle.wire.specs.declared.body.StreamBody.TheVariants.{CreateStream, Created, OpenStreams, Opened, Confirm, Confirmed, Extend, Extended, Trim, Trimmed, MultiModify}
 use Rattle.wire.specs.declared.body.Body.{Body}
 use Rattle.wire.specs.declared.body.Body.TheVariants as bodies
 use Rattle.wire.specs.declared.packet.Packet.{Packet}
@@ -19,10 +19,10 @@ use Rattle.wire.specs.declared.streams.StreamKind.TheVariants as kinds
 use Rattle.wire.specs.declared.streams.StreamList.{StreamList}
 use Rattle.wire.specs.declared.streams.StreamName.{StreamName}
 use Rattle.replica.specs.Groups.{Group}
-use Rattle.streams.specs.Streams.{Stream, Streams, base_of, whole, stream_of, kind_number, empty_stream, created, opened as opened_at, fenced_at, all_pass, passes, extending, last_of, longer, extended_if}
+use Rattle.streams.specs.Streams.{Stream, Streams, base_of, whole, stream_of, kind_number, empty_stream, created, opened as opened_at, fenced_at, all_pass, passes, extending, last_of, longer, extended_if, shorter, trimmed, trimming}
 use Rattle.model_streams.specs.declared.extent.Extent.{Extent}
 use Rattle.model_streams.specs.Actors.{is_user, generation_of}
-use Rattle.model_streams.specs.Manager.{Catalog, told_stream, told_streams, open_tests, open_refusal, open_taken, confirm_tests, confirm_refusal, answer, create_tests, create_refusal, create_taken, no_users, open_rule, confirm_rule, stream_body_rule, seal_body_rule, manager_rule, is_foreign, is_pick, new_extent, sealed_in, sealed_lengths, extend_made, last_told, extend_answered, extend_rule}
+use Rattle.model_streams.specs.Manager.{Catalog, told_stream, told_streams, open_tests, open_refusal, open_taken, confirm_tests, confirm_refusal, answer, create_tests, create_refusal, create_taken, trim_answered, trim_rule, no_users, open_rule, confirm_rule, stream_body_rule, seal_body_rule, manager_rule, is_foreign, is_pick, new_extent, sealed_in, sealed_lengths, extend_made, last_told, extend_answered, extend_rule}
 use Rattle.model_streams.specs.Outcome.{Outcome, silent, refused, or_refused}
 use Rattle.model_streams.specs.StreamSystem.{StreamSystem, after_manager_rule, is_server_call}
 use Rattle.model_streams.proofs.Tests.{if_elim, none_met}
@@ -31,6 +31,9 @@ use Rattle.laws_streams.specs.Listings.{Listed}
 use Rattle.laws_streams.proofs.Choices.{Each, changed-same, changed-other}
 use Rattle.laws_streams.proofs.Lists.{get_left, get_next}
 use Rattle.laws_streams.proofs.WholeLists.{whole_get, whole_last, whole_longer}
+use Rattle.laws_streams.proofs.TrimTests.{Trims, trims, shorter_whole}
+use Rattle.laws_streams.proofs.ListRules.{trimmed_elim}
+use Rattle.laws_streams.proofs.KeptStreams.{seal_same}
 use Rattle.laws_streams.proofs.Ground.{Ground}
 use Rattle.laws_streams.proofs.RestsOnGround.{places_of, sealed_of, FineCatalog}
 use Rattle.laws_streams.proofs.RisingFences.{all_passed, four_pass, not_there, no_fault, with_here}
@@ -43,9 +46,9 @@ use Rattle.laws_stream_machine.specs.Refinement.{Opens, Sent, purpose_of, extent
 use Rattle.laws_stream_machine.proofs.FactSources.{Lawful}
 use Rattle.laws_stream_machine.proofs.StepSequences.{Onward, Walk, stand, steps_to, shut_within}
 use Rattle.laws_stream_machine.proofs.ExtentSteps.{floor_born, new_tied}
-use Rattle.laws_stream_machine.proofs.MachineCore.{LiveThere, FencedBy, Shaped, pushed_get, get_front}
+use Rattle.laws_stream_machine.proofs.MachineCore.{LiveThere, FencedBy, Shaped, same_shape, pushed_get, get_front}
 use Rattle.laws_stream_machine.proofs.SentPackets.{Called}
-use Rattle.laws_stream_machine.proofs.ToldLists.{server_of, is_name_or, with_other, told_length, told_get, sealed_or_last, seal_same}
+use Rattle.laws_stream_machine.proofs.ToldLists.{server_of, is_name_or, with_other, told_length, told_get, sealed_or_last}
 
 -- ---- lists
 
@@ -76,11 +79,11 @@ known_index es (suc index) e is =
     (index, refl, subst (λ i. slice_get es i ≡ Some e) e1 (subst (λ c. (if c then None else slice_get es (suc index - 1)) ≡ Some e) z is))
 
 -- no extent stands twice in a list
-pub same_index : (b : Catalog) (name : StreamName) (x : Stream) → Listed b name x → (i j e : ℕ) → slice_get (whole x) i ≡ Some e → slice_get (whole x) j ≡ Some e → i ≡ j
-same_index b name x listed i j e at there = elim (cases_lt i j) [
-  | inl below ↦ let m = listed.rising i j e e below at there in absurd (omega (arith, m))
+pub same_index : (b : Catalog) (name : StreamName) (x : Stream) → name.kind ≢ kinds.BlobData → Listed b name x → (i j e : ℕ) → slice_get (whole x) i ≡ Some e → slice_get (whole x) j ≡ Some e → i ≡ j
+same_index b name x plain listed i j e at there = elim (cases_lt i j) [
+  | inl below ↦ let m = listed.rising plain i j e e below at there in absurd (omega (arith, m))
   | inr le ↦ elim (cases_lt j i) [
-    | inl below ↦ let m = listed.rising j i e e below there at in absurd (omega (arith, m))
+    | inl below ↦ let m = listed.rising plain j i e e below there at in absurd (omega (arith, m))
     | inr ge ↦ omega (arith, le, ge)
   ]
 ]
@@ -135,7 +138,7 @@ module _ (generation : ℕ → ℕ) (name : StreamName) (sent : List Sent) where
             let count = ap (λ (xs : List ℕ). length xs) same in
             let shut = shaped.settled.shut index e (subst (λ xs. slice_get xs index ≡ Some e) (sym same) at) (omega (arith, behind, one, count, shaped.settled.counts)) in
             (shut.shut, shut.is);
-        whole = λ kind. ap (λ (xs : List ℕ). length xs) listed.gone;
+        whole = λ kind. ap (λ (xs : List ℕ). length xs) (listed.gone (λ log. let c : kinds.Metadata ≡ kinds.Log = sym kind ∙ log in cc));
         ends = λ none. ap (λ (xs : List ℕ). length xs) (listed.ends (none_told x.extents (omega (arith, none, counted))));
         known = omega (arith, counted, long, ap (λ (xs : List ℕ). length xs) here);
         are = λ k y is.
@@ -388,7 +391,7 @@ module _ (generation : ℕ → ℕ) (name : StreamName) (sent : List Sent) where
 
     -- ---- Extend
 
-    module _ (own : 1 ≤ name.range) (k : ℕ) (last : Option ℕ) (pick : Nodes) (q : ReqNo) (is : p.body ≡ bodies.Stream (Extend name k last pick q)) where
+    module _ (own : 1 ≤ name.range) (plain : name.kind ≢ kinds.BlobData) (k : ℕ) (last : Option ℕ) (pick : Nodes) (q : ReqNo) (is : p.body ≡ bodies.Stream (Extend name k last pick q)) where
       -- a user has no stream of a range
       asker_is : is_foreign p.from name.range ≡ false → (server : ℕ) × (p.from ≡ Server server)
       asker_is f =
@@ -514,7 +517,7 @@ module _ (generation : ℕ → ℕ) (name : StreamName) (sent : List Sent) where
                 let (index, at, suc_is) = last_index (whole x) e (last_whole ∙ end) in
                 let list = listed x there in
                 let known = known_index (whole x) asks.n e (sym last_is ∙ named) in
-                let same : known.0 ≡ index = same_index b name x list known.0 index e known.2 at in
+                let same : known.0 ≡ index = same_index b name x plain list known.0 index e known.2 at in
                 let shut = (sealed_or_last (Some x) g s sent now_shaped index e at).sealed l (sealed_here e l (list.there index e at) sealed) in
                 let within = shut_within index s.core.shut shut.0 shut.1 in
                 none_open (omega (arith, within, suc_is)) (omega (arith, known.1, same, suc_is))
@@ -629,6 +632,33 @@ module _ (generation : ℕ → ℕ) (name : StreamName) (sent : List Sent) where
           if_elim (λ (o : Outcome Catalog). FineCatalog g o.after → RuleWalk o) (is_foreign p.from name.range) (refused b Manager p q Stale) (extend_answered b p name (generation_of p.from k) pick q r)
           (λ t fine. refused_walk q Stale) (λ t fine. let (server, from) = asker_is t in answered_walk server from r refl fine) catalog
 
+    -- ---- Trim
+
+    -- what leaves the log stays in its whole list
+    trimmed_shape : name.kind ≢ kinds.BlobData → (range k index : ℕ) (to_blob : Bool) → Trims b.stream range k index → Shaped (stream_of (trimmed b.stream range index to_blob) name) g s sent
+    trimmed_shape plain range k index to_blob t =
+        trimmed_elim b range k index to_blob t (λ o. Shaped o g s sent) name
+        (λ is. absurd (plain (ap (λ (u : StreamName). u.kind) is)))
+        (λ is. same_shape t.log (shorter index t.log) g s sent (shorter_whole index t.log) refl (subst (λ o. Shaped o g s sent) (ap (stream_of b.stream) is ∙ t.log_is) shaped))
+        shaped
+
+    trim_walk : name.kind ≢ kinds.BlobData → (range k index : ℕ) (to_blob : Bool) (q : ReqNo) → RuleWalk (trim_rule b p range k index to_blob q)
+    trim_walk plain range k index to_blob q =
+        if_elim RuleWalk (is_user p.from) (refused b Manager p q Stale) (trim_answered b p range index to_blob q (trimming b.stream range k index))
+        (λ t. refused_walk q Stale) (λ f. by_answer (trimming b.stream range k index) refl)
+      where
+        answer_told : (v : StreamSystem) (server : ℕ) → p.from ≡ Server server → (body : StreamBody) → bodies.Stream (Trimmed q) ≡ bodies.Stream body →
+            StreamMeans generation name v s sent (purpose_if generation name v s sent (stream_meant body)) body
+        answer_told v server here body made =
+            let d : Trimmed q ≡ body = cc in
+            subst (λ z. StreamMeans generation name v s sent (purpose_if generation name v s sent (stream_meant z)) z) d tt
+
+        by_answer : (r : Result Bool Refusal) → trimming b.stream range k index ≡ r → RuleWalk (trim_answered b p range index to_blob q r)
+        by_answer (Err refusal) is = refused_walk q refusal
+        by_answer (Ok false) is = stand generation s _ (shaped, (answer_told (after_manager_rule w (trim_answered b p range index to_blob q (Ok false))), tt))
+        by_answer (Ok true) is =
+            stand generation s _ (trimmed_shape plain range k index to_blob (trims b.stream range k index is), (answer_told (after_manager_rule w (trim_answered b p range index to_blob q (Ok true))), tt))
+
     -- ---- all rules
 
     own_fence : (x : Option Refusal) (q : ReqNo) (range k : ℕ) → FineCatalog g (or_refused b Manager p q x (open_taken b p range k q)).after → FineCatalog g b
@@ -679,9 +709,9 @@ module _ (generation : ℕ → ℕ) (name : StreamName) (sent : List Sent) where
     abbrev OfRule : Body → Type 0
     OfRule body = Each (manager.ManagerTells b p) (manager_rule b p body).packets
 
-    stream_walk : 1 ≤ name.range → (body : StreamBody) → p.body ≡ bodies.Stream body → OfRule (bodies.Stream body) → FineCatalog g (stream_body_rule b p body).after → RuleWalk (stream_body_rule b p body)
-    stream_walk own (CreateStream other fence q) is tells catalog = create_walk other (generation_of p.from fence) q (create_refusal b p other) refl
-    stream_walk own (OpenStreams range k q) is tells catalog = by_range (range == name.range) refl
+    stream_walk : 1 ≤ name.range → name.kind ≢ kinds.BlobData → (body : StreamBody) → p.body ≡ bodies.Stream body → OfRule (bodies.Stream body) → FineCatalog g (stream_body_rule b p body).after → RuleWalk (stream_body_rule b p body)
+    stream_walk own plain (CreateStream other fence q) is tells catalog = create_walk other (generation_of p.from fence) q (create_refusal b p other) refl
+    stream_walk own plain (OpenStreams range k q) is tells catalog = by_range (range == name.range) refl
       where
         by_range : (t : Bool) → (range == name.range) ≡ t → RuleWalk (open_rule b p range k q)
         by_range true t = open_walk range k q is (eqb-true range name.range t) (own_fence (open_refusal b p range k) q range k catalog) (open_refusal b p range k) refl
@@ -692,7 +722,7 @@ module _ (generation : ℕ → ℕ) (name : StreamName) (sent : List Sent) where
               confirms = λ r j w' at here. absurd (let c : bodies.Stream (OpenStreams range k q) ≡ bodies.Stream (Confirm r j w') = sym is ∙ at in cc);
               extends = λ o j l pick w' at here. absurd (let c : bodies.Stream (OpenStreams range k q) ≡ bodies.Stream (Extend o j l pick w') = sym is ∙ at in cc);
             }) (open_rule b p range k q) tells (opened_elsewhere range k q (open_refusal b p range k) apart)
-    stream_walk own (Confirm range k q) is tells catalog = by_range (range == name.range) refl
+    stream_walk own plain (Confirm range k q) is tells catalog = by_range (range == name.range) refl
       where
         by_range : (t : Bool) → (range == name.range) ≡ t → RuleWalk (confirm_rule b p range k q)
         by_range true t = confirm_walk range k q is (eqb-true range name.range t) (confirm_refusal b p range k) refl
@@ -703,29 +733,28 @@ module _ (generation : ℕ → ℕ) (name : StreamName) (sent : List Sent) where
               confirms = λ r j w' at here. apart ((let c : bodies.Stream (Confirm range k q) ≡ bodies.Stream (Confirm r j w') = sym is ∙ at in let d : range ≡ r = cc in d) ∙ here);
               extends = λ o j l pick w' at here. absurd (let c : bodies.Stream (Confirm range k q) ≡ bodies.Stream (Extend o j l pick w') = sym is ∙ at in cc);
             }) (confirm_rule b p range k q) tells (confirmed_elsewhere q (confirm_refusal b p range k))
-    stream_walk own (Extend other k last pick q) is tells catalog = by_name (is_name_or name other)
+    stream_walk own plain (Extend other k last pick q) is tells catalog = by_name (is_name_or name other)
       where
         by_name : (other ≡ name) ⊎ (other ≡ name → ⊥) → RuleWalk (extend_rule b p other (generation_of p.from k) last pick q)
         by_name (inl same) =
             subst (λ z. p.body ≡ bodies.Stream (Extend z k last pick q) → FineCatalog g (extend_rule b p z (generation_of p.from k) last pick q).after → RuleWalk (extend_rule b p z (generation_of p.from k) last pick q)) (sym same)
-            (λ at fine. extend_walk own k last pick q at fine) is catalog
+            (λ at fine. extend_walk own plain k last pick q at fine) is catalog
         by_name (inr apart) =
             quiet_walk (record {
               opens = λ r j w' at here. absurd (let c : bodies.Stream (Extend other k last pick q) ≡ bodies.Stream (OpenStreams r j w') = sym is ∙ at in cc);
               confirms = λ r j w' at here. absurd (let c : bodies.Stream (Extend other k last pick q) ≡ bodies.Stream (Confirm r j w') = sym is ∙ at in cc);
               extends = λ o j l r w' at here. apart ((let c : bodies.Stream (Extend other k last pick q) ≡ bodies.Stream (Extend o j l r w') = sym is ∙ at in let d : other ≡ o = cc in d) ∙ here);
             }) (extend_rule b p other (generation_of p.from k) last pick q) tells (extended_elsewhere other apart (generation_of p.from k) last pick q)
-    stream_walk own (Trim range k before to_blob q) is tells catalog =
-        quiet_walk (not_stream (Trim range k before to_blob q) is (λ r j w' at. cc) (λ r j w' at. cc) (λ o j l r w' at. cc)) (no_users b p q) tells (no_users_same q)
-    stream_walk own (MultiModify list q) is tells catalog =
+    stream_walk own plain (Trim range k index to_blob q) is tells catalog = trim_walk plain range k index to_blob q
+    stream_walk own plain (MultiModify list q) is tells catalog =
         quiet_walk (not_stream (MultiModify list q) is (λ r j w' at. cc) (λ r j w' at. cc) (λ o j l r w' at. cc)) (no_users b p q) tells (no_users_same q)
-    stream_walk own body is tells catalog = stand generation s _ (shaped, tt)
+    stream_walk own plain body is tells catalog = stand generation s _ (shaped, tt)
 
-    pub rule_walk : 1 ≤ name.range → (body : Body) → p.body ≡ body → FineCatalog g (manager_rule b p body).after → RuleWalk (manager_rule b p body)
-    rule_walk own body is catalog = by_body body is (subst OfRule is (manager.manager_tells b p)) catalog
+    pub rule_walk : 1 ≤ name.range → name.kind ≢ kinds.BlobData → (body : Body) → p.body ≡ body → FineCatalog g (manager_rule b p body).after → RuleWalk (manager_rule b p body)
+    rule_walk own plain body is catalog = by_body body is (subst OfRule is (manager.manager_tells b p)) catalog
       where
         by_body : (body : Body) → p.body ≡ body → OfRule body → FineCatalog g (manager_rule b p body).after → RuleWalk (manager_rule b p body)
-        by_body (bodies.Stream body) is tells catalog = stream_walk own body is tells catalog
+        by_body (bodies.Stream body) is tells catalog = stream_walk own plain body is tells catalog
         by_body (bodies.Seal body) is tells catalog =
             quiet_walk (record {
               opens = λ r j w' at here. absurd (let c : bodies.Seal body ≡ bodies.Stream (OpenStreams r j w') = sym is ∙ at in cc);

@@ -1,11 +1,12 @@
 -- From one stream system to the next: what a move leaves of the lists, and what its packets add.
-use Rattle.std.proofs.Common.{◌≡◌, ◌⊎◌, ℕ, suc, List, [], ◌++◌, Option, Some, None, slice_get, Contains, refl, sym, ap, ◌∙◌, subst, inl, inr}
+use Rattle.std.proofs.Common.{◌≡◌, ◌≢◌, ◌⊎◌, ℕ, suc, List, [], ◌++◌, Option, Some, None, slice_get, Contains, refl, sym, ap, ◌∙◌, subst, inl, inr}
 use Rattle.std.proofs.lemmas.List.Elements.{Contains-append_left, Contains-append_cases}
 use Rattle.wire.specs.declared.actor.ActorId.TheVariants.{Server}
 use Rattle.wire.specs.declared.actor.ReqNo.{ReqNo}
 use Rattle.wire.specs.declared.body.ReadBody.TheVariants.{Groups}
 use Rattle.wire.specs.declared.body.Body.TheVariants as bodies
 use Rattle.wire.specs.declared.packet.Packet.{Packet}
+use Rattle.wire.specs.declared.streams.StreamKind.TheVariants.{BlobData}
 use Rattle.wire.specs.declared.streams.StreamName.{StreamName}
 use Rattle.replica.specs.Groups.{Group}
 use Rattle.streams.specs.Streams.{Stream, stream_of, whole}
@@ -18,7 +19,7 @@ use Rattle.laws_streams.proofs.Choices.{Each, each-contains}
 use Rattle.laws_streams.proofs.Ground.{Ground}
 use Rattle.laws_streams.proofs.MoreKnown.{Later}
 use Rattle.laws_streams.proofs.RestsOnGround.{Holds}
-use Rattle.laws_streams.proofs.ListRules.{Goes, old_whole, grown_whole}
+use Rattle.laws_streams.proofs.ListRules.{Goes, grown_whole}
 use Rattle.laws_streams.proofs.WholeLists.{none_whole}
 use Rattle.model_partition.specs.StreamMachine.{MachineState}
 use Rattle.laws_stream_machine.specs.Refinement.{Sent, extents_of}
@@ -29,7 +30,7 @@ use Rattle.laws_stream_machine.proofs.Refines.{Follows}
 
 -- ---- lists
 
-module _ (b c : Catalog) (goes : Goes b c) (fresh : b.extent (suc b.count) ≡ None) (name : StreamName) where
+module _ (b c : Catalog) (goes : Goes b c) (fresh : b.extent (suc b.count) ≡ None) (name : StreamName) (plain : name.kind ≢ BlobData) where
   list_begins : (o : Option Stream) → stream_of b.stream name ≡ o → Begins (extents_of o) (extents_of (stream_of c.stream name))
   list_begins None is = record { rest = extents_of (stream_of c.stream name); is = refl }
   list_begins (Some x) is =
@@ -40,20 +41,23 @@ module _ (b c : Catalog) (goes : Goes b c) (fresh : b.extent (suc b.count) ≡ N
       slice_get (extents_of (stream_of b.stream name)) index ≡ Some e
   list_back None is index e made at = absurd cc
   list_back (Some z) is index e made at = elim (goes.lists name z is) [
-    | inl old ↦ subst (λ p. slice_get (extents_of p) index ≡ Some e) (sym old.there) (subst (λ xs. slice_get xs index ≡ Some e) (old_whole old) at)
+    | inl old ↦ subst (λ p. slice_get (extents_of p) index ≡ Some e) (sym old.there) (subst (λ xs. slice_get xs index ≡ Some e) old.same at)
     | inr new ↦ elim new [
       | inl empty ↦ absurd (let k : slice_get [] index ≡ Some e = subst (λ xs. slice_get xs index ≡ Some e) (none_whole z empty.0 empty.1) at in cc)
-      | inr g ↦ elim (pushed_get (whole g.1.was) (suc b.count) index e (subst (λ xs. slice_get xs index ≡ Some e) (grown_whole g.1) at)) [
-        | inl k ↦ subst (λ p. slice_get (extents_of p) index ≡ Some e) (sym g.1.there) k
-        | inr k ↦ absurd (made (ap b.extent k.1 ∙ fresh))
+      | inr k ↦ elim k [
+        | inl g ↦ elim (pushed_get (whole g.1.was) (suc b.count) index e (subst (λ xs. slice_get xs index ≡ Some e) (grown_whole g.1) at)) [
+          | inl k ↦ subst (λ p. slice_get (extents_of p) index ≡ Some e) (sym g.1.there) k
+          | inr k ↦ absurd (made (ap b.extent k.1 ∙ fresh))
+        ]
+        | inr g ↦ absurd (plain g.kind)
       ]
     ]
   ]
 
-pub ahead_goes : (name : StreamName) (w : StreamSystem) (s : MachineState Group) (v : StreamSystem) (t : MachineState Group) → Goes w.catalog v.catalog → w.catalog.extent (suc w.catalog.count) ≡ None → Onward s t → Ahead name w s v t
-ahead_goes name w s v t goes fresh onward = record {
-  begins = list_begins w.catalog v.catalog goes fresh name (stream_of w.catalog.stream name) refl;
-  back = λ index e made at. list_back w.catalog v.catalog goes fresh name (stream_of v.catalog.stream name) refl index e made at;
+pub ahead_goes : (name : StreamName) → name.kind ≢ BlobData → (w : StreamSystem) (s : MachineState Group) (v : StreamSystem) (t : MachineState Group) → Goes w.catalog v.catalog → w.catalog.extent (suc w.catalog.count) ≡ None → Onward s t → Ahead name w s v t
+ahead_goes name plain w s v t goes fresh onward = record {
+  begins = list_begins w.catalog v.catalog goes fresh name plain (stream_of w.catalog.stream name) refl;
+  back = λ index e made at. list_back w.catalog v.catalog goes fresh name plain (stream_of v.catalog.stream name) refl index e made at;
   made = λ e made none. by_extent e (w.catalog.extent e) refl made none;
   unsealed = λ e made none. by_open e (w.catalog.extent e) refl made none;
   onward = onward;

@@ -1,5 +1,5 @@
 -- Whoever the manager remembers as the one who asked for a seal has asked for it.
-use Rattle.std.proofs.Common.{◌≡◌, ◌⊎◌, ℕ, suc, Bool, not, ◌||◌, ◌==◌, List, [], ◌∷◌, Option, Some, None, Result, Ok, Err, slice_get, Contains, refl, ap, ◌∙◌, inl, inr, subst}
+use Rattle.std.proofs.Common.{◌≡◌, ◌⊎◌, ℕ, suc, Bool, true, false, not, ◌||◌, ◌==◌, List, [], ◌∷◌, Option, Some, None, Result, Ok, Err, slice_get, Contains, refl, ap, ◌∙◌, inl, inr, subst}
 use Rattle.block_types.specs.declared.record.Nodes.{Nodes}
 use Rattle.wire.specs.declared.actor.ActorId.{ActorId}
 use Rattle.wire.specs.declared.actor.ActorId.TheVariants.{Node, Manager, Map, Server, User}
@@ -14,14 +14,14 @@ use Rattle.wire.specs.declared.packet.Packet.{Packet}
 use Rattle.wire.specs.declared.refusal.Refusal.{Refusal}
 use Rattle.wire.specs.declared.refusal.Refusal.TheVariants.{Stale, BadPick}
 use Rattle.wire.specs.declared.streams.StreamName.{StreamName}
-use Rattle.streams.specs.Streams.{stream_of, extending}
+use Rattle.streams.specs.Streams.{stream_of, extending, trimming}
 use Rattle.model_streams.specs.declared.event.Event.{Event}
 use Rattle.model_streams.specs.declared.event.Event.TheVariants.{Submit, Deliver, Stop, Restart, Decide, GiveUp, Assign, Renew, Moment, Checkpoint, Split, Merge}
 use Rattle.model_streams.specs.declared.extent.Asker.{Asker}
 use Rattle.model_streams.specs.declared.extent.Extent.{Extent}
 use Rattle.model_streams.specs.declared.extent.PlaceReport.{PlaceReport}
 use Rattle.model_streams.specs.Actors.{is_node, is_user, generation_of}
-use Rattle.model_streams.specs.Manager.{Catalog, is_there, forgotten_if, catalog_stopped, new_extent, with_extent, extended, create_refusal, create_taken, open_refusal, open_taken, confirm_refusal, answer, is_foreign, is_pick, sealed_lengths, extend_made, last_told, extend_answered, extend_rule, no_users, seal_asked, seal_extent_rule, with_report, noted, frozen_to, frozen_rule, known_sealed, is_sealed_rule, place_of, first_sealed, asks_tail, short_rule, decided_if, least_told, decide_rule, stream_body_rule, seal_body_rule, manager_rule, reminders}
+use Rattle.model_streams.specs.Manager.{Catalog, is_there, forgotten_if, catalog_stopped, new_extent, with_extent, extended, create_refusal, create_taken, open_refusal, open_taken, confirm_refusal, answer, is_foreign, is_pick, sealed_lengths, extend_made, last_told, extend_answered, extend_rule, trim_answered, trim_rule, no_users, seal_asked, seal_extent_rule, with_report, noted, frozen_to, frozen_rule, known_sealed, is_sealed_rule, place_of, first_sealed, asks_tail, short_rule, decided_if, least_told, decide_rule, stream_body_rule, seal_body_rule, manager_rule, reminders}
 use Rattle.model_streams.specs.Node.{extent_of, node_rule}
 use Rattle.model_streams.specs.Outcome.{Outcome, packet, silent, sends, refused, or_refused}
 use Rattle.model_streams.specs.StreamSystem.{StreamSystem, stops_in, stands_in, node_halted, node_performs, manager_halted, manager_performs, delivered, delivered_if, is_request, node_stops, manager_stops, stop, is_present, restart, happens, is_server_call, is_told, is_table_note, start, Move, moved, run_moves}
@@ -84,6 +84,16 @@ module _ (p : Packet) (b : Catalog) where
       (extend_answered b p s fence pick q (extending (sealed_lengths b) (stream_of b.stream s) fence last))
       (λ t. same_askers) (λ t. answered_askers s fence pick q (extending (sealed_lengths b) (stream_of b.stream s) fence last))
 
+  trim_askers : (range generation before : ℕ) (to_blob : Bool) (q : ReqNo) → Askers p b (trim_rule b p range generation before to_blob q).after
+  trim_askers range generation before to_blob q =
+      if_elim (λ (o : Outcome Catalog). Askers p b o.after) (is_user p.from) (refused b Manager p q Stale) (trim_answered b p range before to_blob q (trimming b.stream range generation before))
+      (λ t. same_askers) (λ f. by_answer (trimming b.stream range generation before))
+    where
+      by_answer : (x : Result Bool Refusal) → Askers p b (trim_answered b p range before to_blob q x).after
+      by_answer (Err refusal) = same_askers
+      by_answer (Ok false) = same_askers
+      by_answer (Ok true) = same_askers
+
   no_users_askers : (q : ReqNo) → Askers p b (no_users b p q).after
   no_users_askers q =
       if_elim (λ (o : Outcome Catalog). Askers p b o.after) (is_user p.from) (refused b Manager p q Stale) (silent b) (λ t. same_askers) (λ t. same_askers)
@@ -93,7 +103,7 @@ module _ (p : Packet) (b : Catalog) where
   stream_askers (OpenStreams range generation q) = unless_askers q (open_refusal b p range generation) (open_taken b p range generation q) same_askers
   stream_askers (Confirm range generation q) = unless_askers q (confirm_refusal b p range generation) (answer b p (Confirmed q)) same_askers
   stream_askers (Extend s generation last pick q) = extend_askers s (generation_of p.from generation) last pick q
-  stream_askers (Trim range generation before to_blob q) = no_users_askers q
+  stream_askers (Trim range generation before to_blob q) = trim_askers range generation before to_blob q
   stream_askers (MultiModify list q) = no_users_askers q
   stream_askers body = same_askers
 

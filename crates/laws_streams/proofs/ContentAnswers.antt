@@ -1,13 +1,14 @@
--- What the answers of nodes say: groups that were read begin the script, and groups that were appended stand in it.
+-- What the answers of nodes say: groups that were read begin the script, bytes that were read were observed, and groups that were
+-- appended stand in the script.
 use Rattle.std.proofs.Common.{◌≡◌, ℕ, ◌≤◌, true, List, ◌∷◌, ◌++◌, Some, Contains, refl, sym, ap, ◌∙◌, inl, inr, arith, subst, append_assoc}
 use Rattle.std.proofs.lemmas.List.Elements.{Contains-append_right}
 use Rattle.wire.specs.declared.actor.ActorId.{ActorId}
 use Rattle.wire.specs.declared.actor.ActorId.TheVariants.{Node}
 use Rattle.wire.specs.declared.actor.ReqNo.{ReqNo}
 use Rattle.wire.specs.declared.body.AppendBody.TheVariants.{Appended}
-use Rattle.wire.specs.declared.body.ReadBody.TheVariants.{ReadGroups, Groups}
+use Rattle.wire.specs.declared.body.ReadBody.TheVariants.{ReadGroups, Groups, Bytes}
 use Rattle.wire.specs.declared.body.Body.TheVariants as bodies
-use Rattle.wire.specs.declared.note.Note.TheVariants.{Acked, SealedAt}
+use Rattle.wire.specs.declared.note.Note.TheVariants.{Acked, SealedAt, Seen}
 use Rattle.wire.specs.declared.packet.Packet.{Packet}
 use Rattle.replica.specs.Groups.{Group, text_length}
 use Rattle.model_streams.specs.declared.waiting_append.WaitingAppend.{WaitingAppend}
@@ -169,6 +170,36 @@ module _ (nodes target : ℕ) (before after : List Move) where
               read_of from to q e k m.node groups teller f.extent
               (read_so m.node to q k groups a.past a.rest a.move a.split m.taken m.stood m.to here)
 
+    module _ (offset : ℕ) (bytes : List ℕ) where
+      abbrev sight : Packet
+      sight = packet from to (bodies.Read (Bytes q e offset bytes))
+
+      seen_by : SentIn before first sight → (n : ℕ) × Contains (run_moves before first).notes (Seen e n offset bytes)
+      seen_by a = elim a.sends [
+        | inl x ↦ elim x [ inl t ↦ absurd cc | inr t ↦ elim t [ inl y ↦ absurd cc | inr y ↦ absurd cc ] ]
+        | inr x ↦ elim x [
+          | inl m ↦ by_node m
+          | inr y ↦ elim y [
+            | inl m ↦ absurd (each-contains (manager.ManagerTells (run_moves a.past first).catalog m.taken) _ sight
+                (manager.manager_tells (run_moves a.past first).catalog m.taken) m.rule).1
+            | inr d ↦ absurd (each-contains (decision.DecisionTells (run_moves a.past first).catalog d.extent _) _ sight
+                (decision.decision_tells (run_moves a.past first).catalog d.extent) d.rule).1
+          ]
+        ]
+      ]
+        where
+          by_node : NodeSends (run_moves a.past first) a.move (moved (run_moves a.past first) a.move) sight →
+              (n : ℕ) × Contains (run_moves before first).notes (Seen e n offset bytes)
+          by_node m =
+              let v = run_moves a.past first in
+              let k = extent_of m.taken.body in
+              let rule = node_rule m.node (v.replica m.node k) m.taken m.taken.body in
+              let (teller, f) = each-contains (node.NodeTells m.node (v.replica m.node k) k m.taken rule.notes) _
+              sight (node.node_tells m.node (v.replica m.node k) m.taken) m.rule in
+              let x = Seen e f.0 offset bytes in
+              let now : Contains (moved v a.move).notes x = subst (λ xs. Contains xs x) (sym m.notes) (Contains-append_right v.notes rule.notes x f.1) in
+              (f.0, rw (a.split, run_more a.past (a.move ∷ a.rest) first) (notes_stay a.rest (moved v a.move) x now))
+
     module _ (o : ℕ) where
       abbrev answer : Packet
       answer = packet from to (bodies.Append (Appended q e o))
@@ -209,6 +240,7 @@ module _ (nodes target : ℕ) (before after : List Move) where
       record {
         fences = hold first before after half whole;
         groups = λ from to q e groups c. read_by from to q e groups (sent_first nodes target before (packet from to (bodies.Read (Groups q e groups))) c);
+        bytes = λ from to q e offset bytes c. seen_by from to q e offset bytes (sent_first nodes target before (packet from to (bodies.Read (Bytes q e offset bytes))) c);
         appended = λ from to q e o c. appended_by from to q e o (sent_first nodes target before (packet from to (bodies.Append (Appended q e o))) c);
       }
 

@@ -1,5 +1,6 @@
 pub mod Lists
 pub mod WholeLists
+pub mod TrimTests
 pub mod Choices
 pub mod Ground
 pub mod MoreKnown
@@ -27,6 +28,8 @@ pub mod NodeAnswers
 pub mod DecisionAnswers
 pub mod StreamAnswers
 pub mod ListRules
+pub mod KeptStreams
+pub mod TrimmedBases
 pub mod Listings
 pub mod Askers
 pub mod SealAnswers
@@ -35,3 +38,4 @@ pub mod ContentAnswers
 pub mod Examples
 pub mod SealedExamples
 pub mod CheckExamples
+pub mod TrimExamples

@@ -1,5 +1,5 @@
 -- What a rule of the manager's table leaves of the lists of extents.
-use Rattle.std.proofs.Common.{◌≡◌, ◌⊎◌, ℕ, suc, ◌≤◌, ◌&&◌, ◌==◌, [], ◌∷◌, ◌++◌, Option, Some, None, Result, Ok, Err, refl, sym, ap, ◌∙◌, inl, inr, arith, subst}
+use Rattle.std.proofs.Common.{◌≡◌, ◌≢◌, ◌⊎◌, ℕ, suc, ◌≤◌, Bool, true, false, ◌&&◌, ◌==◌, List, [], ◌∷◌, ◌++◌, Option, Some, None, Result, Ok, Err, slice_get, refl, sym, ap, ◌∙◌, inl, inr, arith, subst}
 use Rattle.std.proofs.lemmas.Bool.{eqb-true, and_parts}
 use Rattle.block_types.specs.declared.record.Nodes.{Nodes}
 use Rattle.wire.specs.declared.actor.ActorId.{ActorId}
@@ -17,11 +17,11 @@ use Rattle.wire.specs.declared.refusal.Refusal.TheVariants.{Stale, BadPick}
 use Rattle.wire.specs.declared.streams.StreamKind.{StreamKind}
 use Rattle.wire.specs.declared.streams.StreamKind.TheVariants.{Metadata, Log, RowData, BlobData}
 use Rattle.wire.specs.declared.streams.StreamName.{StreamName}
-use Rattle.streams.specs.Streams.{kind_number, Stream, Streams, whole, empty_stream, stream_of, with_stream, fenced_at, extending, last_of, longer, extended_if, extended as extended_streams}
+use Rattle.streams.specs.Streams.{kind_number, Stream, Streams, whole, empty_stream, stream_of, with_stream, fenced_at, extending, last_of, longer, extended_if, extended as extended_streams, shorter, leaving, with_extents, log_name, blob_data_name, trimmed, trimming}
 use Rattle.model_streams.specs.declared.extent.Extent.{Extent}
 use Rattle.model_streams.specs.declared.extent.PlaceReport.{PlaceReport}
 use Rattle.model_streams.specs.Actors.{is_node, is_user, generation_of}
-use Rattle.model_streams.specs.Manager.{Catalog, is_there, new_extent, with_extent, extended, create_tests, create_refusal, create_taken, open_refusal, open_taken, confirm_refusal, answer, is_foreign, is_pick, sealed_lengths, extend_made, last_told, extend_answered, extend_rule, no_users, seal_asked, seal_extent_rule, with_report, noted, frozen_to, frozen_rule, known_sealed, is_sealed_rule, place_of, first_sealed, asks_tail, short_rule, sealed_to, decided_if, least_told, decide_rule, stream_body_rule, seal_body_rule, manager_rule, reminders}
+use Rattle.model_streams.specs.Manager.{Catalog, is_there, new_extent, with_extent, extended, create_tests, create_refusal, create_taken, open_refusal, open_taken, confirm_refusal, answer, is_foreign, is_pick, sealed_lengths, extend_made, last_told, extend_answered, extend_rule, with_streams, trim_answered, trim_rule, no_users, seal_asked, seal_extent_rule, with_report, noted, frozen_to, frozen_rule, known_sealed, is_sealed_rule, place_of, first_sealed, asks_tail, short_rule, sealed_to, decided_if, least_told, decide_rule, stream_body_rule, seal_body_rule, manager_rule, reminders}
 use Rattle.model_streams.specs.Outcome.{Outcome, silent, sends, refused, or_refused}
 use Rattle.model_streams.proofs.Tests.{if_elim, none_met}
 use Rattle.laws_streams.specs.Origins.{Begins}
@@ -29,6 +29,7 @@ use Rattle.laws_streams.specs.Answers.{MayGrow}
 use Rattle.laws_streams.specs.Listings.{Longer}
 use Rattle.laws_streams.proofs.Lists.{begins_refl, begins_push}
 use Rattle.laws_streams.proofs.WholeLists.{whole_longer}
+use Rattle.laws_streams.proofs.TrimTests.{Trims, trims, kept_in, trimmed_is, shorter_whole, shorter_gone, shorter_ends, left_at, with_extents_whole}
 use Rattle.laws_streams.proofs.Choices.{changed_elim, changed-same}
 use Rattle.laws_streams.proofs.RisingFences.{not_there, no_fault}
 use Rattle.laws_streams.proofs.StreamAnswers.{found_end, may_grow}
@@ -41,12 +42,13 @@ pub record Kept (y : Extent) (found : Option Extent) : Type 0 where
   pub is : found ≡ Some now
   pub sealed : (l : ℕ) → y.sealed ≡ Some l → now.sealed ≡ Some l
 
--- a list that was there
+-- a list with the extents that it had; a log may have lost some at its front, but never the last one
 pub record Old (b : Catalog) (s : StreamName) (z : Stream) : Type 0 where
   pub was : Stream
   pub there : stream_of b.stream s ≡ Some was
-  pub gone : z.gone ≡ was.gone
-  pub extents : z.extents ≡ was.extents
+  pub same : whole z ≡ whole was
+  pub gone : s.kind ≢ Log → z.gone ≡ was.gone
+  pub ends : (was.extents ≡ [] → was.gone ≡ []) → z.extents ≡ [] → z.gone ≡ []
 
 -- a list that gained the next extent
 pub record Grown (b : Catalog) (extent : ℕ → Option Extent) (s : StreamName) (z : Stream) : Type 0 where
@@ -59,19 +61,42 @@ pub record Grown (b : Catalog) (extent : ℕ → Option Extent) (s : StreamName)
   pub new : Extent
   pub made : extent (suc b.count) ≡ Some new
 
-pub old_whole : {b : Catalog} {s : StreamName} {z : Stream} (o : Old b s z) → whole z ≡ whole o.was
-old_whole o = rw (o.gone, o.extents) refl
+-- an extent that stands in a log, with one more behind it
+pub record Leaves (b : Catalog) (e : ℕ) : Type 0 where
+  pub range : ℕ
+  pub log : Stream
+  pub there : stream_of b.stream (log_name range) ≡ Some log
+  pub index : ℕ
+  pub next : ℕ
+  pub at : slice_get (whole log) index ≡ Some e
+  pub behind : slice_get (whole log) (suc index) ≡ Some next
+
+-- a blob stream that gained extents that left a log
+pub record Gathered (b : Catalog) (s : StreamName) (z : Stream) : Type 0 where
+  pub kind : s.kind ≡ BlobData
+  pub was : Stream
+  pub there : stream_of b.stream s ≡ Some was
+  pub gone : z.gone ≡ was.gone
+  pub left : List ℕ
+  pub extents : z.extents ≡ was.extents ++ left
+  pub leaves : (i e : ℕ) → slice_get left i ≡ Some e → Leaves b e
+
+pub gathered_whole : {b : Catalog} {s : StreamName} {z : Stream} (g : Gathered b s z) → whole z ≡ whole g.was ++ g.left
+gathered_whole g = rw (g.gone, g.extents) (with_extents_whole g.left g.was)
 
 pub grown_whole : {b : Catalog} {extent : ℕ → Option Extent} {s : StreamName} {z : Stream} (g : Grown b extent s z) → whole z ≡ whole g.was ++ suc b.count ∷ []
 grown_whole {b} g = rw (g.gone, g.extents) (whole_longer (suc b.count) g.was)
+
+-- what a list comes from: it was there, is empty, gained the next extent, or what left a log
+abbrev pub ListFrom : Catalog → (ℕ → Option Extent) → StreamName → StreamName → Stream → Type 0
+ListFrom b extent name s z = Old b s z ⊎ (((z.gone ≡ []) × (z.extents ≡ [])) ⊎ (((s ≡ name) × Grown b extent s z) ⊎ Gathered b s z))
 
 -- from b to c lists and extents are kept, and at most the list of this name gains an extent
 pub record Goes (b c : Catalog) : Type 0 where
   pub name : StreamName
   pub kept : (e : ℕ) (y : Extent) → b.extent e ≡ Some y → Kept y (c.extent e)
   pub grows : (s : StreamName) (x : Stream) → stream_of b.stream s ≡ Some x → Longer x (stream_of c.stream s)
-  pub lists : (s : StreamName) (z : Stream) → stream_of c.stream s ≡ Some z →
-      Old b s z ⊎ (((z.gone ≡ []) × (z.extents ≡ [])) ⊎ ((s ≡ name) × Grown b c.extent s z))
+  pub lists : (s : StreamName) (z : Stream) → stream_of c.stream s ≡ Some z → ListFrom b c.extent name s z
   pub count : b.count ≤ c.count
   pub numbered : (e : ℕ) (y : Extent) → c.extent e ≡ Some y → ((x : Extent) × (b.extent e ≡ Some x)) ⊎ (e ≤ c.count)
 
@@ -79,10 +104,10 @@ same_extent : (o : Option Extent) (y : Extent) → o ≡ Some y → Kept y o
 same_extent o y is = record { now = y; is = is; sealed = λ l k. k }
 
 same_list : (o : Option Stream) (x : Stream) → o ≡ Some x → Longer x o
-same_list o x is = record { now = x; is = is; begins = begins_refl (whole x) }
+same_list o x is = record { now = x; is = is; begins = begins_refl (whole x); gone = begins_refl x.gone }
 
 old_list : (b : Catalog) (s : StreamName) (z : Stream) → stream_of b.stream s ≡ Some z → Old b s z
-old_list b s z is = record { was = z; there = is; gone = refl; extents = refl }
+old_list b s z is = record { was = z; there = is; same = refl; gone = λ k. refl; ends = λ k. k }
 
 -- any name
 abbrev some_name : StreamName
@@ -159,8 +184,7 @@ create_goes b p s fence q None is =
       kept = λ e y there. same_extent _ y there;
       grows = λ t x there. with_stream_elim (Longer x) b.stream s (empty_stream fence) t
           (λ k. absurd (let c : None ≡ Some x = sym none ∙ ap (stream_of b.stream) (sym k) ∙ there in cc)) (same_list _ x there);
-      lists = λ t z. with_stream_elim (λ o. o ≡ Some z → Old b t z ⊎ (((z.gone ≡ []) × (z.extents ≡ [])) ⊎ ((t ≡ some_name) × Grown b b.extent t z)))
-          b.stream s (empty_stream fence) t
+      lists = λ t z. with_stream_elim (λ o. o ≡ Some z → ListFrom b b.extent some_name t z) b.stream s (empty_stream fence) t
           (λ k there. let c : empty_stream fence ≡ z = cc in inr (inl (ap (λ (v : Stream). v.gone) (sym c), ap (λ (v : Stream). v.extents) (sym c))))
           (λ there. inl (old_list b t z there));
       count = omega arith;
@@ -171,13 +195,13 @@ fenced_longer : (generation : ℕ) (o : Option Stream) (x : Stream) → o ≡ So
 fenced_longer generation None x is = absurd cc
 fenced_longer generation (Some y) x is =
     let c : y ≡ x = cc in
-    record { now = record y { fence = generation }; is = refl; begins = subst (λ (v : Stream). Begins (whole v) (whole y)) c (begins_refl (whole y)) }
+    record { now = record y { fence = generation }; is = refl; begins = subst (λ (v : Stream). Begins (whole v) (whole y)) c (begins_refl (whole y)); gone = subst (λ (v : Stream). Begins v.gone y.gone) c (begins_refl y.gone) }
 
 fenced_old : (b : Catalog) (s : StreamName) (generation : ℕ) (o : Option Stream) (z : Stream) → stream_of b.stream s ≡ o → fenced_at generation o ≡ Some z → Old b s z
 fenced_old b s generation None z there is = absurd cc
 fenced_old b s generation (Some y) z there is =
     let c : record y { fence = generation } ≡ z = cc in
-    record { was = y; there = there; gone = ap (λ (v : Stream). v.gone) (sym c); extents = ap (λ (v : Stream). v.extents) (sym c) }
+    record { was = y; there = there; same = ap whole (sym c); gone = λ k. ap (λ (v : Stream). v.gone) (sym c); ends = subst (λ (v : Stream). (y.extents ≡ [] → y.gone ≡ []) → v.extents ≡ [] → v.gone ≡ []) c (λ k. k) }
 
 open_goes : (b : Catalog) (p : Packet) (range generation : ℕ) (q : ReqNo) (x : Option Refusal) →
     Goes b (or_refused b Manager p q x (open_taken b p range generation q)).after
@@ -187,8 +211,7 @@ open_goes b p range generation q None = record {
   kept = λ e y there. same_extent _ y there;
   grows = λ s x there. if_elim (Longer x) (s.range == range) (fenced_at generation (stream_of b.stream s)) (stream_of b.stream s)
       (λ t. fenced_longer generation _ x there) (λ t. same_list _ x there);
-  lists = λ s z. if_elim (λ o. o ≡ Some z → Old b s z ⊎ (((z.gone ≡ []) × (z.extents ≡ [])) ⊎ ((s ≡ some_name) × Grown b b.extent s z)))
-      (s.range == range) (fenced_at generation (stream_of b.stream s)) (stream_of b.stream s)
+  lists = λ s z. if_elim (λ o. o ≡ Some z → ListFrom b b.extent some_name s z) (s.range == range) (fenced_at generation (stream_of b.stream s)) (stream_of b.stream s)
       (λ t is. inl (fenced_old b s generation (stream_of b.stream s) z refl is)) (λ t is. inl (old_list b s z is));
   count = omega arith;
   numbered = λ e y there. inl (y, there);
@@ -206,11 +229,10 @@ module _ (b : Catalog) (s : StreamName) (fence : ℕ) (pick : Nodes) (x : Stream
         (λ q. absurd (let c : None ≡ Some y = sym fresh ∙ ap b.extent (sym q) ∙ is in cc)) (λ q. same_extent _ y is);
     grows = λ t y is. rw longer_is (with_stream_elim (Longer y) b.stream s (longer (suc b.count) x) t
         (λ k. let c : y ≡ x = (let d : Some y ≡ Some x = sym is ∙ ap (stream_of b.stream) k ∙ there in cc) in
-        record { now = longer (suc b.count) x; is = refl; begins = subst (λ (v : Stream). Begins (whole v) (whole (longer (suc b.count) x))) (sym c) (subst (Begins (whole x)) (sym (whole_longer (suc b.count) x)) (begins_push (whole x) (suc b.count ∷ []))) })
+        record { now = longer (suc b.count) x; is = refl; begins = subst (λ (v : Stream). Begins (whole v) (whole (longer (suc b.count) x))) (sym c) (subst (Begins (whole x)) (sym (whole_longer (suc b.count) x)) (begins_push (whole x) (suc b.count ∷ []))); gone = subst (λ (v : Stream). Begins v.gone x.gone) (sym c) (begins_refl x.gone) })
         (same_list _ y is));
-    lists = λ t z. rw longer_is (with_stream_elim (λ o. o ≡ Some z → Old b t z ⊎ (((z.gone ≡ []) × (z.extents ≡ [])) ⊎ ((t ≡ s) × Grown b (extended b s fence pick).extent t z)))
-        b.stream s (longer (suc b.count) x) t
-        (λ k is. let c : longer (suc b.count) x ≡ z = cc in inr (inr (
+    lists = λ t z. rw longer_is (with_stream_elim (λ o. o ≡ Some z → ListFrom b (extended b s fence pick).extent s t z) b.stream s (longer (suc b.count) x) t
+        (λ k is. let c : longer (suc b.count) x ≡ z = cc in inr (inr (inl (
           k,
           record {
             was = x;
@@ -222,11 +244,85 @@ module _ (b : Catalog) (s : StreamName) (fence : ℕ) (pick : Nodes) (x : Stream
             new = new_extent pick fence;
             made = changed-same (suc b.count) (Some (new_extent pick fence)) b.extent;
           },
-        )))
+        ))))
         (λ is. inl (old_list b t z is)));
     count = omega arith;
     numbered = λ e y. changed_elim (λ o. o ≡ Some y → ((v : Extent) × (b.extent e ≡ Some v)) ⊎ (e ≤ suc b.count)) (suc b.count) (Some (new_extent pick fence)) b.extent e
         (λ q is. inr (omega (arith, q))) (λ q is. inl (y, is));
+  }
+
+-- the log and the blob stream of a range change where the log is trimmed
+module _ (b : Catalog) (range generation before : ℕ) (to_blob : Bool) (t : Trims b.stream range generation before) where
+  abbrev log : Stream
+  log = shorter before t.log
+
+  abbrev blob_data : Stream
+  blob_data = kept_in before to_blob t.log t.blob_data
+
+  -- each of the two, and the others
+  pub trimmed_elim : (P : Option Stream → Type 0) (s : StreamName) → (s ≡ blob_data_name range → P (Some blob_data)) → (s ≡ log_name range → P (Some log)) →
+      P (stream_of b.stream s) → P (stream_of (trimmed b.stream range before to_blob) s)
+  trimmed_elim P s of_blob of_log other =
+      rw (trimmed_is to_blob t) (with_stream_elim P (with_stream b.stream (log_name range) log) (blob_data_name range) blob_data s of_blob
+      (with_stream_elim P b.stream (log_name range) log s of_log other))
+
+  log_longer : (x : Stream) → Some x ≡ Some t.log → Longer x (Some log)
+  log_longer x is =
+      let c : x ≡ t.log = cc in
+      record { now = log; is = refl; begins = subst (λ (v : Stream). Begins (whole v) (whole log)) (sym c) (subst (Begins (whole t.log)) (sym (shorter_whole before t.log)) (begins_refl (whole t.log))); gone = subst (λ (v : Stream). Begins v.gone log.gone) (sym c) (shorter_gone before t.log t.above) }
+
+  blob_longer : (x : Stream) → Some x ≡ Some t.blob_data → Longer x (Some blob_data)
+  blob_longer x is =
+      let c : x ≡ t.blob_data = cc in
+      record { now = blob_data; is = refl; begins = subst (λ (v : Stream). Begins (whole v) (whole blob_data)) (sym c) by_flag; gone = subst (λ (v : Stream). Begins v.gone blob_data.gone) (sym c) gone_same }
+    where
+      gone_same : Begins t.blob_data.gone blob_data.gone
+      gone_same = if_elim (λ (v : Stream). Begins t.blob_data.gone v.gone) to_blob (with_extents (leaving before t.log) t.blob_data) t.blob_data
+          (λ k. begins_refl t.blob_data.gone) (λ k. begins_refl t.blob_data.gone)
+
+      by_flag : Begins (whole t.blob_data) (whole blob_data)
+      by_flag = if_elim (λ (v : Stream). Begins (whole t.blob_data) (whole v)) to_blob (with_extents (leaving before t.log) t.blob_data) t.blob_data
+          (λ k. subst (Begins (whole t.blob_data)) (sym (with_extents_whole (leaving before t.log) t.blob_data)) (begins_push (whole t.blob_data) (leaving before t.log)))
+          (λ k. begins_refl (whole t.blob_data))
+
+  log_old : Old b (log_name range) log
+  log_old = record {
+    was = t.log;
+    there = t.log_is;
+    same = shorter_whole before t.log;
+    gone = λ k. absurd (k refl);
+    ends = λ k none. absurd (shorter_ends before t.log t.below none);
+  }
+
+  blob_gathered : ListFrom b b.extent some_name (blob_data_name range) blob_data
+  blob_gathered = if_elim (ListFrom b b.extent some_name (blob_data_name range)) to_blob (with_extents (leaving before t.log) t.blob_data) t.blob_data
+      (λ k. inr (inr (inr (record {
+        kind = refl;
+        was = t.blob_data;
+        there = t.blob_data_is;
+        gone = refl;
+        left = leaving before t.log;
+        extents = refl;
+        leaves = λ i e is.
+            let (index, next, at, behind) = left_at before t.log t.below i e is in
+            record { range = range; log = t.log; there = t.log_is; index = index; next = next; at = at; behind = behind };
+      }))))
+      (λ k. inl (old_list b (blob_data_name range) t.blob_data t.blob_data_is))
+
+  trimmed_goes : Goes b (with_streams b (trimmed b.stream range before to_blob))
+  trimmed_goes = record {
+    name = some_name;
+    kept = λ e y there. same_extent _ y there;
+    grows = λ s x there. trimmed_elim (Longer x) s
+        (λ k. blob_longer x (sym there ∙ ap (stream_of b.stream) k ∙ t.blob_data_is))
+        (λ k. log_longer x (sym there ∙ ap (stream_of b.stream) k ∙ t.log_is))
+        (same_list _ x there);
+    lists = λ s z. trimmed_elim (λ o. o ≡ Some z → ListFrom b b.extent some_name s z) s
+        (λ k is. let c : blob_data ≡ z = cc in subst (λ n. ListFrom b b.extent some_name n z) (sym k) (subst (ListFrom b b.extent some_name (blob_data_name range)) c blob_gathered))
+        (λ k is. let c : log ≡ z = cc in inl (subst (λ n. Old b n z) (sym k) (subst (Old b (log_name range)) c log_old)))
+        (λ is. inl (old_list b s z is));
+    count = omega arith;
+    numbered = λ e y there. inl (y, there);
   }
 
 module _ (b : Catalog) (p : Packet) (fresh : b.extent (suc b.count) ≡ None) where
@@ -253,6 +349,16 @@ module _ (b : Catalog) (p : Packet) (fresh : b.extent (suc b.count) ≡ None) wh
   confirm_goes q (Some refusal) = goes_refl b
   confirm_goes q None = goes_refl b
 
+  trim_goes : (range generation before : ℕ) (to_blob : Bool) (q : ReqNo) → Goes b (trim_rule b p range generation before to_blob q).after
+  trim_goes range generation before to_blob q =
+      if_elim (λ (o : Outcome Catalog). Goes b o.after) (is_user p.from) (refused b Manager p q Stale) (trim_answered b p range before to_blob q (trimming b.stream range generation before))
+      (λ t. goes_refl b) (λ f. by_answer (trimming b.stream range generation before) refl)
+    where
+      by_answer : (x : Result Bool Refusal) → trimming b.stream range generation before ≡ x → Goes b (trim_answered b p range before to_blob q x).after
+      by_answer (Err refusal) is = goes_refl b
+      by_answer (Ok false) is = goes_refl b
+      by_answer (Ok true) is = trimmed_goes b range generation before to_blob (trims b.stream range generation before is)
+
   no_users_goes : (q : ReqNo) → Goes b (no_users b p q).after
   no_users_goes q =
       if_elim (λ (o : Outcome Catalog). Goes b o.after) (is_user p.from) (refused b Manager p q Stale) (silent b) (λ t. goes_refl b) (λ t. goes_refl b)
@@ -262,7 +368,7 @@ module _ (b : Catalog) (p : Packet) (fresh : b.extent (suc b.count) ≡ None) wh
   stream_goes (OpenStreams range generation q) = open_goes b p range generation q (open_refusal b p range generation)
   stream_goes (Confirm range generation q) = confirm_goes q (confirm_refusal b p range generation)
   stream_goes (Extend s generation last pick q) = extend_goes s (generation_of p.from generation) last pick q
-  stream_goes (Trim range generation before to_blob q) = no_users_goes q
+  stream_goes (Trim range generation before to_blob q) = trim_goes range generation before to_blob q
   stream_goes (MultiModify list q) = no_users_goes q
   stream_goes body = goes_refl b
 

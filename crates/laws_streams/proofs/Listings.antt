@@ -1,7 +1,8 @@
--- In every run each extent stands in one list, once, and each but the last of its list is sealed.
-use Rattle.std.proofs.Common.{◌≡◌, ◌⊎◌, ℕ, zero, suc, ◌<◌, ◌≤◌, ◌&&◌, ◌==◌, nat_le, List, [], ◌∷◌, ◌++◌, length, Option, Some, None, slice_get, refl, sym, ap, ◌∙◌, inl, inr, arith, subst, Bool, not, ◌||◌}
+-- In every run an extent that is open stands in one list, once, and each but the last of a list is sealed.
+use Rattle.std.proofs.Common.{◌≡◌, ◌≢◌, ◌⊎◌, ℕ, zero, suc, ◌<◌, ◌≤◌, ◌&&◌, ◌==◌, nat_le, List, [], ◌∷◌, ◌++◌, length, Option, Some, None, slice_get, refl, sym, ap, ◌∙◌, inl, inr, arith, subst, Bool, not, ◌||◌}
 use Rattle.wire.specs.declared.streams.StreamName.{StreamName}
-use Rattle.streams.specs.Streams.{Stream, stream_of, whole, last_of, empty_stream, kind_number}
+use Rattle.wire.specs.declared.streams.StreamKind.TheVariants.{Log, BlobData}
+use Rattle.streams.specs.Streams.{Stream, stream_of, whole, last_of, empty_stream, kind_number, log_name}
 use Rattle.model_streams.specs.declared.extent.Extent.{Extent}
 use Rattle.model_streams.specs.Manager.{Catalog, sealed_in, sealed_lengths, forgotten, forgotten_if, catalog_stopped, decide_rule, manager_rule}
 use Rattle.model_streams.specs.StreamSystem.{StreamSystem, start, Move, moved, run_moves, stops_in, stands_in, node_halted, node_performs, node_takes, manager_halted, manager_performs, delivered, delivered_if, is_request, node_stops, manager_stops, stop, is_present, restart, happens, is_server_call, is_told, is_table_note}
@@ -10,7 +11,7 @@ use Rattle.laws_streams.specs.Answers.{SealedIn}
 use Rattle.laws_streams.specs.Listings.{Listed, Longer, ListsGrow}
 use Rattle.laws_streams.proofs.Lists.{begins_refl, begins_trans}
 use Rattle.laws_streams.proofs.RisingFences.{run_more}
-use Rattle.laws_streams.proofs.ListRules.{Goes, Grown, old_whole, grown_whole, goes_refl, rule_goes, decide_goes}
+use Rattle.laws_streams.proofs.ListRules.{Goes, Grown, Leaves, grown_whole, gathered_whole, goes_refl, rule_goes, decide_goes}
 use Rattle.laws_streams.proofs.WholeLists.{whole_last, none_whole}
 use Rattle.wire.specs.declared.actor.ActorId.{ActorId}
 use Rattle.wire.specs.declared.actor.ActorId.TheVariants.{Node, Manager, Map, Server, User}
@@ -31,7 +32,7 @@ stopped_goes b c a = record {
   grows = a.grows;
   lists = λ s z is. elim (a.lists s z is) [
     | inl x ↦ inl x
-    | inr x ↦ elim x [ inl y ↦ inr (inl y) | inr y ↦ inr (inr (y.0, still_grown y.1)) ]
+    | inr x ↦ elim x [ inl y ↦ inr (inl y) | inr y ↦ elim y [ inl v ↦ inr (inr (inl (v.0, still_grown v.1))) | inr v ↦ inr (inr (inr v)) ] ]
   ];
   count = a.count;
   numbered = λ e y is. by_extent e (c.extent e) refl y is;
@@ -136,6 +137,11 @@ get_pushed [] y (suc i) e is = absurd cc
 get_pushed (x ∷ xs) y zero e is = inl is
 get_pushed (x ∷ xs) y (suc i) e is = elim (get_pushed xs y i e is) [ inl a ↦ inl a | inr a ↦ inr (ap suc a.0, a.1) ]
 
+get_joined : {A : Type 0} (xs ys : List A) (i : ℕ) (e : A) → slice_get (xs ++ ys) i ≡ Some e → (slice_get xs i ≡ Some e) ⊎ ((j : ℕ) × (slice_get ys j ≡ Some e))
+get_joined [] ys i e is = inr (i, is)
+get_joined (x ∷ xs) ys zero e is = inl is
+get_joined (x ∷ xs) ys (suc i) e is = get_joined xs ys i e is
+
 get_within : {A : Type 0} (xs : List A) (i : ℕ) (e : A) → slice_get xs i ≡ Some e → i < length xs
 get_within [] i e is = absurd cc
 get_within (x ∷ xs) zero e is = omega arith
@@ -151,6 +157,10 @@ last_at (x ∷ y ∷ xs) (suc i) e is end = last_at (y ∷ xs) i e is (omega (ar
 never_empty : (xs : List ℕ) (y : ℕ) → xs ++ y ∷ [] ≡ [] → ⊥
 never_empty [] y is = cc
 never_empty (x ∷ xs) y is = cc
+
+none_first : (xs ys : List ℕ) → xs ++ ys ≡ [] → xs ≡ []
+none_first [] ys is = refl
+none_first (x ∷ xs) ys is = absurd cc
 
 -- ---- one step
 
@@ -188,14 +198,28 @@ module _ (b c : Catalog) (goes : Goes b c) (fit : Fit b) where
     end : i ≡ length (whole grown.was)
     new : e ≡ suc b.count
 
-  found : (s : StreamName) (z : Stream) (i e : ℕ) → stream_of c.stream s ≡ Some z → slice_get (whole z) i ≡ Some e → Stood s i e ⊎ Added s i e
+  -- it left a log, and came to a blob stream
+  record Moved (s : StreamName) (e : ℕ) : Type 0 where
+    kind : s.kind ≡ BlobData
+    leaves : Leaves b e
+
+  abbrev Found : StreamName → ℕ → ℕ → Type 0
+  Found s i e = Stood s i e ⊎ (Added s i e ⊎ Moved s e)
+
+  found : (s : StreamName) (z : Stream) (i e : ℕ) → stream_of c.stream s ≡ Some z → slice_get (whole z) i ≡ Some e → Found s i e
   found s z i e there at = elim (goes.lists s z there) [
-    | inl o ↦ inl (record { was = o.was; there = o.there; at = subst (λ xs. slice_get xs i ≡ Some e) (old_whole o) at })
+    | inl o ↦ inl (record { was = o.was; there = o.there; at = subst (λ xs. slice_get xs i ≡ Some e) o.same at })
     | inr n ↦ elim n [
       | inl k ↦ absurd (let d : slice_get [] i ≡ Some e = subst (λ xs. slice_get xs i ≡ Some e) (none_whole z k.0 k.1) at in cc)
-      | inr g ↦ elim (get_pushed (whole g.1.was) (suc b.count) i e (subst (λ xs. slice_get xs i ≡ Some e) (grown_whole g.1) at)) [
-        | inl a ↦ inl (record { was = g.1.was; there = g.1.there; at = a })
-        | inr a ↦ inr (record { name = g.0; stream = z; grown = g.1; end = a.0; new = a.1 })
+      | inr k ↦ elim k [
+        | inl g ↦ elim (get_pushed (whole g.1.was) (suc b.count) i e (subst (λ xs. slice_get xs i ≡ Some e) (grown_whole g.1) at)) [
+          | inl a ↦ inl (record { was = g.1.was; there = g.1.there; at = a })
+          | inr a ↦ inr (inl (record { name = g.0; stream = z; grown = g.1; end = a.0; new = a.1 }))
+        ]
+        | inr g ↦ elim (get_joined (whole g.was) g.left i e (subst (λ xs. slice_get xs i ≡ Some e) (gathered_whole g) at)) [
+          | inl a ↦ inl (record { was = g.was; there = g.there; at = a })
+          | inr a ↦ inr (inr (record { kind = g.kind; leaves = g.leaves a.0 e a.1 }))
+        ]
       ]
     ]
   ]
@@ -213,9 +237,17 @@ module _ (b c : Catalog) (goes : Goes b c) (fit : Fit b) where
   still_sealed : (e l : ℕ) → SealedIn b e l → SealedIn c e l
   still_sealed e l s = let k = goes.kept e s.extent s.there in record { extent = k.now; there = k.is; sealed = k.sealed l s.sealed }
 
-  all_there : (s : StreamName) (i e : ℕ) → Stood s i e ⊎ Added s i e → (y : Extent) × (c.extent e ≡ Some y)
+  -- what leaves a log is sealed, since one more stands behind it
+  moved_sealed : (s : StreamName) (e : ℕ) → Moved s e → (l : ℕ) × SealedIn c e l
+  moved_sealed s e m =
+      let a = m.leaves in
+      let (l, sealed) = (fit.listed (log_name a.range) a.log a.there).closed (λ k. cc) a.index e a.next a.at a.behind in
+      (l, still_sealed e l sealed)
+
+  all_there : (s : StreamName) (i e : ℕ) → Found s i e → (y : Extent) × (c.extent e ≡ Some y)
   all_there s i e (inl a) = still_there e ((fit.listed s a.was a.there).there i e a.at)
-  all_there s i e (inr a) = (a.grown.new, ap c.extent a.new ∙ a.grown.made)
+  all_there s i e (inr (inl a)) = (a.grown.new, ap c.extent a.new ∙ a.grown.made)
+  all_there s i e (inr (inr a)) = let (l, sealed) = moved_sealed s e a in (sealed.extent, sealed.there)
 
   -- the next one is added only after a sealed one
   last_sealed : (s : StreamName) (i e : ℕ) → Stood s i e → (g : (z : Stream) × Grown b c.extent s z) → suc i ≡ length (whole g.1.was) → (l : ℕ) × SealedIn c e l
@@ -231,49 +263,87 @@ module _ (b c : Catalog) (goes : Goes b c) (fit : Fit b) where
             (l, still_sealed e l (sealed_so b e l (subst (λ j. sealed_lengths b j ≡ Some l) k sealed)))
       ]
 
-  all_closed : (s : StreamName) (i e f : ℕ) → Stood s i e ⊎ Added s i e → Stood s (suc i) f ⊎ Added s (suc i) f → (l : ℕ) × SealedIn c e l
-  all_closed s i e f (inl a) (inl d) =
+  all_closed : (s : StreamName) → s.kind ≢ BlobData → (i e f : ℕ) → Found s i e → Found s (suc i) f → (l : ℕ) × SealedIn c e l
+  all_closed s plain i e f (inr (inr a)) d = moved_sealed s e a
+  all_closed s plain i e f a (inr (inr d)) = absurd (plain d.kind)
+  all_closed s plain i e f (inl a) (inl d) =
       let same = same_was s d.was a.was d.there a.there in
-      let (l, sealed) = (fit.listed s a.was a.there).closed i e f a.at (subst (λ (v : Stream). slice_get (whole v) (suc i) ≡ Some f) same d.at) in
+      let (l, sealed) = (fit.listed s a.was a.there).closed plain i e f a.at (subst (λ (v : Stream). slice_get (whole v) (suc i) ≡ Some f) same d.at) in
       (l, still_sealed e l sealed)
-  all_closed s i e f (inl a) (inr d) = last_sealed s i e a (d.stream, d.grown) d.end
-  all_closed s i e f (inr a) (inl d) =
+  all_closed s plain i e f (inl a) (inr (inl d)) = last_sealed s i e a (d.stream, d.grown) d.end
+  all_closed s plain i e f (inr (inl a)) (inl d) =
       let same = same_was s d.was a.grown.was d.there a.grown.there in
       let m = get_within (whole a.grown.was) (suc i) f (subst (λ (v : Stream). slice_get (whole v) (suc i) ≡ Some f) same d.at) in
       absurd (omega (arith, m, a.end))
-  all_closed s i e f (inr a) (inr d) =
+  all_closed s plain i e f (inr (inl a)) (inr (inl d)) =
       let same = same_was s d.grown.was a.grown.was d.grown.there a.grown.there in
       absurd (omega (arith, a.end, d.end, ap (λ (v : Stream). length (whole v)) same))
 
-  all_rising : (s : StreamName) (i j e f : ℕ) → i < j → Stood s i e ⊎ Added s i e → Stood s j f ⊎ Added s j f → e < f
-  all_rising s i j e f l (inl a) (inl d) =
+  all_rising : (s : StreamName) → s.kind ≢ BlobData → (i j e f : ℕ) → i < j → Found s i e → Found s j f → e < f
+  all_rising s plain i j e f l (inr (inr a)) d = absurd (plain a.kind)
+  all_rising s plain i j e f l a (inr (inr d)) = absurd (plain d.kind)
+  all_rising s plain i j e f l (inl a) (inl d) =
       let same = same_was s d.was a.was d.there a.there in
-      (fit.listed s a.was a.there).rising i j e f l a.at (subst (λ (v : Stream). slice_get (whole v) j ≡ Some f) same d.at)
-  all_rising s i j e f l (inl a) (inr d) = let m = low s i e a in omega (arith, m, d.new)
-  all_rising s i j e f l (inr a) (inl d) =
+      (fit.listed s a.was a.there).rising plain i j e f l a.at (subst (λ (v : Stream). slice_get (whole v) j ≡ Some f) same d.at)
+  all_rising s plain i j e f l (inl a) (inr (inl d)) = let m = low s i e a in omega (arith, m, d.new)
+  all_rising s plain i j e f l (inr (inl a)) (inl d) =
       let same = same_was s d.was a.grown.was d.there a.grown.there in
       let m = get_within (whole a.grown.was) j f (subst (λ (v : Stream). slice_get (whole v) j ≡ Some f) same d.at) in
       absurd (omega (arith, m, l, a.end))
-  all_rising s i j e f l (inr a) (inr d) =
+  all_rising s plain i j e f l (inr (inl a)) (inr (inl d)) =
       let same = same_was s d.grown.was a.grown.was d.grown.there a.grown.there in
       absurd (omega (arith, l, a.end, d.end, ap (λ (v : Stream). length (whole v)) same))
 
-  all_apart : (s t : StreamName) (i j e : ℕ) → Stood s i e ⊎ Added s i e → Stood t j e ⊎ Added t j e → s ≡ t
-  all_apart s t i j e (inl a) (inl d) = (fit.listed s a.was a.there).apart t d.was i j e d.there a.at d.at
-  all_apart s t i j e (inl a) (inr d) = absurd (let m = low s i e a in omega (arith, m, d.new))
-  all_apart s t i j e (inr a) (inl d) = absurd (let m = low t j e d in omega (arith, m, a.new))
-  all_apart s t i j e (inr a) (inr d) = a.name ∙ sym d.name
+  -- what is open was open before
+  open_before : (e : ℕ) (x y : Extent) → b.extent e ≡ Some x → c.extent e ≡ Some y → y.sealed ≡ None → x.sealed ≡ None
+  open_before e x y was is unsealed = by_length x.sealed refl
+    where
+      by_length : (o : Option ℕ) → x.sealed ≡ o → x.sealed ≡ None
+      by_length None none = none
+      by_length (Some l) sealed =
+          let k = goes.kept e x was in
+          let same : k.now ≡ y = (let d : Some k.now ≡ Some y = sym k.is ∙ is in cc) in
+          absurd (let d : None ≡ Some l = sym unsealed ∙ ap (λ (v : Extent). v.sealed) (sym same) ∙ k.sealed l sealed in cc)
 
-  none_gone : (s : StreamName) (z : Stream) → stream_of c.stream s ≡ Some z → z.gone ≡ []
-  none_gone s z there = elim (goes.lists s z there) [
-    | inl o ↦ o.gone ∙ (fit.listed s o.was o.there).gone
-    | inr n ↦ elim n [ inl k ↦ k.0 | inr g ↦ g.1.gone ∙ (fit.listed s g.1.was g.1.there).gone ]
+  not_moved : (s : StreamName) (e : ℕ) (y : Extent) → c.extent e ≡ Some y → y.sealed ≡ None → Moved s e → ⊥
+  not_moved s e y is unsealed m =
+      let (l, sealed) = moved_sealed s e m in
+      let same : sealed.extent ≡ y = (let d : Some sealed.extent ≡ Some y = sym sealed.there ∙ is in cc) in
+      let d : None ≡ Some l = sym unsealed ∙ ap (λ (v : Extent). v.sealed) (sym same) ∙ sealed.sealed in
+      cc
+
+  all_alone : (s t : StreamName) (i j e : ℕ) (y : Extent) → c.extent e ≡ Some y → y.sealed ≡ None → Found s i e → Found t j e → (s ≡ t) × (i ≡ j)
+  all_alone s t i j e y is unsealed (inr (inr a)) d = absurd (not_moved s e y is unsealed a)
+  all_alone s t i j e y is unsealed a (inr (inr d)) = absurd (not_moved t e y is unsealed d)
+  all_alone s t i j e y is unsealed (inl a) (inl d) =
+      let (x, was) = (fit.listed s a.was a.there).there i e a.at in
+      (fit.listed s a.was a.there).alone t d.was i j e x d.there was (open_before e x y was is unsealed) a.at d.at
+  all_alone s t i j e y is unsealed (inl a) (inr (inl d)) = absurd (let m = low s i e a in omega (arith, m, d.new))
+  all_alone s t i j e y is unsealed (inr (inl a)) (inl d) = absurd (let m = low t j e d in omega (arith, m, a.new))
+  all_alone s t i j e y is unsealed (inr (inl a)) (inr (inl d)) =
+      let name : s ≡ t = a.name ∙ sym d.name in
+      let same : a.grown.was ≡ d.grown.was = same_was t a.grown.was d.grown.was (ap (stream_of b.stream) (sym name) ∙ a.grown.there) d.grown.there in
+      (name, a.end ∙ ap (λ (v : Stream). length (whole v)) same ∙ sym d.end)
+
+  none_gone : (s : StreamName) (z : Stream) → stream_of c.stream s ≡ Some z → s.kind ≢ Log → z.gone ≡ []
+  none_gone s z there other = elim (goes.lists s z there) [
+    | inl o ↦ o.gone other ∙ (fit.listed s o.was o.there).gone other
+    | inr n ↦ elim n [
+      | inl k ↦ k.0
+      | inr v ↦ elim v [ inl g ↦ g.1.gone ∙ (fit.listed s g.1.was g.1.there).gone other | inr g ↦ g.gone ∙ (fit.listed s g.was g.there).gone other ]
+    ]
   ]
 
   last_stays : (s : StreamName) (z : Stream) → stream_of c.stream s ≡ Some z → z.extents ≡ [] → z.gone ≡ []
   last_stays s z there none = elim (goes.lists s z there) [
-    | inl o ↦ o.gone ∙ (fit.listed s o.was o.there).ends (sym o.extents ∙ none)
-    | inr n ↦ elim n [ inl k ↦ k.0 | inr g ↦ absurd (never_empty g.1.was.extents (suc b.count) (sym g.1.extents ∙ none)) ]
+    | inl o ↦ o.ends (fit.listed s o.was o.there).ends none
+    | inr n ↦ elim n [
+      | inl k ↦ k.0
+      | inr v ↦ elim v [
+        | inl g ↦ absurd (never_empty g.1.was.extents (suc b.count) (sym g.1.extents ∙ none))
+        | inr g ↦ g.gone ∙ (fit.listed s g.was g.there).ends (none_first g.was.extents g.left (sym g.extents ∙ none))
+      ]
+    ]
   ]
 
   fit_next : Fit c
@@ -282,9 +352,9 @@ module _ (b c : Catalog) (goes : Goes b c) (fit : Fit b) where
       gone = none_gone s z is;
       ends = last_stays s z is;
       there = λ i e at. all_there s i e (found s z i e is at);
-      closed = λ i e f at next. all_closed s i e f (found s z i e is at) (found s z (suc i) f is next);
-      rising = λ i j e f l at next. all_rising s i j e f l (found s z i e is at) (found s z j f is next);
-      apart = λ t v i j e there at next. all_apart s t i j e (found s z i e is at) (found t v j e there next);
+      closed = λ plain i e f at next. all_closed s plain i e f (found s z i e is at) (found s z (suc i) f is next);
+      rising = λ plain i j e f l at next. all_rising s plain i j e f l (found s z i e is at) (found s z j f is next);
+      alone = λ t v i j e y there made unsealed at next. all_alone s t i j e y made unsealed (found s z i e is at) (found t v j e there next);
     };
     numbered = λ e y is. elim (goes.numbered e y is) [
       | inl x ↦ let m = fit.numbered e x.0 x.1 in omega (arith, m, goes.count)
@@ -301,11 +371,11 @@ run_fit (move ∷ moves) w fit = run_fit moves (moved w move) (fit_next w.catalo
 longer_trans : (x : Stream) (o p : Option Stream) → Longer x o → ((y : Stream) → o ≡ Some y → Longer y p) → Longer x p
 longer_trans x o p a next =
     let d = next a.now a.is in
-    record { now = d.now; is = d.is; begins = begins_trans a.begins d.begins }
+    record { now = d.now; is = d.is; begins = begins_trans a.begins d.begins; gone = begins_trans a.gone d.gone }
 
 run_longer : (moves : List Move) (w : StreamSystem) → Fit w.catalog → (s : StreamName) (x : Stream) → stream_of w.catalog.stream s ≡ Some x →
     Longer x (stream_of (run_moves moves w).catalog.stream s)
-run_longer [] w fit s x is = record { now = x; is = is; begins = begins_refl (whole x) }
+run_longer [] w fit s x is = record { now = x; is = is; begins = begins_refl (whole x); gone = begins_refl x.gone }
 run_longer (move ∷ moves) w fit s x is =
     let goes = moved_goes w (fresh_next w.catalog fit) move in
     longer_trans x (stream_of (moved w move).catalog.stream s) (stream_of (run_moves moves (moved w move)).catalog.stream s) (goes.grows s x is)
@@ -317,12 +387,12 @@ first_fit nodes target = record {
   listed = λ s z is.
       if_elim (λ o. o ≡ Some z → Listed (start nodes target).catalog s z) ((s.range == 1) && nat_le (kind_number s.kind) 3) (Some (empty_stream 0)) None
       (λ t k. let c : empty_stream 0 ≡ z = cc in subst (Listed (start nodes target).catalog s) c (record {
-        gone = refl;
+        gone = λ other. refl;
         ends = λ none. refl;
         there = λ i e at. absurd cc;
-        closed = λ i e f at next. absurd cc;
-        rising = λ i j e f l at next. absurd cc;
-        apart = λ t v i j e there at next. absurd cc;
+        closed = λ plain i e f at next. absurd cc;
+        rising = λ plain i j e f l at next. absurd cc;
+        alone = λ t v i j e y there made unsealed at next. absurd cc;
       }))
       (λ t k. absurd cc) is;
   numbered = λ e y is. absurd cc;

@@ -1,5 +1,5 @@
 -- What each rule of the manager's table sends: an answer to the packet that asked, or to the one who asked for a seal before.
-use Rattle.std.proofs.Common.{◌≡◌, ℕ, suc, true, false, ◌++◌, Option, Some, None, Result, Ok, Err, refl, sym, subst}
+use Rattle.std.proofs.Common.{◌≡◌, ℕ, suc, Bool, true, false, ◌++◌, Option, Some, None, Result, Ok, Err, refl, sym, subst}
 use Rattle.block_types.specs.declared.record.Nodes.{Nodes}
 use Rattle.wire.specs.declared.actor.ActorId.{ActorId}
 use Rattle.wire.specs.declared.actor.ActorId.TheVariants.{Manager}
@@ -7,7 +7,7 @@ use Rattle.wire.specs.declared.actor.ReqNo.{ReqNo}
 use Rattle.wire.specs.declared.body.AppendBody.{AppendBody}
 use Rattle.wire.specs.declared.body.AppendBody.TheVariants.{Append, Appended}
 use Rattle.wire.specs.declared.body.ReadBody.{ReadBody}
-use Rattle.wire.specs.declared.body.ReadBody.TheVariants.{ReadAt, ReadGroups, Groups}
+use Rattle.wire.specs.declared.body.ReadBody.TheVariants.{ReadAt, ReadGroups, Groups, Bytes}
 use Rattle.wire.specs.declared.body.SealBody.{SealBody}
 use Rattle.wire.specs.declared.body.SealBody.TheVariants as seals
 use Rattle.wire.specs.declared.body.StreamBody.{StreamBody}
@@ -19,10 +19,10 @@ use Rattle.wire.specs.declared.refusal.Refusal.{Refusal}
 use Rattle.wire.specs.declared.refusal.Refusal.TheVariants.{Stale, BadPick}
 use Rattle.wire.specs.declared.streams.StreamLists.{StreamLists}
 use Rattle.wire.specs.declared.streams.StreamName.{StreamName}
-use Rattle.streams.specs.Streams.{stream_of, extending}
+use Rattle.streams.specs.Streams.{stream_of, extending, trimming}
 use Rattle.model_streams.specs.declared.extent.Extent.{Extent}
 use Rattle.model_streams.specs.Actors.{is_user, generation_of}
-use Rattle.model_streams.specs.Manager.{Catalog, each_place, create_refusal, create_taken, told_streams, open_refusal, open_taken, confirm_refusal, answer, is_foreign, is_pick, sealed_lengths, extend_made, last_told, extend_answered, extend_rule, no_users, closes, reminders, told_sealed, seal_asked, seal_extent_rule, with_report, noted, frozen_to, frozen_rule, known_sealed, is_sealed_rule, place_of, first_sealed, asks_tail, short_rule, stream_body_rule, seal_body_rule, manager_rule, is_there}
+use Rattle.model_streams.specs.Manager.{Catalog, each_place, create_refusal, create_taken, told_streams, open_refusal, open_taken, confirm_refusal, answer, is_foreign, is_pick, sealed_lengths, extend_made, last_told, extend_answered, extend_rule, trim_answered, trim_rule, no_users, closes, reminders, told_sealed, seal_asked, seal_extent_rule, with_report, noted, frozen_to, frozen_rule, known_sealed, is_sealed_rule, place_of, first_sealed, asks_tail, short_rule, stream_body_rule, seal_body_rule, manager_rule, is_there}
 use Rattle.model_streams.specs.Outcome.{Outcome, packet, silent, refused, or_refused}
 use Rattle.model_streams.proofs.Tests.{if_elim}
 use Rattle.laws_streams.proofs.Choices.{Each, each-append}
@@ -78,6 +78,7 @@ StreamTells b taken to (CreateStream s fence q) = ⊥
 StreamTells b taken to (OpenStreams range generation q) = ⊥
 StreamTells b taken to (Confirm range generation q) = ⊥
 StreamTells b taken to (Extend s generation last pick q) = ⊥
+StreamTells b taken to (Trim range generation before to_blob q) = ⊥
 StreamTells b taken to _ = Unit {0}
 
 abbrev pub SealTells : Catalog → Packet → ActorId → SealBody → Type 0
@@ -95,7 +96,7 @@ abbrev pub ReadTells : ReadBody → Type 0
 ReadTells (Groups q e groups) = ⊥
 ReadTells (ReadAt e offset l q) = ⊥
 ReadTells (ReadGroups e upto sealed q) = ⊥
-ReadTells _ = Unit {0}
+ReadTells (Bytes q e offset bytes) = ⊥
 
 abbrev pub BodyTells : Catalog → Packet → ActorId → Body → Type 0
 BodyTells b taken to (bodies.Stream body) = StreamTells b taken to body
@@ -170,6 +171,16 @@ module _ (b : Catalog) (p : Packet) where
       if_elim (Tells b p) (is_foreign p.from s.range) (refused b Manager p q Stale) (extend_answered b p s (generation_of p.from generation) pick q x)
       (λ t. refused_tells q Stale) (λ f. answered_tells s generation last pick q is f x refl)
 
+  trim_tells : (range generation before : ℕ) (to_blob : Bool) (q : ReqNo) → Tells b p (trim_rule b p range generation before to_blob q)
+  trim_tells range generation before to_blob q =
+      if_elim (Tells b p) (is_user p.from) (refused b Manager p q Stale) (trim_answered b p range before to_blob q (trimming b.stream range generation before))
+      (λ t. refused_tells q Stale) (λ f. by_answer (trimming b.stream range generation before))
+    where
+      by_answer : (x : Result Bool Refusal) → Tells b p (trim_answered b p range before to_blob q x)
+      by_answer (Err refusal) = refused_tells q refusal
+      by_answer (Ok false) = ((refl, tt), tt)
+      by_answer (Ok true) = ((refl, tt), tt)
+
   no_users_tells : (q : ReqNo) → Tells b p (no_users b p q)
   no_users_tells q = if_elim (Tells b p) (is_user p.from) (refused b Manager p q Stale) (silent b) (λ t. refused_tells q Stale) (λ t. tt)
 
@@ -178,7 +189,7 @@ module _ (b : Catalog) (p : Packet) where
   stream_tells (OpenStreams range generation q) is = open_tells range generation q is (open_refusal b p range generation) refl
   stream_tells (Confirm range generation q) is = confirm_tells range generation q is (confirm_refusal b p range generation) refl
   stream_tells (Extend s generation last pick q) is = extend_tells s generation last pick q is
-  stream_tells (Trim range generation before to_blob q) is = no_users_tells q
+  stream_tells (Trim range generation before to_blob q) is = trim_tells range generation before to_blob q
   stream_tells (MultiModify list q) is = no_users_tells q
   stream_tells body is = tt
 

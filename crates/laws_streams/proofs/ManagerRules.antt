@@ -1,5 +1,5 @@
 -- Each rule of the manager's table keeps what is known.
-use Rattle.std.proofs.Common.{◌≡◌, ℕ, suc, ◌≤◌, true, false, ◌==◌, if◌then◌else◌, List, [], ◌∷◌, length, Option, Some, None, Result, Ok, Err, refl, ◌∙◌, inl, arith, ap}
+use Rattle.std.proofs.Common.{◌≡◌, ℕ, suc, ◌≤◌, Bool, true, false, ◌==◌, if◌then◌else◌, List, [], ◌∷◌, length, Option, Some, None, Result, Ok, Err, refl, ◌∙◌, inl, arith, ap}
 use Rattle.block_types.specs.declared.record.Nodes.{Nodes}
 use Rattle.wire.specs.declared.actor.ActorId.TheVariants.{Manager}
 use Rattle.wire.specs.declared.actor.ReqNo.{ReqNo}
@@ -15,12 +15,12 @@ use Rattle.wire.specs.declared.refusal.Refusal.{Refusal}
 use Rattle.wire.specs.declared.refusal.Refusal.TheVariants.{Stale, BadPick}
 use Rattle.wire.specs.declared.streams.StreamName.{StreamName}
 use Rattle.replica.specs.Groups.{Group}
-use Rattle.streams.specs.Streams.{Streams, stream_of, created, opened, extending}
+use Rattle.streams.specs.Streams.{Streams, stream_of, created, opened, extending, trimmed, trimming}
 use Rattle.model_streams.specs.Actors.{is_user, generation_of}
 use Rattle.model_streams.specs.Maps.{changed}
 use Rattle.model_streams.specs.declared.extent.Extent.{Extent}
 use Rattle.model_streams.specs.declared.manager_record.ManagerRecord.TheVariants as manager_records
-use Rattle.model_streams.specs.Manager.{Catalog, new_extent, writes, answer, with_streams, create_refusal, create_taken, open_refusal, open_taken, confirm_refusal, is_foreign, is_pick, sealed_lengths, extend_made, extend_picked, last_told, extend_answered, extend_rule, no_users, stream_body_rule, seal_body_rule, manager_rule}
+use Rattle.model_streams.specs.Manager.{Catalog, new_extent, writes, answer, with_streams, create_refusal, create_taken, open_refusal, open_taken, confirm_refusal, is_foreign, is_pick, sealed_lengths, extend_made, extend_picked, last_told, extend_answered, extend_rule, trim_answered, trim_rule, no_users, stream_body_rule, seal_body_rule, manager_rule}
 use Rattle.model_streams.specs.Outcome.{silent, refused, or_refused}
 use Rattle.model_streams.proofs.Tests.{if_elim}
 use Rattle.laws_streams.proofs.Lists.{begins_refl}
@@ -162,6 +162,21 @@ module _ (News : ℕ → ℕ → Type 0) (told : List Note) (g : Ground) (b : Ca
       (λ t. refused_rule News told g b sound catalog p q Stale)
       (λ f. answered_keeps p s generation q (extending (sealed_lengths b) (stream_of b.stream s) generation last))
 
+-- ---- Trim
+
+module _ (News : ℕ → ℕ → Type 0) (told : List Note) (g : Ground) (b : Catalog) (p : Packet) (range before : ℕ) (to_blob : Bool) (q : ReqNo) (sound : Sound g) (catalog : FineCatalog g b) where
+  trim_answered_keeps : (x : Result Bool Refusal) → Rules News told g (trim_answered b p range before to_blob q x)
+  trim_answered_keeps (Err refusal) = refused_rule News told g b sound catalog p q refusal
+  trim_answered_keeps (Ok false) = plain_rule News told g b sound catalog _ (tt, tt)
+  trim_answered_keeps (Ok true) =
+      written_rule News told g (with_streams b (trimmed b.stream range before to_blob)) sound (streams_fine g b (trimmed b.stream range before to_blob) catalog)
+      (writes (manager_records.Trim range before to_blob)) _ (tt, tt)
+
+  trim_keeps : (generation : ℕ) → Rules News told g (trim_rule b p range generation before to_blob q)
+  trim_keeps generation =
+      if_elim (Rules News told g) (is_user p.from) (refused b Manager p q Stale) (trim_answered b p range before to_blob q (trimming b.stream range generation before))
+      (λ t. refused_rule News told g b sound catalog p q Stale) (λ f. trim_answered_keeps (trimming b.stream range generation before))
+
 -- ---- all rules
 
 no_users_keeps : (News : ℕ → ℕ → Type 0) (told : List Note) (g : Ground) (b : Catalog) (p : Packet) (q : ReqNo) → Sound g → FineCatalog g b → Rules News told g (no_users b p q)
@@ -174,7 +189,7 @@ stream_body_keeps News told g b p (CreateStream s fence q) sound catalog = creat
 stream_body_keeps News told g b p (OpenStreams range generation q) sound catalog = open_keeps News told g b p range generation q (open_refusal b p range generation) sound catalog
 stream_body_keeps News told g b p (Confirm range generation q) sound catalog = confirm_keeps News told g b p q (confirm_refusal b p range generation) sound catalog
 stream_body_keeps News told g b p (Extend s generation last pick q) sound catalog = extend_keeps News told g b sound catalog pick p s (generation_of p.from generation) last q
-stream_body_keeps News told g b p (Trim range generation before to_blob q) sound catalog = no_users_keeps News told g b p q sound catalog
+stream_body_keeps News told g b p (Trim range generation before to_blob q) sound catalog = trim_keeps News told g b p range before to_blob q sound catalog generation
 stream_body_keeps News told g b p (MultiModify list q) sound catalog = no_users_keeps News told g b p q sound catalog
 stream_body_keeps News told g b p body sound catalog = silent_rule News told g b sound catalog
 

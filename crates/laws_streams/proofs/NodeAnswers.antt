@@ -17,7 +17,7 @@ use Rattle.wire.specs.declared.body.ReadBody.TheVariants as reads
 use Rattle.wire.specs.declared.body.Body.{Body}
 use Rattle.wire.specs.declared.body.Body.TheVariants as bodies
 use Rattle.wire.specs.declared.note.Note.{Note}
-use Rattle.wire.specs.declared.note.Note.TheVariants.{Acked}
+use Rattle.wire.specs.declared.note.Note.TheVariants.{Acked, Seen}
 use Rattle.wire.specs.declared.packet.Packet.{Packet}
 use Rattle.wire.specs.declared.refusal.Refusal.{Refusal}
 use Rattle.replica.specs.declared.phase.Phase.{Phase}
@@ -79,11 +79,11 @@ AppendTells s k notes to (Append e generation blocks q) = ⊥
 AppendTells s k notes to (Appended q e o) = FromWaiting s k notes to q e o
 AppendTells s k notes to _ = Unit {0}
 
-abbrev pub ReadTells : Option Replica → ℕ → Packet → ActorId → ReadBody → Type 0
-ReadTells s k taken to (reads.Groups q e groups) = FromReading s k taken to q e groups
-ReadTells s k taken to (reads.ReadAt e offset l q) = ⊥
-ReadTells s k taken to (reads.ReadGroups e upto sealed q) = ⊥
-ReadTells s k taken to _ = Unit {0}
+abbrev pub ReadTells : Option Replica → ℕ → Packet → List Note → ActorId → ReadBody → Type 0
+ReadTells s k taken notes to (reads.Groups q e groups) = FromReading s k taken to q e groups
+ReadTells s k taken notes to (reads.Bytes q e offset bytes) = (n : ℕ) × Contains notes (Seen e n offset bytes)
+ReadTells s k taken notes to (reads.ReadAt e offset l q) = ⊥
+ReadTells s k taken notes to (reads.ReadGroups e upto sealed q) = ⊥
 
 -- no answer of the manager
 abbrev pub SealTells : SealBody → Type 0
@@ -98,7 +98,7 @@ CheckTells s k taken to _ = Unit {0}
 
 abbrev pub BodyTells : Option Replica → ℕ → Packet → List Note → ActorId → Body → Type 0
 BodyTells s k taken notes to (bodies.Append body) = AppendTells s k notes to body
-BodyTells s k taken notes to (bodies.Read body) = ReadTells s k taken to body
+BodyTells s k taken notes to (bodies.Read body) = ReadTells s k taken notes to body
 BodyTells s k taken notes to (bodies.Check body) = CheckTells s k taken to body
 BodyTells s k taken notes to (bodies.Seal body) = SealTells body
 BodyTells s k taken notes to (bodies.Stream body) = ⊥
@@ -236,7 +236,8 @@ module _ (n k : ℕ) (p : Packet) (r : Replica) where
 
   read_told : (e offset l : ℕ) (q : ReqNo) → Told (table.read_rule n r p e offset l q)
   read_told e offset l q =
-      unless_tells n (Some r) k p q (table.read_refusal r offset l) (Some r) (table.read_taken n r p e offset l q) (λ none. ((refl, tt), tt))
+      unless_tells n (Some r) k p q (table.read_refusal r offset l) (Some r) (table.read_taken n r p e offset l q)
+      (λ none. ((refl, (n, (0, omega arith, refl))), tt))
 
   asked_sealed : (sealed phase : Bool) → (sealed && not phase) ≡ false → sealed ≡ true → phase ≡ true
   asked_sealed true true t is = refl

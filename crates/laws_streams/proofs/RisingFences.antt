@@ -17,14 +17,14 @@ use Rattle.wire.specs.declared.refusal.Refusal.TheVariants.{Stale, BadPick}
 use Rattle.wire.specs.declared.streams.StreamKind.{StreamKind}
 use Rattle.wire.specs.declared.streams.StreamKind.TheVariants.{Metadata, Log, RowData, BlobData}
 use Rattle.wire.specs.declared.streams.StreamName.{StreamName}
-use Rattle.streams.specs.Streams.{kind_number, Stream, Streams, empty_stream, stream_of, with_stream, passes, all_pass, fenced_at, behind, extending, last_of, longer, extended_if, extended as extended_streams}
+use Rattle.streams.specs.Streams.{kind_number, Stream, Streams, empty_stream, stream_of, with_stream, passes, all_pass, fenced_at, behind, extending, last_of, longer, extended_if, extended as extended_streams, shorter, leaving, with_extents, log_name, blob_data_name, trimmed, trimming}
 use Rattle.model_streams.specs.declared.event.Event.{Event}
 use Rattle.model_streams.specs.declared.event.Event.TheVariants.{Submit, Deliver, Stop, Restart, Decide, GiveUp, Assign, Renew, Checkpoint, Split, Merge}
 use Rattle.model_streams.specs.declared.event.Event.TheVariants as events
 use Rattle.model_streams.specs.declared.extent.Extent.{Extent}
 use Rattle.model_streams.specs.declared.extent.PlaceReport.{PlaceReport}
 use Rattle.model_streams.specs.Actors.{is_node, is_user, generation_of}
-use Rattle.model_streams.specs.Manager.{Catalog, is_there, forgotten_if, catalog_stopped, new_extent, with_extent, extended, create_tests, create_refusal, create_taken, open_tests, open_refusal, open_taken, confirm_refusal, answer, is_foreign, is_pick, sealed_lengths, extend_made, last_told, extend_answered, extend_rule, no_users, seal_asked, seal_extent_rule, with_report, noted, frozen_to, frozen_rule, known_sealed, is_sealed_rule, place_of, first_sealed, asks_tail, short_rule, decided_if, least_told, decide_rule, stream_body_rule, seal_body_rule, manager_rule, reminders}
+use Rattle.model_streams.specs.Manager.{Catalog, is_there, forgotten_if, catalog_stopped, new_extent, with_extent, extended, create_tests, create_refusal, create_taken, open_tests, open_refusal, open_taken, confirm_refusal, answer, is_foreign, is_pick, sealed_lengths, extend_made, last_told, extend_answered, extend_rule, with_streams, trim_answered, trim_rule, no_users, seal_asked, seal_extent_rule, with_report, noted, frozen_to, frozen_rule, known_sealed, is_sealed_rule, place_of, first_sealed, asks_tail, short_rule, decided_if, least_told, decide_rule, stream_body_rule, seal_body_rule, manager_rule, reminders}
 use Rattle.model_streams.specs.Node.{extent_of, node_rule}
 use Rattle.model_streams.specs.Outcome.{Outcome, silent, sends, refused, or_refused}
 use Rattle.model_streams.specs.StreamSystem.{StreamSystem, stops_in, stands_in, node_halted, node_performs, node_takes, manager_halted, manager_performs, delivered, delivered_if, is_request, node_stops, manager_stops, stop, is_present, restart, happens, is_server_call, is_told, is_table_note, Move, moved, run_moves}
@@ -32,6 +32,7 @@ use Rattle.model_streams.specs.StreamSystem.Move.{Happens, Asks, Says, Observes}
 use Rattle.model_streams.proofs.Tests.{if_elim, none_met}
 use Rattle.laws_streams.specs.Fences.{Risen, FencesRise, MadeWithFences}
 use Rattle.laws_streams.proofs.Choices.{changed_elim}
+use Rattle.laws_streams.proofs.TrimTests.{Trims, trims, kept_in, trimmed_is}
 
 -- ---- catalogs
 
@@ -78,6 +79,12 @@ pub with_here : (streams : Streams) (s : StreamName) (y : Stream) → stream_of 
 with_here streams s y =
     if_elim (λ o. o ≡ Some y) ((s.range == s.range) && (kind_number s.kind == kind_number s.kind)) (Some y) (streams s.range (kind_number s.kind))
     (λ k. refl) (λ k. absurd (let p = eq-eqb s.range s.range refl in let q = eq-eqb (kind_number s.kind) (kind_number s.kind) refl in cc))
+
+-- the blob stream of a range is another than its log
+pub other_kind : (streams : Streams) (range : ℕ) (y : Stream) → stream_of (with_stream streams (log_name range) y) (blob_data_name range) ≡ stream_of streams (blob_data_name range)
+other_kind streams range y =
+    if_elim (λ o. o ≡ stream_of streams (blob_data_name range)) ((range == range) && (3 == 1)) (Some y) (streams range 3)
+    (λ k. absurd (let m = and_parts (range == range) (3 == 1) k in let c : false ≡ true = m.1 in cc)) (λ k. refl)
 
 -- ---- CreateStream
 
@@ -193,6 +200,37 @@ extend_onward b p s generation last pick q =
     (extend_answered b p s generation pick q (extending (sealed_lengths b) (stream_of b.stream s) generation last))
     (λ t. onward_refl b) (λ t. answered_onward b p s generation last pick q (extending (sealed_lengths b) (stream_of b.stream s) generation last) refl)
 
+-- ---- Trim
+
+trimmed_onward : (b : Catalog) (range generation before : ℕ) (to_blob : Bool) → Trims b.stream range generation before → Onward b (with_streams b (trimmed b.stream range before to_blob))
+trimmed_onward b range generation before to_blob t = record {
+  rises = λ s x is.
+      let one = with_rises b.stream (log_name range) (shorter before t.log) (λ y there. let c : y ≡ t.log = (let d : Some y ≡ Some t.log = sym there ∙ t.log_is in cc) in omega (arith, ap (λ (v : Stream). v.fence) c)) s x is in
+      let two = with_rises (with_stream b.stream (log_name range) (shorter before t.log)) (blob_data_name range) (kept_in before to_blob t.log t.blob_data) (λ y there. same_fence y there) s one.now one.is in
+      rw (trimmed_is to_blob t) (record { now = two.now; is = two.is; fence = omega (arith, one.fence, two.fence) });
+  makes = λ e x none there. absurd cc;
+}
+  where
+    -- whatever it gains, its fence stays
+    blob_fence : (kept_in before to_blob t.log t.blob_data).fence ≡ t.blob_data.fence
+    blob_fence = if_elim (λ (v : Stream). v.fence ≡ t.blob_data.fence) to_blob (with_extents (leaving before t.log) t.blob_data) t.blob_data (λ k. refl) (λ k. refl)
+
+    same_fence : (y : Stream) → stream_of (with_stream b.stream (log_name range) (shorter before t.log)) (blob_data_name range) ≡ Some y → y.fence ≤ (kept_in before to_blob t.log t.blob_data).fence
+    same_fence y there =
+        let old : stream_of (with_stream b.stream (log_name range) (shorter before t.log)) (blob_data_name range) ≡ Some t.blob_data = other_kind b.stream range (shorter before t.log) ∙ t.blob_data_is in
+        let c : y ≡ t.blob_data = (let d : Some y ≡ Some t.blob_data = sym there ∙ old in cc) in
+        omega (arith, blob_fence, ap (λ (v : Stream). v.fence) c)
+
+trim_onward : (b : Catalog) (p : Packet) (range generation before : ℕ) (to_blob : Bool) (q : ReqNo) → Onward b (trim_rule b p range generation before to_blob q).after
+trim_onward b p range generation before to_blob q =
+    if_elim (λ (o : Outcome Catalog). Onward b o.after) (is_user p.from) (refused b Manager p q Stale) (trim_answered b p range before to_blob q (trimming b.stream range generation before))
+    (λ t. onward_refl b) (λ f. by_answer (trimming b.stream range generation before) refl)
+  where
+    by_answer : (x : Result Bool Refusal) → trimming b.stream range generation before ≡ x → Onward b (trim_answered b p range before to_blob q x).after
+    by_answer (Err refusal) is = onward_refl b
+    by_answer (Ok false) is = onward_refl b
+    by_answer (Ok true) is = trimmed_onward b range generation before to_blob (trims b.stream range generation before is)
+
 -- ---- the other rules
 
 confirm_onward : (b : Catalog) (p : Packet) (q : ReqNo) (x : Option Refusal) → Onward b (or_refused b Manager p q x (answer b p (Confirmed q))).after
@@ -208,7 +246,7 @@ stream_onward b p (CreateStream s fence q) = create_onward b p s (generation_of 
 stream_onward b p (OpenStreams range generation q) = open_onward b p range generation q (open_refusal b p range generation) refl
 stream_onward b p (Confirm range generation q) = confirm_onward b p q (confirm_refusal b p range generation)
 stream_onward b p (Extend s generation last pick q) = extend_onward b p s (generation_of p.from generation) last pick q
-stream_onward b p (Trim range generation before to_blob q) = no_users_onward b p q
+stream_onward b p (Trim range generation before to_blob q) = trim_onward b p range generation before to_blob q
 stream_onward b p (MultiModify list q) = no_users_onward b p q
 stream_onward b p body = onward_refl b
 

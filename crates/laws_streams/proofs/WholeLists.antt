@@ -3,7 +3,7 @@ use Rattle.std.proofs.Common.{◌≡◌, ℕ, suc, ◌+◌, List, [], ◌∷◌,
 use Rattle.streams.specs.Streams.{Stream, base_of, whole, last_of, longer}
 
 -- what stands behind the first list
-get_behind : {A : Type 0} (past rest : List A) (i : ℕ) → slice_get (past ++ rest) (length past + i) ≡ slice_get rest i
+pub get_behind : {A : Type 0} (past rest : List A) (i : ℕ) → slice_get (past ++ rest) (length past + i) ≡ slice_get rest i
 get_behind [] rest i = let same : 0 + i ≡ i = omega arith in ap (slice_get rest) same
 get_behind (x ∷ past) rest i =
     let next : suc (length past) + i ≡ suc (length past + i) = omega arith in

@@ -1,23 +1,23 @@
 -- What an answer says for good: what it answers was asked, under the same number, by the one who is answered; and it tells
 -- what the one who answers had then, which is kept.
-use Rattle.std.specs.Prelude.{◌≡◌, ◌≢◌, ◌⊎◌, ℕ, ◌+◌, ◌≤◌, Bool, true, List, ◌∷◌, ◌++◌, take, Option, Some, None, slice_get, Contains}
+use Rattle.std.specs.Prelude.{◌≡◌, ◌≢◌, ◌⊎◌, ℕ, ◌+◌, ◌≤◌, Bool, true, false, List, ◌∷◌, ◌++◌, take, Option, Some, None, slice_get, Contains}
 use Rattle.block_types.specs.declared.record.Nodes.{Nodes}
 use Rattle.wire.specs.declared.actor.ActorId.{ActorId}
 use Rattle.wire.specs.declared.actor.ActorId.TheVariants.{Node, Manager}
 use Rattle.wire.specs.declared.actor.ReqNo.{ReqNo}
 use Rattle.wire.specs.declared.body.AppendBody.TheVariants.{Append, Appended}
-use Rattle.wire.specs.declared.body.ReadBody.TheVariants.{ReadGroups, Groups}
+use Rattle.wire.specs.declared.body.ReadBody.TheVariants.{ReadGroups, Groups, Bytes}
 use Rattle.wire.specs.declared.body.SealBody.TheVariants.{SealExtent, SealedIs}
-use Rattle.wire.specs.declared.body.StreamBody.TheVariants.{OpenStreams, Opened, Confirm, Confirmed, Extend, Extended}
+use Rattle.wire.specs.declared.body.StreamBody.TheVariants.{OpenStreams, Opened, Confirm, Confirmed, Extend, Extended, Trim}
 use Rattle.wire.specs.declared.body.Body.TheVariants as bodies
-use Rattle.wire.specs.declared.note.Note.TheVariants.{Acked, SealedAt}
+use Rattle.wire.specs.declared.note.Note.TheVariants.{Acked, SealedAt, Seen}
 use Rattle.wire.specs.declared.streams.StreamLists.{StreamLists}
 use Rattle.wire.specs.declared.streams.StreamName.{StreamName}
 use Rattle.replica.specs.Groups.{Group, size, text_length}
 use Rattle.replica.specs.Replay.{is_place}
-use Rattle.streams.specs.Streams.{Stream, stream_of, last_of, longer}
+use Rattle.streams.specs.Streams.{Stream, stream_of, base_of, log_name, last_of, longer}
 use Rattle.model_streams.specs.declared.extent.Extent.{Extent}
-use Rattle.model_streams.specs.Actors.{generation_of}
+use Rattle.model_streams.specs.Actors.{is_user, generation_of}
 use Rattle.model_streams.specs.Manager.{Catalog, new_extent, sealed_lengths, told_streams}
 use Rattle.model_streams.specs.Node.{Replica}
 use Rattle.model_streams.specs.Outcome.{packet}
@@ -109,6 +109,32 @@ abbrev pub ExtensionsAnswered : List Move → StreamSystem → Type 0
 ExtensionsAnswered moves w = (from to : ActorId) (request : ReqNo) (e : ℕ) (places : Nodes) →
     Contains (run_moves moves w).post (packet from to (bodies.Stream (Extended request e places))) → ExtendedBy moves w from to request e places
 
+-- ---- bases
+
+-- one of these moves brought to the manager a Trim of the range's log below this index, by one that is no user; its generation
+-- was the log's fence then, which has not fallen since
+pub record TrimmedBy (moves : List Move) (w : StreamSystem) (range base fence : ℕ) : Type 0 where
+  pub from : ActorId
+  pub no_user : is_user from ≡ false
+  pub generation : ℕ
+  pub to_blob : Bool
+  pub request : ReqNo
+  pub asked : Contains (run_moves moves w).post (packet from Manager (bodies.Stream (Trim range generation base to_blob request)))
+  pub past : List Move
+  pub trimming : Move
+  pub rest : List Move
+  pub split : moves ≡ past ++ trimming ∷ rest
+  pub reaches : Reaches (run_moves past w) trimming (packet from Manager (bodies.Stream (Trim range generation base to_blob request)))
+  pub log : Stream
+  pub there : stream_of (run_moves past w).catalog.stream (log_name range) ≡ Some log
+  pub held : generation ≡ log.fence
+  pub under : generation ≤ fence
+
+-- the base of a log is 0, or was named by such a Trim
+abbrev pub BasesTrimmed : List Move → StreamSystem → Type 0
+BasesTrimmed moves w = (range : ℕ) (x : Stream) → stream_of (run_moves moves w).catalog.stream (log_name range) ≡ Some x →
+    (base_of x ≡ 0) ⊎ TrimmedBy moves w range (base_of x) x.fence
+
 -- ---- seals
 
 -- the catalog has the extent, sealed at this length
@@ -176,3 +202,7 @@ pub record ContentAnswered (before after : List Move) (w : StreamSystem) : Type 
   pub appended : (from to : ActorId) (request : ReqNo) (e offset : ℕ) →
       Contains (run_moves before w).post (packet from to (bodies.Append (Appended request e offset))) →
       AppendedBy before after w fences.origins.script fences.origins.origin from to request e offset
+  -- bytes that were read were observed, at the node that answers or at another
+  pub bytes : (from to : ActorId) (request : ReqNo) (e offset : ℕ) (bytes : List ℕ) →
+      Contains (run_moves before w).post (packet from to (bodies.Read (Bytes request e offset bytes))) →
+      (n : ℕ) × Contains (run_moves before w).notes (Seen e n offset bytes)

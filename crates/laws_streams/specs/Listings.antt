@@ -1,5 +1,7 @@
--- What the manager's lists of extents are: each extent stands in one list, once, and each but the last of its list is sealed.
-use Rattle.std.specs.Prelude.{◌≡◌, ℕ, suc, ◌<◌, List, [], ◌++◌, Option, Some, slice_get}
+-- What the manager's lists of extents are: while an extent is open it stands in one list, once, and each but the last of a list is
+-- sealed, except in blob streams, to which servers may add what they like, and what leaves a log comes behind that.
+use Rattle.std.specs.Prelude.{◌≡◌, ◌≢◌, ℕ, suc, ◌<◌, List, [], ◌++◌, Option, Some, None, slice_get}
+use Rattle.wire.specs.declared.streams.StreamKind.TheVariants.{Log, BlobData}
 use Rattle.wire.specs.declared.streams.StreamName.{StreamName}
 use Rattle.streams.specs.Streams.{Stream, stream_of, whole}
 use Rattle.model_streams.specs.declared.extent.Extent.{Extent}
@@ -8,23 +10,25 @@ use Rattle.model_streams.specs.StreamSystem.{StreamSystem, Move, run_moves}
 use Rattle.laws_streams.specs.Origins.{Begins}
 use Rattle.laws_streams.specs.Answers.{SealedIn}
 
--- the list of a stream: from index 0 on, with those that have left it, all in the catalog, in the order in which they were
--- made; the last one does not leave
+-- the list of a stream: from index 0 on, with those that have left it, all in the catalog
 pub record Listed (b : Catalog) (s : StreamName) (x : Stream) : Type 0 where
-  -- none is trimmed yet
-  pub gone : x.gone ≡ []
+  -- only logs lose extents, and never the last one
+  pub gone : s.kind ≢ Log → x.gone ≡ []
   pub ends : x.extents ≡ [] → x.gone ≡ []
   pub there : (i e : ℕ) → slice_get (whole x) i ≡ Some e → (y : Extent) × (b.extent e ≡ Some y)
-  pub closed : (i e f : ℕ) → slice_get (whole x) i ≡ Some e → slice_get (whole x) (suc i) ≡ Some f → (length : ℕ) × SealedIn b e length
-  pub rising : (i j e f : ℕ) → i < j → slice_get (whole x) i ≡ Some e → slice_get (whole x) j ≡ Some f → e < f
-  pub apart : (t : StreamName) (z : Stream) (i j e : ℕ) → stream_of b.stream t ≡ Some z → slice_get (whole x) i ≡ Some e → slice_get (whole z) j ≡ Some e →
-      s ≡ t
+  -- in the order in which they were made, each but the last one sealed
+  pub closed : s.kind ≢ BlobData → (i e f : ℕ) → slice_get (whole x) i ≡ Some e → slice_get (whole x) (suc i) ≡ Some f → (length : ℕ) × SealedIn b e length
+  pub rising : s.kind ≢ BlobData → (i j e f : ℕ) → i < j → slice_get (whole x) i ≡ Some e → slice_get (whole x) j ≡ Some f → e < f
+  -- an extent that is open stands in no other list, and once in its own
+  pub alone : (t : StreamName) (z : Stream) (i j e : ℕ) (y : Extent) → stream_of b.stream t ≡ Some z → b.extent e ≡ Some y → y.sealed ≡ None →
+      slice_get (whole x) i ≡ Some e → slice_get (whole z) j ≡ Some e → (s ≡ t) × (i ≡ j)
 
--- the stream is there, and its list begins with that of before
+-- the stream is there, its list begins with that of before, and what has left it stays so
 pub record Longer (x : Stream) (found : Option Stream) : Type 0 where
   pub now : Stream
   pub is : found ≡ Some now
   pub begins : Begins (whole x) (whole now)
+  pub gone : Begins x.gone now.gone
 
 -- the lists of a run, and how each goes on later
 pub record ListsGrow (before after : List Move) (w : StreamSystem) : Type 0 where

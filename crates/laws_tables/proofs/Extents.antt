@@ -3,8 +3,7 @@ use Rattle.std.proofs.Common.{◌≡◌, ℕ, suc, ◌+◌, ◌<◌, ◌≤◌, 
 use Rattle.std.proofs.lemmas.List.{append-nil}
 use Rattle.std.proofs.lemmas.Bool.{cases_lt}
 use Rattle.std.proofs.lemmas.Bool.Decides.{nat_tests}
-use Rattle.model_partition.specs.Story.{StreamEvent, Made, Answered, Showed, event_at, Copy, placed, from_place, KeepsOrder}
-use Rattle.laws_tables.specs.Ends.{EndsRise}
+use Rattle.model_partition.specs.Story.{StreamEvent, Made, Answered, Showed, event_at, Copy, placed, from_place, KeepsOrder, EndsRise}
 use Rattle.laws_tables.specs.Fenced.{Seen, Landed, Fenced, LogRun, visible, landed, fence, end_of, IsLogRun}
 use Rattle.laws_tables.specs.Fenced.{May as Allows}
 use Rattle.laws_tables.proofs.Range.{older, newest}

@@ -9,12 +9,13 @@ use Rattle.metadata.specs.declared.record.KeyRange.{KeyRange}
 use Rattle.metadata.specs.declared.record.MetaItem.{MetaItem}
 use Rattle.metadata.specs.declared.record.MetaItem.TheVariants.{Ranges, Checkpoint, Regions, SplitStatus}
 use Rattle.metadata.specs.Fold.{MetadataState, all_keys, taken}
-use Rattle.model_partition.specs.Log.{line_shown, IsServed, begins_of, dones_at, observed}
+use Rattle.model_partition.specs.Log.{line_shown, begins_of, dones_at}
 use Rattle.model_partition.specs.Past.{Transaction, empty_table, after_line, kept, Replays, table_notes, first_range}
-use Rattle.model_partition.specs.Story.{Placed, StreamEvent, Made, Answered, Showed, event_at, Copy, placed, KeepsOrder}
-use Rattle.laws_tables.specs.Ends.{EndsRise, StandsBehind}
+use Rattle.model_partition.specs.Story.{Placed, StreamEvent, Made, Answered, Showed, event_at, Copy, placed, KeepsOrder, EndsRise}
+use Rattle.laws_tables.specs.Ends.{StandsBehind}
 use Rattle.laws_tables.specs.Layers.{Layer}
-use Rattle.laws_tables.specs.Runs.{Event, Forms, Logged, Notes, Records, Recorded, Trims, Confirms, Run, log_of, record_group, meta_of, Beginning, first_beginning, IsBeginning, fold_of, ShownLoad, said, next_loaded, shown_at, seen, IsChainRun, KeepsKeys}
+use Rattle.laws_tables.specs.Runs.{Event, Forms, Logged, Notes, Records, Recorded, Trims, Confirms, Run, log_of, record_group, meta_of, Beginning, first_beginning, IsBeginning, fold_of, ShownLoad, said, next_loaded, shown_at, seen, IsChainRun, ShowsLayers, KeepsKeys}
+use Rattle.laws_tables.specs.WholeStories.{IsServed, observed}
 use Rattle.laws_tables.proofs.Holds.{LogStory, MetadataStory}
 use Rattle.laws_tables.proofs.Layers.{kept_all}
 use Rattle.laws_tables.proofs.Loads.{ItemFrom, item_from, one_item}
@@ -64,26 +65,28 @@ dones_whole copies (Some (Made g group)) = refl
 dones_whole copies (Some (Answered a from to)) = refl
 dones_whole copies (Some (Showed g start end groups)) = refl
 
-seen_is : (b : Beginning) (cs : ℕ → List (Copy (Group Transaction))) (run : Run) → seen b first_range run ≡ observed_as (shown_at b run) (whole (Group Transaction) cs (log_of run))
-seen_is b cs [] = refl
-seen_is b cs (Forms g group ∷ run) = ap (λ z. z ++ begins_of first_range g group.first group.items) (seen_is b cs run)
-seen_is b cs (Logged g a from to ∷ run) =
-    ap (λ z. z ++ dones_at first_range (event_at (log_of run) a)) (seen_is b cs run)
-    ∙ ap (λ z. observed_as (shown_at b run) (whole (Group Transaction) cs (log_of run)) ++ z)
+seen_is : (b : Beginning) (rows : ℕ → List Row) (cs : ℕ → List (Copy (Group Transaction))) (run : Run) →
+    seen b rows first_range run ≡ observed_as (shown_at b rows run) (whole (Group Transaction) cs (log_of run))
+seen_is b rows cs [] = refl
+seen_is b rows cs (Forms g group ∷ run) = ap (λ z. z ++ begins_of first_range g group.first group.items) (seen_is b rows cs run)
+seen_is b rows cs (Logged g a from to ∷ run) =
+    ap (λ z. z ++ dones_at first_range (event_at (log_of run) a)) (seen_is b rows cs run)
+    ∙ ap (λ z. observed_as (shown_at b rows run) (whole (Group Transaction) cs (log_of run)) ++ z)
     (sym (ap (dones_at first_range) (whole_at (Group Transaction) cs (log_of run) a) ∙ dones_whole (cs a) (event_at (log_of run) a)))
-seen_is b cs (Notes g ∷ run) = seen_is b cs run
-seen_is b cs (Records g number item ∷ run) = seen_is b cs run
-seen_is b cs (Recorded g a from to ∷ run) = seen_is b cs run
-seen_is b cs (Trims g place ∷ run) = seen_is b cs run
-seen_is b cs (Confirms g start end groups metadata_end records rows ∷ run) =
+seen_is b rows cs (Notes g ∷ run) = seen_is b rows cs run
+seen_is b rows cs (Records g number item ∷ run) = seen_is b rows cs run
+seen_is b rows cs (Recorded g a from to ∷ run) = seen_is b rows cs run
+seen_is b rows cs (Trims g place ∷ run) = seen_is b rows cs run
+seen_is b rows cs (Confirms g start end groups metadata_end records ∷ run) =
     let V : LogStory = whole (Group Transaction) cs (log_of run) in
     let len : length V ≡ length (log_of run) = whole_length (Group Transaction) cs (log_of run) in
-    let mine : ShownLoad = record { rows = rows; keys = (said b (line_shown records)).keys; next = next_loaded b groups records } in
-    let now : ℕ → ShownLoad = λ n. cond (eqb n (length (log_of run))) mine (shown_at b run n) in
-    let here : now (length V) ≡ mine = ap now len ∙ ap (λ t. cond t mine (shown_at b run (length (log_of run)))) (eq_test Event (length (log_of run))) in
-    let same : observed_as (shown_at b run) V ≡ observed_as now V = observed_same (shown_at b run) now V (λ n lt.
-    sym (ap (λ t. cond t mine (shown_at b run n)) (ne_test Event n (length (log_of run)) (λ (q : n ≡ length (log_of run)). omega arith)))) in
-    ap (λ z. z ++ Loaded first_range g rows (next_loaded b groups records) ∷ []) (seen_is b cs run ∙ same)
+    let at : ℕ → ShownLoad = λ n. record { rows = rows n; keys = (said b (line_shown records)).keys; next = next_loaded b groups records } in
+    let mine : ShownLoad = at (length (log_of run)) in
+    let now : ℕ → ShownLoad = λ n. cond (eqb n (length (log_of run))) (at n) (shown_at b rows run n) in
+    let here : now (length V) ≡ mine = ap now len ∙ ap (λ t. cond t mine (shown_at b rows run (length (log_of run)))) (eq_test Event (length (log_of run))) in
+    let same : observed_as (shown_at b rows run) V ≡ observed_as now V = observed_same (shown_at b rows run) now V (λ n lt.
+    sym (ap (λ t. cond t (at n) (shown_at b rows run n)) (ne_test Event n (length (log_of run)) (λ (q : n ≡ length (log_of run)). omega arith)))) in
+    ap (λ z. z ++ Loaded first_range g (rows (length (log_of run))) (next_loaded b groups records) ∷ []) (seen_is b rows cs run ∙ same)
     ∙ ap (λ (z : ShownLoad). observed_as now V ++ Loaded first_range g z.rows z.next ∷ []) (sym here)
 
 -- ---- keys
@@ -121,37 +124,37 @@ made_keeps (Records g' number new ∷ run) keeps a g group front back item h e =
     (made_cases MetaItem g' (record_group number new) (meta_of run) a g group h)
 made_keeps (Recorded g' x from to ∷ run) keeps a g group front back item h e = made_keeps run keeps a g group front back item (answered_made MetaItem x from to (meta_of run) a g group h) e
 made_keeps (Trims g' place ∷ run) keeps a g group front back item h e = made_keeps run keeps a g group front back item h e
-made_keeps (Confirms g' start end groups metadata_end records rows ∷ run) keeps a g group front back item h e =
+made_keeps (Confirms g' start end groups metadata_end records ∷ run) keeps a g group front back item h e =
     made_keeps run keeps a g group front back item (showed_made MetaItem g' 0 metadata_end records (meta_of run) a g group h) e
 
 -- so each load has all keys that the chain begins with
-keys_kept : (b : Beginning) (run : Run) → KeepsKeys run → IsServed (meta_of run) → KeepsOrder (meta_of run) → (l g s e : ℕ) (xs : List (Placed (Group Transaction))) →
-    IsShownAt Transaction (log_of run) l g s e xs → (shown_at b run l).keys ≡ b.metadata.keys
-keys_kept b [] keeps served order l g s e xs h = absurd (cc)
-keys_kept b (Forms g' x ∷ run) keeps served order l g s e xs h = keys_kept b run keeps served order l g s e xs (made_shown Transaction g' x (log_of run) l g s e xs h)
-keys_kept b (Logged g' a from to ∷ run) keeps served order l g s e xs h = keys_kept b run keeps served order l g s e xs (answered_shown Transaction a from to (log_of run) l g s e xs h)
-keys_kept b (Notes g' ∷ run) keeps served order l g s e xs h = keys_kept b run keeps served order l g s e xs h
-keys_kept b (Records g' number item ∷ run) keeps served order l g s e xs h =
-    keys_kept b run keeps.1 served.1 (order_before (Group MetaItem) (Made g' (record_group number item)) (meta_of run) order) l g s e xs h
-keys_kept b (Recorded g' a from to ∷ run) keeps served order l g s e xs h = keys_kept b run keeps served.1 (order_before (Group MetaItem) (Answered a from to) (meta_of run) order) l g s e xs h
-keys_kept b (Trims g' place ∷ run) keeps served order l g s e xs h = keys_kept b run keeps served order l g s e xs h
-keys_kept b (Confirms g' start end groups metadata_end records rows ∷ run) keeps served order l g s e xs h =
+keys_kept : (b : Beginning) (rows : ℕ → List Row) (run : Run) → KeepsKeys run → IsServed (meta_of run) → KeepsOrder (meta_of run) → (l g s e : ℕ) (xs : List (Placed (Group Transaction))) →
+    IsShownAt Transaction (log_of run) l g s e xs → (shown_at b rows run l).keys ≡ b.metadata.keys
+keys_kept b rows [] keeps served order l g s e xs h = absurd (cc)
+keys_kept b rows (Forms g' x ∷ run) keeps served order l g s e xs h = keys_kept b rows run keeps served order l g s e xs (made_shown Transaction g' x (log_of run) l g s e xs h)
+keys_kept b rows (Logged g' a from to ∷ run) keeps served order l g s e xs h = keys_kept b rows run keeps served order l g s e xs (answered_shown Transaction a from to (log_of run) l g s e xs h)
+keys_kept b rows (Notes g' ∷ run) keeps served order l g s e xs h = keys_kept b rows run keeps served order l g s e xs h
+keys_kept b rows (Records g' number item ∷ run) keeps served order l g s e xs h =
+    keys_kept b rows run keeps.1 served.1 (order_before (Group MetaItem) (Made g' (record_group number item)) (meta_of run) order) l g s e xs h
+keys_kept b rows (Recorded g' a from to ∷ run) keeps served order l g s e xs h = keys_kept b rows run keeps served.1 (order_before (Group MetaItem) (Answered a from to) (meta_of run) order) l g s e xs h
+keys_kept b rows (Trims g' place ∷ run) keeps served order l g s e xs h = keys_kept b rows run keeps served order l g s e xs h
+keys_kept b rows (Confirms g' start end groups metadata_end records ∷ run) keeps served order l g s e xs h =
     let load : StreamEvent (Group MetaItem) = Showed g' 0 metadata_end records in
     let story : MetadataStory = Showed g' 0 metadata_end records ∷ meta_of run in
     let n : ℕ = length (log_of run) in
     let items : List MetaItem = line_shown records in
-    let mine : ShownLoad = record { rows = rows; keys = (said b items).keys; next = next_loaded b groups records } in
-    ⊎_elim {C = (cond (eqb l n) mine (shown_at b run l)).keys ≡ b.metadata.keys}
+    let mine : ShownLoad = record { rows = rows l; keys = (said b items).keys; next = next_loaded b groups records } in
+    ⊎_elim {C = (cond (eqb l n) mine (shown_at b rows run l)).keys ≡ b.metadata.keys}
     (λ (q : (l ≡ n) × (g' ≡ g) × (groups ≡ xs)).
-    let at : cond (eqb l n) mine (shown_at b run l) ≡ mine = ap (λ z. cond (eqb z n) mine (shown_at b run l)) q.0 ∙ ap (λ t. cond t mine (shown_at b run l)) (eq_test Event n) in
+    let at : cond (eqb l n) mine (shown_at b rows run l) ≡ mine = ap (λ z. cond (eqb z n) mine (shown_at b rows run l)) q.0 ∙ ap (λ t. cond t mine (shown_at b rows run l)) (eq_test Event n) in
     let each : (us vs : List MetaItem) (item : MetaItem) → items ≡ us ++ item ∷ vs → IsNoRange item = λ us vs item eq.
     let f : ItemFrom MetaItem story served order (length (meta_of run)) g' us item = item_from MetaItem story served order (length (meta_of run)) g' 0 metadata_end records (newest (Group MetaItem) load (meta_of run)) us vs item eq in
     made_keeps run keeps f.append f.generation f.of f.front f.back item (showed_made MetaItem g' 0 metadata_end records (meta_of run) f.append f.generation f.of f.made) f.items in
     ap (λ (z : ShownLoad). z.keys) at ∙ line_keeps b.metadata items [] items refl each)
     (λ (o : IsShownAt Transaction (log_of run) l g s e xs).
     let low : l < n = bound (Group Transaction) (log_of run) l (Showed g s e xs) o in
-    let at : cond (eqb l n) mine (shown_at b run l) ≡ shown_at b run l = ap (λ t. cond t mine (shown_at b run l)) (ne_test Event l n (λ (q : l ≡ n). omega arith)) in
-    ap (λ (z : ShownLoad). z.keys) at ∙ keys_kept b run keeps served.1 (order_before (Group MetaItem) load (meta_of run) order) l g s e xs o)
+    let at : cond (eqb l n) mine (shown_at b rows run l) ≡ shown_at b rows run l = ap (λ t. cond t mine (shown_at b rows run l)) (ne_test Event l n (λ (q : l ≡ n). omega arith)) in
+    ap (λ (z : ShownLoad). z.keys) at ∙ keys_kept b rows run keeps served.1 (order_before (Group MetaItem) load (meta_of run) order) l g s e xs o)
     (shown_cases Transaction g' start end groups (log_of run) l g s e xs h)
 
 -- ---- the law
@@ -163,20 +166,21 @@ module _ (layer_at : Place → Layer) where
   pub first_behind : (story : LogStory) (order : KeepsOrder story) → StandsBehind 0 story order
   first_behind story order = record { copies = λ l c i. omega arith; ends = λ l g start end groups h. omega arith }
 
-  pub first_range_replays : (run : Run) → IsChainRun layer_at first_beginning run → KeepsKeys run → KeepsOrder (log_of run) → EndsRise (log_of run) → KeepsOrder (meta_of run) → Replays (seen first_beginning first_range run)
-  first_range_replays run ok keeps order ends metadata_order =
-      let inv : Inv layer_at first_beginning order.copies run = inv_of layer_at first_beginning run first_begins ok order ends (first_behind (log_of run) order) metadata_order in
-      let is : seen first_beginning first_range run ≡ observed first_range (λ n. (shown_at first_beginning run n).rows) (whole (Group Transaction) order.copies (log_of run)) =
-      seen_is first_beginning order.copies run ∙ observed_is (shown_at first_beginning run) (whole (Group Transaction) order.copies (log_of run)) (λ l g s e xs h. (inv.shows l g s e xs h).number) in
+  pub first_range_replays : (rows : ℕ → List Row) (run : Run) → IsChainRun layer_at first_beginning run → KeepsKeys run → ShowsLayers layer_at first_beginning rows run →
+      KeepsOrder (log_of run) → EndsRise (log_of run) → KeepsOrder (meta_of run) → Replays (seen first_beginning rows first_range run)
+  first_range_replays rows run ok keeps right order ends metadata_order =
+      let inv : Inv layer_at first_beginning rows order.copies run = inv_of layer_at first_beginning rows run first_begins ok right order ends (first_behind (log_of run) order) metadata_order in
+      let is : seen first_beginning rows first_range run ≡ observed first_range (λ n. (shown_at first_beginning rows run n).rows) (whole (Group Transaction) order.copies (log_of run)) =
+      seen_is first_beginning rows order.copies run ∙ observed_is (shown_at first_beginning rows run) (whole (Group Transaction) order.copies (log_of run)) (λ l g s e xs h. (inv.shows l g s e xs h).number) in
       subst Replays (sym is)
-      (replays (λ n. (shown_at first_beginning run n).rows) (whole (Group Transaction) order.copies (log_of run))
+      (replays (λ n. (shown_at first_beginning rows run n).rows) (whole (Group Transaction) order.copies (log_of run))
       (λ l g s e xs h key.
       let shown : (s' : ℕ) × (xs' : List (Placed (Group Transaction))) × (event_at (log_of run) l ≡ Some (Showed g s' e xs')) × (s ≡ 0) × (xs ≡ map placed (order.copies l)) = back_shown (Group Transaction) order.copies (log_of run) l g s e xs h in
-      let keys : (shown_at first_beginning run l).keys ≡ all_keys = keys_kept first_beginning run keeps inv.metadata_served metadata_order l g shown.0 e shown.1 shown.2 in
+      let keys : (shown_at first_beginning rows run l).keys ≡ all_keys = keys_kept first_beginning rows run keeps inv.metadata_served metadata_order l g shown.0 e shown.1 shown.2 in
       (inv.shows l g s e xs h).table key ∙ ap (λ z. kept z (after_line (line_shown xs) empty_table) key) keys ∙ kept_all (after_line (line_shown xs) empty_table) key)
       inv.served (whole_order (Group Transaction) (log_of run) order))
 
   -- observations of extents may stand between those of tables
-  pub tables_of_first_range_replay : (run : Run) (h : List Note) → IsChainRun layer_at first_beginning run → KeepsKeys run → KeepsOrder (log_of run) → EndsRise (log_of run) → KeepsOrder (meta_of run) →
-      table_notes h ≡ seen first_beginning first_range run → Replays h
-  tables_of_first_range_replay run h ok keeps order ends metadata_order same = with_others h (subst Replays (sym same) (first_range_replays run ok keeps order ends metadata_order))
+  pub tables_of_first_range_replay : (rows : ℕ → List Row) (run : Run) (h : List Note) → IsChainRun layer_at first_beginning run → KeepsKeys run → ShowsLayers layer_at first_beginning rows run →
+      KeepsOrder (log_of run) → EndsRise (log_of run) → KeepsOrder (meta_of run) → table_notes h ≡ seen first_beginning rows first_range run → Replays h
+  tables_of_first_range_replay rows run h ok keeps right order ends metadata_order same = with_others h (subst Replays (sym same) (first_range_replays rows run ok keeps right order ends metadata_order))

@@ -7,14 +7,15 @@ use Rattle.commitlog.specs.Replay.{Numbered as Group}
 use Rattle.metadata.specs.declared.record.MetaItem.{MetaItem}
 use Rattle.metadata.specs.Fold.{MetadataState, taken}
 use Rattle.metadata.specs.Keys.{within}
-use Rattle.model_partition.specs.Log.{line_shown, IsServed}
+use Rattle.model_partition.specs.Log.{line_shown}
 use Rattle.model_partition.specs.Past.{Bytes, Transaction, after_line}
-use Rattle.model_partition.specs.Story.{Placed, StreamEvent, Showed, Story, event_at, Copy, placed, from_place, KeepsOrder}
+use Rattle.model_partition.specs.Story.{Placed, StreamEvent, Showed, Story, event_at, Copy, placed, from_place, KeepsOrder, EndsRise}
 use Rattle.model_partition.specs.StreamMachine.{In}
-use Rattle.laws_tables.specs.Ends.{EndsRise, StandsBehind}
+use Rattle.laws_tables.specs.Ends.{StandsBehind}
 use Rattle.laws_tables.specs.Layers.{Layer, empty_layer, over, flat, indexed}
 use Rattle.laws_tables.specs.Runs.{Beginning, IsBeginning, start_number, first_next, added, greater, said, replayed_by, loaded_layer, confirmed}
 use Rattle.laws_tables.specs.Through.{HadLine, IsLoaded}
+use Rattle.laws_tables.specs.WholeStories.{IsServed}
 use Rattle.laws_tables.proofs.Books.{all_answered_loaded}
 use Rattle.laws_tables.proofs.Cut.{keep_back}
 use Rattle.laws_tables.proofs.Holds.{LogStory, MetadataStory, StandsForLine, HasOrigin, IndexesMake, StartRises, HoldsRightly, WasFitRecord, with_record}

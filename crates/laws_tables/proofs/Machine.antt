@@ -7,14 +7,15 @@ use Rattle.memtable.specs.declared.cell.Place.{Place}
 use Rattle.commitlog.specs.Replay.{Numbered as Group}
 use Rattle.metadata.specs.declared.record.MetaItem.{MetaItem}
 use Rattle.metadata.specs.Fold.{MetadataState}
-use Rattle.model_partition.specs.Log.{line_shown, IsServed}
-use Rattle.model_partition.specs.Past.{Transaction, after_line}
-use Rattle.model_partition.specs.Story.{Placed, StreamEvent, Made, Answered, Showed, event_at, Copy, placed, from_place, KeepsOrder}
+use Rattle.model_partition.specs.Log.{line_shown}
+use Rattle.model_partition.specs.Past.{Bytes, Transaction, after_line, stored, kept}
+use Rattle.model_partition.specs.Story.{Placed, StreamEvent, Made, Answered, Showed, event_at, Copy, placed, from_place, KeepsOrder, EndsRise}
 use Rattle.model_partition.specs.StreamMachine.{In}
-use Rattle.laws_tables.specs.Ends.{EndsRise, StandsBehind}
+use Rattle.laws_tables.specs.Ends.{StandsBehind}
 use Rattle.laws_tables.specs.Layers.{Layer, flat}
-use Rattle.laws_tables.specs.Runs.{Event, Forms, Logged, Notes, Records, Recorded, Trims, Confirms, Run, log_of, record_group, meta_of, Beginning, IsBeginning, start_number, Serving, formed, logged, noting, recording, recorded, ShownLoad, said, next_loaded, loaded_layer, confirmed, held, shown_at, IsServing, MayStart, MayInChain, IsChainRun, ShowsLine, ChainReplays}
+use Rattle.laws_tables.specs.Runs.{Event, Forms, Logged, Notes, Records, Recorded, Trims, Confirms, Run, log_of, record_group, meta_of, Beginning, IsBeginning, start_number, Serving, formed, logged, noting, recording, recorded, ShownLoad, said, next_loaded, loaded_layer, confirmed, held, shown_at, IsServing, MayStart, MayInChain, IsChainRun, ShowsLayers, ShowsLine, ChainReplays}
 use Rattle.laws_tables.specs.Through.{IsLoaded, HadLine, HasAllAnswered, HasOneOut, HasLine}
+use Rattle.laws_tables.specs.WholeStories.{IsServed}
 use Rattle.laws_tables.proofs.Books.{one_out_is_made, had_line_of, allowed_made}
 use Rattle.laws_tables.proofs.Holds.{LogStory, MetadataStory, HoldsRightly, IsFitRecord, WasFitRecord, NumberIs, holds_log_later, holds_metadata_later, record_log_later, record_metadata_later, holds_formed, holds_logged, holds_noting, fit_record, holds_recording, record_made, holds_recorded}
 use Rattle.laws_tables.proofs.Layers.{kept_same}
@@ -38,7 +39,7 @@ loaded_in_log (Records g' number item ∷ earlier) g h =
     loaded_in_log earlier g (h.0, h.1, h.2, h.3, made_shown MetaItem g' (record_group number item) (meta_of earlier) h.0 g h.1 h.2 h.3 h.4)
 loaded_in_log (Recorded g' a from to ∷ earlier) g h = loaded_in_log earlier g (h.0, h.1, h.2, h.3, answered_shown MetaItem a from to (meta_of earlier) h.0 g h.1 h.2 h.3 h.4)
 loaded_in_log (Trims g' place ∷ earlier) g h = loaded_in_log earlier g h
-loaded_in_log (Confirms g' start end groups metadata_end records rows ∷ earlier) g h =
+loaded_in_log (Confirms g' start end groups metadata_end records ∷ earlier) g h =
     let load : StreamEvent (Group Transaction) = Showed g' start end groups in
     ⊎_elim {C = IsLoaded (Showed g' start end groups ∷ log_of earlier) g}
     (λ (q : (h.0 ≡ length (meta_of earlier)) × (g' ≡ g) × (records ≡ h.3)).
@@ -72,15 +73,16 @@ module _ (layer_at : Place → Layer) (b : Beginning) where
   abbrev pub LetGo : MetadataStory → ℕ → ℕ → Type 0
   LetGo metadata g place = (before : List MetaItem) × HadLine metadata g before × (place ≤ start_number (said b before).regions)
 
-  pub record Inv (cs : ℕ → List (Copy (Group Transaction))) (run : Run) : Type 0 where
+  -- rows: those that each load shows
+  pub record Inv (rows : ℕ → List Row) (cs : ℕ → List (Copy (Group Transaction))) (run : Run) : Type 0 where
     pub served : IsServed (whole_log cs run)
     pub metadata_served : IsServed (meta_of run)
     pub holds : (g : ℕ) → IsLoaded (whole_log cs run) g → HoldsRightly layer_at b (whole_log cs run) (meta_of run) g (held b run g)
     pub fit : (a g : ℕ) (group : Group MetaItem) → IsMadeAt MetaItem (meta_of run) a g group → WasFitRecord layer_at b (whole_log cs run) (meta_of run) g group
     pub trims : (g place : ℕ) → In (Trims g place) run → LetGo (meta_of run) g place
-    pub shows : (l g s e : ℕ) (xs : List (Placed (Group Transaction))) → IsShownAt Transaction (whole_log cs run) l g s e xs → ShowsLine b (shown_at b run l) (line_shown xs)
+    pub shows : (l g s e : ℕ) (xs : List (Placed (Group Transaction))) → IsShownAt Transaction (whole_log cs run) l g s e xs → ShowsLine b (shown_at b rows run l) (line_shown xs)
 
-  module _ (cs : ℕ → List (Copy (Group Transaction))) (run : Run) (inv : Inv cs run) where
+  module _ (rows : ℕ → List Row) (cs : ℕ → List (Copy (Group Transaction))) (run : Run) (inv : Inv rows cs run) where
     abbrev V : LogStory
     V = whole_log cs run
 
@@ -106,7 +108,7 @@ module _ (layer_at : Place → Layer) (b : Beginning) where
     let_go_later : (e : StreamEvent (Group MetaItem)) (g place : ℕ) → LetGo M g place → LetGo (e ∷ M) g place
     let_go_later e g place t = (t.0, had_line_later MetaItem e M g t.0 t.1, t.2)
 
-    pub inv_forms : (owner : ℕ) (group : Group Transaction) → MayInChain layer_at b run (Forms owner group) → Inv cs (Forms owner group ∷ run)
+    pub inv_forms : (owner : ℕ) (group : Group Transaction) → MayInChain layer_at b run (Forms owner group) → Inv rows cs (Forms owner group ∷ run)
     inv_forms owner group may =
         let h : HoldsRightly layer_at b V M owner (held b run owner) = holds_of owner may.0 in
         let len : length (log_of run) ≡ length V = sym (whole_length (Group Transaction) cs (log_of run)) in
@@ -125,7 +127,7 @@ module _ (layer_at : Place → Layer) (b : Beginning) where
           shows = λ l g s e xs is. inv.shows l g s e xs (made_shown Transaction owner group V l g s e xs is);
         }
 
-    pub inv_logged : (owner a from to : ℕ) → MayInChain layer_at b run (Logged owner a from to) → Inv cs (Logged owner a from to ∷ run)
+    pub inv_logged : (owner a from to : ℕ) → MayInChain layer_at b run (Logged owner a from to) → Inv rows cs (Logged owner a from to ∷ run)
     inv_logged owner a from to may =
         let h : HoldsRightly layer_at b V M owner (held b run owner) = holds_of owner may.0 in
         let out : HasOneOut V owner h.line a may.1 = subst (λ z. HasLine V owner h.line z) may.2 h.has_line in
@@ -142,7 +144,7 @@ module _ (layer_at : Place → Layer) (b : Beginning) where
           shows = λ l g s e xs is. inv.shows l g s e xs (answered_shown Transaction a from to V l g s e xs is);
         }
 
-    pub inv_notes : (owner : ℕ) → MayInChain layer_at b run (Notes owner) → Inv cs (Notes owner ∷ run)
+    pub inv_notes : (owner : ℕ) → MayInChain layer_at b run (Notes owner) → Inv rows cs (Notes owner ∷ run)
     inv_notes owner may = record {
       served = inv.served;
       metadata_served = inv.metadata_served;
@@ -154,7 +156,7 @@ module _ (layer_at : Place → Layer) (b : Beginning) where
       shows = inv.shows;
     }
 
-    pub inv_trims : (owner place : ℕ) → MayInChain layer_at b run (Trims owner place) → Inv cs (Trims owner place ∷ run)
+    pub inv_trims : (owner place : ℕ) → MayInChain layer_at b run (Trims owner place) → Inv rows cs (Trims owner place ∷ run)
     inv_trims owner place may =
         let h : HoldsRightly layer_at b V M owner (held b run owner) = holds_of owner may.0 in
         let s : Serving = held b run owner in
@@ -174,7 +176,7 @@ module _ (layer_at : Place → Layer) (b : Beginning) where
           shows = inv.shows;
         }
 
-    pub inv_records : (owner number : ℕ) (item : MetaItem) → MayInChain layer_at b run (Records owner number item) → Inv cs (Records owner number item ∷ run)
+    pub inv_records : (owner number : ℕ) (item : MetaItem) → MayInChain layer_at b run (Records owner number item) → Inv rows cs (Records owner number item ∷ run)
     inv_records owner number item may =
         let h : HoldsRightly layer_at b V M owner (held b run owner) = holds_of owner may.0 in
         let s : Serving = held b run owner in
@@ -201,7 +203,7 @@ module _ (layer_at : Place → Layer) (b : Beginning) where
           shows = inv.shows;
         }
 
-    pub inv_recorded : (owner a from to : ℕ) → MayInChain layer_at b run (Recorded owner a from to) → Inv cs (Recorded owner a from to ∷ run)
+    pub inv_recorded : (owner a from to : ℕ) → MayInChain layer_at b run (Recorded owner a from to) → Inv rows cs (Recorded owner a from to ∷ run)
     inv_recorded owner a from to may =
         let h : HoldsRightly layer_at b V M owner (held b run owner) = holds_of owner may.0 in
         let s : Serving = held b run owner in
@@ -220,8 +222,9 @@ module _ (layer_at : Place → Layer) (b : Beginning) where
         }
 
     -- a load is confirmed
-    module _ (begins : IsBeginning layer_at b) (owner start end : ℕ) (groups : List (Placed (Group Transaction))) (metadata_end : ℕ) (records : List (Placed (Group MetaItem))) (rows : List Row)
-        (may : MayInChain layer_at b run (Confirms owner start end groups metadata_end records rows))
+    module _ (begins : IsBeginning layer_at b) (owner start end : ℕ) (groups : List (Placed (Group Transaction))) (metadata_end : ℕ) (records : List (Placed (Group MetaItem)))
+        (may : MayInChain layer_at b run (Confirms owner start end groups metadata_end records))
+        (right : (key : Bytes) → stored (rows (length (log_of run))) key ≡ kept (said b (line_shown records)).keys (λ k. flat (loaded_layer b layer_at groups records k)) key)
         (order : KeepsOrder (Showed owner 0 end (map placed (cs (length (log_of run)))) ∷ V)) (ends : EndsRise (Showed owner 0 end (map placed (cs (length (log_of run)))) ∷ V))
         (behind : StandsBehind b.place (Showed owner 0 end (map placed (cs (length (log_of run)))) ∷ V) order)
         (copies_are : order.copies (length V) ≡ cs (length (log_of run))) (metadata_order : KeepsOrder (Showed owner 0 metadata_end records ∷ M))
@@ -265,16 +268,16 @@ module _ (layer_at : Place → Layer) (b : Beginning) where
       groups_are : groups ≡ map placed (from_place (start_number now.regions) (order.copies (length V)))
       groups_are = shown ∙ ap (λ z. map placed (from_place z (cs (length (log_of run))))) start_is ∙ ap (λ z. map placed (from_place (start_number now.regions) z)) (sym copies_are)
 
-      shows_line : ShowsLine b (record { rows = rows; keys = now.keys; next = next_loaded b groups records }) (line_shown xs)
+      shows_line : ShowsLine b (record { rows = rows (length (log_of run)); keys = now.keys; next = next_loaded b groups records }) (line_shown xs)
       shows_line = record {
         table = λ key.
-            may.2 key
+            right key
             ∙ kept_same now.keys (λ k. flat (loaded_layer b layer_at groups records k)) (after_line (line_shown xs) b.table)
             (loaded_table layer_at b begins V M owner end metadata_end xs records served order ends behind metadata_served metadata_order inv.fit groups groups_are) key;
         number = loaded_next layer_at b begins V M owner end metadata_end xs records served order ends behind metadata_served metadata_order inv.fit groups groups_are;
       }
 
-      pub inv_confirms : Inv cs (Confirms owner start end groups metadata_end records rows ∷ run)
+      pub inv_confirms : Inv rows cs (Confirms owner start end groups metadata_end records ∷ run)
       inv_confirms = record {
         served = served;
         metadata_served = metadata_served;
@@ -295,19 +298,19 @@ module _ (layer_at : Place → Layer) (b : Beginning) where
         fit = λ a g x m.
             record_log_later layer_at b load V (Showed owner 0 metadata_end records ∷ M) g x
             (record_metadata_later layer_at b metadata_load V M g x (inv.fit a g x (showed_made MetaItem owner 0 metadata_end records M a g x m)));
-        trims = λ g place i. let_go_later metadata_load g place (inv.trims g place (no_trim (Confirms owner start end groups metadata_end records rows) (λ g p q. cc) g place i));
+        trims = λ g place i. let_go_later metadata_load g place (inv.trims g place (no_trim (Confirms owner start end groups metadata_end records) (λ g p q. cc) g place i));
         shows = λ l g s e ys is.
             let len : length V ≡ length (log_of run) = whole_length (Group Transaction) cs (log_of run) in
-            let mine : ShownLoad = record { rows = rows; keys = now.keys; next = next_loaded b groups records } in
-            let at : ℕ → ShownLoad = λ n. cond (eqb n (length (log_of run))) mine (shown_at b run n) in
+            let mine : ShownLoad = record { rows = rows (length (log_of run)); keys = now.keys; next = next_loaded b groups records } in
+            let at : ℕ → ShownLoad = λ n. cond (eqb n (length (log_of run))) (record { rows = rows n; keys = now.keys; next = next_loaded b groups records }) (shown_at b rows run n) in
             ⊎_elim {C = ShowsLine b (at l) (line_shown ys)}
             (λ (n : (l ≡ length V) × (owner ≡ g) × (xs ≡ ys)).
             let last : l ≡ length (log_of run) = n.0 ∙ len in
-            let here : mine ≡ at l = sym (ap at last ∙ same_one ShownLoad (length (log_of run)) mine (shown_at b run (length (log_of run)))) in
+            let here : mine ≡ at l = sym (ap at last ∙ same_one ShownLoad (length (log_of run)) mine (shown_at b rows run (length (log_of run)))) in
             subst (λ z. ShowsLine b z (line_shown ys)) here (subst (λ z. ShowsLine b mine (line_shown z)) n.2 shows_line))
             (λ (o : IsShownAt Transaction V l g s e ys).
             let low : l < length V = bound (Group Transaction) V l (Showed g s e ys) o in
-            let there : shown_at b run l ≡ at l = sym (other_one ShownLoad l (length (log_of run)) mine (shown_at b run l) (λ (q : l ≡ length (log_of run)). omega arith)) in
+            let there : shown_at b rows run l ≡ at l = sym (other_one ShownLoad l (length (log_of run)) (record { rows = rows l; keys = now.keys; next = next_loaded b groups records }) (shown_at b rows run l) (λ (q : l ≡ length (log_of run)). omega arith)) in
             subst (λ z. ShowsLine b z (line_shown ys)) there (inv.shows l g s e ys o))
             (shown_cases Transaction owner 0 end xs V l g s e ys is);
       }
@@ -333,10 +336,10 @@ module _ (layer_at : Place → Layer) (b : Beginning) where
         h.ends l g r.0 end r.1 r.2;
   }
 
-  pub inv_of : (run : Run) → IsBeginning layer_at b → IsChainRun layer_at b run → (order : KeepsOrder (log_of run)) → EndsRise (log_of run) → StandsBehind b.place (log_of run) order →
-      KeepsOrder (meta_of run) → Inv order.copies run
+  pub inv_of : (rows : ℕ → List Row) (run : Run) → IsBeginning layer_at b → IsChainRun layer_at b run → ShowsLayers layer_at b rows run →
+      (order : KeepsOrder (log_of run)) → EndsRise (log_of run) → StandsBehind b.place (log_of run) order → KeepsOrder (meta_of run) → Inv rows order.copies run
   unfolding order_before whole_order
-  inv_of [] begins ok order ends behind metadata_order = record {
+  inv_of rows [] begins ok right order ends behind metadata_order = record {
     served = tt;
     metadata_served = tt;
     holds = λ g h. absurd (let q : event_at [] h.0 ≡ Some (Showed g h.1 h.2 h.3) = h.4 in cc);
@@ -344,26 +347,26 @@ module _ (layer_at : Place → Layer) (b : Beginning) where
     trims = λ g p i. absurd i;
     shows = λ l g s e xs h. absurd (cc);
   }
-  inv_of (Forms g group ∷ run) begins ok order ends behind metadata_order =
+  inv_of rows (Forms g group ∷ run) begins ok right order ends behind metadata_order =
       let e : StreamEvent (Group Transaction) = Made g group in
-      inv_forms order.copies run
-      (inv_of run begins ok.1 (order_before (Group Transaction) e (log_of run) order) (ends_before (Group Transaction) e (log_of run) ends) (behind_before e (log_of run) order behind) metadata_order) g group ok.0
-  inv_of (Logged g a from to ∷ run) begins ok order ends behind metadata_order =
+      inv_forms rows order.copies run
+      (inv_of rows run begins ok.1 right (order_before (Group Transaction) e (log_of run) order) (ends_before (Group Transaction) e (log_of run) ends) (behind_before e (log_of run) order behind) metadata_order) g group ok.0
+  inv_of rows (Logged g a from to ∷ run) begins ok right order ends behind metadata_order =
       let e : StreamEvent (Group Transaction) = Answered a from to in
-      inv_logged order.copies run
-      (inv_of run begins ok.1 (order_before (Group Transaction) e (log_of run) order) (ends_before (Group Transaction) e (log_of run) ends) (behind_before e (log_of run) order behind) metadata_order) g a from to ok.0
-  inv_of (Notes g ∷ run) begins ok order ends behind metadata_order = inv_notes order.copies run (inv_of run begins ok.1 order ends behind metadata_order) g ok.0
-  inv_of (Records g number item ∷ run) begins ok order ends behind metadata_order =
-      inv_records order.copies run (inv_of run begins ok.1 order ends behind (order_before (Group MetaItem) (Made g (record_group number item)) (meta_of run) metadata_order)) g number item ok.0
-  inv_of (Recorded g a from to ∷ run) begins ok order ends behind metadata_order =
-      inv_recorded order.copies run (inv_of run begins ok.1 order ends behind (order_before (Group MetaItem) (Answered a from to) (meta_of run) metadata_order)) g a from to ok.0
-  inv_of (Trims g place ∷ run) begins ok order ends behind metadata_order = inv_trims order.copies run (inv_of run begins ok.1 order ends behind metadata_order) g place ok.0
-  inv_of (Confirms g start end groups metadata_end records rows ∷ run) begins ok order ends behind metadata_order =
+      inv_logged rows order.copies run
+      (inv_of rows run begins ok.1 right (order_before (Group Transaction) e (log_of run) order) (ends_before (Group Transaction) e (log_of run) ends) (behind_before e (log_of run) order behind) metadata_order) g a from to ok.0
+  inv_of rows (Notes g ∷ run) begins ok right order ends behind metadata_order = inv_notes rows order.copies run (inv_of rows run begins ok.1 right order ends behind metadata_order) g ok.0
+  inv_of rows (Records g number item ∷ run) begins ok right order ends behind metadata_order =
+      inv_records rows order.copies run (inv_of rows run begins ok.1 right order ends behind (order_before (Group MetaItem) (Made g (record_group number item)) (meta_of run) metadata_order)) g number item ok.0
+  inv_of rows (Recorded g a from to ∷ run) begins ok right order ends behind metadata_order =
+      inv_recorded rows order.copies run (inv_of rows run begins ok.1 right order ends behind (order_before (Group MetaItem) (Answered a from to) (meta_of run) metadata_order)) g a from to ok.0
+  inv_of rows (Trims g place ∷ run) begins ok right order ends behind metadata_order = inv_trims rows order.copies run (inv_of rows run begins ok.1 right order ends behind metadata_order) g place ok.0
+  inv_of rows (Confirms g start end groups metadata_end records ∷ run) begins ok right order ends behind metadata_order =
       let e : StreamEvent (Group Transaction) = Showed g start end groups in
-      inv_confirms order.copies run
-      (inv_of run begins ok.1 (order_before (Group Transaction) e (log_of run) order) (ends_before (Group Transaction) e (log_of run) ends) (behind_before e (log_of run) order behind)
+      inv_confirms rows order.copies run
+      (inv_of rows run begins ok.1 right.1 (order_before (Group Transaction) e (log_of run) order) (ends_before (Group Transaction) e (log_of run) ends) (behind_before e (log_of run) order behind)
       (order_before (Group MetaItem) (Showed g 0 metadata_end records) (meta_of run) metadata_order))
-      begins g start end groups metadata_end records rows ok.0
+      begins g start end groups metadata_end records ok.0 right.0
       (whole_order (Group Transaction) (e ∷ log_of run) order)
       (ends_whole (Group Transaction) order.copies (e ∷ log_of run) ends)
       (behind_whole (e ∷ log_of run) order behind)
@@ -372,10 +375,10 @@ module _ (layer_at : Place → Layer) (b : Beginning) where
       (order.shown (length (log_of run)) g start end groups (newest (Group Transaction) e (log_of run)))
 
   -- THE LAW OF A CHAIN
-  pub chain_replays : (run : Run) → IsBeginning layer_at b → IsChainRun layer_at b run → (order : KeepsOrder (log_of run)) → EndsRise (log_of run) → StandsBehind b.place (log_of run) order →
-      KeepsOrder (meta_of run) → ChainReplays b run
-  chain_replays run begins ok order ends behind metadata_order =
-      let inv : Inv order.copies run = inv_of run begins ok order ends behind metadata_order in
+  pub chain_replays : (rows : ℕ → List Row) (run : Run) → IsBeginning layer_at b → IsChainRun layer_at b run → ShowsLayers layer_at b rows run →
+      (order : KeepsOrder (log_of run)) → EndsRise (log_of run) → StandsBehind b.place (log_of run) order → KeepsOrder (meta_of run) → ChainReplays b rows run
+  chain_replays rows run begins ok right order ends behind metadata_order =
+      let inv : Inv rows order.copies run = inv_of rows run begins ok right order ends behind metadata_order in
       let log : LogStory = whole_log order.copies run in
       let all : KeepsOrder log = whole_order (Group Transaction) (log_of run) order in
       let shown : (l g s e : ℕ) (xs : List (Placed (Group Transaction))) → event_at (log_of run) l ≡ Some (Showed g s e xs) → IsShownAt Transaction log l g 0 e (map placed (order.copies l)) =

@@ -4,12 +4,12 @@ use Rattle.std.specs.Prelude.{Contains}
 use Rattle.std.proofs.lemmas.List.{append-nil}
 use Rattle.commitlog.specs.Replay.{Numbered as Group, replayed as replay}
 use Rattle.model_partition.specs.Lines.{next_after}
-use Rattle.model_partition.specs.Log.{line_shown, IsServed}
-use Rattle.model_partition.specs.Story.{Placed, StreamEvent, Made, Answered, Showed, Story, event_at, Copy, placed, from_place, KeepsOrder}
+use Rattle.model_partition.specs.Log.{line_shown}
+use Rattle.model_partition.specs.Story.{Placed, StreamEvent, Made, Answered, Showed, Story, event_at, Copy, placed, from_place, KeepsOrder, EndsRise}
 use Rattle.model_partition.specs.StreamMachine.{In}
-use Rattle.laws_tables.specs.Ends.{EndsRise}
 use Rattle.laws_tables.specs.Runs.{added}
 use Rattle.laws_tables.specs.Through.{HadLine}
+use Rattle.laws_tables.specs.WholeStories.{IsServed}
 use Rattle.laws_tables.proofs.Cut.{cut, cut_at_end, line_from_position}
 use Rattle.laws_tables.proofs.Lines.{along, along_grows}
 use Rattle.laws_tables.proofs.Members.{in_contains, contains_in, in_right, in_cases}

@@ -5,7 +5,8 @@ use Rattle.std.proofs.lemmas.Bool.Decides.{nat_tests}
 use Rattle.commitlog.specs.Replay.{Numbered as Group}
 use Rattle.model_partition.specs.Lines.{next_after}
 use Rattle.model_partition.specs.Story.{Placed, StreamEvent, Made, Answered, Showed, Story, event_at}
-use Rattle.model_partition.specs.Log.{line_shown, next_number, Allowed, IsServed}
+use Rattle.model_partition.specs.Log.{line_shown}
+use Rattle.laws_tables.specs.WholeStories.{next_number, Allowed, IsServed}
 
 module _ (A : Type 0) where
   pub eq_test : (n : ℕ) → eqb n n ≡ true
@@ -141,13 +142,6 @@ module _ (A : Type 0) where
 
   pub next_shown_other : (g g' s e : ℕ) (xs : List (Placed (Group A))) (earlier : Log) → (g ≡ g' → ⊥) → next_number (Showed g' s e xs ∷ earlier) g ≡ next_number earlier g
   next_shown_other g g' s e xs earlier n = ap (λ b. cond b (suc (length (line_shown xs))) (next_number earlier g)) (ne_test A g g' n)
-
-  Answer : Log → ℕ → ℕ → Type 0
-  Answer story a b = (k : ℕ) × (f : ℕ) × (t : ℕ) × (a < k) × (k < b) × (event_at story k ≡ Some (Answered a f t))
-
-  answer_later : (e : StreamEvent (Group A)) (earlier : Log) (a b : ℕ) → Answer earlier a b → Answer (e ∷ earlier) a b
-  unfolding Answer
-  answer_later e earlier a b h = (h.0, h.1, h.2, h.3, h.4, older (Group A) e earlier h.0 (Answered a h.1 h.2) h.5)
 
   pair_later : (e : StreamEvent (Group A)) (earlier : Log) (kept : Kept earlier) (a b g : ℕ) (old new : Group A) → IsMadeAt earlier a g old → IsMadeAt earlier b g new → a < b →
       (next_after old ≤ new.first) × (k : ℕ) × (f : ℕ) × (t : ℕ) × (a < k) × (k < b) × (event_at (e ∷ earlier) k ≡ Some (Answered a f t))

@@ -8,11 +8,12 @@ use Rattle.wire.specs.declared.note.Note.{Note}
 use Rattle.wire.specs.declared.note.Note.TheVariants.{Acked, SealedAt, Content, Seen, Began, Done, Loaded, Split, Merged}
 use Rattle.wire.specs.declared.rows.Row.{Row}
 use Rattle.metadata.specs.Fold.{all_keys}
-use Rattle.model_partition.specs.Past.{Bytes, Transaction, Table, empty_table, after_line, stored, Past, From_nothing, owners, owners_back, eldest, eldest_back, kin_back, keys_of, keys_back, kept as within_keys, table_of, begun, AllBegan, AllDone, Replays}
+use Rattle.model_partition.specs.Past.{Bytes, Transaction, Table, empty_table, after_line, stored, Past, From_nothing, owners, owners_back, eldest, eldest_back, keys_of, keys_back, kept as within_keys, table_of, begun, AllBegan, AllDone, Replays}
 use Rattle.commitlog.specs.Replay.{Numbered as Group}
 use Rattle.model_partition.specs.Lines.{next_after, StandsIn}
 use Rattle.model_partition.specs.Story.{Placed, StreamEvent, Made, Answered, Showed, Story, event_at, Copy, KeepsOrder}
-use Rattle.model_partition.specs.Log.{line_shown, IsServed, begins_of, dones_of, dones_at, notes, observed, ShowsTables}
+use Rattle.model_partition.specs.Log.{line_shown, begins_of, dones_of, dones_at}
+use Rattle.laws_tables.specs.WholeStories.{IsServed, notes, observed, ShowsTables}
 use Rattle.laws_tables.proofs.Lines.{along, Rules, shown_in_line, lines_in_order, line_from_shown, ComesFrom, split_at}
 use Rattle.laws_tables.proofs.Range.{IsMadeAt, IsShownAt, Kept, kept_by_servers, bound, older, event_cases, newest, eq_test, ne_test}
 use Rattle.model_partition.specs.StreamMachine.{In}
@@ -57,12 +58,6 @@ plain-eldest [] r p = refl
 plain-eldest (Split b c d key ∷ h) r p = absurd p
 plain-eldest (Merged c d e ∷ h) r p = absurd p
 plain-eldest (o ∷ h) r p = plain-eldest h r p
-
-plain-kin : (h : List Note) (r : ℕ) → Plain h → kin_back h r ≡ r ∷ []
-plain-kin [] r p = refl
-plain-kin (Split b c d key ∷ h) r p = absurd p
-plain-kin (Merged c d e ∷ h) r p = absurd p
-plain-kin (o ∷ h) r p = plain-kin h r p
 
 plain-keys : (h : List Note) (r : ℕ) → Plain h → keys_back h r ≡ all_keys
 plain-keys [] r p = refl

@@ -8,8 +8,8 @@ use Rattle.model_partition.specs.Past.{Bytes, Transaction, Replays}
 use Rattle.commitlog.specs.Replay.{Numbered as Group}
 use Rattle.model_partition.specs.Story.{Placed, Made, Answered, Showed, Story, event_at}
 use Rattle.laws_tables.proofs.Range.{event_cases}
-use Rattle.model_partition.specs.Log.{IsServed, observed, ShowsTables}
 use Rattle.laws_tables.specs.Fenced.{Seen, Landed, Fenced, LogRun, IsLogRun, visible}
+use Rattle.laws_tables.specs.WholeStories.{IsServed, observed, ShowsTables}
 use Rattle.laws_tables.proofs.Fenced.{keeps_order}
 use Rattle.laws_tables.proofs.Theorem.{replays}
 

@@ -1,6 +1,6 @@
 -- Worked examples of chains: a checkpoint that is noted while a group is out, a Trim, and a load from the noted position; then a
 -- split, and a load of the right half; and a chain that begins with an index, in the middle of a stream.
-use Rattle.std.proofs.Common.{◌≡◌, ℕ, length, sym, ap, ◌∙◌, subst, ⊎_elim, inl, inr, ◌⊎◌, ◌≤◌, List, [], ◌∷◌, refl, Some, None, Option, arith, Bool, true, false, cond}
+use Rattle.std.proofs.Common.{◌≡◌, ℕ, zero, suc, length, sym, ap, ◌∙◌, subst, ⊎_elim, inl, inr, ◌⊎◌, ◌≤◌, List, [], ◌∷◌, refl, Some, None, Option, arith, Bool, true, false, cond}
 use Rattle.std.specs.Prelude.{bytes_eq}
 use Rattle.std.proofs.lemmas.Slice.Eq.{bytes_eq-Decides}
 use Rattle.wire.specs.declared.note.Note.TheVariants.{Began, Done, Loaded}
@@ -128,14 +128,19 @@ up_to_trim =
     ∷ Forms 1 g2
     ∷ Logged 1 1 0 24
     ∷ Forms 1 g1
-    ∷ Confirms 1 0 0 [] 0 [] []
+    ∷ Confirms 1 0 0 [] 0 []
     ∷ []
+
+-- the first load shows nothing, and each later one these rows
+abbrev pub two_loads : List Row → ℕ → List Row
+two_loads rows zero = []
+two_loads rows (suc n) = rows
 
 abbrev all_rows : List Row
 all_rows = row 99 122 ∷ row 98 121 ∷ row 97 120 ∷ []
 
 abbrev whole_run : Run
-whole_run = Confirms 2 4294967320 4294967344 load 40 (checkpoint_shown ∷ []) all_rows ∷ up_to_trim
+whole_run = Confirms 2 4294967320 4294967344 load 40 (checkpoint_shown ∷ []) ∷ up_to_trim
 
 abbrev pub before_second : LogRun (Group Transaction)
 before_second =
@@ -234,7 +239,7 @@ all_rows_are key =
     ∙ ap (λ w. layers_say w (bytes_eq key (99 ∷ [])) (bytes_eq key (98 ∷ [])) (bytes_eq key (97 ∷ []))) (sym (in_all key))
     ∙ sym (kept_all (λ k. flat (loaded_layer first_beginning layers load (checkpoint_shown ∷ []) k)) key)
 
-nothing_kept : (key : Bytes) → None ≡ kept all_keys (λ k. flat (loaded_layer first_beginning layers [] [] k)) key
+pub nothing_kept : (key : Bytes) → None ≡ kept all_keys (λ k. flat (loaded_layer first_beginning layers [] [] k)) key
 nothing_kept key = none_kept (within all_keys key)
 
 pub is_up_to_trim : IsChainRun layers first_beginning up_to_trim
@@ -258,7 +263,7 @@ is_up_to_trim = (
                   ((0, 0, 0, [], refl), g1, refl),
                   (
                     ((0, 0, 0, [], refl), refl, refl),
-                    (((λ h. not_loaded Transaction [] 1 tt h), (0, inl (omega arith), refl), nothing_kept), tt),
+                    (((λ h. not_loaded Transaction [] 1 tt h), (0, inl (omega arith), refl)), tt),
                   ),
                 ),
               ),
@@ -275,7 +280,6 @@ is_whole_run = (
   (
     (λ h. not_loaded Transaction (log_of up_to_trim) 2 (one_is_not_two, tt) h),
     (4294967296, inr (1, omega arith, (0, omega arith, refl)), refl),
-    all_rows_are,
   ),
   is_up_to_trim,
 )
@@ -288,7 +292,7 @@ pub worked_checkpoint : Replays (
     Loaded 1 1 [] 1 ∷ Began 1 1 1 t1 ∷ Done 1 1 1 ∷ Began 1 1 2 t2 ∷ Done 1 1 2 ∷ Began 1 1 3 t3 ∷ Done 1 1 3 ∷ Loaded 1 2 all_rows 4 ∷ []
     )
 worked_checkpoint =
-    first_range_replays layers whole_run is_whole_run keeps_keys (keeps_order (Group Transaction) log_run is_log) (ends_rise (Group Transaction) log_run is_log) (keeps_order (Group MetaItem) metadata_run is_metadata)
+    first_range_replays layers (two_loads all_rows) whole_run is_whole_run keeps_keys (all_rows_are, (nothing_kept, tt)) (keeps_order (Group Transaction) log_run is_log) (ends_rise (Group Transaction) log_run is_log) (keeps_order (Group MetaItem) metadata_run is_metadata)
 
 -- ---- a split: two records more, and a load of the right half
 
@@ -312,7 +316,7 @@ abbrev up_to_split : Run
 up_to_split = Recorded 1 5 80 120 ∷ Records 1 3 (Ranges right_keys) ∷ Recorded 1 3 40 80 ∷ Records 1 2 status ∷ up_to_trim
 
 abbrev split_run : Run
-split_run = Confirms 2 4294967320 4294967344 load 120 records_shown right_rows ∷ up_to_split
+split_run = Confirms 2 4294967320 4294967344 load 120 records_shown ∷ up_to_split
 
 abbrev split_answered : LogRun (Group MetaItem)
 split_answered =
@@ -375,7 +379,6 @@ is_split_run = (
   (
     (λ h. not_loaded Transaction (log_of up_to_split) 2 (one_is_not_two, tt) h),
     (4294967296, inr (1, omega arith, (4, omega arith, refl)), refl),
-    right_rows_are,
   ),
   (
     ((0, 0, 0, [], refl), record_group 3 (Ranges right_keys), refl),
@@ -389,9 +392,9 @@ is_split_run = (
   ),
 )
 
-pub worked_split : ChainReplays first_beginning split_run
+pub worked_split : ChainReplays first_beginning (two_loads right_rows) split_run
 worked_split =
-    chain_replays layers first_beginning split_run (first_begins layers) is_split_run (keeps_order (Group Transaction) log_run is_log) (ends_rise (Group Transaction) log_run is_log)
+    chain_replays layers first_beginning (two_loads right_rows) split_run (first_begins layers) is_split_run (right_rows_are, (nothing_kept, tt)) (keeps_order (Group Transaction) log_run is_log) (ends_rise (Group Transaction) log_run is_log)
     (first_behind layers (log_of split_run) (keeps_order (Group Transaction) log_run is_log)) (keeps_order (Group MetaItem) split_metadata_run is_split_metadata)
 
 -- ---- a chain that begins with an index, at the second extent of its stream
@@ -429,11 +432,15 @@ middle_load = record { from = 4294967296; to = 4294967320; group = m1 } ∷ []
 abbrev two_rows : List Row
 two_rows = row 98 121 ∷ row 97 120 ∷ []
 
+abbrev middle_loads : ℕ → List Row
+middle_loads zero = row 97 120 ∷ []
+middle_loads (suc n) = two_rows
+
 abbrev before_middle_load : Run
-before_middle_load = Logged 1 1 4294967296 4294967320 ∷ Forms 1 m1 ∷ Confirms 1 4294967296 4294967296 [] 0 [] (row 97 120 ∷ []) ∷ []
+before_middle_load = Logged 1 1 4294967296 4294967320 ∷ Forms 1 m1 ∷ Confirms 1 4294967296 4294967296 [] 0 [] ∷ []
 
 abbrev middle_run : Run
-middle_run = Confirms 2 4294967296 4294967320 middle_load 0 [] two_rows ∷ before_middle_load
+middle_run = Confirms 2 4294967296 4294967320 middle_load 0 [] ∷ before_middle_load
 
 abbrev middle_copy : Copy (Group Transaction)
 middle_copy = record { from = 4294967296; to = 4294967320; append = 1; group = m1 }
@@ -515,17 +522,17 @@ second_rows_are key =
 
 is_middle_run : IsChainRun middle_layers middle middle_run
 is_middle_run = (
-  ((λ h. not_loaded Transaction (log_of before_middle_load) 2 (one_is_not_two, tt) h), (0, inl (omega arith), refl), second_rows_are),
+  ((λ h. not_loaded Transaction (log_of before_middle_load) 2 (one_is_not_two, tt) h), (0, inl (omega arith), refl)),
   (
     ((0, 4294967296, 4294967296, [], refl), m1, refl),
     (
       ((0, 4294967296, 4294967296, [], refl), refl, refl),
-      (((λ h. not_loaded Transaction [] 1 tt h), (4294967296, inl (omega arith), refl), first_rows_are), tt),
+      (((λ h. not_loaded Transaction [] 1 tt h), (4294967296, inl (omega arith), refl)), tt),
     ),
   ),
 )
 
-pub worked_middle : ChainReplays middle middle_run
+pub worked_middle : ChainReplays middle middle_loads middle_run
 worked_middle =
-    chain_replays middle_layers middle middle_run middle_begins is_middle_run (keeps_order (Group Transaction) middle_log_run is_middle_log) (ends_rise (Group Transaction) middle_log_run is_middle_log)
+    chain_replays middle_layers middle middle_loads middle_run middle_begins is_middle_run (second_rows_are, (first_rows_are, tt)) (keeps_order (Group Transaction) middle_log_run is_middle_log) (ends_rise (Group Transaction) middle_log_run is_middle_log)
     middle_behind (keeps_order (Group MetaItem) middle_metadata_run is_middle_metadata)

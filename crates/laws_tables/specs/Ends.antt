@@ -1,11 +1,6 @@
 -- Where the loads of one stream begin and end.
-use Rattle.std.specs.Prelude.{◌≡◌, ℕ, ◌<◌, ◌≤◌, List, Some, Contains}
+use Rattle.std.specs.Prelude.{◌≡◌, ℕ, ◌≤◌, List, Some, Contains}
 use Rattle.model_partition.specs.Story.{Placed, Showed, Story, event_at, Copy, KeepsOrder}
-
--- of two loads the one of the higher generation ends at or behind the lower's end
-abbrev pub EndsRise : {A : Type 0} → Story A → Type 0
-EndsRise {A} story = (l m g h start end start' end' : ℕ) (groups groups' : List (Placed A)) →
-    event_at story l ≡ Some (Showed g start end groups) → event_at story m ≡ Some (Showed h start' end' groups') → g < h → end ≤ end'
 
 -- nothing stands before this place, and no load ends before it
 pub record StandsBehind {A : Type 0} (place : ℕ) (story : Story A) (order : KeepsOrder story) : Type 0 where

@@ -3,3 +3,4 @@ pub mod Fenced
 pub mod Layers
 pub mod Runs
 pub mod Through
+pub mod WholeStories

@@ -37,8 +37,8 @@ pub data Event : Type 0 where
   Recorded : (generation append from to : ℕ) → Event
   -- a Trim of all that stands before a place is sent: it is taken never, once or often, now or later
   Trims : (generation place : ℕ) → Event
-  -- a load is confirmed: the log from a start up to an end, all of the metadata, and the rows that it shows
-  Confirms : (generation start end : ℕ) (groups : List (Placed (Group Transaction))) (metadata_end : ℕ) (records : List (Placed (Group MetaItem))) (rows : List Row) → Event
+  -- a load is confirmed: the log from a start up to an end, and all of the metadata
+  Confirms : (generation start end : ℕ) (groups : List (Placed (Group Transaction))) (metadata_end : ℕ) (records : List (Placed (Group MetaItem))) → Event
 
 -- the newest first
 abbrev pub Run : Type 0
@@ -48,7 +48,7 @@ abbrev pub log_of : Run → Story (Group Transaction)
 log_of [] = []
 log_of (Forms g group ∷ earlier) = Made g group ∷ log_of earlier
 log_of (Logged g append from to ∷ earlier) = Answered append from to ∷ log_of earlier
-log_of (Confirms g start end groups metadata_end records rows ∷ earlier) = Showed g start end groups ∷ log_of earlier
+log_of (Confirms g start end groups metadata_end records ∷ earlier) = Showed g start end groups ∷ log_of earlier
 log_of (e ∷ earlier) = log_of earlier
 
 -- a record of the metadata is a group of one item
@@ -59,7 +59,7 @@ abbrev pub meta_of : Run → Story (Group MetaItem)
 meta_of [] = []
 meta_of (Records g number item ∷ earlier) = Made g (record_group number item) ∷ meta_of earlier
 meta_of (Recorded g append from to ∷ earlier) = Answered append from to ∷ meta_of earlier
-meta_of (Confirms g start end groups metadata_end records rows ∷ earlier) = Showed g 0 metadata_end records ∷ meta_of earlier
+meta_of (Confirms g start end groups metadata_end records ∷ earlier) = Showed g 0 metadata_end records ∷ meta_of earlier
 meta_of (e ∷ earlier) = meta_of earlier
 
 -- ---- where a chain begins
@@ -201,24 +201,26 @@ module _ (b : Beginning) where
   held (Records g' number item ∷ earlier) g = if g == g' then recording (length (meta_of earlier)) (record_group number item) (held earlier g) else held earlier g
   held (Recorded g' append from to ∷ earlier) g = if g == g' then recorded (held earlier g) else held earlier g
   held (Trims g' place ∷ earlier) g = held earlier g
-  held (Confirms g' start end groups metadata_end records rows ∷ earlier) g = if g == g' then confirmed start end groups records else held earlier g
+  held (Confirms g' start end groups metadata_end records ∷ earlier) g = if g == g' then confirmed start end groups records else held earlier g
 
   -- ---- what is observed
 
-  -- what the load shows that is this event of the log's story
-  abbrev pub shown_at : Run → ℕ → ShownLoad
-  shown_at [] n = record { rows = []; keys = all_keys; next = 1 }
-  shown_at (Confirms g start end groups metadata_end records rows ∷ earlier) n =
-      if n == length (log_of earlier) then record { rows = rows; keys = (said (line_shown records)).keys; next = next_loaded groups records } else shown_at earlier n
-  shown_at (e ∷ earlier) n = shown_at earlier n
+  -- rows: those that the load shows which is this event of the log's story
+  module _ (rows : ℕ → List Row) where
+    -- what the load shows that is this event of the log's story
+    abbrev pub shown_at : Run → ℕ → ShownLoad
+    shown_at [] n = record { rows = []; keys = all_keys; next = 1 }
+    shown_at (Confirms g start end groups metadata_end records ∷ earlier) n =
+        if n == length (log_of earlier) then record { rows = rows n; keys = (said (line_shown records)).keys; next = next_loaded groups records } else shown_at earlier n
+    shown_at (e ∷ earlier) n = shown_at earlier n
 
-  -- of a range
-  abbrev pub seen : ℕ → Run → List Note
-  seen range [] = []
-  seen range (Forms g group ∷ earlier) = seen range earlier ++ begins_of range g group.first group.items
-  seen range (Logged g append from to ∷ earlier) = seen range earlier ++ dones_at range (event_at (log_of earlier) append)
-  seen range (Confirms g start end groups metadata_end records rows ∷ earlier) = seen range earlier ++ Loaded range g rows (next_loaded groups records) ∷ []
-  seen range (e ∷ earlier) = seen range earlier
+    -- of a range
+    abbrev pub seen : ℕ → Run → List Note
+    seen range [] = []
+    seen range (Forms g group ∷ earlier) = seen range earlier ++ begins_of range g group.first group.items
+    seen range (Logged g append from to ∷ earlier) = seen range earlier ++ dones_at range (event_at (log_of earlier) append)
+    seen range (Confirms g start end groups metadata_end records ∷ earlier) = seen range earlier ++ Loaded range g (rows (length (log_of earlier))) (next_loaded groups records) ∷ []
+    seen range (e ∷ earlier) = seen range earlier
 
 -- ---- what may happen
 
@@ -264,13 +266,20 @@ module _ (layer_at : Place → Layer) (b : Beginning) where
   -- only what its answered records let go
   MayInChain earlier (Trims g place) = IsServing earlier g × (place ≤ start_number (said b (held b earlier g).records).regions)
   -- a generation is loaded once
-  MayInChain earlier (Confirms g start end groups metadata_end records rows) =
+  MayInChain earlier (Confirms g start end groups metadata_end records) =
       (IsServing earlier g → ⊥) × MayStart earlier g start (line_shown records)
-      × ((key : Bytes) → stored rows key ≡ kept (said b (line_shown records)).keys (λ k. flat (loaded_layer b layer_at groups records k)) key)
 
   abbrev pub IsChainRun : Run → Type 0
   IsChainRun [] = Unit {0}
   IsChainRun (e ∷ earlier) = MayInChain earlier e × IsChainRun earlier
+
+  -- the rows of each load are what its layers say within its keys
+  abbrev pub ShowsLayers : (ℕ → List Row) → Run → Type 0
+  ShowsLayers rows [] = Unit {0}
+  ShowsLayers rows (Confirms g start end groups metadata_end records ∷ earlier) =
+      ((key : Bytes) → stored (rows (length (log_of earlier))) key ≡ kept (said b (line_shown records)).keys (λ k. flat (loaded_layer b layer_at groups records k)) key)
+      × ShowsLayers rows earlier
+  ShowsLayers rows (e ∷ earlier) = ShowsLayers rows earlier
 
 -- no record narrows the keys
 abbrev pub KeepsKeys : Run → Type 0
@@ -287,9 +296,9 @@ pub record ShowsLine (b : Beginning) (load : ShownLoad) (line : List Transaction
 
 -- Each load shows a line. Lines begin one another in the order of generations; each group that was answered under a lower generation
 -- stands in them at its numbers; and each transaction in them began before, under a lower generation.
-pub record ChainReplays (b : Beginning) (run : Run) : Type 0 where
+pub record ChainReplays (b : Beginning) (rows : ℕ → List Row) (run : Run) : Type 0 where
   pub line : ℕ → List Transaction
-  pub shown : (l g start end : ℕ) (groups : List (Placed (Group Transaction))) → event_at (log_of run) l ≡ Some (Showed g start end groups) → ShowsLine b (shown_at b run l) (line l)
+  pub shown : (l g start end : ℕ) (groups : List (Placed (Group Transaction))) → event_at (log_of run) l ≡ Some (Showed g start end groups) → ShowsLine b (shown_at b rows run l) (line l)
   pub in_order : (l m g h start end start' end' : ℕ) (groups groups' : List (Placed (Group Transaction))) →
       event_at (log_of run) l ≡ Some (Showed g start end groups) → event_at (log_of run) m ≡ Some (Showed h start' end' groups') → g < h → IsPrefixOf (line l) (line m)
   pub complete : (l g start end a g' k from to : ℕ) (groups : List (Placed (Group Transaction))) (group : Group Transaction) →

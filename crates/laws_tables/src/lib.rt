@@ -1,13 +1,9 @@
 //! Laws of tables, and of the streams that they are loaded from.
 //!
-//! This crate has no code, and touches nothing. The crate `laws` states lemmas of it as the contracts of two functions, which are
-//! said of the definitions of `model_partition` alone:
+//! This crate has no code, and touches nothing. The crate `laws` states lemmas of it as the contracts of two functions:
 //! - `streams_keep_order`: whatever is late, lost or repeated, and whoever seals, what the loads of one stream show keeps the
-//!   order that the story of a stream promises (`KeepsOrder`).
-//! - `tables_replay`: over any log that keeps its order, what is loaded of a range is its table after every transaction that
-//!   was acknowledged under an earlier generation, in order, each once (`Replays`).
-//!
-//! It also ends in the order of their generations (`clients_ends_rise`). One more law is not stated there yet: that of a range
-//! with checkpoints and of those that it was split from (`chain_replays`, and `first_range_replays` where no record narrows its
-//! keys).
+//!   order that the story of a stream promises (`KeepsOrder`), and they end in the order of their generations (`EndsRise`).
+//! - `tables_replay`: over such streams, whatever servers fold into indexes, trim or split off, each load of a range shows its
+//!   table after every transaction that was acknowledged under an earlier generation, in order, each once (`ChainReplays`; of
+//!   all that is observed of the first range, `Replays`). What its servers do is a run (`specs/Runs.antt`).
 #![tactic(auto)]

@@ -1,6 +1,7 @@
 -- What the manager is about to do is what the rule of its table does.
-use Rattle.std.proofs.Common.{◌≡◌, ℕ, ◌≤◌, Bool, true, false, not, ◌&&◌, ◌==◌, if◌then◌else◌, List, [], ◌∷◌, ◌++◌, length, Option, Some, None, Result, Ok, Err, nat_lt, refl, sym, ap, ◌∙◌, subst, arith}
+use Rattle.std.proofs.Common.{◌≡◌, ℕ, ◌≤◌, Bool, true, false, not, ◌&&◌, ◌==◌, if◌then◌else◌, ◌+◌, List, [], ◌∷◌, ◌++◌, length, Option, Some, None, Result, Ok, Err, nat_lt, nat_le, refl, sym, ap, ◌∙◌, subst, arith}
 use Rattle.std.proofs.lemmas.Bool.{eqb-true, and_from, and_parts}
+use Rattle.std.proofs.lemmas.Bool.Decides.{nat_tests}
 use Rattle.block_types.specs.declared.record.Nodes.{Nodes}
 use Rattle.block_types.specs.Limits.{are_nodes}
 use Rattle.wire.specs.declared.actor.ActorId.{ActorId}
@@ -16,7 +17,7 @@ use Rattle.wire.specs.declared.packet.Packet.{Packet}
 use Rattle.wire.specs.declared.refusal.Refusal.{Refusal}
 use Rattle.wire.specs.declared.refusal.Refusal.TheVariants.{NoSuchExtent, Stale, NoSuchStream, NameTaken, LastOpen, BadPick}
 use Rattle.wire.specs.declared.streams.StreamName.{StreamName}
-use Rattle.streams.specs.Streams.{Stream, stream_of, has_four, all_pass, created, opened, last_of, is_number, behind, extending}
+use Rattle.streams.specs.Streams.{Stream, stream_of, has_four, all_pass, created, opened, last_of, is_number, behind, extending, base_of, trim_of, trimmed, trimming}
 use Rattle.model_streams.specs.declared.extent.Asker.{Asker}
 use Rattle.model_streams.specs.declared.extent.Extent.{Extent}
 use Rattle.model_streams.specs.declared.extent.PlaceReport.{PlaceReport}
@@ -24,9 +25,9 @@ use Rattle.model_streams.specs.Actors.{is_user, is_node, generation_of}
 use Rattle.model_streams.specs.Bounds.{AreFew}
 use Rattle.model_streams.specs.Maps.{entry_at}
 use Rattle.model_streams.specs.Outcome.{Outcome, packet, first_met, silent, sends, refused, or_refused}
-use Rattle.model_streams.specs.Replay.{is_closed, seal_fits}
+use Rattle.model_streams.specs.Replay.{is_closed, seal_fits, trim_fits}
 use Rattle.model_streams.specs.Manager as manager
-use Rattle.model_streams.specs.Manager.{Catalog, extended, is_there, is_pick, is_foreign, sealed_in, answer, create_taken, open_taken, extend_made, extend_picked, extend_answered, reminders, told_sealed, tells_asker, with_report, frozen_to, known_sealed, place_of, first_sealed, least_told, sealed_to, forgotten, forgotten_if, seal_extent_rule, frozen_rule, is_sealed_rule, short_rule, decide_rule, stream_body_rule, seal_body_rule, manager_rule}
+use Rattle.model_streams.specs.Manager.{Catalog, extended, is_there, is_pick, is_foreign, sealed_in, answer, create_taken, open_taken, extend_made, extend_picked, extend_answered, trim_answered, reminders, told_sealed, tells_asker, with_report, frozen_to, known_sealed, place_of, first_sealed, least_told, sealed_to, forgotten, forgotten_if, seal_extent_rule, frozen_rule, is_sealed_rule, short_rule, decide_rule, stream_body_rule, seal_body_rule, manager_rule}
 use Rattle.model_streams.proofs.Tests.{if_elim, both_elim}
 use Rattle.manager_state.specs.Table.{ManagerTableState, SameCatalog, longer, closed_if, sealed_at, may_lengthen, lengthens}
 use Rattle.manager_state.proofs.ReplaysRecords.{lengthens_there}
@@ -67,6 +68,22 @@ fence_test extents l last false end = absurd cc
 may_follow : (extents : List Extent) (o : Option Stream) (g : ℕ) (last : Option ℕ) → extending (sealed_at extents) o g last ≡ Ok None → lengthens extents g o ≡ true
 may_follow extents None g last end = absurd cc
 may_follow extents (Some x) g last end = fence_test extents (last_of x.extents) last (g == x.fence) end
+
+-- ---- a log that loses extents
+
+log_test : (base before end : ℕ) (same begins ends : Bool) → nat_le before base ≡ begins → nat_lt before end ≡ ends →
+    (if same then (if begins then Ok false else if ends then Ok true else Err LastOpen) else Err Stale) ≡ Ok true →
+    (nat_lt base before && nat_lt before end) ≡ true
+log_test base before end true true ends begin stop taken = absurd cc
+log_test base before end true false true begin stop taken = grind (arith, nat_tests, begin, stop)
+log_test base before end true false false begin stop taken = absurd cc
+log_test base before end false begins ends begin stop taken = absurd cc
+
+trim_test : (log blob_data : Option Stream) (g before : ℕ) → trim_of log blob_data g before ≡ Ok true → trim_fits log blob_data before ≡ true
+trim_test None blob_data g before taken = absurd cc
+trim_test (Some x) None g before taken = absurd cc
+trim_test (Some x) (Some y) g before taken =
+    log_test (base_of x) before (base_of x + length x.extents) (x.fence == g) (nat_le before (base_of x)) (nat_lt before (base_of x + length x.extents)) refl refl taken
 
 -- nothing changes, and one packet is sent at most
 module _ (t : ManagerTableState) where
@@ -154,6 +171,21 @@ module _ (t : ManagerTableState) where
     answered_rule last (Ok None) is = picked_rule (may_follow t.extents (stream_of t.streams s) g last is)
     answered_rule last (Ok (Some e)) is = last_rule e (entry_at t.extents e)
 
+  -- ---- Trim
+
+  trim_rules : (p : Packet) (range g before : ℕ) (to_blob : Bool) (q : ReqNo) (r : Result Bool Refusal) → trimming t.streams range g before ≡ r →
+      Follows t (plans.trim_in p range before to_blob q r) (trim_answered (catalog_of t) p range before to_blob q r)
+  trim_rules p range g before to_blob q (Err refusal) is = denying p q refusal
+  trim_rules p range g before to_blob q (Ok false) is = telling p.from (plans.trimmed_of q)
+  trim_rules p range g before to_blob q (Ok true) is = record {
+    after = catalog_shows (record t { streams = trimmed t.streams range before to_blob });
+    packets = refl;
+    notes = refl;
+    written = refl;
+    can = (tt, trim_test (t.streams range 1) (t.streams range 3) g before is);
+    few = (omega arith, omega arith);
+  }
+
   unheard_rule : (p : Packet) (q : ReqNo) → Follows t (plans.no_users p q) (manager.no_users (catalog_of t) p q)
   unheard_rule p q = both_elim (Follows t) (is_user p.from) _ _ _ _ (λ user. denying p q Stale) (λ other. quiet)
 
@@ -164,7 +196,8 @@ module _ (t : ManagerTableState) where
   stream_rules p (Extend s g last pick q) =
       both_elim (Follows t) (is_foreign p.from s.range) _ _ _ _ (λ foreign. denying p q Stale)
       (λ own. answered_rule p s (generation_of p.from g) pick q last (extending (sealed_at t.extents) (stream_of t.streams s) (generation_of p.from g) last) refl)
-  stream_rules p (Trim range g before to_blob q) = unheard_rule p q
+  stream_rules p (Trim range g before to_blob q) =
+      both_elim (Follows t) (is_user p.from) _ _ _ _ (λ user. denying p q Stale) (λ other. trim_rules p range g before to_blob q (trimming t.streams range g before) refl)
   stream_rules p (MultiModify list q) = unheard_rule p q
   stream_rules p body = quiet
 

@@ -1,5 +1,5 @@
 -- What the manager is about to do with a packet or a call, as a function of its table.
-use Rattle.std.specs.Prelude.{◌≡◌, ℕ, suc, true, List, [], ◌∷◌, ◌++◌, length, Option, Some, None, if◌then◌else◌, Result, Ok, Err, IfOk}
+use Rattle.std.specs.Prelude.{◌≡◌, ℕ, suc, Bool, true, false, List, [], ◌∷◌, ◌++◌, length, Option, Some, None, if◌then◌else◌, Result, Ok, Err, IfOk}
 use Rattle.std.specs.declared.alloc.AllocError.{AllocError}
 use Rattle.block_types.specs.declared.record.Nodes.{Nodes}
 use Rattle.block_types.specs.declared.record.Record.{Record}
@@ -10,7 +10,7 @@ use Rattle.wire.specs.declared.body.AppendBody.TheVariants.{Refused}
 use Rattle.wire.specs.declared.body.SealBody.{SealBody}
 use Rattle.wire.specs.declared.body.SealBody.TheVariants.{Make, SealExtent, Frozen, IsSealed, Short, SendTail}
 use Rattle.wire.specs.declared.body.StreamBody.{StreamBody}
-use Rattle.wire.specs.declared.body.StreamBody.TheVariants.{CreateStream, Created, OpenStreams, Opened, Confirm, Confirmed, Extend, Extended, Trim, MultiModify}
+use Rattle.wire.specs.declared.body.StreamBody.TheVariants.{CreateStream, Created, OpenStreams, Opened, Confirm, Confirmed, Extend, Extended, Trim, Trimmed, MultiModify}
 use Rattle.wire.specs.declared.body.Body.{Body}
 use Rattle.wire.specs.declared.body.Body.TheVariants as bodies
 use Rattle.wire.specs.declared.note.Note.TheVariants.{SealedAt}
@@ -19,7 +19,7 @@ use Rattle.wire.specs.declared.refusal.Refusal.{Refusal}
 use Rattle.wire.specs.declared.refusal.Refusal.TheVariants.{NoSuchExtent, Stale, BadPick}
 use Rattle.wire.specs.declared.streams.StreamLists.{StreamLists}
 use Rattle.wire.specs.declared.streams.StreamName.{StreamName}
-use Rattle.streams.specs.Streams.{stream_of, create_fault, open_fault, confirm_fault, extending}
+use Rattle.streams.specs.Streams.{stream_of, create_fault, open_fault, confirm_fault, extending, trimming}
 use Rattle.model_streams.specs.declared.extent.Extent.{Extent}
 use Rattle.model_streams.specs.declared.manager_record.ManagerRecord.TheVariants as manager_records
 use Rattle.model_streams.specs.Actors.{is_user, generation_of}
@@ -148,6 +148,24 @@ extend t p s generation last pick q =
     if is_foreign p.from s.range then denied p q Stale
     else extend_answered t p s generation pick q (extending (sealed_at t.extents) (stream_of t.streams s) generation last)
 
+-- ---- Trim
+
+abbrev pub trimmed_of : ReqNo → Body
+trimmed_of q = bodies.Stream (Trimmed q)
+
+abbrev pub trim_taken : Packet → ℕ → ℕ → Bool → ReqNo → Plan
+trim_taken p range before to_blob q = plan_of (packet Manager p.from (trimmed_of q) ∷ []) (Write (manager_records.Trim range before to_blob))
+
+-- Without a record where no extent leaves.
+abbrev pub trim_in : Packet → ℕ → ℕ → Bool → ReqNo → Result Bool Refusal → Plan
+trim_in p range before to_blob q (Err refusal) = denied p q refusal
+trim_in p range before to_blob q (Ok false) = told p.from (trimmed_of q)
+trim_in p range before to_blob q (Ok true) = trim_taken p range before to_blob q
+
+abbrev pub trim : ManagerTableState → Packet → ℕ → ℕ → ℕ → Bool → ReqNo → Plan
+trim t p range generation before to_blob q =
+    if is_user p.from then denied p q Stale else trim_in p range before to_blob q (trimming t.streams range generation before)
+
 -- ---- calls that no user makes
 
 abbrev pub no_users : Packet → ReqNo → Plan
@@ -211,15 +229,19 @@ decide target e (Some x) = if is_there x.sealed then plan_of (reminding target e
 
 -- ---- the table
 
+-- a call for several streams, which no user makes
+abbrev pub range_body : ManagerTableState → Packet → StreamBody → Plan
+range_body t p (OpenStreams range generation q) = open_streams t p range generation q
+range_body t p (Confirm range generation q) = confirm t p range generation q
+range_body t p (Trim range generation before to_blob q) = trim t p range generation before to_blob q
+range_body t p (MultiModify list q) = no_users p q
+range_body t p body = still
+
 -- a user counts with generation 0
 abbrev pub stream_body : ManagerTableState → Packet → StreamBody → Plan
 stream_body t p (CreateStream s fence q) = create t p s (generation_of p.from fence) q
-stream_body t p (OpenStreams range generation q) = open_streams t p range generation q
-stream_body t p (Confirm range generation q) = confirm t p range generation q
 stream_body t p (Extend s generation last pick q) = extend t p s (generation_of p.from generation) last pick q
-stream_body t p (Trim range generation before to_blob q) = no_users p q
-stream_body t p (MultiModify list q) = no_users p q
-stream_body t p body = still
+stream_body t p body = range_body t p body
 
 abbrev pub seal_body : ManagerTableState → Packet → SealBody → Plan
 seal_body t p (SealExtent e q) = seal_extent t.target p e q (entry_at t.extents e)

@@ -5,13 +5,14 @@ ghost use Rattle.model_streams.specs.Actors.{generation_of};
 ghost use Rattle.model_streams.specs.Maps.{entry_at};
 ghost use Rattle.model_streams.specs.Manager.{is_pick};
 ghost use Rattle.manager_state.specs.Table.{plain, sealed_at};
-ghost use Rattle.manager_rules.specs.Plan.{Plans, create, create_in, open_streams, open_in, confirm, extend, extend_answered, last_told, picked, made, no_users, stream_body};
+ghost use Rattle.manager_rules.specs.Plan.{Plans, create, create_in, open_streams, open_in, confirm, extend, extend_answered, last_told, picked, made, no_users, range_body, stream_body};
 
 use crate::actors::{generation_of, is_foreign, is_user};
 use crate::plan::{Change, Plan};
 use crate::sending::{
     confirmed, created, deny, extended, makes, one, opened, send, silent, tell, with_change,
 };
+use crate::trimming::{TrimCall, trim};
 use block_types::Nodes;
 use manager_state::ManagerTable;
 use model_streams::ManagerRecord;
@@ -44,16 +45,6 @@ pub(crate) fn stream_body(
             fence,
             request,
         } => create(alloc, table, packet, stream, *fence, *request),
-        StreamBody::OpenStreams {
-            range,
-            generation,
-            request,
-        } => open_streams(alloc, table, packet, *range, *generation, *request),
-        StreamBody::Confirm {
-            range,
-            generation,
-            request,
-        } => confirm(alloc, table, packet, *range, *generation, *request),
         StreamBody::Extend {
             stream,
             generation,
@@ -70,7 +61,46 @@ pub(crate) fn stream_body(
             *pick,
             *request,
         ),
-        StreamBody::Trim { request, .. } => no_users(alloc, packet, *request),
+        _ => range_body(alloc, table, packet, body),
+    }
+}
+
+/// What it does with a call for several streams, which no user makes.
+fn range_body(
+    alloc: Global,
+    table: &ManagerTable,
+    packet: &Packet,
+    body: &StreamBody,
+) -> Result<Plan, AllocError>
+    ensures { Plans (range_body (plain table.now) packet.now body.now) result }
+{
+    match body {
+        StreamBody::OpenStreams {
+            range,
+            generation,
+            request,
+        } => open_streams(alloc, table, packet, *range, *generation, *request),
+        StreamBody::Confirm {
+            range,
+            generation,
+            request,
+        } => confirm(alloc, table, packet, *range, *generation, *request),
+        StreamBody::Trim {
+            range,
+            generation,
+            before,
+            to_blob,
+            request,
+        } => {
+            let call = TrimCall {
+                range: *range,
+                generation: *generation,
+                before: *before,
+                to_blob: *to_blob,
+                request: *request,
+            };
+            trim(alloc, table, packet, &call)
+        }
         StreamBody::MultiModify { list: _, request } => no_users(alloc, packet, *request),
         _ => Ok(silent(alloc)),
     }

@@ -11,6 +11,7 @@ mod calls;
 mod plan;
 mod sealing;
 mod sending;
+mod trimming;
 
 pub use plan::{Change, Plan, plan_for};
 pub use sealing::decide;

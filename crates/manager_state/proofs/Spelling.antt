@@ -1,5 +1,5 @@
 -- The bytes of the manager's records: they are few, and they are read as they were written.
-use Rattle.std.proofs.Common.{◌≡◌, ℕ, ◌^◌, ◌<◌, ◌≤◌, true, List, [], ◌∷◌, ◌++◌, length, Some, refl, ap, ◌∙◌, arith, length-append, append_assoc}
+use Rattle.std.proofs.Common.{◌≡◌, ℕ, ◌^◌, ◌<◌, ◌≤◌, Bool, true, false, List, [], ◌∷◌, ◌++◌, length, Some, refl, ap, ◌∙◌, arith, length-append, append_assoc}
 use Rattle.block_types.specs.declared.record.Nodes.{Nodes}
 use Rattle.blocks.specs.Format.{◌>>=◌, number_at}
 use Rattle.block_types.specs.Limits.{are_nodes}
@@ -10,8 +10,8 @@ use Rattle.wire.specs.declared.streams.StreamKind.{StreamKind}
 use Rattle.wire.specs.declared.streams.StreamKind.TheVariants.{Metadata, Log, RowData, BlobData}
 use Rattle.wire.specs.declared.streams.StreamName.{StreamName}
 use Rattle.model_streams.specs.declared.manager_record.ManagerRecord.{ManagerRecord}
-use Rattle.model_streams.specs.declared.manager_record.ManagerRecord.TheVariants.{First, CreateStream, OpenStreams, Extend, Seal}
-use Rattle.model_streams.specs.RecordBytes.{spelled, stream_name, kind_number, kind_at, stream_at, first_at, create_at, open_at, extend_at, seal_at, fields_at, record_of}
+use Rattle.model_streams.specs.declared.manager_record.ManagerRecord.TheVariants.{First, CreateStream, OpenStreams, Extend, Seal, Trim}
+use Rattle.model_streams.specs.RecordBytes.{spelled, stream_name, kind_number, kind_at, stream_at, first_at, create_at, open_at, extend_at, seal_at, flag, flag_at, trim_at, fields_at, record_of}
 use Rattle.manager_state.specs.RecordBytes.{CanSpell}
 
 length-stream_name : (s : StreamName) → length (stream_name s) ≡ 9
@@ -23,6 +23,7 @@ spelled_few (CreateStream s fence) = omega (arith, length-append (stream_name s)
 spelled_few (OpenStreams range generation) = omega (arith, length-append (number 8 range) (number 8 generation), length-number 8 range, length-number 8 generation)
 spelled_few (Extend s generation pick) = omega (arith, length-append (stream_name s) (number 8 generation ++ nodes pick), length-append (number 8 generation) (nodes pick), length-stream_name s, length-number 8 generation)
 spelled_few (Seal e length) = omega (arith, length-append (number 8 e) (number 4 length), length-number 8 e, length-number 4 length)
+spelled_few (Trim range before to_blob) = omega (arith, length-append (number 8 range) (number 8 before ++ flag to_blob), length-append (number 8 before) (flag to_blob), length-number 8 range, length-number 8 before)
 
 kind_again : (k : StreamKind) (rest : List ℕ) → kind_at (kind_number k ∷ rest) ≡ Some (k, rest)
 kind_again Metadata rest = refl
@@ -60,3 +61,11 @@ extend_again s generation pick a b c = rw (stream_again s (number 8 generation +
 pub seal_again : (e length : ℕ) → e < 2 ^ 64 → length < 2 ^ 32 → record_of (spelled (Seal e length)) ≡ Some (Seal e length)
 unfolding record_of fields_at seal_at
 seal_again e length a b = rw (number8.again e (number 4 length) a, last4 length b) refl
+
+flag_again : (b : Bool) → flag_at (flag b) ≡ Some (b, [])
+flag_again true = refl
+flag_again false = refl
+
+pub trim_again : (range before : ℕ) (to_blob : Bool) → range < 2 ^ 64 → before < 2 ^ 64 → record_of (spelled (Trim range before to_blob)) ≡ Some (Trim range before to_blob)
+unfolding record_of fields_at trim_at
+trim_again range before to_blob a b = rw (number8.again range (number 8 before ++ flag to_blob) a, number8.again before (flag to_blob) b, flag_again to_blob) refl

@@ -3,14 +3,14 @@ use Rattle.std.specs.Prelude.{◌≡◌, ◌<◌, ℕ, zero, suc, Bool, true, fa
 use Rattle.block_types.specs.declared.record.Nodes.{Nodes}
 use Rattle.wire.specs.declared.streams.StreamLists.{StreamLists}
 use Rattle.wire.specs.declared.streams.StreamName.{StreamName}
-use Rattle.streams.specs.Streams.{Stream, Streams, stream_of, create_fault, created, open_fault, opened, extended, last_of}
-use Rattle.streams.specs.Table.{StreamTableState, streams_of, HasRoom}
+use Rattle.streams.specs.Streams.{Stream, Streams, stream_of, create_fault, created, open_fault, opened, extended, last_of, trimmed}
+use Rattle.streams.specs.Table.{StreamTableState, streams_of, HasRoom, HasRoomToTrim}
 use Rattle.model_streams.specs.declared.extent.Extent.{Extent}
 use Rattle.model_streams.specs.declared.manager_record.ManagerRecord.{ManagerRecord}
-use Rattle.model_streams.specs.declared.manager_record.ManagerRecord.TheVariants.{First, CreateStream, OpenStreams, Extend, Seal}
+use Rattle.model_streams.specs.declared.manager_record.ManagerRecord.TheVariants.{First, CreateStream, OpenStreams, Extend, Seal, Trim}
 use Rattle.model_streams.specs.Maps.{entry_at}
 use Rattle.model_streams.specs.Manager.{Catalog, first_streams, forgotten, new_extent, sealed_to, sealed_in, is_there, is_pick, told_stream}
-use Rattle.model_streams.specs.Replay.{is_closed, seal_fits}
+use Rattle.model_streams.specs.Replay.{is_closed, seal_fits, trim_fits}
 
 -- the streams, and the extents, numbered from 1
 pub record ManagerTableState : Type 0 where
@@ -79,6 +79,7 @@ table_after t (CreateStream s fence) = record t { streams = created t.streams s 
 table_after t (OpenStreams range generation) = record t { streams = opened t.streams range generation }
 table_after t (Extend s generation pick) = longer t s pick
 table_after t (Seal e length) = closed_if t e (entry_at t.extents e) length
+table_after t (Trim range before to_blob) = record t { streams = trimmed t.streams range before to_blob }
 
 abbrev pub may_lengthen : List Extent → Option ℕ → Bool
 may_lengthen extents None = true
@@ -95,6 +96,7 @@ table_fits t (CreateStream s fence) = not (is_there (create_fault t.streams s))
 table_fits t (OpenStreams range generation) = not (is_there (open_fault t.streams range generation))
 table_fits t (Extend s generation pick) = is_pick t.nodes pick && lengthens t.extents generation (stream_of t.streams s)
 table_fits t (Seal e length) = seal_fits (entry_at t.extents e)
+table_fits t (Trim range before to_blob) = trim_fits (t.streams range 1) (t.streams range 3) before
 
 -- where there is the extent, with this length or open
 abbrev pub lengthened_if : ManagerTableState → ℕ → Option Extent → Option ℕ → ManagerTableState
@@ -108,6 +110,7 @@ with_room t (CreateStream s fence) = t
 with_room t (OpenStreams range generation) = t
 with_room t (Extend s generation pick) = t
 with_room t (Seal e length) = lengthened_if t e (entry_at t.extents e) (Some length)
+with_room t (Trim range before to_blob) = t
 
 -- without that room: the extent is open
 abbrev pub without_room : ManagerTableState → ManagerRecord → ManagerTableState
@@ -116,6 +119,7 @@ without_room t (CreateStream s fence) = t
 without_room t (OpenStreams range generation) = t
 without_room t (Extend s generation pick) = t
 without_room t (Seal e length) = lengthened_if t e (entry_at t.extents e) None
+without_room t (Trim range before to_blob) = t
 
 abbrev pub HasLength : Option Extent → ℕ → Type 0
 HasLength None length = Unit {0}
@@ -133,6 +137,7 @@ HasRoomFor t (CreateStream s fence) = 0 < t.streams.room
 HasRoomFor t (OpenStreams range generation) = Unit {0}
 HasRoomFor t (Extend s generation pick) = (0 < t.room) × HasRoom t.streams s
 HasRoomFor t (Seal e length) = HasLength (entry_at t.extents e) length
+HasRoomFor t (Trim range before to_blob) = HasRoomToTrim t.streams range before to_blob
 
 -- ---- what it tells
 

@@ -13,6 +13,7 @@ mod replay;
 mod reports;
 mod table;
 mod telling;
+mod trimming;
 
 pub use record_bytes::encode;
 pub use reports::{first_sealed, least_told, place_of, with_frozen, with_sealed};

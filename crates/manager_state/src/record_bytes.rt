@@ -3,7 +3,7 @@ ghost use Rattle.std.specs.Prelude.{◌≡◌, ◌∷◌, ◌++◌, IfOk, OnOk};
 ghost use Rattle.blocks.specs.Format.{Gives};
 ghost use Rattle.blocks.specs.Reading.{nodes_at};
 ghost use Rattle.blocks.specs.Record.{number, nodes};
-ghost use Rattle.model_streams.specs.RecordBytes.{spelled, stream_name, record_of, kind_number, kind_at, first_at, create_at, open_at, extend_at, seal_at, fields_at};
+ghost use Rattle.model_streams.specs.RecordBytes.{spelled, stream_name, flag, record_of, kind_number, kind_at, first_at, create_at, open_at, extend_at, seal_at, flag_at, trim_at, fields_at};
 
 use block_types::{BlockFault, MAX_NODE, MAX_TARGET, MIN_TARGET, Nodes};
 use blocks::reader::{ended, u8_at, u32_at, u64_at};
@@ -87,6 +87,21 @@ fn put_seal(out: &mut Vec<u8>, extent: u64, length: u32) -> Result<(), AllocErro
     put_u32(out, length)
 }
 
+fn put_flag(out: &mut Vec<u8>, is_set: bool) -> Result<(), AllocError>
+    ensures { OnOk result (out.new.items ≡ out.old.items ++ flag is_set) }
+{
+    put_u8(out, if is_set { 1 } else { 0 })
+}
+
+fn put_trim(out: &mut Vec<u8>, range: u64, before: u64, to_blob: bool) -> Result<(), AllocError>
+    ensures { OnOk result (out.new.items ≡ out.old.items ++ 6 ∷ (number 8 range ++ (number 8 before ++ flag to_blob))) }
+{
+    put_u8(out, 6)?;
+    put_u64(out, range)?;
+    put_u64(out, before)?;
+    put_flag(out, to_blob)
+}
+
 /// The bytes of a record, at most 32 of them (docs/FORMATS.md). An error is out of memory.
 pub fn encode(alloc: Global, new_record: &ManagerRecord) -> Result<Bytes, AllocError>
     ensures { IfOk result (λ bytes. bytes ≡ spelled new_record.now) }
@@ -104,6 +119,11 @@ pub fn encode(alloc: Global, new_record: &ManagerRecord) -> Result<Bytes, AllocE
             pick,
         } => put_extend(&mut out, stream, generation.0, pick)?,
         ManagerRecord::Seal { extent, length } => put_seal(&mut out, extent.0, *length)?,
+        ManagerRecord::Trim {
+            range,
+            before,
+            to_blob,
+        } => put_trim(&mut out, range.0, *before, *to_blob)?,
     }
     Ok(Bytes::from_vec(out)?)
 }
@@ -227,6 +247,34 @@ fn seal_at(fields: &[u8]) -> Result<ManagerRecord, BlockFault>
     ended(read, rest)
 }
 
+fn flag_at(bytes: &[u8]) -> Result<(bool, &[u8]), BlockFault>
+    ensures { Gives (λ x. (x.0, x.1.now)) result (flag_at bytes.now) }
+{
+    match bytes {
+        [] => Err(BlockFault::Damaged),
+        [byte, rest @ ..] => match *byte {
+            0 => Ok((false, rest)),
+            1 => Ok((true, rest)),
+            _ => Err(BlockFault::Damaged),
+        },
+    }
+}
+
+#[tactic(auto, unfolding(model_streams::specs::RecordBytes::trim_at))]
+fn trim_at(fields: &[u8]) -> Result<ManagerRecord, BlockFault>
+    ensures { Gives (λ r. r) result (trim_at fields.now) }
+{
+    let (range, rest) = u64_at(fields)?;
+    let (before, rest) = u64_at(rest)?;
+    let (to_blob, rest) = flag_at(rest)?;
+    let read = ManagerRecord::Trim {
+        range: RangeId(range),
+        before,
+        to_blob,
+    };
+    ended(read, rest)
+}
+
 #[tactic(auto, unfolding(model_streams::specs::RecordBytes::fields_at))]
 fn fields_at(kind: u8, fields: &[u8]) -> Result<ManagerRecord, BlockFault>
     ensures { Gives (λ r. r) result (fields_at kind fields.now) }
@@ -237,6 +285,7 @@ fn fields_at(kind: u8, fields: &[u8]) -> Result<ManagerRecord, BlockFault>
         3 => open_at(fields),
         4 => extend_at(fields),
         5 => seal_at(fields),
+        6 => trim_at(fields),
         _ => Err(BlockFault::Damaged),
     }
 }

@@ -10,6 +10,7 @@ ghost use Rattle.manager_state.specs.Table.{plain, first_table, with_entry, tabl
 
 use crate::entry::ExtentEntry;
 use crate::lengthening::{first_streams, lengthen, reserve_extent};
+use crate::trimming::loses_extents;
 use block_types::Nodes;
 use model_streams::{Extent, ManagerRecord};
 use std::alloc::{AllocError, Global};
@@ -191,6 +192,11 @@ impl ManagerTable {
                 None => false,
                 Some(entry) => entry.sealed.is_none(),
             },
+            ManagerRecord::Trim {
+                range,
+                before,
+                to_blob: _,
+            } => loses_extents(&self.streams, *range, *before),
         }
     }
 
@@ -265,6 +271,11 @@ impl ManagerTable {
                 reserve_extent(&mut self.entries, &mut self.streams, stream)
             }
             ManagerRecord::Seal { extent, length } => self.set_length(*extent, *length),
+            ManagerRecord::Trim {
+                range,
+                before,
+                to_blob,
+            } => self.streams.reserve_trim(*range, *before, *to_blob),
         }
     }
 
@@ -290,6 +301,11 @@ impl ManagerTable {
             }
             ManagerRecord::Extend { stream, pick, .. } => self.lengthen(stream, *pick),
             ManagerRecord::Seal { extent, .. } => self.forget_asker(*extent),
+            ManagerRecord::Trim {
+                range,
+                before,
+                to_blob,
+            } => self.streams.cut(*range, *before, *to_blob),
         }
     }
 }

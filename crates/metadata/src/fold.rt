@@ -55,7 +55,8 @@ fn all_keys() -> KeyRange
     }
 }
 
-fn copied(keys: &KeyRange) -> Result<KeyRange, AllocError>
+/// The same keys again, which share their bytes. An error is out of memory (22).
+pub fn copied_keys(keys: &KeyRange) -> Result<KeyRange, AllocError>
     ensures { IfOk result (λ copy. copy ≡ keys.now) }
 {
     let low = keys.low.clone()?;
@@ -76,7 +77,7 @@ pub fn copied_indexes(alloc: Global, all: &[IndexRange]) -> Result<Vec<IndexRang
     for one in all {
         copies.push(IndexRange {
             place: one.place,
-            keys: copied(&one.keys)?,
+            keys: copied_keys(&one.keys)?,
         })?;
     }
     Ok(copies)
@@ -92,7 +93,7 @@ pub fn copied_regions(alloc: Global, all: &[Region]) -> Result<Vec<Region>, Allo
             start: one.start,
             end: one.end,
             next: one.next,
-            keys: copied(&one.keys)?,
+            keys: copied_keys(&one.keys)?,
         })?;
     }
     Ok(copies)
@@ -128,7 +129,7 @@ impl Metadata {
         ensures { IfOk result (λ copy. copy ≡ self.now) }
     {
         Ok(Metadata {
-            keys: copied(&self.keys)?,
+            keys: copied_keys(&self.keys)?,
             indexes: IndexRanges {
                 items: copied_indexes(alloc, &self.indexes.items)?,
             },
@@ -156,12 +157,12 @@ impl Metadata {
             start: position,
             end: None,
             next,
-            keys: copied(&self.keys)?,
+            keys: copied_keys(&self.keys)?,
         })?;
         let mut indexes = Vec::with_capacity(alloc, 1)?;
         indexes.push(IndexRange {
             place: index,
-            keys: copied(&self.keys)?,
+            keys: copied_keys(&self.keys)?,
         })?;
         if !combine {
             indexes.append(&mut self.indexes.items)?;

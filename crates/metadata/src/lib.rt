@@ -16,8 +16,8 @@ mod reading;
 mod record;
 mod writing;
 
-pub use fold::{Metadata, copied_indexes, copied_regions};
+pub use fold::{Metadata, copied_indexes, copied_keys, copied_regions};
 pub use lists::{IndexRanges, Regions};
-pub use reading::{decode, one_spelling};
+pub use reading::{decode, flag_of, one_spelling};
 pub use record::{IndexRange, KeyRange, MetaItem, MetaRecord, Region};
 pub use writing::encode;

@@ -110,8 +110,10 @@ fn position_of(bytes: &[u8]) -> Result<(Position, &[u8]), BlockFault>
     Ok((Position { index, offset }, rest))
 }
 
+/// Reads a flag, a byte that is 0 or 1, and answers it with the bytes after it. It is refused `Damaged` (21) where there is
+/// none. It takes no memory.
 #[tactic(auto, unfolding(crate::specs::Reading::flag_at))]
-fn flag_of(bytes: &[u8]) -> Result<(bool, &[u8]), BlockFault>
+pub fn flag_of(bytes: &[u8]) -> Result<(bool, &[u8]), BlockFault>
     ensures { Gives (λ x. (x.0, x.1.now)) result (flag_at bytes.now) }
 {
     let Ok((flag, rest)) = u8_at(bytes) else {

@@ -19,6 +19,7 @@ use Rattle.metadata.specs.Reading.{group_at}
 use Rattle.commitlog.specs.declared.log_record.LogRecord.{LogRecord}
 use Rattle.commitlog.specs.Reading.{record_at, each_of}
 use Rattle.commitlog.specs.Places.{kept}
+use Rattle.model_partition.specs.declared.shown_table.ShownTable.{ShownTable}
 use Rattle.model_partition.specs.declared.stage.Stage.{Stage}
 use Rattle.model_partition.specs.declared.stage.Stage.TheVariants.{Checking, Reading, Confirming, Serving}
 use Rattle.model_partition.specs.declared.table_note.TableNote.TheVariants.{Loaded}
@@ -203,6 +204,10 @@ abbrev pub log_end : ClientState → Option StreamExtent → Position → Positi
 log_end c None start = start
 log_end c (Some x) start = later (record { index = (c.base + length c.extents) - 1; offset = length_or x.length c.checked }) start
 
+-- what a range shows once it is loaded
+abbrev pub shown_table : RangeState → ShownTable
+shown_table r = record { live = r.live; indexes = r.said.indexes; keys = r.said.keys }
+
 -- The table is that of the log after the last checkpoint, and its next number that of the region without end. No transaction
 -- waits yet.
 abbrev pub serves_region : ServerContext → RangeState → Region → RangeOutcome
@@ -217,7 +222,7 @@ serves_region d r region =
       out = None;
     })
     []
-    (Loaded r.load.range r.load.generation r.live r.said.indexes region.next ∷ [])
+    (Loaded r.load.range r.load.generation (shown_table r) region.next ∷ [])
 
 -- numbers begin at 1
 abbrev pub serves_from : ServerContext → RangeState → Option Region → RangeOutcome

@@ -1,9 +1,12 @@
 -- Stories whose groups are called by other names; and what the groups of a log spell.
-use Rattle.std.specs.Prelude.{[], map, Option, Some, None}
+use Rattle.std.specs.Prelude.{[], ◌∷◌, map, Option, Some, None}
 use Rattle.replica.specs.Groups.{Group}
 use Rattle.commitlog.specs.declared.log_record.LogRecord.{LogRecord}
 use Rattle.commitlog.specs.Reading.{record_at}
 use Rattle.commitlog.specs.Replay.{Numbered}
+use Rattle.metadata.specs.declared.record.MetaItem.{MetaItem}
+use Rattle.metadata.specs.declared.record.MetaRecord.{MetaRecord}
+use Rattle.metadata.specs.Reading.{group_at}
 use Rattle.model_partition.specs.Past.{Transaction}
 use Rattle.model_partition.specs.Story.{Placed, StreamEvent, Made, Answered, Showed, Story, Copy}
 
@@ -35,3 +38,14 @@ numbered_if (Some r) = numbered r
 -- what a group spells
 abbrev pub decoded : Group → Numbered Transaction
 decoded group = numbered_if (record_at group)
+
+-- ---- the metadata of a range
+
+-- a record as a group of one item
+abbrev pub one_record : Option MetaRecord → Numbered MetaItem
+one_record None = record { first = 0; items = [] }
+one_record (Some r) = record { first = r.number; items = r.item ∷ [] }
+
+-- what a group of the metadata spells
+abbrev pub decoded_record : Group → Numbered MetaItem
+decoded_record group = one_record (group_at group)

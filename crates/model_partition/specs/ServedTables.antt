@@ -15,7 +15,7 @@ use Rattle.model_partition.specs.declared.table_note.TableNote.{TableNote}
 use Rattle.model_partition.specs.declared.table_note.TableNote.TheVariants as tables
 use Rattle.model_partition.specs.Log.{line_shown}
 use Rattle.model_partition.specs.Past.{Bytes, stored, after_line, empty_table, first_range}
-use Rattle.model_partition.specs.Story.{Placed, StreamEvent, Made, Answered, Showed, Story, event_at, KeepsOrder}
+use Rattle.model_partition.specs.Story.{Placed, StreamEvent, Made, Answered, Showed, Story, event_at, KeepsOrder, EndsRise}
 use Rattle.model_partition.specs.Range.{RangeState, waiting_out, is_serving}
 use Rattle.model_partition.specs.Loading.{Group}
 use Rattle.model_partition.specs.Getting.{standing}
@@ -51,21 +51,23 @@ AllStand texts [] = Unit {0}
 AllStand texts (p ∷ placed) = StandsAt (texts p.extent) p.offset p.bytes × AllStand texts placed
 
 -- What is premised of the streams of a range, as their servers see them: the stories of its metadata and of its log keep their
--- order, no generation is confirmed twice, and what was shown of its log keeps its bytes.
+-- order, no generation is confirmed twice, loads of the log end in the order of their generations, and what was shown of it keeps its
+-- bytes.
 pub record StreamsInOrder (texts : ℕ → Bytes) (range : ℕ) (x : ServerRun) : Type 0 where
   pub metadata : KeepsOrder (x.story (metadata_name range))
   pub log : KeepsOrder (x.story (log_name range))
   pub once : LoadsOnce (x.story (log_name range))
+  pub ends : EndsRise (x.story (log_name range))
   pub shown : AllStand texts (x.shown range)
 
 -- ---- what servers show
 
--- An observation of a server as it is seen: a loaded table shows what its entries say over these texts.
+-- An observation of a server as it is seen: a loaded table shows what its memory table says over these texts.
 abbrev pub IsSeenAs : (ℕ → Bytes) → TableNote → Note → Type 0
 IsSeenAs texts (tables.Began range generation number changes) note = note ≡ Began range generation number changes
 IsSeenAs texts (tables.Done range generation number) note = note ≡ Done range generation number
-IsSeenAs texts (tables.Loaded range generation entries indexes next) note =
-    (rows : List Row) × (note ≡ Loaded range generation rows next) × ((key : Bytes) → stored rows key ≡ table_in texts entries key)
+IsSeenAs texts (tables.Loaded range generation table next) note =
+    (rows : List Row) × (note ≡ Loaded range generation rows next) × ((key : Bytes) → stored rows key ≡ table_in texts table.live key)
 
 -- one by one
 abbrev pub AreSeenAs : (ℕ → Bytes) → List TableNote → List Note → Type 0

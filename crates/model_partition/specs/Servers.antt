@@ -18,9 +18,11 @@ use Rattle.memtable.specs.declared.cell.Cell.{Cell}
 use Rattle.memtable.specs.declared.cell.Cell.TheVariants.{Deleted, Inline, Placed}
 use Rattle.memtable.specs.declared.cell.Place.{Place}
 use Rattle.memtable.specs.Entries.{Entries}
+use Rattle.model_partition.specs.declared.shown_table.ShownTable.{ShownTable}
+use Rattle.model_partition.specs.declared.shown_table.TableView.{TableView}
 use Rattle.model_partition.specs.declared.table_note.TableNote.{TableNote}
 use Rattle.model_partition.specs.declared.table_note.TableNote.TheVariants as tables
-use Rattle.metadata.specs.declared.record.IndexRange.{IndexRange}
+use Rattle.model_partition.specs.Loading.{shown_table}
 use Rattle.model_partition.specs.Range.{RangeState}
 use Rattle.model_partition.specs.Server.{ServerState, ServerOutcome, range_of, awaiting, server_rule, moment_rule, give_up_rule, started}
 
@@ -63,14 +65,22 @@ row_of notes key (Inline value) = row_if key (Some value)
 row_of notes key (Placed place) = row_if key (first_shown notes place)
 
 -- the rows of these entries
-abbrev pub rows_of : List Note → Entries → List Row
-rows_of notes entries = flat_map (λ entry. row_of notes entry.0 entry.1) entries
+abbrev pub rows_in : List Note → Entries → List Row
+rows_in notes entries = flat_map (λ entry. row_of notes entry.0 entry.1) entries
+
+-- the table that is seen where a range has it
+abbrev pub table_of_view : TableView → ShownTable
+table_of_view view = record { live = view.live.now.entries; indexes = view.indexes.now; keys = view.keys.now }
+
+-- the rows of this table
+abbrev pub rows_of : List Note → ShownTable → List Row
+rows_of notes table = rows_in notes table.live
 
 -- an observation of a server, after these
 abbrev pub told : List Note → TableNote → Note
 told notes (tables.Began range generation number changes) = Began range generation number changes
 told notes (tables.Done range generation number) = Done range generation number
-told notes (tables.Loaded range generation entries indexes next) = Loaded range generation (rows_of notes entries) next
+told notes (tables.Loaded range generation table next) = Loaded range generation (rows_of notes table) next
 
 abbrev pub noted : List Note → List TableNote → List Note
 noted notes [] = notes
@@ -81,45 +91,44 @@ abbrev pub ArePlain : List TableNote → Type 0
 ArePlain [] = Unit {0}
 ArePlain (tables.Began range generation number changes ∷ notes) = ArePlain notes
 ArePlain (tables.Done range generation number ∷ notes) = ArePlain notes
-ArePlain (tables.Loaded range generation entries indexes next ∷ notes) = ⊥
+ArePlain (tables.Loaded range generation table next ∷ notes) = ⊥
 
--- one loaded table of these entries, and nothing else
-pub record IsLoad (loading : Option Entries) (notes : List TableNote) : Type 0 where
+-- one loaded table, which is this one, and nothing else
+pub record IsLoad (loading : Option ShownTable) (notes : List TableNote) : Type 0 where
   pub range : ℕ
   pub generation : ℕ
-  pub entries : Entries
-  pub indexes : List IndexRange
+  pub table : ShownTable
   pub next : ℕ
-  pub is : notes ≡ tables.Loaded range generation entries indexes next ∷ []
-  pub from : loading ≡ Some entries
+  pub is : notes ≡ tables.Loaded range generation table next ∷ []
+  pub from : loading ≡ Some table
 
--- no loaded table, or one of these entries
-abbrev pub ShowsLoad : Option Entries → List TableNote → Type 0
+-- no loaded table, or this one
+abbrev pub ShowsLoad : Option ShownTable → List TableNote → Type 0
 ShowsLoad loading notes = ArePlain notes ⊎ IsLoad loading notes
 
--- the memory table of a range
-abbrev pub live_of : Option RangeState → Option Entries
-live_of None = None
-live_of (Some r) = Some r.live
+-- what a range shows once it is loaded
+abbrev pub range_table : Option RangeState → Option ShownTable
+range_table None = None
+range_table (Some r) = Some (shown_table r)
 
-abbrev pub live_at : ServerState → Option ℕ → Option Entries
-live_at s None = None
-live_at s (Some range) = live_of (range_of s.ranges range)
+abbrev pub table_at : ServerState → Option ℕ → Option ShownTable
+table_at s None = None
+table_at s (Some range) = range_table (range_of s.ranges range)
 
--- the memory table of the range that is confirmed with this packet
-abbrev pub loads_by : ServerState → StreamBody → Option Entries
-loads_by s (Confirmed w) = live_at s (awaiting s.ranges w)
+-- what the range shows that is confirmed with this packet
+abbrev pub loads_by : ServerState → StreamBody → Option ShownTable
+loads_by s (Confirmed w) = table_at s (awaiting s.ranges w)
 loads_by s body = None
 
-abbrev pub loads : ServerState → Body → Option Entries
+abbrev pub loads : ServerState → Body → Option ShownTable
 loads s (bodies.Stream body) = loads_by s body
 loads s body = None
 
-abbrev pub cell_loads : Option ServerState → Body → Option Entries
+abbrev pub cell_loads : Option ServerState → Body → Option ShownTable
 cell_loads None body = None
 cell_loads (Some s) body = loads s body
 
-abbrev pub server_loads : Option ServerCell → Body → Option Entries
+abbrev pub server_loads : Option ServerCell → Body → Option ShownTable
 server_loads None body = None
 server_loads (Some cell) body = cell_loads cell.state body
 

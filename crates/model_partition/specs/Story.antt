@@ -68,3 +68,8 @@ pub record KeepsOrder {A : Type 0} (story : Story A) : Type 0 where
       event_at story l ≡ Some (Showed g start end groups) → event_at story m ≡ Some (Showed h start' end' groups') → g < h →
       (rest : List (Copy A)) × (copies m ≡ copies l ++ rest)
       × ((c : Copy A) → Contains rest c → (end ≤ c.from) × ((g' : ℕ) (group : A) → event_at story c.append ≡ Some (Made g' group) → g ≤ g'))
+
+-- of two loads the one of the higher generation ends at or behind the lower's end
+abbrev pub EndsRise : {A : Type 0} → Story A → Type 0
+EndsRise {A} story = (l m g h start end start' end' : ℕ) (groups groups' : List (Placed A)) →
+    event_at story l ≡ Some (Showed g start end groups) → event_at story m ≡ Some (Showed h start' end' groups') → g < h → end ≤ end'

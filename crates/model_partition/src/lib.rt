@@ -1,6 +1,7 @@
 //! What the users of a table are promised, what its servers and the partition map do, and what whole runs are, as definitions.
 //!
-//! This crate has no code but the plain values that states are made of, and touches nothing. Its definitions stand in specs/:
+//! This crate has no code but the plain values that states are made of, and the number of a server's next request; it touches
+//! nothing. Its definitions stand in specs/:
 //! - Past: what a table that is loaded again must be, said of observations alone (`Replays`).
 //! - Story and Log: what the users of one stream see of it, the order that it keeps, and what servers may do to the log of a
 //!   range.
@@ -25,6 +26,7 @@ mod range_content;
 mod range_entry;
 mod requests;
 mod server_context;
+mod shown_table;
 mod stage;
 mod table_note;
 mod waiting;
@@ -35,6 +37,7 @@ pub use range_content::RangeContent;
 pub use range_entry::RangeEntry;
 pub use requests::next_request;
 pub use server_context::ServerContext;
+pub use shown_table::{Entries, ShownTable, TableView};
 pub use stage::Stage;
-pub use table_note::{Entries, TableNote};
+pub use table_note::TableNote;
 pub use waiting::{PlaceRead, PlaceReads, WaitingGet, WaitingTransaction};

@@ -10,7 +10,7 @@ use Rattle.wire.specs.declared.actor.ReqNo.{ReqNo}
 use Rattle.wire.specs.declared.body.SealBody.{SealBody}
 use Rattle.wire.specs.declared.body.SealBody.TheVariants.{Make, SealExtent, SealedIs, Freeze, Frozen, Seal, IsSealed, Short, SendTail}
 use Rattle.wire.specs.declared.body.StreamBody.{StreamBody}
-use Rattle.wire.specs.declared.body.StreamBody.TheVariants.{CreateStream, Created, OpenStreams, Opened, Confirm, Confirmed, Extend, Extended, Trim, MultiModify}
+use Rattle.wire.specs.declared.body.StreamBody.TheVariants.{CreateStream, Created, OpenStreams, Opened, Confirm, Confirmed, Extend, Extended, Trim, Trimmed, MultiModify}
 use Rattle.wire.specs.declared.body.Body.{Body}
 use Rattle.wire.specs.declared.body.Body.TheVariants as bodies
 use Rattle.wire.specs.declared.note.Note.TheVariants as notes
@@ -21,7 +21,7 @@ use Rattle.wire.specs.declared.streams.StreamExtent.{StreamExtent}
 use Rattle.wire.specs.declared.streams.StreamList.{StreamList}
 use Rattle.wire.specs.declared.streams.StreamLists.{StreamLists}
 use Rattle.wire.specs.declared.streams.StreamName.{StreamName}
-use Rattle.streams.specs.Streams.{Stream, Streams, stream_of, base_of, empty_stream, has_four, all_pass, create_fault, created, opened, extended as extended_streams, extending}
+use Rattle.streams.specs.Streams.{Stream, Streams, stream_of, base_of, empty_stream, has_four, all_pass, create_fault, created, opened, extended as extended_streams, extending, trimmed, trimming}
 pub use Rattle.streams.specs.Streams.{is_there}
 use Rattle.model_streams.specs.declared.extent.Asker.{Asker}
 use Rattle.model_streams.specs.declared.extent.Extent.{Extent}
@@ -233,6 +233,25 @@ extend_rule b p s generation last pick q =
     if is_foreign p.from s.range then refused b Manager p q Stale
     else extend_answered b p s generation pick q (extending (sealed_lengths b) (stream_of b.stream s) generation last)
 
+-- ---- Trim
+
+-- the refusal, or whether extents leave the log
+abbrev pub trim_answered : Catalog → Packet → ℕ → ℕ → Bool → ReqNo → Result Bool Refusal → Outcome Catalog
+trim_answered b p range before to_blob q (Err refusal) = refused b Manager p q refusal
+trim_answered b p range before to_blob q (Ok false) = answer b p (Trimmed q)
+trim_answered b p range before to_blob q (Ok true) =
+    record {
+      after = with_streams b (trimmed b.stream range before to_blob);
+      written = writes (manager_records.Trim range before to_blob);
+      packets = packet Manager p.from (bodies.Stream (Trimmed q)) ∷ [];
+      notes = [];
+    }
+
+abbrev pub trim_rule : Catalog → Packet → ℕ → ℕ → ℕ → Bool → ReqNo → Outcome Catalog
+trim_rule b p range generation before to_blob q =
+    if is_user p.from then refused b Manager p q Stale
+    else trim_answered b p range before to_blob q (trimming b.stream range generation before)
+
 -- ---- calls that no user makes
 
 abbrev pub no_users : Catalog → Packet → ReqNo → Outcome Catalog
@@ -367,7 +386,7 @@ stream_body_rule b p (CreateStream s fence q) = create_rule b p s (generation_of
 stream_body_rule b p (OpenStreams range generation q) = open_rule b p range generation q
 stream_body_rule b p (Confirm range generation q) = confirm_rule b p range generation q
 stream_body_rule b p (Extend s generation last pick q) = extend_rule b p s (generation_of p.from generation) last pick q
-stream_body_rule b p (Trim range generation before to_blob q) = no_users b p q
+stream_body_rule b p (Trim range generation before to_blob q) = trim_rule b p range generation before to_blob q
 stream_body_rule b p (MultiModify list q) = no_users b p q
 stream_body_rule b p body = silent b
 

@@ -1,5 +1,5 @@
 -- The records of the stream manager, as bytes.
-use Rattle.std.specs.Prelude.{ℕ, zero, suc, List, [], ◌∷◌, ◌++◌, Option, Some, None}
+use Rattle.std.specs.Prelude.{ℕ, zero, suc, Bool, true, false, List, [], ◌∷◌, ◌++◌, Option, Some, None, if◌then◌else◌}
 use Rattle.blocks.specs.Format.{◌>>=◌, number_at, pair_at, only_at, whole}
 use Rattle.block_types.specs.Limits.{is_within}
 use Rattle.blocks.specs.Reading.{nodes_at}
@@ -9,10 +9,13 @@ use Rattle.wire.specs.declared.streams.StreamKind.TheVariants.{Metadata, Log, Ro
 use Rattle.wire.specs.declared.streams.StreamName.{StreamName}
 pub use Rattle.streams.specs.Streams.{kind_number}
 use Rattle.model_streams.specs.declared.manager_record.ManagerRecord.{ManagerRecord}
-use Rattle.model_streams.specs.declared.manager_record.ManagerRecord.TheVariants.{First, CreateStream, OpenStreams, Extend, Seal}
+use Rattle.model_streams.specs.declared.manager_record.ManagerRecord.TheVariants.{First, CreateStream, OpenStreams, Extend, Seal, Trim}
 
 abbrev pub stream_name : StreamName → List ℕ
 stream_name s = number 8 s.range ++ kind_number s.kind ∷ []
+
+abbrev pub flag : Bool → List ℕ
+flag b = (if b then 1 else 0) ∷ []
 
 -- a kind and its fields
 abbrev pub spelled : ManagerRecord → List ℕ
@@ -21,6 +24,7 @@ spelled (CreateStream s fence) = 2 ∷ (stream_name s ++ number 8 fence)
 spelled (OpenStreams range generation) = 3 ∷ (number 8 range ++ number 8 generation)
 spelled (Extend s generation pick) = 4 ∷ (stream_name s ++ (number 8 generation ++ nodes pick))
 spelled (Seal e length) = 5 ∷ (number 8 e ++ number 4 length)
+spelled (Trim range before to_blob) = 6 ∷ (number 8 range ++ (number 8 before ++ flag to_blob))
 
 -- ---- reading
 
@@ -66,6 +70,20 @@ seal_at fields = do
   x ← pair_at (number_at 8) (number_at 4) fields
   whole (Some (Seal x.0.0 x.0.1, x.1))
 
+abbrev pub flag_of : ℕ → Option Bool
+flag_of zero = Some false
+flag_of (suc zero) = Some true
+flag_of _ = None
+
+abbrev pub flag_at : List ℕ → Option (Bool × List ℕ)
+flag_at [] = None
+flag_at (byte ∷ rest) = flag_of byte >>= λ b. Some (b, rest)
+
+unfoldable pub trim_at : List ℕ → Option ManagerRecord
+trim_at fields = do
+  x ← pair_at (number_at 8) (pair_at (number_at 8) flag_at) fields
+  whole (Some (Trim x.0.0 x.0.1.0 x.0.1.1, x.1))
+
 -- by the kind
 unfoldable pub fields_at : ℕ → List ℕ → Option ManagerRecord
 fields_at (suc zero) fields = first_at fields
@@ -73,6 +91,7 @@ fields_at (suc (suc zero)) fields = create_at fields
 fields_at (suc (suc (suc zero))) fields = open_at fields
 fields_at (suc (suc (suc (suc zero)))) fields = extend_at fields
 fields_at (suc (suc (suc (suc (suc zero))))) fields = seal_at fields
+fields_at (suc (suc (suc (suc (suc (suc zero)))))) fields = trim_at fields
 fields_at kind fields = None
 
 -- the record that these bytes spell, if they spell one

@@ -1,13 +1,13 @@
 -- The catalog that the manager's records make.
-use Rattle.std.specs.Prelude.{◌≡◌, ℕ, Bool, true, false, not, ◌&&◌, List, [], ◌∷◌, Option, Some, None, ◌==◌}
+use Rattle.std.specs.Prelude.{◌≡◌, ℕ, ◌+◌, Bool, true, false, not, ◌&&◌, List, [], ◌∷◌, length, Option, Some, None, ◌==◌, nat_lt}
 use Rattle.block_types.specs.declared.record.Nodes.{Nodes}
 use Rattle.block_types.specs.declared.record.Record.{Record}
 use Rattle.block_types.specs.declared.record.Record.TheVariants.{Manage}
 use Rattle.wire.specs.declared.streams.StreamName.{StreamName}
 use Rattle.model_streams.specs.declared.extent.Extent.{Extent}
 use Rattle.model_streams.specs.declared.manager_record.ManagerRecord.{ManagerRecord}
-use Rattle.model_streams.specs.declared.manager_record.ManagerRecord.TheVariants.{First, CreateStream, OpenStreams, Extend, Seal}
-use Rattle.streams.specs.Streams.{Stream, stream_of, create_fault, open_fault, created, opened, last_of}
+use Rattle.model_streams.specs.declared.manager_record.ManagerRecord.TheVariants.{First, CreateStream, OpenStreams, Extend, Seal, Trim}
+use Rattle.streams.specs.Streams.{Stream, base_of, stream_of, create_fault, open_fault, created, opened, trimmed, last_of}
 use Rattle.model_streams.specs.RecordBytes.{record_of}
 use Rattle.model_streams.specs.Manager.{Catalog, first_catalog, with_streams, with_extent, extended, sealed_to, is_there, is_pick}
 
@@ -26,6 +26,7 @@ after_record b (CreateStream s fence) = with_streams b (created b.stream s fence
 after_record b (OpenStreams range generation) = with_streams b (opened b.stream range generation)
 after_record b (Extend s generation pick) = extended_if b s (stream_of b.stream s) pick
 after_record b (Seal e length) = sealed_if b e (b.extent e) length
+after_record b (Trim range before to_blob) = with_streams b (trimmed b.stream range before to_blob)
 
 -- a catalog, or none before the first record, after one more
 abbrev pub catalog_after : Option Catalog → Option ManagerRecord → Option Catalog
@@ -66,6 +67,15 @@ abbrev pub seal_fits : Option Extent → Bool
 seal_fits None = false
 seal_fits (Some x) = not (is_there x.sealed)
 
+-- its list begins below the index, and ends behind it
+abbrev pub loses_extents : Stream → ℕ → Bool
+loses_extents log before = nat_lt (base_of log) before && nat_lt before (base_of log + length log.extents)
+
+abbrev pub trim_fits : Option Stream → Option Stream → ℕ → Bool
+trim_fits None blob_data before = false
+trim_fits (Some log) None before = false
+trim_fits (Some log) (Some blob_data) before = loses_extents log before
+
 -- whether the manager may write a record where its catalog is this
 abbrev pub manager_record_fits : Option Catalog → Option ManagerRecord → Bool
 manager_record_fits None (Some (First nodes target)) = true
@@ -74,6 +84,7 @@ manager_record_fits (Some b) (Some (CreateStream s fence)) = not (is_there (crea
 manager_record_fits (Some b) (Some (OpenStreams range generation)) = not (is_there (open_fault b.stream range generation))
 manager_record_fits (Some b) (Some (Extend s generation pick)) = is_pick b.nodes pick && extend_fits b generation (stream_of b.stream s)
 manager_record_fits (Some b) (Some (Seal e length)) = seal_fits (b.extent e)
+manager_record_fits (Some b) (Some (Trim range before to_blob)) = trim_fits (b.stream range 1) (b.stream range 3) before
 manager_record_fits (Some b) r = false
 
 abbrev pub fit_from : Option Catalog → List Record → Bool

@@ -243,6 +243,7 @@ is_server_stream_call (streams.CreateStream s fence q) = true
 is_server_stream_call (streams.OpenStreams range generation q) = true
 is_server_stream_call (streams.Confirm range generation q) = true
 is_server_stream_call (streams.Extend s generation last pick q) = true
+is_server_stream_call (streams.Trim range generation before to_blob q) = true
 is_server_stream_call _ = false
 
 -- what servers may ask of nodes and of the manager

@@ -31,4 +31,10 @@ pub enum ManagerRecord {
         extent: ExtentId,
         length: u32,
     },
+    /// 6: the extents of a range's log below an index leave it, and go to the end of its blob stream where they are kept.
+    Trim {
+        range: RangeId,
+        before: u64,
+        to_blob: bool,
+    },
 }

@@ -2,7 +2,7 @@
 ghost use Rattle.std.specs.Prelude.{◌≡◌, ◌<◌, ◌≤◌, ◌+◌, ◌^◌, ◌++◌, [], ◌∷◌, Some, None, Err, true, length, option_map, is_some, IfOk, OnErr};
 ghost use Rattle.model_partition.specs.Server.{map_rule, new_range, server_rule, table_rule, numbered_rule, has_numbers, moment_rule, give_up_rule, started, users_of, assign_rule, renew_rule, range_of, transacts_in, gets_in, answer_of, awaiting};
 ghost use Rattle.model_partition.specs.Answering as answering;
-ghost use Rattle.model_partition.specs.Servers.{loads};
+ghost use Rattle.model_partition.specs.Servers.{loads, table_of_view};
 ghost use Rattle.client.specs.Load.{open_packet};
 ghost use Rattle.model_partition.specs.Range.{refuses, request};
 ghost use Rattle.wire.specs.declared.refusal.Refusal.TheVariants.{NotOwner};
@@ -15,8 +15,7 @@ use crate::sent::Sent;
 use crate::steps::{awaiting, put, refusal, settle};
 use block_types::Nodes;
 use bytes::Bytes;
-use memtable::Cell;
-use model_partition::ServerContext;
+use model_partition::{ServerContext, TableView};
 use range_core::RangeState;
 use std::alloc::{AllocError, Global};
 use std::collections::BTreeMap;
@@ -90,9 +89,9 @@ impl RangeServer {
         self.context.moment = self.context.moment.max(now);
     }
 
-    /// The entries of the table that an answer is about to show: those of the range whose load it confirms.
-    pub fn loading(&self, body: &Body) -> Option<&BTreeMap<Bytes, Cell>>
-        ensures { option_map (λ entries. entries.now.entries) result ≡ loads self.now body.now }
+    /// The table that an answer is about to show: that of the range whose load it confirms.
+    pub fn loading(&self, body: &Body) -> Option<TableView<'_>>
+        ensures { option_map table_of_view result ≡ loads self.now body.now }
     {
         match body {
             Body::Stream(StreamBody::Confirmed { request }) => {
@@ -101,7 +100,7 @@ impl RangeServer {
                 };
                 match self.ranges.get(&range) {
                     None => None,
-                    Some(state) => Some(state.content.table.live()),
+                    Some(state) => Some(state.table_view()),
                 }
             }
             _ => None,

@@ -1,15 +1,17 @@
 //! What a server keeps of a range.
 ghost use Rattle.std.specs.Prelude.{◌≡◌, ◌≤◌, [], None, length, max, IfOk};
 ghost use Rattle.client.specs.Load.{open_packet};
+ghost use Rattle.model_partition.specs.Loading.{shown_table};
 ghost use Rattle.model_partition.specs.Range.{RangeState, request, refused_users};
 ghost use Rattle.model_partition.specs.RangeSteps.{put};
 ghost use Rattle.model_partition.specs.Server.{new_range};
+ghost use Rattle.model_partition.specs.Servers.{table_of_view};
 ghost use Rattle.range_core.specs.Phases.{phase_of};
 
 use crate::phase::Phase;
 use client::StreamClient;
 use metadata::{IndexRange, Region};
-use model_partition::{RangeContent, ServerContext, Stage};
+use model_partition::{RangeContent, ServerContext, Stage, TableView};
 use range_commit::Queue;
 use range_load::begin_load;
 use range_reads::Lookups;
@@ -154,6 +156,17 @@ impl RangeState {
         ensures { result.now ≡ self.now.said.indexes }
     {
         &self.content.said.indexes.items
+    }
+
+    /// What it shows once it is loaded.
+    pub fn table_view(&self) -> TableView<'_>
+        ensures { table_of_view result ≡ shown_table self.now }
+    {
+        TableView {
+            live: self.content.table.live(),
+            indexes: self.indexes(),
+            keys: &self.content.said.keys,
+        }
     }
 
     /// The regions of its log, in the log's order, each with the number that is to be applied next.

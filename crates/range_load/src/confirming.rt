@@ -11,9 +11,9 @@ ghost use Rattle.model_partition.specs.RangeSteps.{RangePerforms};
 
 use crate::copying::live_entries;
 use client::StreamClient;
-use metadata::{IndexRanges, copied_indexes};
+use metadata::{IndexRanges, copied_indexes, copied_keys};
 use model_partition::{
-    Progress, RangeContent, ServerContext, Service, Stage, TableNote, next_request,
+    Progress, RangeContent, ServerContext, Service, ShownTable, Stage, TableNote, next_request,
 };
 use range_replay::open_region;
 use std::alloc::{AllocError, Global};
@@ -68,15 +68,19 @@ pub(crate) fn confirms(content: &mut RangeContent, context: &ServerContext) -> P
 
 /// What is shown of the range once it is served.
 fn loaded(content: &RangeContent, alloc: Global, next: u64) -> Result<TableNote, AllocError>
-    ensures { IfOk result (λ note. note ≡ notes.Loaded content.now.load.range content.now.load.generation content.now.table.live content.now.said.indexes next) }
+    ensures { IfOk result (λ note. note ≡ notes.Loaded content.now.load.range content.now.load.generation (record { live = content.now.table.live; indexes = content.now.said.indexes; keys = content.now.said.keys }) next) }
 {
-    Ok(TableNote::Loaded {
-        range: content.load.range,
-        generation: content.load.generation,
-        entries: live_entries(alloc, &content.table)?,
+    let table = ShownTable {
+        live: live_entries(alloc, &content.table)?,
         indexes: IndexRanges {
             items: copied_indexes(alloc, &content.said.indexes.items)?,
         },
+        keys: copied_keys(&content.said.keys)?,
+    };
+    Ok(TableNote::Loaded {
+        range: content.load.range,
+        generation: content.load.generation,
+        table,
         next,
     })
 }

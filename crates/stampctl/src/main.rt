@@ -47,6 +47,9 @@
 //! clause of `world_streams` says: that its calls succeed where there is memory, runs of it followed by hand, with clients of streams over
 //! them, and the rows that a loaded table shows. Of these a test goes through cases, each a list of steps in their order: what is
 //! done, with the answer that is wanted, or what is seen then.
+//!
+//! Each actor of a run is asked whether it may go to another thread, in a struct of its own and behind a lock: a missing proof of it
+//! would show only where two threads share an actor.
 #![tactic(auto)]
 
 #[cfg(test)]
@@ -69,6 +72,8 @@ mod scripts_run;
 mod stops;
 #[cfg(test)]
 mod tables;
+#[cfg(test)]
+mod threads;
 #[cfg(test)]
 mod walks;
 #[cfg(test)]

@@ -2,6 +2,8 @@
 use block_types::{Group, Groups};
 use bytes::Bytes;
 use memtable::{Cell, Place};
+use metadata::KeyRange;
+use model_partition::TableView;
 use std::alloc::Global;
 use std::collections::BTreeMap;
 use std::test::Fail;
@@ -151,7 +153,16 @@ fn rows(alloc: Global, kept: &Kept, notes: &[Note]) -> Result<Rows, Fail> {
     entries.insert(Bytes::from_static(b"k"), cell_of(kept))?;
     let mut seen = SeenByExtent::new(alloc);
     seen.follow(alloc, notes)?;
-    Ok(rows_of(alloc, notes, &seen, &entries)?)
+    let keys = KeyRange {
+        low: Bytes::new(),
+        high: None,
+    };
+    let table = TableView {
+        live: &entries,
+        indexes: &[],
+        keys: &keys,
+    };
+    Ok(rows_of(alloc, notes, &seen, &table)?)
 }
 
 fn has_value(rows: &[Row], value: Option<&[u8]>) -> bool {

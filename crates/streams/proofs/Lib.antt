@@ -1,3 +1,5 @@
+pub mod GarbageLemmas
 pub mod Lists
 pub mod Names
 pub mod Tables
+pub mod Trims

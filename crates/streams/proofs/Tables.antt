@@ -50,7 +50,7 @@ module _ (l : List Entry) (sorted : IsStrictlySorted l) (s : StreamName) (at : �
       (λ j e lt within. none_named s.range (kind_number s.kind) (get_or l j e) (get_or l at e) (has_own s (get_or l at e) (named_at e))
       (λ same. omega (arith, same, sorted j at e lt is_at.in_range)))
 
-  found_set : (y : Entry) → y.name ≡ s → (d : Entry) (range kind : ℕ) → found (set l at y) range kind ≡ (if has_name range kind y then Some y else found l range kind)
+  pub found_set : (y : Entry) → y.name ≡ s → (d : Entry) (range kind : ℕ) → found (set l at y) range kind ≡ (if has_name range kind y then Some y else found l range kind)
   found_set y is d range kind =
       found_first (set l at y) range kind
       ∙ first_set (has_name range kind) l at y d is_at.in_range (ap (λ (u : StreamName). (range == u.range) && (kind == kind_number u.kind)) (named_at d ∙ sym is))

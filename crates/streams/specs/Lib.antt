@@ -1,3 +1,4 @@
 pub mod Streams
 pub mod Table
 pub mod Faults
+pub mod Garbage

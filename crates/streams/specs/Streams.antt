@@ -1,6 +1,6 @@
 -- Streams: named lists of extents (Calder et al., SOSP 2011, section 4.1). Each has a fence, the least generation that it
 -- listens to, and remembers the extents that have left it at the front.
-use Rattle.std.specs.Prelude.{ℕ, ◌-◌, Bool, true, false, ◌&&◌, List, [], ◌∷◌, ◌++◌, length, Option, Some, None, option_map, Result, Ok, Err, ◌==◌, nat_lt, nat_le, slice_get, if◌then◌else◌}
+use Rattle.std.specs.Prelude.{ℕ, ◌+◌, ◌-◌, Bool, true, false, ◌&&◌, List, [], ◌∷◌, ◌++◌, length, take, drop, Option, Some, None, option_map, Result, Ok, Err, ◌==◌, nat_lt, nat_le, slice_get, if◌then◌else◌}
 use Rattle.wire.specs.declared.refusal.Refusal.{Refusal}
 use Rattle.wire.specs.declared.refusal.Refusal.TheVariants.{Stale, NoSuchStream, NameTaken, LastOpen}
 use Rattle.wire.specs.declared.streams.StreamKind.{StreamKind}
@@ -124,6 +124,52 @@ extended_if streams s e (Some x) = with_stream streams s (longer e x)
 -- with one more extent at the end of a stream
 abbrev pub extended : Streams → StreamName → ℕ → Streams
 extended streams s e = extended_if streams s e (stream_of streams s)
+
+-- ---- extents that leave the front of a range's log
+
+-- Whether a log loses its extents below an index: none does where the list begins there or later, and the last one never does.
+abbrev pub trim_of_log : Stream → ℕ → ℕ → Result Bool Refusal
+trim_of_log log generation before =
+    if log.fence == generation
+    then (if nat_le before (base_of log) then Ok false else if nat_lt before (base_of log + length log.extents) then Ok true else Err LastOpen)
+    else Err Stale
+
+abbrev pub trim_of : Option Stream → Option Stream → ℕ → ℕ → Result Bool Refusal
+trim_of None blob_data generation before = Err NoSuchStream
+trim_of (Some log) None generation before = Err NoSuchStream
+trim_of (Some log) (Some blob_data) generation before = trim_of_log log generation before
+
+-- what the log and the blob stream of a range answer to a generation that trims the log below an index: whether extents leave
+abbrev pub trimming : Streams → ℕ → ℕ → ℕ → Result Bool Refusal
+trimming streams range generation before = trim_of (streams range 1) (streams range 3) generation before
+
+-- without its extents below an index
+abbrev pub shorter : ℕ → Stream → Stream
+shorter before x = record x { gone = take before (whole x); extents = drop before (whole x) }
+
+-- its extents below an index
+abbrev pub leaving : ℕ → Stream → List ℕ
+leaving before x = take (before - base_of x) x.extents
+
+abbrev pub with_extents : List ℕ → Stream → Stream
+with_extents es x = record x { extents = x.extents ++ es }
+
+abbrev pub log_name : ℕ → StreamName
+log_name range = record { range = range; kind = Log }
+
+abbrev pub blob_data_name : ℕ → StreamName
+blob_data_name range = record { range = range; kind = BlobData }
+
+abbrev pub trimmed_if : Streams → ℕ → ℕ → Bool → Option Stream → Option Stream → Streams
+trimmed_if streams range before to_blob None blob_data = streams
+trimmed_if streams range before to_blob (Some log) None = streams
+trimmed_if streams range before to_blob (Some log) (Some blob_data) =
+    with_stream (with_stream streams (log_name range) (shorter before log)) (blob_data_name range)
+    (if to_blob then with_extents (leaving before log) blob_data else blob_data)
+
+-- The log's extents below an index have left it, and where they are to be kept they stand at the end of the blob stream.
+abbrev pub trimmed : Streams → ℕ → ℕ → Bool → Streams
+trimmed streams range before to_blob = trimmed_if streams range before to_blob (streams range 1) (streams range 3)
 
 -- ---- places
 

@@ -1,8 +1,8 @@
 -- A table of streams as the code has it: a list of them, in the order of their names.
-use Rattle.std.specs.Prelude.{◌≡◌, ℕ, ◌+◌, ◌*◌, ◌<◌, ◌≤◌, Bool, ◌&&◌, ◌==◌, List, [], ◌∷◌, length, Option, Some, None, option_map, if◌then◌else◌, slice_index_or, true, nat_lt}
+use Rattle.std.specs.Prelude.{◌≡◌, ℕ, ◌+◌, ◌*◌, ◌<◌, ◌≤◌, Bool, ◌&&◌, ◌==◌, List, [], ◌∷◌, length, Option, Some, None, option_map, if◌then◌else◌, slice_index_or, slice_get, slice_set, true, nat_lt, Contains}
 use Rattle.wire.specs.declared.streams.StreamName.{StreamName}
 use Rattle.streams.specs.declared.fences.Fences.{Fences}
-use Rattle.streams.specs.Streams.{Stream, Streams, kind_number, stream_of, with_stream, is_there}
+use Rattle.streams.specs.Streams.{Stream, Streams, kind_number, stream_of, with_stream, is_there, leaving, with_extents}
 
 -- a stream under its name; so many extents may be added at its end without memory
 pub record Entry : Type 0 where
@@ -42,6 +42,44 @@ HasRoomIn entries s = is_there (stream_of (streams_in entries) s) ≡ true → 0
 
 abbrev pub HasRoom : StreamTableState → StreamName → Type 0
 HasRoom t s = HasRoomIn t.entries s
+
+-- the log's extents below an index may be added to the blob stream without memory, where there are both streams
+abbrev pub room_needed : Option Stream → ℕ → ℕ
+room_needed None before = 0
+room_needed (Some log) before = length (leaving before log)
+
+abbrev pub HasRoomToTrimIn : List Entry → ℕ → ℕ → Type 0
+HasRoomToTrimIn entries range before =
+    is_there (streams_in entries range 3) ≡ true → room_needed (streams_in entries range 1) before ≤ room_of (found entries range 3)
+
+abbrev pub HasRoomToTrim : StreamTableState → ℕ → ℕ → Bool → Type 0
+HasRoomToTrim t range before to_blob = to_blob ≡ true → HasRoomToTrimIn t.entries range before
+
+-- the extents of the stream at a place below an index stand at the end of the one at another place, and nothing else has changed
+-- but its room
+pub record IsKept (entries new : List Entry) (from to before : ℕ) : Type 0 where
+  pub entry : Entry
+  pub changed : new ≡ slice_set entries to entry
+  pub name : (d : Entry) → let x = slice_index_or entries to d in entry.name ≡ x.name
+  pub stream : (d : Entry) → let log = slice_index_or entries from d in let x = slice_index_or entries to d in
+      entry.stream ≡ with_extents (leaving before log.stream) x.stream
+
+-- ---- what stands in no list any more
+
+abbrev pub HasGone : List Entry → ℕ → Type 0
+HasGone entries e = (x : Entry) × Contains entries x × Contains x.stream.gone e
+
+abbrev pub IsListed : List Entry → ℕ → Type 0
+IsListed entries e = (x : Entry) × Contains entries x × Contains x.stream.extents e
+
+abbrev pub IsAscendingList : List ℕ → Type 0
+IsAscendingList es = (i j e f : ℕ) → i < j → slice_get es i ≡ Some e → slice_get es j ≡ Some f → e < f
+
+-- in ascending order all extents that have left a stream and stand in none now
+pub record IsGarbage (entries : List Entry) (es : List ℕ) : Type 0 where
+  pub ascending : IsAscendingList es
+  pub each : (e : ℕ) → Contains es e → HasGone entries e × (IsListed entries e → ⊥)
+  pub all : (e : ℕ) → HasGone entries e → (IsListed entries e → ⊥) → Contains es e
 
 -- with another fence, where there is the stream
 abbrev pub fenced_if : Streams → StreamName → ℕ → Option Stream → Streams

@@ -1,7 +1,7 @@
 //! Streams in the order of their names.
-ghost use Rattle.std.specs.Prelude.{◌≡◌, ◌<◌, ◌-◌, OnOk, IfOk, IfErr, option_map, vec_len, vec_capacity};
-ghost use Rattle.streams.specs.Streams.{kind_number, extended, created, opened};
-ghost use Rattle.streams.specs.Table.{IsStrictlySorted, IsAt, IsGapFor, key_of, found, streams_in, fenced, HasRoomIn};
+ghost use Rattle.std.specs.Prelude.{◌≡◌, ◌<◌, ◌-◌, OnOk, IfOk, IfErr, option_map, vec_len, vec_capacity, true, ◌≤◌, length, slice_index_or};
+ghost use Rattle.streams.specs.Streams.{kind_number, extended, created, opened, leaving, trimmed};
+ghost use Rattle.streams.specs.Table.{IsStrictlySorted, IsAt, IsGapFor, key_of, found, streams_in, fenced, Entry, HasRoomIn, HasRoomToTrimIn, IsKept};
 
 use crate::listed::{Listed, key_of};
 use std::alloc::{AllocError, Global};
@@ -82,7 +82,7 @@ pub(crate) fn reserve_extent(entries: &mut Vec<Listed>, name: &StreamName) -> Re
     ensures room { OnOk result (HasRoomIn entries.new.items name.now) }
 {
     match search(entries, name) {
-        Ok(at) => entries[at].reserve(),
+        Ok(at) => entries[at].reserve(1),
         Err(_) => Ok(()),
     }
 }
@@ -98,4 +98,62 @@ pub(crate) fn push_extent(entries: &mut Vec<Listed>, name: &StreamName, extent: 
         Ok(at) => entries[at].push(extent),
         Err(_) => {}
     }
+}
+
+/// Makes room for the extents of a range's log below an index at the end of its blob stream, where there are both. Without
+/// memory nothing has changed but room.
+pub(crate) fn reserve_trim(
+    entries: &mut Vec<Listed>,
+    range: RangeId,
+    before: u64,
+) -> Result<(), AllocError>
+    requires sorted { IsStrictlySorted entries.old.items }
+    ensures sorted { IsStrictlySorted entries.new.items }
+    ensures streams { streams_in entries.new.items ≡ streams_in entries.old.items }
+    ensures room { OnOk result (HasRoomToTrimIn entries.new.items range before) }
+{
+    let kind = StreamKind::Log;
+    let count = match find(entries, &StreamName { range, kind }) {
+        None => 0,
+        Some(log) => log.leaving(before).len(),
+    };
+    let kind = StreamKind::BlobData;
+    match search(entries, &StreamName { range, kind }) {
+        Ok(at) => entries[at].reserve(count),
+        Err(_) => Ok(()),
+    }
+}
+
+/// Adds the extents of a stream below an index at the end of a later one, into room that was made.
+fn keep(entries: &mut Vec<Listed>, from: usize, to: usize, before: u64)
+    requires order { from < to }
+    requires in_range { to < vec_len entries.old }
+    requires room { (d : Entry) → let log = slice_index_or entries.old.items from d in
+        let x = slice_index_or entries.old.items to d in length (leaving before log.stream) ≤ x.room }
+    ensures { IsKept entries.old.items entries.new.items from to before }
+{
+    let (front, back) = entries.split_at_mut(to);
+    back[0].extend(front[from].leaving(before));
+}
+
+/// Lets the extents of a range's log below an index leave it, where there are the log and the blob stream. If they are to be
+/// kept they then stand at the end of the blob stream, in room that was made.
+pub(crate) fn cut(entries: &mut Vec<Listed>, range: RangeId, before: u64, to_blob: bool)
+    requires sorted { IsStrictlySorted entries.old.items }
+    requires room { to_blob ≡ true → HasRoomToTrimIn entries.old.items range before }
+    ensures sorted { IsStrictlySorted entries.new.items }
+    ensures streams { streams_in entries.new.items ≡ trimmed (streams_in entries.old.items) range before to_blob }
+{
+    let kind = StreamKind::Log;
+    let Ok(log) = search(entries, &StreamName { range, kind }) else {
+        return;
+    };
+    let kind = StreamKind::BlobData;
+    let Ok(blob_data) = search(entries, &StreamName { range, kind }) else {
+        return;
+    };
+    if to_blob {
+        keep(entries, log, blob_data, before);
+    }
+    entries[log].cut(before);
 }

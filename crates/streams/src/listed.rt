@@ -1,8 +1,10 @@
 //! One stream.
-ghost use Rattle.std.specs.Prelude.{◌≡◌, ◌<◌, OnOk};
-ghost use Rattle.streams.specs.Streams.{empty_stream, base_of, last_of, longer, at_index};
+ghost use Rattle.std.specs.Prelude.{◌≡◌, ◌<◌, ◌≤◌, length, OnOk};
+ghost use Rattle.streams.specs.Faults.{with_refusal};
+ghost use Rattle.streams.specs.Streams.{empty_stream, base_of, last_of, longer, at_index, trim_of_log, leaving, shorter, with_extents};
 ghost use Rattle.streams.specs.Table.{key_of};
 
+use crate::fault::StreamFault;
 use std::alloc::{AllocError, Global};
 use std::marker::Model;
 use wire::{ExtentId, Fence, StreamKind, StreamName};
@@ -117,13 +119,47 @@ impl Listed {
         self.fence = fence;
     }
 
-    /// Makes room for one more extent. Without memory nothing has changed but room.
-    pub(crate) fn reserve(&mut self) -> Result<(), AllocError>
+    /// Those that have left it at the front, in order.
+    pub(crate) fn gone(&self) -> &[ExtentId]
+        ensures { result.now ≡ self.now.stream.gone }
+    {
+        &self.extents[..self.left]
+    }
+
+    /// Its extents below an index, in order.
+    pub(crate) fn leaving(&self, before: u64) -> &[ExtentId]
+        ensures { result.now ≡ leaving before self.now.stream }
+    {
+        let extents = self.extents();
+        let count = before.saturating_sub(self.base());
+        &extents[..count.min(extents.len() as u64) as usize]
+    }
+
+    /// Whether it loses its extents below an index to a generation. 3: the generation is not its fence. 13: the last one would
+    /// leave.
+    pub(crate) fn trimming(&self, generation: Fence, before: u64) -> Result<bool, StreamFault>
+        ensures { with_refusal result ≡ trim_of_log self.now.stream generation before }
+    {
+        if self.fence != generation {
+            return Err(StreamFault::Stale);
+        }
+        if before <= self.base() {
+            return Ok(false);
+        }
+        if before < self.extents.len() as u64 {
+            Ok(true)
+        } else {
+            Err(StreamFault::LastOpen)
+        }
+    }
+
+    /// Makes room for so many more extents. Without memory nothing has changed but room.
+    pub(crate) fn reserve(&mut self, count: usize) -> Result<(), AllocError>
         ensures name { self.new.name ≡ self.old.name }
         ensures stream { self.new.stream ≡ self.old.stream }
-        ensures room { OnOk result (0 < self.new.room) }
+        ensures room { OnOk result (count ≤ self.new.room) }
     {
-        self.extents.reserve(1)
+        self.extents.reserve(count)
     }
 
     /// Adds an extent at the end, into room that was made.
@@ -133,5 +169,23 @@ impl Listed {
         ensures stream { self.new.stream ≡ longer extent self.old.stream }
     {
         self.extents.push_reserved(extent);
+    }
+
+    /// Adds extents at the end, into room that was made.
+    pub(crate) fn extend(&mut self, extents: &[ExtentId])
+        requires { length extents.now ≤ self.old.room }
+        ensures name { self.new.name ≡ self.old.name }
+        ensures stream { self.new.stream ≡ with_extents extents.now self.old.stream }
+    {
+        // It does not fail: there is room.
+        let _room_was_made = self.extents.extend_from_slice(extents);
+    }
+
+    /// Lets its extents below an index leave it at the front.
+    pub(crate) fn cut(&mut self, before: u64)
+        ensures name { self.new.name ≡ self.old.name }
+        ensures stream { self.new.stream ≡ shorter before self.old.stream }
+    {
+        self.left = before.min(self.extents.len() as u64) as usize;
     }
 }

@@ -24,8 +24,8 @@ pub struct Position {
 
 /// Streams by name, in the order of ranges and kinds. To find one takes a search.
 pub struct StreamTable {
-    alloc: Global,
-    entries: Vec<Listed>,
+    pub(crate) alloc: Global,
+    pub(crate) entries: Vec<Listed>,
 }
 
 // Written out, so that a crate above that lets one go has no proof of what is in it.

@@ -41,7 +41,10 @@ pub enum Answer {
     Tells(u32),
     /// A range is opened with so many extents of row data, the first of this length, and an empty log.
     Opens(usize, Option<u32>),
+    /// A range is opened with a log of this base and so many extents.
+    OpensLog(u64, usize),
     Confirms,
+    Trims,
 }
 
 fn append_says(body: &AppendBody, wanted: Answer) -> bool {
@@ -105,7 +108,11 @@ fn stream_says(body: &StreamBody, wanted: Answer) -> bool {
         (StreamBody::Opened { streams, .. }, Answer::Opens(extents, first)) => {
             told_of(&streams.row_data) == (extents, first) && told_of(&streams.log) == (0, None)
         }
+        (StreamBody::Opened { streams, .. }, Answer::OpensLog(base, extents)) => {
+            streams.log.base == base && streams.log.extents.items.len() == extents
+        }
         (StreamBody::Confirmed { .. }, Answer::Confirms) => true,
+        (StreamBody::Trimmed { .. }, Answer::Trims) => true,
         (StreamBody::Extended { extent, .. }, Answer::Names(_, wanted)) => extent.0 == wanted,
         _ => false,
     }

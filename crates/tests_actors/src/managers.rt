@@ -3,6 +3,7 @@ mod asking;
 mod ranges;
 mod sealing;
 mod starting;
+mod trimming;
 
 use crate::answers::{Answer, comes_to, counts, is_answer};
 use crate::cases::{Actor, holds};
@@ -11,7 +12,7 @@ use asking::{Ask, body_of};
 use disk::MemDisk;
 use manager::{Manager, ManagerFault};
 use std::alloc::Global;
-use wire::{ActorId, ExtentId, Packet};
+use wire::{ActorId, ExtentId, Packet, RangeId, StreamKind, StreamName};
 
 /// What happens to a manager of four nodes, or what is seen of it.
 #[derive(Clone, Copy)]
@@ -28,8 +29,10 @@ pub enum Event {
     WouldSealAt(Option<u32>),
     /// It has not stopped, and knows its four nodes and its target.
     Runs,
-    /// Its disk is told to stop in the third call of the next record, and to keep that call's bytes or not.
-    IsToldToStop(bool),
+    /// The base and the extents of a stream of range 1.
+    Lists(StreamKind, u64, &'static [u64]),
+    /// Its disk is told to stop in a call of the next record, and to keep that call's bytes or not.
+    IsToldToStop(u64, bool),
     StopsNow,
     HasStopped,
     /// Its disk is told to stop at no call.
@@ -122,8 +125,27 @@ fn runs(manager: &Manager<MemDisk>) -> bool {
     table.nodes() == 4 && table.target() == 4096 && !manager.is_stopped()
 }
 
-fn is_told_to_stop(manager: &mut Manager<MemDisk>, keep: bool) -> bool {
-    manager.stop_at(3, keep);
+fn are_numbers(extents: &[ExtentId], numbers: &[u64]) -> bool {
+    extents.len() == numbers.len()
+        && extents
+            .iter()
+            .zip(numbers)
+            .all(|(extent, number)| extent.0 == *number)
+}
+
+fn lists(manager: &Manager<MemDisk>, kind: StreamKind, base: u64, numbers: &[u64]) -> bool {
+    let name = StreamName {
+        range: RangeId(1),
+        kind,
+    };
+    match manager.table().streams().stream(&name) {
+        Some(listed) => listed.base() == base && are_numbers(listed.extents(), numbers),
+        None => false,
+    }
+}
+
+fn is_told_to_stop(manager: &mut Manager<MemDisk>, call: u64, keep: bool) -> bool {
+    manager.stop_at(call, keep);
     manager.file().told().is_some()
 }
 
@@ -145,7 +167,8 @@ fn fits(alloc: Global, manager: &mut Manager<MemDisk>, event: Event) -> bool {
         Event::HasExtent(extent, wanted) => sealed_at(manager, extent) == wanted,
         Event::WouldSealAt(wanted) => manager.sealing(ExtentId(1)) == wanted,
         Event::Runs => runs(manager),
-        Event::IsToldToStop(keep) => is_told_to_stop(manager, keep),
+        Event::Lists(kind, base, numbers) => lists(manager, kind, base, numbers),
+        Event::IsToldToStop(call, keep) => is_told_to_stop(manager, call, keep),
         Event::StopsNow => stops_now(manager),
         Event::HasStopped => manager.is_stopped(),
         Event::IsToldNothing => manager.file().told().is_none(),

@@ -3,6 +3,8 @@
 #![tactic(auto)]
 
 #[cfg(test)]
+mod checkpoints;
+#[cfg(test)]
 mod client_steps;
 #[cfg(test)]
 mod clients;
@@ -12,6 +14,8 @@ mod groups;
 mod logs;
 #[cfg(test)]
 mod metadata_records;
+#[cfg(test)]
+mod pages;
 #[cfg(test)]
 mod range_loads;
 #[cfg(test)]

@@ -26,3 +26,5 @@ mod refusals;
 mod replicas;
 #[cfg(test)]
 mod spellings;
+#[cfg(test)]
+mod trimmed_logs;

@@ -1,5 +1,5 @@
 -- The manager's rules for packets show nothing.
-use Rattle.std.proofs.Common.{◌≡◌, ℕ, [], Option, Some, None, Result, Ok, Err, refl}
+use Rattle.std.proofs.Common.{◌≡◌, ℕ, Bool, true, false, [], Option, Some, None, Result, Ok, Err, refl}
 use Rattle.block_types.specs.declared.record.Nodes.{Nodes}
 use Rattle.wire.specs.declared.actor.ActorId.TheVariants.{Manager}
 use Rattle.wire.specs.declared.actor.ReqNo.{ReqNo}
@@ -15,8 +15,8 @@ use Rattle.wire.specs.declared.streams.StreamName.{StreamName}
 use Rattle.model_streams.specs.declared.extent.Extent.{Extent}
 use Rattle.model_streams.specs.Actors.{is_user}
 use Rattle.model_streams.specs.Outcome.{Outcome, or_refused, silent}
-use Rattle.streams.specs.Streams.{stream_of, extending}
-use Rattle.model_streams.specs.Manager.{Catalog, answer, asks_tail, confirm_refusal, create_refusal, create_taken, extend_answered, extend_picked, extend_rule, frozen_rule, is_foreign, is_pick, is_sealed_rule, is_there, last_told, no_users, open_refusal, open_taken, sealed_lengths, manager_rule, noted, seal_asked, seal_body_rule, seal_extent_rule, short_rule, stream_body_rule, with_report, frozen_to, known_sealed, first_sealed, place_of}
+use Rattle.streams.specs.Streams.{stream_of, extending, trimming}
+use Rattle.model_streams.specs.Manager.{Catalog, answer, asks_tail, confirm_refusal, create_refusal, create_taken, extend_answered, extend_picked, extend_rule, frozen_rule, is_foreign, is_pick, is_sealed_rule, is_there, last_told, no_users, open_refusal, open_taken, sealed_lengths, manager_rule, noted, seal_asked, seal_body_rule, seal_extent_rule, short_rule, stream_body_rule, trim_answered, trim_rule, with_report, frozen_to, known_sealed, first_sealed, place_of}
 use Rattle.model_streams.proofs.Tests.{if_elim}
 
 abbrev IsQuiet : Outcome Catalog → Type 0
@@ -52,6 +52,15 @@ lengthened b p s generation last pick q =
     (λ t. refl)
     (λ f. extended b p s generation pick q (extending (sealed_lengths b) (stream_of b.stream s) generation last))
 
+trimmed : (b : Catalog) (p : Packet) (range before : ℕ) (to_blob : Bool) (q : ReqNo) (x : Result Bool Refusal) → IsQuiet (trim_answered b p range before to_blob q x)
+trimmed b p range before to_blob q (Err refusal) = refl
+trimmed b p range before to_blob q (Ok false) = refl
+trimmed b p range before to_blob q (Ok true) = refl
+
+shortened : (b : Catalog) (p : Packet) (range generation before : ℕ) (to_blob : Bool) (q : ReqNo) → IsQuiet (trim_rule b p range generation before to_blob q)
+shortened b p range generation before to_blob q =
+    if_elim IsQuiet (is_user p.from) _ _ (λ t. refl) (λ f. trimmed b p range before to_blob q (trimming b.stream range generation before))
+
 barred : (b : Catalog) (p : Packet) (q : ReqNo) → IsQuiet (no_users b p q)
 barred b p q = if_elim IsQuiet (is_user p.from) _ _ (λ t. refl) (λ f. refl)
 
@@ -60,7 +69,7 @@ called b p (CreateStream s fence q) = created b p s _ q (create_refusal b p s)
 called b p (OpenStreams range generation q) = opened b p range generation q (open_refusal b p range generation)
 called b p (Confirm range generation q) = confirmed b p q (confirm_refusal b p range generation)
 called b p (Extend s generation last pick q) = lengthened b p s _ last pick q
-called b p (Trim range generation before to_blob q) = barred b p q
+called b p (Trim range generation before to_blob q) = shortened b p range generation before to_blob q
 called b p (MultiModify list q) = barred b p q
 called b p body = refl
 

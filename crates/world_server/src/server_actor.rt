@@ -1,15 +1,13 @@
 //! One server, over its starts and stops.
 ghost use Rattle.std.specs.Prelude.{◌≡◌, [], None, option_map, IfOk, OnErr};
-ghost use Rattle.model_partition.specs.Servers.{cell_gives_up, cell_stops, cell_starts, cell_takes, give_up_fault, cell_loads};
+ghost use Rattle.model_partition.specs.Servers.{cell_gives_up, cell_stops, cell_starts, cell_takes, give_up_fault, cell_loads, table_of_view};
 ghost use Rattle.world_server.specs.Seen.{cell_outcome, moment_shown, new_server};
 ghost use Rattle.world_steps.specs.ActorStep.{IsFew, table_step};
 
 use block_types::Nodes;
-use bytes::Bytes;
-use memtable::Cell;
+use model_partition::TableView;
 use range::{RangeFault, RangeServer, Sent};
 use std::alloc::{AllocError, Global};
-use std::collections::BTreeMap;
 use std::marker::Model;
 use wire::{Body, Packet, RangeId, Refusal, ServerNo};
 use world_steps::ActorStep;
@@ -74,9 +72,9 @@ impl ServerActor {
         }
     }
 
-    /// The entries of the table that an answer is about to show.
-    pub fn loading(&self, body: &Body) -> Option<&BTreeMap<Bytes, Cell>>
-        ensures { option_map (λ entries. entries.now.entries) result ≡ cell_loads self.now.cell.state body.now }
+    /// The table that an answer is about to show.
+    pub fn loading(&self, body: &Body) -> Option<TableView<'_>>
+        ensures { option_map table_of_view result ≡ cell_loads self.now.cell.state body.now }
     {
         match &self.server {
             None => None,

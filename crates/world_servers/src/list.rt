@@ -1,16 +1,14 @@
 //! The servers of a run.
 ghost use Rattle.std.specs.Prelude.{◌≡◌, ◌<◌, ℕ, suc, [], None, length, map, option_map, IfOk, OnErr, IfSome, IfNone};
 ghost use Rattle.model_streams.specs.Maps.{entry_at};
-ghost use Rattle.model_partition.specs.Servers.{first_servers, give_up_refusal, server_gives_up, server_loads, server_stops, server_starts, server_takes};
+ghost use Rattle.model_partition.specs.Servers.{first_servers, give_up_refusal, server_gives_up, server_loads, server_stops, server_starts, server_takes, table_of_view};
 ghost use Rattle.world_server.specs.Seen.{moment_shown};
 ghost use Rattle.world_steps.specs.ActorStep.{IsFew};
 ghost use Rattle.world_servers.specs.Servers.{AreServers, StayServers, all_shown, cells_of, new_servers, outcome};
 
 use block_types::Nodes;
-use bytes::Bytes;
-use memtable::Cell;
+use model_partition::TableView;
 use std::alloc::{AllocError, Global};
-use std::collections::BTreeMap;
 use std::marker::Model;
 use wire::{Body, Packet, RangeId, ServerNo};
 use world_server::ServerActor;
@@ -158,9 +156,9 @@ impl Servers {
         }
     }
 
-    /// The entries of the table that an answer to the server of a number is about to show.
-    pub fn loading(&self, server: ServerNo, body: &Body) -> Option<&BTreeMap<Bytes, Cell>>
-        ensures { option_map (λ entries. entries.now.entries) result ≡ server_loads (entry_at self.now.cells server) body.now }
+    /// The table that an answer to the server of a number is about to show.
+    pub fn loading(&self, server: ServerNo, body: &Body) -> Option<TableView<'_>>
+        ensures { option_map table_of_view result ≡ server_loads (entry_at self.now.cells server) body.now }
     {
         match place(self.actors.as_slice(), server) {
             None => None,

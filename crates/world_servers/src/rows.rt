@@ -1,12 +1,13 @@
-//! The rows of a memory table.
+//! The rows of a table.
 ghost use Rattle.std.specs.Prelude.{◌≡◌, ◌++◌, IfOk, OnOk};
-ghost use Rattle.model_partition.specs.Servers.{row_of, rows_of};
+ghost use Rattle.model_partition.specs.Servers.{row_of, rows_in, rows_of, table_of_view};
 ghost use Rattle.world_servers.specs.Seen.{IsIndex};
 
 use crate::place::first_shown;
 use crate::seen::SeenByExtent;
 use bytes::Bytes;
 use memtable::Cell;
+use model_partition::TableView;
 use std::alloc::{AllocError, Global};
 use std::collections::BTreeMap;
 use wire::{Note, Row, Rows};
@@ -37,21 +38,33 @@ fn push_row(
     }
 }
 
-/// The rows of these entries, after these observations: a key that was deleted has none, and neither has one whose value
-/// no observation covers. The index is one of these observations. An error is out of memory (22).
 #[tactic(auto, using(crate::proofs::RowEntries::one_more))]
-pub fn rows_of(
+fn rows_in(
     alloc: Global,
     notes: &[Note],
     seen: &SeenByExtent,
     entries: &BTreeMap<Bytes, Cell>,
 ) -> Result<Rows, AllocError>
     requires { IsIndex notes.now seen.now }
-    ensures { IfOk result (λ rows. rows ≡ rows_of notes.now entries.now.entries) }
+    ensures { IfOk result (λ rows. rows ≡ rows_in notes.now entries.now.entries) }
 {
     let mut rows = Vec::new(alloc);
     for (key, cell) in entries {
         push_row(alloc, &mut rows, notes, seen, key, cell)?;
     }
     Ok(Rows { items: rows })
+}
+
+/// The rows of this table, after these observations: a key that was deleted has none, and neither has one whose value no
+/// observation covers. The index is one of these observations. An error is out of memory (22).
+pub fn rows_of(
+    alloc: Global,
+    notes: &[Note],
+    seen: &SeenByExtent,
+    table: &TableView<'_>,
+) -> Result<Rows, AllocError>
+    requires { IsIndex notes.now seen.now }
+    ensures { IfOk result (λ rows. rows ≡ rows_of notes.now (table_of_view table.now)) }
+{
+    rows_in(alloc, notes, seen, table.live)
 }

@@ -4,8 +4,8 @@ use Rattle.std.proofs.lemmas.Option.{same_Some}
 use Rattle.wire.specs.declared.note.Note.{Note}
 use Rattle.wire.specs.declared.packet.Packet.{Packet}
 use Rattle.wire.specs.declared.rows.Row.{Row}
-use Rattle.memtable.specs.Entries.{Entries}
 use Rattle.model_streams.specs.StreamSystem.{StreamSystem, sent_more}
+use Rattle.model_partition.specs.declared.shown_table.ShownTable.{ShownTable}
 use Rattle.model_partition.specs.declared.table_note.TableNote.{TableNote}
 use Rattle.model_partition.specs.declared.table_note.TableNote.TheVariants as tables
 use Rattle.model_partition.specs.Servers.{ArePlain, ShowsLoad, ServerCell, ServersOutcome, noted, rows_of, server_takes, told, with_told}
@@ -20,12 +20,12 @@ use Rattle.world_streams.proofs.EventSimulation.{get_at, nodes_as, manager_as}
 told_plain : (shown : List Note) (rows : List Row) (note : TableNote) (more : List TableNote) → ArePlain (note ∷ more) → told_with note rows ≡ told shown note
 told_plain shown rows (tables.Began range generation number changes) more h = refl
 told_plain shown rows (tables.Done range generation number) more h = refl
-told_plain shown rows (tables.Loaded range generation entries indexes next) more h = absurd h
+told_plain shown rows (tables.Loaded range generation table next) more h = absurd h
 
 later_plain : (note : TableNote) (more : List TableNote) → ArePlain (note ∷ more) → ArePlain more
 later_plain (tables.Began range generation number changes) more h = h
 later_plain (tables.Done range generation number) more h = h
-later_plain (tables.Loaded range generation entries indexes next) more h = absurd h
+later_plain (tables.Loaded range generation table next) more h = absurd h
 
 head_is : {A : Type 0} (x y : A) (xs ys : List A) → x ∷ xs ≡ y ∷ ys → (x ≡ y) × (xs ≡ ys)
 head_is x y xs ys e = (cc, cc)
@@ -34,30 +34,29 @@ head_is x y xs ys e = (cc, cc)
 pub told_is : (shown : List Note) (rows : List Row) (note : TableNote) (more : List TableNote) → ShowsRows shown rows (note ∷ more) → told_with note rows ≡ told shown note
 told_is shown rows note more (inl plain) = told_plain shown rows note more plain
 told_is shown rows note more (inr load) =
-    let same = head_is note (tables.Loaded load.range load.generation load.entries load.indexes load.next) more [] load.is in
+    let same = head_is note (tables.Loaded load.range load.generation load.table load.next) more [] load.is in
     subst (λ (n : TableNote). told_with n rows ≡ told shown n) (sym same.0)
-    (ap (told_with (tables.Loaded load.range load.generation load.entries load.indexes load.next)) load.rows_are)
+    (ap (told_with (tables.Loaded load.range load.generation load.table load.next)) load.rows_are)
 
 -- after it there is none
 pub later_rows : (shown other : List Note) (rows left : List Row) (note : TableNote) (more : List TableNote) → ShowsRows shown rows (note ∷ more) → ShowsRows other left more
 later_rows shown other rows left note more (inl plain) = inl (later_plain note more plain)
 later_rows shown other rows left note more (inr load) =
-    let same = head_is note (tables.Loaded load.range load.generation load.entries load.indexes load.next) more [] load.is in
+    let same = head_is note (tables.Loaded load.range load.generation load.table load.next) more [] load.is in
     inl (subst ArePlain (sym same.1) tt)
 
 -- ---- the table that is about to be shown
 
-pub rows_shown : (shown : List Note) (rows : List Row) (loading : Option Entries) (more : List TableNote) → ShowsLoad loading more →
-    ((entries : Entries) → loading ≡ Some entries → rows ≡ rows_of shown entries) → ShowsRows shown rows more
+pub rows_shown : (shown : List Note) (rows : List Row) (loading : Option ShownTable) (more : List TableNote) → ShowsLoad loading more →
+    ((table : ShownTable) → loading ≡ Some table → rows ≡ rows_of shown table) → ShowsRows shown rows more
 rows_shown shown rows loading more (inl plain) are = inl plain
 rows_shown shown rows loading more (inr load) are = inr (record {
   range = load.range;
   generation = load.generation;
-  entries = load.entries;
-  indexes = load.indexes;
+  table = load.table;
   next = load.next;
   is = load.is;
-  rows_are = are load.entries load.from;
+  rows_are = are load.table load.from;
 })
 
 -- ---- beside the model

@@ -4,8 +4,7 @@ use Rattle.wire.specs.declared.note.Note.{Note}
 use Rattle.wire.specs.declared.note.Note.TheVariants as notes
 use Rattle.wire.specs.declared.packet.Packet.{Packet}
 use Rattle.wire.specs.declared.rows.Row.{Row}
-use Rattle.memtable.specs.Entries.{Entries}
-use Rattle.metadata.specs.declared.record.IndexRange.{IndexRange}
+use Rattle.model_partition.specs.declared.shown_table.ShownTable.{ShownTable}
 use Rattle.model_partition.specs.declared.table_note.TableNote.{TableNote}
 use Rattle.model_partition.specs.declared.table_note.TableNote.TheVariants as tables
 use Rattle.model_partition.specs.Servers.{ArePlain, ServerCell, ServersOutcome, noted, rows_of}
@@ -24,11 +23,10 @@ pub record AfterServers (r x : StreamLayerState) (servers : List ServerCell) (o 
 pub record IsLoadOf (shown : List Note) (rows : List Row) (more : List TableNote) : Type 0 where
   pub range : ℕ
   pub generation : ℕ
-  pub entries : Entries
-  pub indexes : List IndexRange
+  pub table : ShownTable
   pub next : ℕ
-  pub is : more ≡ tables.Loaded range generation entries indexes next ∷ []
-  pub rows_are : rows ≡ rows_of shown entries
+  pub is : more ≡ tables.Loaded range generation table next ∷ []
+  pub rows_are : rows ≡ rows_of shown table
 
 -- no loaded table, or one with these rows
 abbrev pub ShowsRows : List Note → List Row → List TableNote → Type 0
@@ -38,7 +36,7 @@ ShowsRows shown rows more = ArePlain more ⊎ IsLoadOf shown rows more
 abbrev pub told_with : TableNote → List Row → Note
 told_with (tables.Began range generation number changes) rows = notes.Began range generation number changes
 told_with (tables.Done range generation number) rows = notes.Done range generation number
-told_with (tables.Loaded range generation entries indexes next) rows = notes.Loaded range generation rows next
+told_with (tables.Loaded range generation table next) rows = notes.Loaded range generation rows next
 
 -- the layer with what the map sends in a step, of which this holds
 pub record AfterMap (r x : StreamLayerState) (steps : List Packet → Type 0) : Type 0 where

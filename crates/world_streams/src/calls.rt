@@ -49,6 +49,7 @@ fn is_stream_call(body: &StreamBody) -> bool
         StreamBody::OpenStreams { .. } => true,
         StreamBody::Confirm { .. } => true,
         StreamBody::Extend { .. } => true,
+        StreamBody::Trim { .. } => true,
         _ => false,
     }
 }

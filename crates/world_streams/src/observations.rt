@@ -1,12 +1,10 @@
 //! All observations, and where those of each extent stand among them.
 ghost use Rattle.std.specs.Prelude.{◌≡◌, ◌++◌, ◌+◌, ◌≤◌, [], ◌∷◌, IfOk, OnOk, vec_len, vec_capacity};
-ghost use Rattle.model_partition.specs.Servers.{rows_of};
+ghost use Rattle.model_partition.specs.Servers.{rows_of, table_of_view};
 
 use crate::post::{MOST, make_room, move_in};
-use bytes::Bytes;
-use memtable::Cell;
+use model_partition::TableView;
 use std::alloc::{AllocError, Global};
-use std::collections::BTreeMap;
 use std::marker::Model;
 use wire::{Note, Rows};
 use world_servers::{SeenByExtent, rows_of};
@@ -80,17 +78,17 @@ impl Observations {
         self.notes.as_slice()
     }
 
-    /// The rows of these entries, after all observations. Nothing changes.
+    /// The rows of this table, after all observations. Nothing changes.
     pub(crate) fn rows_of(
         &mut self,
         alloc: Global,
-        entries: &BTreeMap<Bytes, Cell>,
+        table: &TableView<'_>,
     ) -> Result<Rows, AllocError>
-        ensures rows { IfOk result (λ rows. rows ≡ rows_of self.old.items entries.now.entries) }
+        ensures rows { IfOk result (λ rows. rows ≡ rows_of self.old.items (table_of_view table.now)) }
         ensures same { self.new ≡ self.old }
     {
         match self.seen.follow(alloc, self.notes.as_slice()) {
-            Ok(()) => rows_of(alloc, self.notes.as_slice(), &self.seen, entries),
+            Ok(()) => rows_of(alloc, self.notes.as_slice(), &self.seen, table),
             Err(full) => Err(full),
         }
     }

@@ -1,17 +1,14 @@
 //! What servers show.
 ghost use Rattle.std.specs.Prelude.{◌≡◌, ◌+◌, ◌≤◌, Some, IfOk, OnErr, option_map, vec_len, vec_capacity};
-ghost use Rattle.memtable.specs.Entries.{Entries};
-ghost use Rattle.model_partition.specs.Servers.{noted, rows_of, server_takes};
+ghost use Rattle.model_partition.specs.declared.shown_table.ShownTable.{ShownTable};
+ghost use Rattle.model_partition.specs.Servers.{noted, rows_of, server_takes, table_of_view};
 ghost use Rattle.world_servers.specs.Servers.{outcome};
 ghost use Rattle.world_steps.specs.ActorStep.{IsFew};
 ghost use Rattle.world_streams.specs.ServersStep.{ShowsRows, told_with};
 
 use crate::observations::Observations;
-use bytes::Bytes;
-use memtable::Cell;
-use model_partition::TableNote;
+use model_partition::{TableNote, TableView};
 use std::alloc::{AllocError, Global};
-use std::collections::BTreeMap;
 use wire::{Note, Packet, Rows, ServerNo};
 use world_servers::Servers;
 use world_steps::ActorStep;
@@ -26,17 +23,17 @@ pub(crate) struct Given {
 /// The rows of a table that is about to be shown, after these observations.
 fn rows_for(
     alloc: Global,
-    loading: Option<&BTreeMap<Bytes, Cell>>,
+    loading: Option<TableView<'_>>,
     observed: &mut Observations,
 ) -> Result<Rows, AllocError>
-    ensures rows { IfOk result (λ rows. (entries : Entries) → option_map (λ table. table.now.entries) loading.entry ≡ Some entries → rows ≡ rows_of observed.old.items entries) }
+    ensures rows { IfOk result (λ rows. (table : ShownTable) → option_map table_of_view loading.entry ≡ Some table → rows ≡ rows_of observed.old.items table) }
     ensures same { observed.new ≡ observed.old }
 {
     match loading {
         None => Ok(Rows {
             items: Vec::new(alloc),
         }),
-        Some(entries) => match observed.rows_of(alloc, entries) {
+        Some(table) => match observed.rows_of(alloc, &table) {
             Ok(rows) => Ok(rows),
             Err(full) => Err(full),
         },

@@ -26,7 +26,10 @@ pub enum Ask {
     Confirm(u64, u64),
     /// One more extent of range 1, for this generation, after this last one, with this third place.
     Lengthen(u64, Option<u64>, u8),
-    Trim,
+    /// One more extent of the log of range 1, for generation 4, after this last one.
+    LengthenLog(Option<u64>),
+    /// The range, the generation, the index, and whether what leaves is kept in the blob stream.
+    Trim(u64, u64, u64, bool),
     /// A list of no changes.
     Modify,
 }
@@ -48,6 +51,13 @@ fn row_data(range: u64) -> StreamName {
     }
 }
 
+fn log() -> StreamName {
+    StreamName {
+        range: RangeId(1),
+        kind: StreamKind::Log,
+    }
+}
+
 fn create(range: u64) -> StreamBody {
     StreamBody::CreateStream {
         stream: row_data(range),
@@ -56,9 +66,15 @@ fn create(range: u64) -> StreamBody {
     }
 }
 
-fn extend(range: u64, generation: u64, last: Option<u64>, third: u8, request: ReqNo) -> StreamBody {
+fn extend(
+    stream: StreamName,
+    generation: u64,
+    last: Option<u64>,
+    third: u8,
+    request: ReqNo,
+) -> StreamBody {
     StreamBody::Extend {
-        stream: row_data(range),
+        stream,
         generation: Fence(generation),
         last: last.map(|number| ExtentId(number)),
         pick: Nodes {
@@ -86,12 +102,12 @@ fn confirm(range: u64, generation: u64) -> StreamBody {
     }
 }
 
-fn trim() -> StreamBody {
+fn trim(range: u64, generation: u64, before: u64, to_blob: bool) -> StreamBody {
     StreamBody::Trim {
-        range: RangeId(1),
-        generation: Fence(1),
-        before: 1,
-        to_blob: false,
+        range: RangeId(range),
+        generation: Fence(generation),
+        before,
+        to_blob,
         request: server_request(),
     }
 }
@@ -116,7 +132,7 @@ pub fn body_of(alloc: Global, ask: Ask) -> Body {
     let extent = ExtentId(1);
     match ask {
         Ask::Create(range) => Body::Stream(create(range)),
-        Ask::Extend(last, third) => Body::Stream(extend(0, 0, last, third, USER_REQUEST)),
+        Ask::Extend(last, third) => Body::Stream(extend(row_data(0), 0, last, third, USER_REQUEST)),
         Ask::SealExtent(extent) => Body::Seal(seal_extent(extent)),
         Ask::Frozen(length) => Body::Seal(SealBody::Frozen { extent, length }),
         Ask::IsSealed => Body::Seal(SealBody::IsSealed { extent }),
@@ -124,9 +140,12 @@ pub fn body_of(alloc: Global, ask: Ask) -> Body {
         Ask::Open(range, generation) => Body::Stream(open(range, generation)),
         Ask::Confirm(range, generation) => Body::Stream(confirm(range, generation)),
         Ask::Lengthen(generation, last, third) => {
-            Body::Stream(extend(1, generation, last, third, server_request()))
+            Body::Stream(extend(row_data(1), generation, last, third, server_request()))
         }
-        Ask::Trim => Body::Stream(trim()),
+        Ask::LengthenLog(last) => Body::Stream(extend(log(), 4, last, 3, server_request())),
+        Ask::Trim(range, generation, before, to_blob) => {
+            Body::Stream(trim(range, generation, before, to_blob))
+        }
         Ask::Modify => Body::Stream(modify(alloc)),
     }
 }

@@ -4,7 +4,7 @@ use super::{Case, Event, FREEZES, holds_of};
 use crate::answers::Answer;
 use crate::senders::Sender;
 use Answer::{Confirms, Names, Opens, Refuses, Sends, Taken};
-use Ask::{Confirm, Lengthen, Modify, Open, Trim};
+use Ask::{Confirm, Lengthen, Modify, Open};
 use Event::{Decides, Restarts, Takes};
 use Sender::{Server, User};
 use wire::Refusal;
@@ -52,9 +52,7 @@ const THREE_NODES: &[Event] = &[
 ];
 
 const IS_SILENT: &[Event] = &[
-    Takes(Server, Trim, Sends(0, 0)),
     Takes(Server, Modify, Sends(0, 0)),
-    Takes(User, Trim, Refuses(Refusal::Stale)),
     Takes(User, Modify, Refuses(Refusal::Stale)),
 ];
 
@@ -77,7 +75,7 @@ const CASES: &[Case] = &[
         &[SERVES, EXTENDS_FOR_GENERATION_4],
     ),
     ("three nodes are picked", &[THREE_NODES]),
-    ("two calls of a server are silent", &[IS_SILENT]),
+    ("a call of a server is silent", &[IS_SILENT]),
     (
         "a restart keeps the fences",
         &[SERVES, FREEZES, SEALS, KEEPS_FENCES],

@@ -1,6 +1,7 @@
 use Rattle.laws_streams.proofs.StreamAnswers.{openings_answered, confirmations_answered, extensions_answered}
 use Rattle.laws_streams.proofs.SealAnswers.{seals_answered}
 use Rattle.laws_streams.proofs.ContentAnswers.{content_answered}
+use Rattle.laws_streams.proofs.TrimmedBases.{bases_trimmed}
 use Rattle.laws.proofs.extents.answers.Goals as goal
 
 pub returns-clause-opened : goal.returns-clause-opened
@@ -17,3 +18,6 @@ returns-clause-sealed c = seals_answered
 
 pub returns-clause-content : goal.returns-clause-content
 returns-clause-content c = content_answered
+
+pub returns-clause-bases : goal.returns-clause-bases
+returns-clause-bases c = bases_trimmed

@@ -1,8 +1,9 @@
-use Rattle.std.proofs.Common.{subst, sym}
-use Rattle.model_partition.specs.Past.{Replays}
-use Rattle.laws_tables.proofs.Theorem.{replays}
-use Rattle.laws_tables.proofs.Others.{with_others}
+use Rattle.laws_tables.proofs.Final.{tables_of_first_range_replay}
+use Rattle.laws_tables.proofs.Machine.{chain_replays}
 use Rattle.laws.proofs.tables.tables_replay.Goals as goal
 
-pub returns : goal.returns
-returns c = record { law = λ rows story h right served order same. with_others h (subst Replays (sym same) (replays rows story right served order)) }
+pub returns-clause-chain : goal.returns-clause-chain
+returns-clause-chain c = λ layer_at b rows run order begins is_run right ends behind metadata_order. chain_replays layer_at b rows run begins is_run right order ends behind metadata_order
+
+pub returns-clause-law : goal.returns-clause-law
+returns-clause-law c = λ layer_at rows run h is_run keeps right order ends metadata_order same. tables_of_first_range_replay layer_at rows run h is_run keeps right order ends metadata_order same

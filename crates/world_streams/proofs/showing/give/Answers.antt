@@ -10,4 +10,4 @@ returns-in-Ok-give-clause-rows c =
     rows_shown c.args.observed.now.items c.in-Ok.rows (server_loads (entry_at c.args.servers.now.cells c.args.server) c.args.packet.now.body) c.in-Ok-give.step.tables
     (subst (λ (o : ServersOutcome). ShowsLoad (server_loads (entry_at c.args.servers.now.cells c.args.server) c.args.packet.now.body) o.notes) c.in-Ok-give.ensures.ok
     (server_takes_shows c.args.servers.now.cells c.args.server c.args.packet.now).1)
-    (λ entries is. c.in-Ok.ensures.rows entries (c.loading.ensures ∙ is))
+    (λ table is. c.in-Ok.ensures.rows table (c.loading.ensures ∙ is))

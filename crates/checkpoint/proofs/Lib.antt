@@ -1,0 +1,5 @@
+pub mod Orders
+pub mod PageSearch
+pub mod Merging
+pub mod Fitting
+pub mod Finding

@@ -1,0 +1,3 @@
+pub mod Lookup
+pub mod Pages
+pub mod Contents

@@ -1,0 +1,27 @@
+//! Looking up keys in the pages of checkpoints, and combining checkpoints into one.
+//!
+//! A checkpoint of a range has written its memory table as pages and an index of them (docs/FORMATS.md). This crate touches
+//! memory alone: it asks for the pages that it wants by their places. What the layers above may build on, each a clause here:
+//! - `lookup` goes through the indexes that count within a key, the newest first, and answers the cell of the first that has the
+//!   key, or that none has it, or the place of the page that it wants to see first (`looked_up`).
+//! - `add_page` takes the entries of a page that count, and `combine` writes the pages of what indexes and a newer layer say
+//!   together, without the keys that have no value.
+//! - The laws `lookup_is_the_map`, `merged_is_the_map` and `combined_is_the_map` say that these are one and the same map.
+//!
+//! Running out of memory is the one error that no clause limits.
+#![tactic(auto)]
+
+mod combination;
+mod installed_index;
+mod laws;
+mod page_lookup;
+mod pages;
+mod search;
+
+pub use checkpoint_format::{Index, Page, PageAt, PageList, write_pages};
+pub use combination::{add_page, combine, combined_entries, has_place};
+pub use installed_index::InstalledIndex;
+pub use laws::{combined_is_the_map, lookup_is_the_map, merged_is_the_map};
+pub use page_lookup::Lookup;
+pub use pages::Pages;
+pub use search::lookup;

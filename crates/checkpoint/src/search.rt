@@ -1,0 +1,77 @@
+//! The look-up of a key.
+ghost use Rattle.std.specs.Prelude.{◌≡◌, true, IfOk};
+ghost use Rattle.std.specs.List.{AllByRecursion};
+ghost use Rattle.checkpoint_format.specs.Index.{IsIndex, are_ascending};
+ghost use Rattle.checkpoint.specs.Lookup as specs;
+
+use crate::installed_index::InstalledIndex;
+use crate::page_lookup::Lookup;
+use crate::pages::Pages;
+use block_types::BlockFault;
+use bytes::Bytes;
+use checkpoint_format::{Index, PageAt, find_in};
+use memtable::Place;
+use std::alloc::AllocError;
+
+/// The place of the one page that can have the key: the last that does not begin above it.
+fn place_of(pages: &[PageAt], key: &[u8]) -> Option<Place>
+    requires { are_ascending pages.now ≡ true }
+    ensures { result ≡ specs.page_for pages.now key.now }
+{
+    let begun = pages.partition_point(|page| !key.cmp(page.first.as_slice()).is_lt());
+    if begun == 0 {
+        None
+    } else {
+        Some(pages[begun - 1].place)
+    }
+}
+
+/// What the page at a place says of the key.
+fn in_page(place: Place, page: &Bytes, key: &[u8]) -> Result<Lookup, AllocError>
+    ensures { IfOk result (λ found. found ≡ specs.in_bytes place key.now (Some page.now)) }
+{
+    match find_in(page, key) {
+        Ok(Some(cell)) => Ok(Lookup::Found(cell)),
+        Ok(None) => Ok(Lookup::Absent),
+        Err(BlockFault::Damaged) => Ok(Lookup::Need(place)),
+        Err(BlockFault::Memory) => Err(AllocError),
+    }
+}
+
+/// What one index says of the key.
+fn in_index<P: Pages>(pages: &P, index: &Index, key: &[u8]) -> Result<Lookup, AllocError>
+    requires { IsIndex index.now }
+    ensures { IfOk result (λ found. found ≡ specs.looked_in (P.source pages.now) index.now key.now) }
+{
+    let Some(place) = place_of(&index.pages.items, key) else {
+        return Ok(Lookup::Absent);
+    };
+    match pages.page(&place) {
+        None => Ok(Lookup::Need(place)),
+        Some(page) => in_page(place, page, key),
+    }
+}
+
+/// What the indexes say of the key, the newest first, each within its keys alone: the cell of the first that has the key, which
+/// may say that it was deleted; or the place of a page that is not at hand, and that has to be seen first. Bytes that spell no
+/// page are not that page's. One page of an index is looked into, which is found by halves.
+///
+/// An error is out of memory (22), and says nothing of the key. That each index is one is the caller's condition.
+pub fn lookup<P: Pages>(
+    installed: &[InstalledIndex],
+    pages: &P,
+    key: &[u8],
+) -> Result<Lookup, AllocError>
+    requires { AllByRecursion specs.HasIndex installed.now }
+    ensures { IfOk result (λ found. found ≡ specs.looked_up (P.source pages.now) installed.now key.now) }
+{
+    for one in installed {
+        if one.keys.contains(key) {
+            let found = in_index(pages, &one.index, key)?;
+            if !matches!(&found, Lookup::Absent) {
+                return Ok(found);
+            }
+        }
+    }
+    Ok(Lookup::Absent)
+}

@@ -1,0 +1,5 @@
+pub mod Texts
+pub mod Walk
+pub mod Writing
+pub mod Indexes
+pub mod Pages

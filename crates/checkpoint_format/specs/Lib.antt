@@ -1,0 +1,4 @@
+pub mod Page
+pub mod Walk
+pub mod Writing
+pub mod Index

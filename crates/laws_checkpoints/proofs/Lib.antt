@@ -1,0 +1,4 @@
+pub mod WrittenIndexes
+pub mod Checkpoints
+pub mod ObservedPages
+pub mod Worked

@@ -1,0 +1,56 @@
+//! What a loaded table shows.
+
+use bytes::Bytes;
+use memtable::Cell;
+use metadata::{IndexRange, IndexRanges, KeyRange};
+use std::collections::BTreeMap;
+use std::marker::Model;
+
+/// Keys, each with what a row keeps of its value, in order of the keys.
+pub struct Entries {
+    pub items: Vec<(Bytes, Cell)>,
+}
+
+// Written out, so that a crate above that lets one go has no proof of what is in it.
+impl Drop for Entries {
+    fn drop(self) {
+        let Entries { items: _ } = self;
+    }
+}
+
+impl Model for Entries {
+    ghost use Rattle.std.specs.Prelude.{ℕ, List};
+    ghost use Rattle.memtable.specs.declared.cell.Cell.{Cell};
+
+    ghost Value = { List (List ℕ × Cell) };
+
+    ghost view = { λ list. list.items.items };
+}
+
+/// What a loaded table shows: the memory table's entries, the indexes below it (the newest first), and the keys of the range.
+pub struct ShownTable {
+    pub live: Entries,
+    /// The newest first.
+    pub indexes: IndexRanges,
+    pub keys: KeyRange,
+}
+
+// Written out, so that a crate above that lets one go has no proof of what is in it.
+impl Drop for ShownTable {
+    fn drop(self) {
+        let ShownTable {
+            live: _,
+            indexes: _,
+            keys: _,
+        } = self;
+    }
+}
+
+/// The same as a range has it, before it is shown.
+#[derive(Drop)]
+pub struct TableView<'a> {
+    pub live: &'a BTreeMap<Bytes, Cell>,
+    /// The newest first.
+    pub indexes: &'a [IndexRange],
+    pub keys: &'a KeyRange,
+}
