@@ -13,6 +13,7 @@
 
 mod combination;
 mod installed_index;
+mod installed_indexes;
 mod laws;
 mod page_lookup;
 mod pages;
@@ -21,7 +22,8 @@ mod search;
 pub use checkpoint_format::{Index, Page, PageAt, PageList, write_pages};
 pub use combination::{add_page, combine, combined_entries, has_place};
 pub use installed_index::InstalledIndex;
+pub use installed_indexes::InstalledIndexes;
 pub use laws::{combined_is_the_map, lookup_is_the_map, merged_is_the_map};
 pub use page_lookup::Lookup;
 pub use pages::Pages;
-pub use search::lookup;
+pub use search::{lookup, page_for};

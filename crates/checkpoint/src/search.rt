@@ -13,8 +13,10 @@ use checkpoint_format::{Index, PageAt, find_in};
 use memtable::Place;
 use std::alloc::AllocError;
 
-/// The place of the one page that can have the key: the last that does not begin above it.
-fn place_of(pages: &[PageAt], key: &[u8]) -> Option<Place>
+/// The place of the one page that can have the key: the last that does not begin above it. It is found by halves.
+///
+/// That the first keys of the pages ascend is the caller's condition.
+pub fn page_for(pages: &[PageAt], key: &[u8]) -> Option<Place>
     requires { are_ascending pages.now ≡ true }
     ensures { result ≡ specs.page_for pages.now key.now }
 {
@@ -43,7 +45,7 @@ fn in_index<P: Pages>(pages: &P, index: &Index, key: &[u8]) -> Result<Lookup, Al
     requires { IsIndex index.now }
     ensures { IfOk result (λ found. found ≡ specs.looked_in (P.source pages.now) index.now key.now) }
 {
-    let Some(place) = place_of(&index.pages.items, key) else {
+    let Some(place) = page_for(&index.pages.items, key) else {
         return Ok(Lookup::Absent);
     };
     match pages.page(&place) {

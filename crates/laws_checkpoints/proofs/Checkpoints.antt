@@ -10,8 +10,8 @@ use Rattle.metadata.specs.declared.record.IndexRange.{IndexRange}
 use Rattle.metadata.specs.declared.record.KeyRange.{KeyRange}
 use Rattle.metadata.specs.Keys.{within}
 use Rattle.checkpoint_format.specs.declared.index.Index.{Index}
-use Rattle.checkpoint.specs.Pages.{IndexContent, cell_in, merged, combined}
-use Rattle.checkpoint.specs.Contents.{HasEntries, MayBeEntries, MayBeAscending, shown}
+use Rattle.checkpoint.specs.Pages.{cell_in, merged, combined}
+use Rattle.checkpoint.specs.Contents.{HasEntries, IsAscending, MayBeEntries, MayBeAscending, shown}
 use Rattle.checkpoint.proofs.Merging.{merged_law, merged_entries, combined_law}
 use Rattle.model_partition.specs.Past.{Bytes}
 use Rattle.model_partition.specs.TableContents.{value_in}
@@ -33,7 +33,7 @@ module _ (texts : ℕ → Bytes) where
 
   -- ---- cells, one behind the other
 
-  known_first : (a b : Option Cell) → known_of (or_else a b) ≡ pick (known_of a) (known_of b)
+  pub known_first : (a b : Option Cell) → known_of (or_else a b) ≡ pick (known_of a) (known_of b)
   known_first None b = refl
   known_first (Some cell) b = refl
 
@@ -61,11 +61,10 @@ module _ (texts : ℕ → Bytes) where
       ∙ ap (pick (cond (within x.keys key) (known_of cell) None)) (contents_say older key)
 
   -- what is merged of indexes is their layers, within the keys
-  pub merged_says : (keys : KeyRange) (indexes : List IndexRange) (key : Bytes) → AllByRecursion HasEntries (contents_of texts indexes) →
+  pub merged_says : (keys : KeyRange) (indexes : List IndexRange) (key : Bytes) → AllByRecursion IsAscending (contents_of texts indexes) →
       within keys key ≡ true → layer_in texts (merged keys (contents_of texts indexes)) key ≡ indexed (layer_at texts) indexes key
   merged_says keys indexes key all inside =
-      let contents : List IndexContent = contents_of texts indexes in
-      ap known_of (merged_law keys contents key (contents_ascending texts contents all) inside) ∙ contents_say indexes key
+      ap known_of (merged_law keys (contents_of texts indexes) key all inside) ∙ contents_say indexes key
 
   -- ---- combining
 
@@ -82,7 +81,7 @@ module _ (texts : ℕ → Bytes) where
       let entries : Entries = merged keys (contents_of texts indexes) in
       ap (λ o. flat (known_of o)) (combined_law entries newer key (merged_entries keys (contents_of texts indexes) all).ascending (ascending_if newer newer_are))
       ∙ value_shown (or_else (found_in newer key) (found entries key))
-      ∙ ap flat (known_first (found_in newer key) (found entries key) ∙ ap (pick (newer_layer newer key)) (merged_says keys indexes key all inside))
+      ∙ ap flat (known_first (found_in newer key) (found entries key) ∙ ap (pick (newer_layer newer key)) (merged_says keys indexes key (contents_ascending texts (contents_of texts indexes) all) inside))
 
   -- ---- what a checkpoint owes
 

@@ -2,3 +2,5 @@ pub mod WrittenIndexes
 pub mod Checkpoints
 pub mod ObservedPages
 pub mod Worked
+pub mod ShownRows
+pub mod HeldPages

@@ -4,14 +4,13 @@ use Rattle.wire.specs.declared.note.Note.{Note}
 use Rattle.memtable.specs.declared.cell.Place.{Place}
 use Rattle.memtable.specs.Entries.{Entries}
 use Rattle.checkpoint_format.specs.declared.index.PageAt.{PageAt}
-use Rattle.checkpoint_format.specs.Page.{page_bytes}
 use Rattle.checkpoint.specs.Pages.{IsSourceOf}
 use Rattle.model_partition.specs.Past.{Bytes}
 use Rattle.model_partition.specs.Servers.{shown_in, first_shown, or_later}
 use Rattle.model_partition.specs.TableContents.{AllTellRightly}
 use Rattle.laws_loads.proofs.Rows.{shown_rightly}
 use Rattle.laws_checkpoints.specs.IndexLayers.{bytes_in, PagesStand}
-use Rattle.laws_checkpoints.proofs.WrittenIndexes.{bytes_stand}
+use Rattle.laws_checkpoints.proofs.WrittenIndexes.{pages_from}
 
 module _ (texts : ℕ → Bytes) where
   -- what the earliest observation of a place shows is what stands there
@@ -30,7 +29,4 @@ module _ (texts : ℕ → Bytes) where
   -- so the observations have, of the pages that were written, nothing but their bytes
   pub pages_seen : (notes : List Note) (at : List PageAt) (pages : List Entries) → AllTellRightly texts notes → PagesStand texts at pages →
       IsSourceOf (first_shown notes) at pages
-  pages_seen notes [] pages right stand = tt
-  pages_seen notes (p ∷ at) [] right stand = tt
-  pages_seen notes (p ∷ at) (page ∷ pages) right stand =
-      ((λ bytes seen. sym (first_seen notes p.place bytes right seen) ∙ bytes_stand texts p.place (page_bytes page) stand.0.0 stand.0.1), pages_seen notes at pages right stand.1)
+  pages_seen notes at pages right stand = pages_from texts (first_shown notes) (λ place bytes seen. first_seen notes place bytes right seen) at pages stand

@@ -15,13 +15,15 @@ use Rattle.checkpoint_format.specs.Page.{entries_at, joined, page_bytes, pages_o
 use Rattle.checkpoint_format.specs.Index.{index_at, index_text, index_group}
 use Rattle.checkpoint_format.proofs.Indexes.{index_again}
 use Rattle.checkpoint_format.proofs.Pages.{pages_read, pages_joined}
-use Rattle.checkpoint.specs.Pages.{IndexContent}
+use Rattle.checkpoint.specs.Lookup.{PageSource}
+use Rattle.checkpoint.specs.Pages.{IsSourceOf, IndexContent}
 use Rattle.checkpoint.specs.Contents.{AreEntries, HasEntries, IsAscending}
 use Rattle.model_partition.specs.Past.{Bytes}
 use Rattle.model_partition.specs.TableContents.{StandsAt}
 use Rattle.laws_loads.proofs.Cells.{taken_there}
 use Rattle.laws_server_runs.specs.RangeInvariant.{layer_in}
-use Rattle.laws_checkpoints.specs.IndexLayers.{or_none, bytes_in, page_in, pages_in, indexed_entries, index_entries, layer_at, contents_of, PageStands, PagesStand, IsWritten, AreWritten}
+use Rattle.model_partition.specs.Servers.{entries_if}
+use Rattle.laws_checkpoints.specs.IndexLayers.{bytes_in, page_in, pages_in, indexed_entries, index_entries, layer_at, contents_of, PageStands, PagesStand, IsWritten, AreWritten}
 
 -- ---- the blocks of an index
 
@@ -55,7 +57,7 @@ module _ (texts : ℕ → Bytes) where
   page_stands : (place : Place) (page : Entries) → PageStands texts place page → entries_at (page_bytes page) ≡ Some page →
       page_in texts place ≡ page
   page_stands place page stands read =
-      ap (λ bytes. or_none (entries_at bytes)) (bytes_stand place (page_bytes page) stands.0 stands.1) ∙ ap or_none read
+      ap (λ bytes. entries_if (entries_at bytes)) (bytes_stand place (page_bytes page) stands.0 stands.1) ∙ ap entries_if read
 
   pages_stand : (at : List PageAt) (pages : List Entries) → PagesStand texts at pages →
       AllByRecursion (λ page. entries_at (page_bytes page) ≡ Some page) pages → pages_in texts at ≡ joined pages
@@ -67,16 +69,30 @@ module _ (texts : ℕ → Bytes) where
       ∙ ap (λ l. page ++ l) (pages_stand at pages stand.1 read.1)
       ∙ sym (flat_map-cons (λ es. es) page pages)
 
+  -- pages of entries, where each stands at its place, say these entries
+  pub pages_say : (at : List PageAt) (entries : Entries) → AreEntries entries → PagesStand texts at (pages_of entries) → pages_in texts at ≡ entries
+  pages_say at entries are stand = pages_stand at (pages_of entries) stand (pages_read entries are.ascending are.each) ∙ pages_joined entries
+
+  -- where all that is at hand stands at its place, a page that was written is at hand with its bytes alone
+  pub pages_from : (source : PageSource) → ((place : Place) (bytes : Bytes) → source place ≡ Some bytes → bytes_in texts place ≡ bytes) →
+      (at : List PageAt) (pages : List Entries) → PagesStand texts at pages → IsSourceOf source at pages
+  pages_from source right [] pages stand = tt
+  pages_from source right (p ∷ at) [] stand = tt
+  pages_from source right (p ∷ at) (page ∷ pages) stand =
+      ((λ bytes here. sym (right p.place bytes here) ∙ bytes_stand p.place (page_bytes page) stand.0.0 stand.0.1), pages_from source right at pages stand.1)
+
   -- ---- the index
+
+  -- the bytes of its place spell it
+  pub index_read : (index : Index) (entries : Entries) (place : Place) → IsWritten texts index entries place →
+      index_at (bytes_in texts place) ≡ Some index
+  index_read index entries place written =
+      ap index_at (bytes_stand place (index_text index) written.size written.stands) ∙ index_again index written.index_is written.has_places
 
   pub index_says : (index : Index) (entries : Entries) (place : Place) → IsWritten texts index entries place →
       index_entries texts place ≡ entries
   index_says index entries place written =
-      let read : index_at (bytes_in texts place) ≡ Some index =
-      ap index_at (bytes_stand place (index_text index) written.size written.stands) ∙ index_again index written.index_is written.has_places in
-      ap (indexed_entries texts) read
-      ∙ pages_stand index.pages (pages_of entries) written.pages (pages_read entries written.entries_are.ascending written.entries_are.each)
-      ∙ pages_joined entries
+      ap (indexed_entries texts) (index_read index entries place written) ∙ pages_say index.pages entries written.entries_are written.pages
 
   pub layer_says : (index : Index) (entries : Entries) (place : Place) → IsWritten texts index entries place →
       (key : Bytes) → layer_at texts place key ≡ layer_in texts entries key

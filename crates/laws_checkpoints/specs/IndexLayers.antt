@@ -10,14 +10,10 @@ use Rattle.checkpoint_format.specs.Index.{index_at, index_text, IsIndex, HasPlac
 use Rattle.checkpoint.specs.Pages.{IndexContent}
 use Rattle.checkpoint.specs.Contents.{AreEntries}
 use Rattle.model_partition.specs.Past.{Bytes}
+use Rattle.model_partition.specs.Servers.{entries_if}
 use Rattle.model_partition.specs.TableContents.{StandsAt}
 use Rattle.laws_tables.specs.Layers.{Layer}
 use Rattle.laws_server_runs.specs.RangeInvariant.{layer_in}
-
--- no entries where bytes spell none
-abbrev pub or_none : Option Entries → Entries
-or_none None = []
-or_none (Some entries) = entries
 
 module _ (texts : ℕ → Bytes) where
   -- the bytes of a place
@@ -26,7 +22,7 @@ module _ (texts : ℕ → Bytes) where
 
   -- the entries of the page at a place
   abbrev pub page_in : Place → Entries
-  page_in place = or_none (entries_at (bytes_in place))
+  page_in place = entries_if (entries_at (bytes_in place))
 
   -- the entries of pages, one page behind the other
   abbrev pub pages_in : List PageAt → Entries

@@ -1,1 +1,2 @@
 pub mod IndexLayers
+pub mod ShownTables

@@ -3,6 +3,7 @@ pub mod Copies
 pub mod Generations
 pub mod LoadedOnce
 pub mod ShownBytes
+pub mod BareTables
 pub mod ObservedBytes
 pub mod AckedAppends
 pub mod RangeActions

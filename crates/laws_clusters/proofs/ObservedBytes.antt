@@ -1,5 +1,5 @@
 -- What servers saw of extents was observed, and so each loaded table is seen as what its entries say.
-use Rattle.std.proofs.Common.{◌≡◌, ℕ, zero, suc, ◌+◌, ◌-◌, ◌≤◌, List, [], ◌∷◌, ◌++◌, length, take, drop, Bool, true, false, ◌&&◌, ◌==◌, nat_le, Some, None, Contains, refl, sym, subst, inl, inr, arith, if◌then◌else◌, append_assoc, append-nil}
+use Rattle.std.proofs.Common.{◌≡◌, ℕ, zero, suc, ◌+◌, ◌-◌, ◌≤◌, List, [], ◌∷◌, ◌++◌, length, take, drop, Bool, true, false, ◌&&◌, ◌==◌, nat_le, Some, None, Contains, refl, sym, ap, ◌∙◌, subst, inl, inr, arith, if◌then◌else◌, append_assoc, append-nil}
 use Rattle.std.proofs.lemmas.Bool.Decides.{nat_tests}
 use Rattle.std.proofs.lemmas.List.Elements.{Contains-append_left}
 use Rattle.wire.specs.declared.note.Note.{Note}
@@ -10,14 +10,15 @@ use Rattle.memtable.specs.Entries.{Entries}
 use Rattle.replica.specs.Groups.{Group, joined, text}
 use Rattle.model_partition.specs.declared.table_note.TableNote.{TableNote}
 use Rattle.model_partition.specs.declared.table_note.TableNote.TheVariants as tables
-use Rattle.model_partition.specs.Past.{Bytes, table_notes}
-use Rattle.model_partition.specs.Servers.{told, noted, rows_of, part, shown_in}
+use Rattle.model_partition.specs.Past.{Bytes, stored, table_notes}
+use Rattle.model_partition.specs.Servers.{told, noted, rows_in, rows_of, part, shown_in}
 use Rattle.model_partition.specs.ServerRun.{PlacedBytes}
 use Rattle.model_partition.specs.ServedTables.{AllStand, IsSeenAs, AreSeenAs}
 use Rattle.model_partition.specs.TableContents.{StandsAt, TellsRightly, AllTellRightly}
 use Rattle.laws_loads.proofs.Rows.{IsCovered, first_rightly, AreShown, rows_say}
 use Rattle.laws_tables.proofs.Others.{others-append}
 use Rattle.laws_server_runs.specs.Places.{IsWithin, AreWithin, TablesWithin}
+use Rattle.laws_clusters.proofs.BareTables.{AreBare, bare_shown}
 use Rattle.laws_clusters.proofs.ShownBytes.{all_tell}
 
 -- ---- bytes that were observed
@@ -153,16 +154,25 @@ module _ (texts : ℕ → Bytes) where
   seen_more (s ∷ shown) [] n note are is = absurd are
   seen_more (s ∷ shown) (x ∷ notes) n note are is = (are.0, seen_more shown notes n note are.1 is)
 
-  seen_now : (seen : List Note) (placed : ℕ → List PlacedBytes) (n : TableNote) → AllTellRightly texts seen → ((range : ℕ) → AreObserved seen (placed range)) → TablesWithin placed (n ∷ []) → IsSeenAs texts n (told seen n)
-  seen_now seen placed (tables.Began range generation number changes) all are laid = refl
-  seen_now seen placed (tables.Done range generation number) all are laid = refl
-  seen_now seen placed (tables.Loaded range generation table next) all are laid =
-      (rows_of seen table, refl, rows_say texts seen table.live laid.0.0 (are_shown seen (placed range) table.live all (are range) laid.0.1))
+  seen_now : (seen : List Note) (placed : ℕ → List PlacedBytes) (n : TableNote) → AllTellRightly texts seen → ((range : ℕ) → AreObserved seen (placed range)) → TablesWithin placed (n ∷ []) → AreBare (n ∷ []) → IsSeenAs texts n (told seen n)
+  seen_now seen placed (tables.Began range generation number changes) all are laid bare = refl
+  seen_now seen placed (tables.Done range generation number) all are laid bare = refl
+  seen_now seen placed (tables.Loaded range generation table next) all are laid bare = (
+    rows_of seen table,
+    refl,
+    λ key. ap (λ es. stored (rows_in seen es) key) (bare_shown seen table bare.0 laid.0.0)
+        ∙ rows_say texts seen table.live laid.0.0 (are_shown seen (placed range) table.live all (are range) laid.0.1) key,
+  )
 
   table_told : (seen : List Note) (n : TableNote) → table_notes (seen ++ told seen n ∷ []) ≡ table_notes seen ++ told seen n ∷ []
   table_told seen (tables.Began range generation number changes) = others-append seen _
   table_told seen (tables.Done range generation number) = others-append seen _
   table_told seen (tables.Loaded range generation table next) = others-append seen _
+
+  bare_first : (n : TableNote) (shown : List TableNote) → AreBare (n ∷ shown) → AreBare (n ∷ []) × AreBare shown
+  bare_first (tables.Began range generation number changes) shown bare = (tt, bare)
+  bare_first (tables.Done range generation number) shown bare = (tt, bare)
+  bare_first (tables.Loaded range generation table next) shown bare = ((bare.0, tt), bare.1)
 
   tables_first : (placed : ℕ → List PlacedBytes) (n : TableNote) (shown : List TableNote) → TablesWithin placed (n ∷ shown) → TablesWithin placed (n ∷ []) × TablesWithin placed shown
   tables_first placed (tables.Began range generation number changes) shown laid = (tt, laid)
@@ -172,15 +182,17 @@ module _ (texts : ℕ → Bytes) where
   kept_first : (seen : List Note) (note : Note) → Keeps seen (seen ++ note ∷ [])
   kept_first seen note x there = Contains-append_left seen (note ∷ []) x there
 
-  -- what servers show is seen, behind what was seen before, where their loaded tables point at bytes that were observed
+  -- what servers show is seen, behind what was seen before, where their loaded tables have no index and point at bytes that were
+  -- observed
   pub seen_all : (before shown : List TableNote) (seen : List Note) (placed : ℕ → List PlacedBytes) → AllTellRightly texts (noted seen shown) → ((range : ℕ) → AreObserved seen (placed range)) → TablesWithin placed shown →
-      AreSeenAs texts before (table_notes seen) → AreSeenAs texts (before ++ shown) (table_notes (noted seen shown))
-  seen_all before [] seen placed all are laid old = subst (λ l. AreSeenAs texts l (table_notes seen)) (sym (append-nil before)) old
-  seen_all before (n ∷ shown) seen placed all are laid old =
+      AreBare shown → AreSeenAs texts before (table_notes seen) → AreSeenAs texts (before ++ shown) (table_notes (noted seen shown))
+  seen_all before [] seen placed all are laid bare old = subst (λ l. AreSeenAs texts l (table_notes seen)) (sym (append-nil before)) old
+  seen_all before (n ∷ shown) seen placed all are laid bare old =
       let note : Note = told seen n in
       let right : AllTellRightly texts seen = before_tells seen (n ∷ shown) all in
       let parts = tables_first placed n shown laid in
+      let bares = bare_first n shown bare in
       let one : AreSeenAs texts (before ++ n ∷ []) (table_notes (seen ++ note ∷ [])) =
-      subst (λ l. AreSeenAs texts (before ++ n ∷ []) l) (sym (table_told seen n)) (seen_more before (table_notes seen) n note old (seen_now seen placed n right are parts.0)) in
+      subst (λ l. AreSeenAs texts (before ++ n ∷ []) l) (sym (table_told seen n)) (seen_more before (table_notes seen) n note old (seen_now seen placed n right are parts.0 bares.0)) in
       subst (λ l. AreSeenAs texts l (table_notes (noted seen (n ∷ shown)))) (append_assoc before (n ∷ []) shown)
-      (seen_all (before ++ n ∷ []) shown (seen ++ note ∷ []) placed all (λ range. observed_on seen (seen ++ note ∷ []) (kept_first seen note) (placed range) (are range)) parts.1 one)
+      (seen_all (before ++ n ∷ []) shown (seen ++ note ∷ []) placed all (λ range. observed_on seen (seen ++ note ∷ []) (kept_first seen note) (placed range) (are range)) parts.1 bares.1 one)

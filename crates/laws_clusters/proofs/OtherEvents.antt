@@ -150,6 +150,7 @@ module _ (generation : ℕ → ℕ) (nodes target : ℕ) where
               (record {
                 said = refl;
                 fixed = refl;
+                indexes = refl;
                 regions = refl;
                 metadata = record { base = refl; extents = refl; checked = refl };
                 log = record { base = refl; extents = refl; checked = refl };

@@ -37,9 +37,11 @@ use Rattle.laws_log_reads.specs.Reads.{HasRead, RuleReads, StandsOnce, IsSized}
 use Rattle.laws_log_reads.proofs.AnswerRules.{answer_left}
 use Rattle.laws_log_reads.proofs.OneScript.{stands_once, all_sized}
 use Rattle.laws_log_reads.proofs.OtherRules.{new_read, get_left, give_up_left, transact_left}
-use Rattle.laws_log_reads.proofs.ReadCopies.{load_is_read, reads_observed}
+use Rattle.laws_log_reads.proofs.ReadCopies.{load_is_read, none_indexed, reads_observed}
 use Rattle.laws_log_reads.proofs.ToldIsShown.{shows_now}
+use Rattle.laws_servers.proofs.RangeSteps.{transact_tidy, get_tidy, answer_loads, give_up_tidy}
 use Rattle.laws_clusters.proofs.AckedAppends.{out_acked}
+use Rattle.laws_clusters.proofs.BareTables.{AreBare, plain_bare, load_bare}
 use Rattle.laws_clusters.proofs.Copies.{metadata_empty}
 use Rattle.laws_clusters.proofs.Invariant.{Machines, AreBeside, here, m_side, l_side, Holds, Standing}
 use Rattle.laws_clusters.proofs.ObservedBytes.{AreObserved}
@@ -90,6 +92,7 @@ module _ (generation : ℕ → ℕ) (nodes target : ℕ) (c : Cluster) (y : Serv
       pub read : RuleReads generation range w i m l v o actions
       pub on_log : AreOnLog actions
       pub observed : SeesBytes w.notes (view_after_all (generation i) v actions).shown (view_after_all (generation i) v actions).answered
+      pub bare : AreBare o.notes
 
     module _ (by : IsSentBy d d.count z.m_sent z.l_sent) (v : RangeView) (seen : SeesBytes w.notes v.shown v.answered) where
       module _ (r : RangeState) (h : Holds generation nodes target x.moves range z v.history i r) where
@@ -99,6 +102,7 @@ module _ (generation : ℕ → ℕ) (nodes target : ℕ) (c : Cluster) (y : Serv
           read = transact_left generation range w i m l v d r h.read from q changes;
           on_log = transact_on r (transact_rule d r from q changes);
           observed = transact_seen (generation i) w.notes v seen r (transact_rule d r from q changes);
+          bare = plain_bare (transact_rule d r from q changes).notes (transact_tidy d r from q changes).1;
         }
 
         pub get_done : (from : ActorId) (q : ReqNo) (key : List ℕ) → Done v (get_rule d r from q key) []
@@ -107,6 +111,7 @@ module _ (generation : ℕ → ℕ) (nodes target : ℕ) (c : Cluster) (y : Serv
           read = get_left generation range w i m l v d r h.read from q key;
           on_log = tt;
           observed = seen;
+          bare = plain_bare (get_rule d r from q key).notes (get_tidy d r from q key).1;
         }
 
         pub give_up_done : Done v (give_up_all d r) []
@@ -115,6 +120,7 @@ module _ (generation : ℕ → ℕ) (nodes target : ℕ) (c : Cluster) (y : Serv
           read = give_up_left generation range w i m l v d r h.read;
           on_log = tt;
           observed = seen;
+          bare = plain_bare (give_up_all d r).notes (give_up_tidy d r).1;
         }
 
         -- ---- answers
@@ -147,6 +153,10 @@ module _ (generation : ℕ → ℕ) (nodes target : ℕ) (c : Cluster) (y : Serv
           reads_were_seen : (q : ReqNo) → r.load.phase ≡ phases.Confirming q → AreObserved w.notes (bytes_read (v.history.reads kinds.Log))
           reads_were_seen q e = reads_seen w (v.history.reads kinds.Log) (reads_observed generation range w i m l v r h.read h.follows q e)
 
+          -- a load that is confirmed holds no index
+          none_there : (q : ReqNo) → r.load.phase ≡ phases.Confirming q → r.indexes ≡ []
+          none_there q e = none_indexed generation range w i m l v r h.read h.follows q e
+
           -- the group that is out is acknowledged where it stands
           out_acked_there : is_serving r.stage ≡ true → OutAcked (generation i) w.notes v seen r (reply_rule (picking d r.log) (request d) body).news
           out_acked_there serves =
@@ -160,6 +170,7 @@ module _ (generation : ℕ → ℕ) (nodes target : ℕ) (c : Cluster) (y : Serv
                 (shows_now nodes target x.moves generation (log_of range) l.stand.state z.l_sent log_below.follows from server body there);
             on_log = answer_on d r u body (answer_rule d r u body);
             observed = answer_seen (generation i) w.notes v seen r reads_were_seen d u body (answer_rule d r u body) out_acked_there;
+            bare = load_bare r none_there (answer_rule d r u body).notes (answer_loads d r u body).1;
           }
 
       -- ---- a range is taken
@@ -172,4 +183,5 @@ module _ (generation : ℕ → ℕ) (nodes target : ℕ) (c : Cluster) (y : Serv
             read = subst (λ h. HasRead range w i m.stand.state l.stand.state h (new_range d range (generation i) until)) (sym fresh) (new_read range w i m.stand.state l.stand.state d range (generation i) until);
             on_log = tt;
             observed = seen;
+            bare = tt;
           }

@@ -482,7 +482,7 @@ module _ (generation : ℕ → ℕ) (nodes target : ℕ) where
       tables_told laid texts all =
           subst (λ ns. AreSeenAs texts ns (table_notes (noted c.stream_layer.notes o.notes))) (sym notes_are)
           (seen_all texts y.notes o.notes c.stream_layer.notes next_run.shown all observed_before
-          (tables_behind next_run.shown y.notes o.notes (subst (λ ns. TablesWithin next_run.shown ns) notes_are laid))
+          (tables_behind next_run.shown y.notes o.notes (subst (λ ns. TablesWithin next_run.shown ns) notes_are laid)) k.bare
           (x.told texts (before_tells texts c.stream_layer.notes o.notes all)))
 
       -- the cluster after the rule

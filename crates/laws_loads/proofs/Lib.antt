@@ -3,4 +3,5 @@ pub mod Renaming
 pub mod Rows
 pub mod WaitingIsSound
 pub mod WaitingStays
+pub mod IndexAnswers
 pub mod Entries

@@ -1,5 +1,5 @@
 -- What the rules of a range leave of its stage: a load lasts until it is confirmed. And nothing waits at a range that is taken.
-use Rattle.std.proofs.Common.{◌≡◌, ◌⊎◌, ⊎_elim, ℕ, suc, ◌+◌, ◌^◌, ◌&&◌, ◌==◌, List, [], length, true, false, nat_lt, Option, Some, None, is_some, option_to_list, refl, ap, ◌∙◌, inl, inr, arith}
+use Rattle.std.proofs.Common.{◌≡◌, ◌⊎◌, ⊎_elim, ℕ, suc, ◌+◌, ◌^◌, ◌&&◌, List, [], ◌∷◌, length, true, false, nat_lt, Option, Some, None, is_some, option_to_list, refl, ap, ◌∙◌, inl, inr, arith}
 use Rattle.wire.specs.declared.actor.ReqNo.{ReqNo}
 use Rattle.wire.specs.declared.body.AppendBody.{AppendBody}
 use Rattle.wire.specs.declared.body.AppendBody.TheVariants as appends
@@ -20,7 +20,12 @@ use Rattle.client.specs.declared.load.LoadPhase.{LoadPhase}
 use Rattle.client.specs.declared.load.LoadPhase.TheVariants as phases
 use Rattle.client.specs.Client.{Outcome, new_client, last_extent, awaits, reply_rule}
 use Rattle.client.specs.Load.{load_awaits}
+use Rattle.block_types.specs.declared.record.Nodes.{Nodes}
+use Rattle.checkpoint_format.specs.declared.index.Index.{Index}
+use Rattle.checkpoint_format.specs.Index.{index_at}
+use Rattle.memtable.specs.declared.cell.Place.{Place}
 use Rattle.memtable.specs.Entries.{Entries}
+use Rattle.metadata.specs.declared.record.IndexRange.{IndexRange}
 use Rattle.metadata.specs.declared.record.Region.{Region}
 use Rattle.metadata.specs.Fold.{MetadataState, first_metadata}
 use Rattle.model_streams.proofs.Tests.{if_elim}
@@ -28,8 +33,11 @@ use Rattle.model_partition.specs.declared.server_context.ServerContext.{ServerCo
 use Rattle.model_partition.specs.declared.stage.Stage.{Stage}
 use Rattle.model_partition.specs.declared.stage.Stage.TheVariants as stages
 use Rattle.model_partition.specs.Range.{RangeState, RangeOutcome, request, goes, dropped, picking, is_serving}
-use Rattle.model_partition.specs.Loading.{Group, said_after, replayed, reads_log, first_position, reads_log_from, checks_log, begins_log, reads_metadata, begins_metadata, opens, says, metadata_news, replays, log_read, log_news, open_region}
-use Rattle.model_partition.specs.Answering.{load_refused, load_told, load_reply, metadata_reply, is_taken, log_reply, bytes_reply, gets_reply, answer_rule, give_up_all, groups_of}
+use Rattle.model_partition.specs.declared.waiting.PlaceRead.{PlaceRead}
+use Rattle.model_partition.specs.PlaceReads.{is_place, place_of, places_of, reads_under}
+use Rattle.model_partition.specs.Getting.{are_no_page, read_at}
+use Rattle.model_partition.specs.Loading.{Group, said_after, replayed, asks_index, index_named, reads_named, reads_index, installs, index_read, index_bytes, reads_log, first_position, reads_log_from, checks_log, begins_log, reads_metadata, begins_metadata, opens, says, metadata_news, replays, log_read, log_news, open_region}
+use Rattle.model_partition.specs.Answering.{load_refused, load_told, load_reply, metadata_reply, is_taken, log_reply, index_told, index_reply, bytes_reply, gets_reply, answer_rule, give_up_all, groups_of}
 use Rattle.model_partition.specs.Server.{new_range}
 use Rattle.laws_loads.specs.Sound.{IsSound}
 use Rattle.laws_loads.specs.StaysLoading.{StaysIf, Stays, IsUnserved, IsConfirmation}
@@ -39,9 +47,20 @@ use Rattle.laws_loads.specs.StaysLoading.{StaysIf, Stays, IsUnserved, IsConfirma
 dropped_stays : (d : ServerContext) (r : RangeState) → Stays r (dropped d r)
 dropped_stays d r = tt
 
+asks_index_stays : (d : ServerContext) (r : RangeState) (position : ℕ) (index : IndexRange) (places : Option Nodes) → Stays r (asks_index d r position index places)
+asks_index_stays d r position index None = dropped_stays d r
+asks_index_stays d r position index (Some places) = inl refl
+
+reads_named_stays : (d : ServerContext) (r : RangeState) (position : ℕ) (named : Option IndexRange) → Stays r (reads_named d r position named)
+reads_named_stays d r position None = inl refl
+reads_named_stays d r position (Some index) = asks_index_stays d r position index (places_of r index.place.extent)
+
+reads_index_stays : (d : ServerContext) (r : RangeState) (position : ℕ) → Stays r (reads_index d r position)
+reads_index_stays d r position = reads_named_stays d r position (index_named r.said.indexes position)
+
 reads_log_stays : (d : ServerContext) (r : RangeState) (position : ℕ) → Stays r (reads_log d r position)
 reads_log_stays d r position =
-    if_elim (Stays r) (nat_lt position (length r.log.extents)) _ _ (λ t. inl refl) (λ f. inl refl)
+    if_elim (Stays r) (nat_lt position (length r.log.extents)) _ _ (λ t. inl refl) (λ f. reads_index_stays d r 0)
 
 reads_log_from_stays : (d : ServerContext) (r : RangeState) (position : Option ℕ) → Stays r (reads_log_from d r position)
 reads_log_from_stays d r None = dropped_stays d r
@@ -54,7 +73,7 @@ checks_log_stays d r (Some x) =
 
 begins_log_stays : (d : ServerContext) (r : RangeState) → Stays r (begins_log d r)
 begins_log_stays d r =
-    if_elim (Stays r) (is_some (open_region r.said.regions) && (is_some (first_position r r.said.regions) && (length r.said.indexes == 0))) _ _
+    if_elim (Stays r) (is_some (open_region r.said.regions) && is_some (first_position r r.said.regions)) _ _
     (λ t. checks_log_stays d (record r { regions = r.said.regions }) (last_extent r.log.extents)) (λ f. dropped_stays d r)
 
 reads_metadata_stays : (d : ServerContext) (r : RangeState) (position : ℕ) → Stays r (reads_metadata d r position)
@@ -146,10 +165,36 @@ load_reply_stays d r v (bodies.Append body) t = inl (load_refused_stays d r body
 load_reply_stays d r v (bodies.Stream body) t = load_told_stays d r v r.load.phase body refl t
 load_reply_stays d r v body t = inl (inr refl)
 
+-- ---- indexes
+
+installs_stays : (d : ServerContext) (r : RangeState) (position : ℕ) (named : Option IndexRange) (index : Option Index) → Stays r (installs d r position named index)
+installs_stays d r position (Some named) (Some index) =
+    reads_index_stays d (record r { indexes = record { place = named.place; keys = named.keys; index = index } ∷ r.indexes }) (suc position)
+installs_stays d r position named index = dropped_stays d r
+
+index_read_stays : (d : ServerContext) (r : RangeState) (stage : Stage) (bytes : List ℕ) → Stays r (index_read d r stage bytes)
+index_read_stays d r (stages.Indexing position) bytes = installs_stays d r position (index_named r.said.indexes position) (index_at bytes)
+index_read_stays d r stage bytes = inr refl
+
+index_bytes_stays : (d : ServerContext) (r : RangeState) (reading : Option PlaceRead) (place : Place) (bytes : List ℕ) → Stays r (index_bytes d r reading place bytes)
+index_bytes_stays d r None place bytes = inr refl
+index_bytes_stays d r (Some read) place bytes =
+    if_elim (Stays r) (is_place read.place place) _ _ (λ t. index_read_stays d r r.stage bytes) (λ f. inr refl)
+
+index_told_stays : (d : ServerContext) (r : RangeState) (body : ReadBody) → Stays r (index_told d r body)
+index_told_stays d r (reads.Bytes w e offset bytes) = index_bytes_stays d r r.reading (place_of e offset bytes) bytes
+index_told_stays d r body = inr refl
+
+-- an answer to the read of an index
+pub index_reply_stays : (d : ServerContext) (r : RangeState) (body : Body) → Stays r (index_reply d r body)
+index_reply_stays d r (bodies.Read body) = index_told_stays d r body
+index_reply_stays d r (bodies.Append body) = load_refused_stays d r body
+index_reply_stays d r body = inr refl
+
 -- ---- Gets
 
 bytes_stays : (d : ServerContext) (r : RangeState) (w : ReqNo) (body : ReadBody) → Stays r (bytes_reply d r w body)
-bytes_stays d r w (reads.Bytes v e offset bytes) = inr refl
+bytes_stays d r w (reads.Bytes v e offset bytes) = if_elim (Stays r) (are_no_page (read_at r.gets w) bytes) _ _ (λ t. inr refl) (λ f. inr refl)
 bytes_stays d r w body = inr refl
 
 pub gets_reply_stays : (d : ServerContext) (r : RangeState) (w : ReqNo) (body : Body) → Stays r (gets_reply d r w body)
@@ -169,7 +214,8 @@ pub answer_stays : (d : ServerContext) (r : RangeState) (v : ReqNo) (body : Body
 answer_stays d r v body unserved =
     if_elim (λ o. Stays r o ⊎ IsConfirmation d r v body o) (load_awaits r.load.phase v) _ _ (λ t. load_reply_stays d r v body t)
     (λ f. inl (if_elim (Stays r) (awaits r.metadata.job v) _ _ (λ t. metadata_reply_stays d r body)
-    (λ f. if_elim (Stays r) (awaits r.log.job v) _ _ (λ t. log_reply_stays d r body unserved) (λ f. gets_reply_stays d r v body))))
+    (λ f. if_elim (Stays r) (awaits r.log.job v) _ _ (λ t. log_reply_stays d r body unserved)
+    (λ f. if_elim (Stays r) (reads_under r.reading v) _ _ (λ t. index_reply_stays d r body) (λ f. gets_reply_stays d r v body)))))
 
 -- ---- what is not served stays so
 

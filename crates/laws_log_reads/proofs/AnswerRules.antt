@@ -25,15 +25,17 @@ use Rattle.model_partition.specs.declared.stage.Stage.TheVariants as stages
 use Rattle.model_partition.specs.Range.{RangeState, RangeOutcome, request, answers, dropped, picking, is_serving}
 use Rattle.model_partition.specs.ServerRun.{RangeHistory}
 use Rattle.model_partition.specs.StreamActions.{StreamAction, serving_actions, loading_actions, confirmed_actions, load_actions, metadata_actions, log_actions, answered_actions, answer_actions}
-use Rattle.model_partition.specs.Loading.{open_region, opens, are_counted, serves_region, serves_from, serves, log_news}
-use Rattle.model_partition.specs.Getting.{place_of}
-use Rattle.model_partition.specs.Answering.{answered_number, stream_number, groups_of, load_refused, load_told, load_reply, metadata_reply, serving_news, is_taken, log_taken, log_reply, bytes_reply, gets_reply, answer_rule}
+use Rattle.checkpoint_format.specs.Index.{index_at}
+use Rattle.model_partition.specs.PlaceReads.{place_of, reads_under}
+use Rattle.model_partition.specs.Loading.{open_region, opens, are_counted, serves_region, serves_from, serves, log_news, index_read}
+use Rattle.model_partition.specs.Answering.{answered_number, stream_number, groups_of, load_refused, load_told, load_reply, metadata_reply, serving_news, is_taken, log_taken, log_reply, index_reply, bytes_reply, gets_reply, answer_rule}
 use Rattle.laws_loads.specs.RangeView.{RangeView, view_after_all}
 use Rattle.laws_stream_machine.specs.Refinement.{Opens, purpose_of, Means, StreamMeans}
 use Rattle.laws_stream_machine.proofs.ServerRequests.{same_request}
 use Rattle.laws_ranges.specs.Serves.{Side, metadata_of, log_of, IsOpening, StageIs, Follows, BothListed}
 use Rattle.laws_log_reads.specs.Reads.{HasReadAt, HasRead, HasReadIf, IsEmpty, Shows, RuleReads}
-use Rattle.laws_log_reads.proofs.LoadBegins.{Left, opens_left}
+use Rattle.laws_loads.proofs.IndexAnswers.{index_reply_elim}
+use Rattle.laws_log_reads.proofs.LoadBegins.{Left, opens_left, installs_left}
 use Rattle.laws_log_reads.proofs.MetadataAnswers.{metadata_reply_left}
 use Rattle.laws_log_reads.proofs.LogAnswers.{log_by_stage}
 use Rattle.laws_log_reads.proofs.OtherRules.{bytes_keep, serving_left}
@@ -82,7 +84,7 @@ module _ (generation : ℕ → ℕ) (range : ℕ) (w : StreamSystem) (i : ℕ) (
             subst (λ z. StreamMeans generation (metadata_of range) w m.stand.state m.sent z (streams.Opened u lists)) (ap (λ k. purpose_of m.sent k) (sym number) ∙ b.metadata.for) means.0 in
             let two : StreamMeans generation (log_of range) w l.stand.state l.sent (Some (Opens i)) (streams.Opened u lists) =
             subst (λ z. StreamMeans generation (log_of range) w l.stand.state l.sent z (streams.Opened u lists)) (ap (λ k. purpose_of l.sent k) (sym number) ∙ b.log.for) means.1 in
-            opens_left generation range w i m l d v.history r a.fixed a.streams.metadata a.streams.log lists
+            opens_left generation range w i m l d v.history r a.fixed a.indexes a.streams.metadata a.streams.log lists
             one.1 two.1
 
         not_opening : (p : LoadPhase) → r.load.phase ≡ p → (p ≡ phases.Opening q → ⊥) → ⊥
@@ -98,6 +100,7 @@ module _ (generation : ℕ → ℕ) (range : ℕ) (w : StreamSystem) (i : ℕ) (
         opened_by (stages.Reading kinds.Log position) b a = absurd (not_opening phases.Opened b.phase (λ z. cc))
         opened_by (stages.Reading kinds.RowData position) b a = absurd b
         opened_by (stages.Reading kinds.BlobData position) b a = absurd b
+        opened_by (stages.Indexing position) b a = absurd (not_opening phases.Opened b.phase (λ z. cc))
         opened_by stages.Confirming b a = absurd (not_opening (phases.Confirming b.q) b.phase (λ z. cc))
         opened_by stages.Serving b a = absurd (not_opening phases.Confirmed b.phase (λ z. cc))
 
@@ -146,6 +149,7 @@ module _ (generation : ℕ → ℕ) (range : ℕ) (w : StreamSystem) (i : ℕ) (
         taken_by stages.Opening e b a = log_by_stage generation range w i both m l d v r h body shows means stages.Opening e b (λ z. cc) a
         taken_by (stages.Checking kind) e b a = log_by_stage generation range w i both m l d v r h body shows means (stages.Checking kind) e b (λ z. cc) a
         taken_by (stages.Reading kind position) e b a = log_by_stage generation range w i both m l d v r h body shows means (stages.Reading kind position) e b (λ z. cc) a
+        taken_by (stages.Indexing position) e b a = log_by_stage generation range w i both m l d v r h body shows means (stages.Indexing position) e b (λ z. cc) a
         taken_by stages.Confirming e b a = log_by_stage generation range w i both m l d v r h body shows means stages.Confirming e b (λ z. cc) a
 
         log_reply_left : Leaves (log_reply d r body) (if is_taken r body then log_actions d r body whole else [])
@@ -154,6 +158,16 @@ module _ (generation : ℕ → ℕ) (range : ℕ) (w : StreamSystem) (i : ℕ) (
             go : (t : Bool) → Leaves (if t then log_taken d r body else answers d r []) (if t then log_actions d r body whole else [])
             go true = taken_by r.stage refl f.stage h.at
             go false = h
+
+      -- ---- the read of an index
+
+      index_read_left : (stage : Stage) → ReadAt r stage → (bytes : List ℕ) → Leaves (index_read d r stage bytes) []
+      index_read_left (stages.Indexing position) a bytes =
+          installs_left generation range w i m l d v.history r a position (index_at bytes)
+      index_read_left stage a bytes = h
+
+      index_reply_left : (body : Body) → Leaves (index_reply d r body) []
+      index_reply_left body = index_reply_elim (λ o. Leaves o []) d r h tt (index_read_left r.stage h.at) body
 
       -- ---- any answer
 
@@ -174,18 +188,28 @@ module _ (generation : ℕ → ℕ) (range : ℕ) (w : StreamSystem) (i : ℕ) (
             log_part : List StreamAction
             log_part = if is_taken r body then log_actions d r body whole else []
 
-            third : (t : Bool) → Leaves (if t then log_reply d r body else gets_reply d r u body) (if t then log_part else [])
+            fourth : (t : Bool) → Leaves (if t then index_reply d r body else gets_reply d r u body) []
+            fourth true = index_reply_left body
+            fourth false = gets_reply_left u body
+
+            third : (t : Bool) →
+                Leaves (if t then log_reply d r body else (if reads_under r.reading u then index_reply d r body else gets_reply d r u body)) (if t then log_part else [])
             third true = log_reply_left body shows means.1 whole
-            third false = gets_reply_left u body
+            third false = fourth (reads_under r.reading u)
 
             second : (t : Bool) →
-                Leaves (if t then metadata_reply d r body else (if awaits r.log.job u then log_reply d r body else gets_reply d r u body))
+                Leaves
+                (if t then metadata_reply d r body
+                else (if awaits r.log.job u then log_reply d r body else (if reads_under r.reading u then index_reply d r body else gets_reply d r u body)))
                 (if t then metadata_actions d r body else (if awaits r.log.job u then log_part else []))
             second true = metadata_reply_left generation range w i both m l d v r h body empty f means.0
             second false = third (awaits r.log.job u)
 
             first : (t : Bool) → load_awaits r.load.phase u ≡ t →
-                Leaves (if t then load_reply d r body else (if awaits r.metadata.job u then metadata_reply d r body else (if awaits r.log.job u then log_reply d r body else gets_reply d r u body)))
+                Leaves
+                (if t then load_reply d r body
+                else (if awaits r.metadata.job u then metadata_reply d r body
+                else (if awaits r.log.job u then log_reply d r body else (if reads_under r.reading u then index_reply d r body else gets_reply d r u body))))
                 (if t then load_actions r body else (if awaits r.metadata.job u then metadata_actions d r body else (if awaits r.log.job u then log_part else [])))
             first true e = load_reply_left u e body number means
             first false e = second (awaits r.metadata.job u)

@@ -48,14 +48,14 @@ module _ (generation : ℕ → ℕ) (range : ℕ) (w : StreamSystem) (i : ℕ) (
       checking_stays : (k : ClientState) → Read (record r { log = k })
       checking_stays k =
           let loads : Loads (record r { log = k }) (HasReadMetadata range w i m.stand.state l.stand.state v.history (record r { log = k })) =
-          record { said = a.said; fixed = a.fixed; streams = record { metadata = a.streams.metadata; log = a.streams.log; regions = a.streams.regions } } in
+          record { said = a.said; fixed = a.fixed; indexes = a.indexes; streams = record { metadata = a.streams.metadata; log = a.streams.log; regions = a.streams.regions } } in
           record { at = subst (λ z. HasReadAt range w i m.stand.state l.stand.state v.history (record r { log = k }) z) (sym e) loads }
 
       begins : (k : ClientState) → TellsOf generation (log_of range) w l.stand l.sent k → k.job ≡ jobs.Idle →
           Left generation range w i m l d v.history (reads_log_from d (record r { log = k }) (first_position (record r { log = k }) r.regions))
       begins k told idle =
           from_first generation range w i m l d v.history (record r { log = k })
-          (record { said = a.said; fixed = a.fixed; metadata = a.streams.metadata; log = record { told = told; idle = idle; none = a.streams.log } }) a.streams.regions
+          (record { said = a.said; fixed = a.fixed; indexes = a.indexes; metadata = a.streams.metadata; log = record { told = told; idle = idle; none = a.streams.log } }) a.streams.regions
 
       checking_news : LogAt r body (stages.Checking kinds.Log) (reply_rule (picking d r.log) (request d) body)
       checking_news =
@@ -77,7 +77,7 @@ module _ (generation : ℕ → ℕ) (range : ℕ) (w : StreamSystem) (i : ℕ) (
       reading_stays : (k : ClientState) → ToRead k → Read (record r { log = k })
       reading_stays k to =
           let loads : Loads (record r { log = k }) (HasReadLogTo range w i m.stand.state l.stand.state v.history (record r { log = k }) position) =
-          record { said = a.said; fixed = a.fixed; streams = record { metadata = a.streams.metadata; log = to; shown = a.streams.shown } } in
+          record { said = a.said; fixed = a.fixed; indexes = a.indexes; streams = record { metadata = a.streams.metadata; log = to; shown = a.streams.shown } } in
           record { at = subst (λ z. HasReadAt range w i m.stand.state l.stand.state v.history (record r { log = k }) z) (sym e) loads }
 
       -- the last extent was sealed: it is asked for once more
@@ -85,7 +85,7 @@ module _ (generation : ℕ → ℕ) (range : ℕ) (w : StreamSystem) (i : ℕ) (
           Left generation range w i m l d v.history (reads_log d (record r { log = k }) position)
       shut_left k below =
           reads_log_left generation range w i m l d v.history (record r { log = k }) position
-          (record { said = a.said; fixed = a.fixed; metadata = a.streams.metadata; log = below; shown = a.streams.shown })
+          (record { said = a.said; fixed = a.fixed; indexes = a.indexes; metadata = a.streams.metadata; log = below; shown = a.streams.shown })
 
       -- the groups have come, and an observation shows them
       module _ (shows : Shows (log_of range) w l.sent body) (n upto : ℕ) (more : BringsGroups generation (log_of range) w i both.log l.stand l.sent d r.log body (v.history.reads kinds.Log) position n upto) where
@@ -112,7 +112,7 @@ module _ (generation : ℕ → ℕ) (range : ℕ) (w : StreamSystem) (i : ℕ) (
         replays_left None = tt
         replays_left (Some z) =
             reads_log_left generation range w i m l d longer (record now { regions = z.0; live = z.1 }) (suc position)
-            (record { said = a.said; fixed = a.fixed; metadata = a.streams.metadata; log = more.below; shown = (shown, a.streams.shown) })
+            (record { said = a.said; fixed = a.fixed; indexes = a.indexes; metadata = a.streams.metadata; log = more.below; shown = (shown, a.streams.shown) })
 
         log_read_left : Left generation range w i m l d longer (log_read d now position n more.groups)
         log_read_left = go (nat_lt (r.log.base + position) (2 ^ 64))
@@ -142,6 +142,7 @@ module _ (generation : ℕ → ℕ) (range : ℕ) (w : StreamSystem) (i : ℕ) (
   picked r = record {
     said = refl;
     fixed = refl;
+    indexes = refl;
     regions = refl;
     metadata = keeps_all r.metadata;
     log = record { base = refl; extents = refl; checked = refl };
@@ -166,5 +167,6 @@ module _ (generation : ℕ → ℕ) (range : ℕ) (w : StreamSystem) (i : ℕ) (
     log_by_stage (stages.Reading kinds.Log position) e f loading a = reading_news r f body means position a e shows
     log_by_stage (stages.Reading kinds.RowData position) e f loading a = absurd f
     log_by_stage (stages.Reading kinds.BlobData position) e f loading a = absurd f
+    log_by_stage (stages.Indexing position) e f loading a = idle_takes (request d) (LogAt r body (stages.Indexing position)) (picking d r.log) body f.log_idle stays
     log_by_stage stages.Confirming e f loading a = idle_takes (request d) (LogAt r body stages.Confirming) (picking d r.log) body f.log.idle stays
     log_by_stage stages.Serving e f loading a = absurd (loading refl)

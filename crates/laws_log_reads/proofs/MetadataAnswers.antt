@@ -53,7 +53,7 @@ module _ (generation : ℕ → ℕ) (range : ℕ) (w : StreamSystem) (i : ℕ) (
     module _ (a : Loads r (HasReadNothing range w i m.stand.state l.stand.state v.history)) (e : r.stage ≡ stages.Checking kinds.Metadata) where
       checking_stays : (k : ClientState) → Read (record r { metadata = k })
       checking_stays k =
-          let loads : Loads (record r { metadata = k }) (HasReadNothing range w i m.stand.state l.stand.state v.history) = record { said = a.said; fixed = a.fixed; streams = a.streams } in
+          let loads : Loads (record r { metadata = k }) (HasReadNothing range w i m.stand.state l.stand.state v.history) = record { said = a.said; fixed = a.fixed; indexes = a.indexes; streams = a.streams } in
           record { at = subst (λ z. HasReadAt range w i m.stand.state l.stand.state v.history (record r { metadata = k }) z) (sym e) loads }
 
       begins : (k : ClientState) → TellsOf generation (metadata_of range) w m.stand m.sent k → k.job ≡ jobs.Idle → Left generation range w i m l d v.history (reads_metadata d (record r { metadata = k }) 0)
@@ -62,6 +62,7 @@ module _ (generation : ℕ → ℕ) (range : ℕ) (w : StreamSystem) (i : ℕ) (
           (record {
             said = a.said;
             fixed = a.fixed;
+            indexes = a.indexes;
             metadata = nothing_read generation (metadata_of range) w i m.stand m.sent k told (told.whole refl) idle (v.history.reads kinds.Metadata) a.streams.metadata;
             log = record { told = b.log.told.tells; idle = b.log.idle; none = a.streams.log };
           })
@@ -86,7 +87,7 @@ module _ (generation : ℕ → ℕ) (range : ℕ) (w : StreamSystem) (i : ℕ) (
       reading_stays : (k : ClientState) → ToRead k → Read (record r { metadata = k })
       reading_stays k to =
           let loads : Loads (record r { metadata = k }) (HasReadMetadataTo range w i m.stand.state l.stand.state v.history (record r { metadata = k }) position) =
-          record { said = a.said; fixed = a.fixed; streams = record { metadata = to; log = a.streams.log } } in
+          record { said = a.said; fixed = a.fixed; indexes = a.indexes; streams = record { metadata = to; log = a.streams.log } } in
           record { at = subst (λ z. HasReadAt range w i m.stand.state l.stand.state v.history (record r { metadata = k }) z) (sym e) loads }
 
       -- the extents below a position are read, and nothing of the log
@@ -94,7 +95,7 @@ module _ (generation : ℕ → ℕ) (range : ℕ) (w : StreamSystem) (i : ℕ) (
           Left generation range w i m l d h (reads_metadata d (record r { metadata = k }) at)
       goes_on h k at below none =
           reads_metadata_left generation range w i m l d h (record r { metadata = k }) at
-          (record { said = a.said; fixed = a.fixed; metadata = below; log = record { told = b.log.told.tells; idle = b.log.idle; none = none } })
+          (record { said = a.said; fixed = a.fixed; indexes = a.indexes; metadata = below; log = record { told = b.log.told.tells; idle = b.log.idle; none = none } })
 
       came : (n upto : ℕ) → BringsGroups generation (metadata_of range) w i both.metadata m.stand m.sent d r.metadata body (v.history.reads kinds.Metadata) position n upto →
           AtStage r body (stages.Reading kinds.Metadata position) (ends (picking d r.metadata) (news.Content n upto))
@@ -124,6 +125,7 @@ module _ (generation : ℕ → ℕ) (range : ℕ) (w : StreamSystem) (i : ℕ) (
   picked r = record {
     said = refl;
     fixed = refl;
+    indexes = refl;
     regions = refl;
     metadata = record { base = refl; extents = refl; checked = refl };
     log = keeps_all r.log;
@@ -147,6 +149,8 @@ module _ (generation : ℕ → ℕ) (range : ℕ) (w : StreamSystem) (i : ℕ) (
         idle_takes (request d) (AtStage r body (stages.Reading kinds.Log position)) (picking d r.metadata) body f.metadata_idle stays
     by_stage empty means (stages.Reading kinds.RowData position) e f a = absurd f
     by_stage empty means (stages.Reading kinds.BlobData position) e f a = absurd f
+    by_stage empty means (stages.Indexing position) e f a =
+        idle_takes (request d) (AtStage r body (stages.Indexing position)) (picking d r.metadata) body f.metadata_idle stays
     by_stage empty means stages.Confirming e f a = idle_takes (request d) (AtStage r body stages.Confirming) (picking d r.metadata) body f.metadata.idle stays
     by_stage empty means stages.Serving e f a = idle_takes (request d) (AtStage r body stages.Serving) (picking d r.metadata) body f.metadata_idle stays
 

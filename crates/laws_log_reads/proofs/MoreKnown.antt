@@ -53,7 +53,7 @@ module _ (name : StreamName) (w v : StreamSystem) (i : ℕ) (s t : machine.Machi
 
 module _ (range : ℕ) (w v : StreamSystem) (i : ℕ) (m n l k : machine.MachineState Group) (g : BothGrown range w v m n l k) (h : RangeHistory) where
   loads_on : (r : RangeState) (A B : Type 0) → (A → B) → Loads r A → Loads r B
-  loads_on r A B f b = record { said = b.said; fixed = b.fixed; streams = f b.streams }
+  loads_on r A B f b = record { said = b.said; fixed = b.fixed; indexes = b.indexes; streams = f b.streams }
 
   metadata_to : (r : RangeState) (position : ℕ) → HasReadMetadataTo range w i m l h r position → HasReadMetadataTo range v i n k h r position
   metadata_to r position b = record { metadata = to_on (metadata_of range) w v i m n g.metadata r.metadata (h.reads kinds.Metadata) position b.metadata; log = b.log }
@@ -78,8 +78,8 @@ module _ (range : ℕ) (w v : StreamSystem) (i : ℕ) (m n l k : machine.Machine
       }
 
   at_on : (r : RangeState) (stage : Stage) → HasReadAt range w i m l h r stage → HasReadAt range v i n k h r stage
-  at_on r stages.Opening b = record { said = b.said; fixed = b.fixed; streams = record { metadata = b.streams.metadata; log = b.streams.log } }
-  at_on r (stages.Checking kinds.Metadata) b = record { said = b.said; fixed = b.fixed; streams = record { metadata = b.streams.metadata; log = b.streams.log } }
+  at_on r stages.Opening b = record { said = b.said; fixed = b.fixed; indexes = b.indexes; streams = record { metadata = b.streams.metadata; log = b.streams.log } }
+  at_on r (stages.Checking kinds.Metadata) b = record { said = b.said; fixed = b.fixed; indexes = b.indexes; streams = record { metadata = b.streams.metadata; log = b.streams.log } }
   at_on r (stages.Checking kinds.Log) b = loads_on r (HasReadMetadata range w i m l h r) (HasReadMetadata range v i n k h r) (metadata_all r) b
   at_on r (stages.Checking kinds.RowData) b = absurd b
   at_on r (stages.Checking kinds.BlobData) b = absurd b
@@ -87,6 +87,7 @@ module _ (range : ℕ) (w v : StreamSystem) (i : ℕ) (m n l k : machine.Machine
   at_on r (stages.Reading kinds.Log position) b = loads_on r (HasReadLogTo range w i m l h r position) (HasReadLogTo range v i n k h r position) (log_to r position) b
   at_on r (stages.Reading kinds.RowData position) b = absurd b
   at_on r (stages.Reading kinds.BlobData position) b = absurd b
+  at_on r (stages.Indexing position) b = loads_on r (HasReadAll range w i m l h r) (HasReadAll range v i n k h r) (both_all r) b
   at_on r stages.Confirming b = loads_on r (HasReadAll range w i m l h r) (HasReadAll range v i n k h r) (both_all r) b
   at_on r stages.Serving b = tt
 

@@ -1,5 +1,5 @@
 -- Rules that read nothing keep what was read: those of users, giving up, and all rules of a range that is served.
-use Rattle.std.proofs.Common.{◌≡◌, ℕ, ◌+◌, ◌-◌, ◌^◌, List, [], ◌∷◌, ◌++◌, length, map, flat_map, Bool, true, false, not, ◌&&◌, nat_lt, Option, Some, None, is_some, refl, sym, subst, if◌then◌else◌}
+use Rattle.std.proofs.Common.{◌≡◌, ℕ, ◌+◌, ◌-◌, ◌^◌, List, [], ◌∷◌, ◌++◌, length, map, flat_map, Bool, true, false, not, ◌&&◌, nat_lt, Option, Some, None, option_map, is_some, refl, sym, subst, if◌then◌else◌}
 use Rattle.wire.specs.declared.actor.ActorId.{ActorId}
 use Rattle.wire.specs.declared.actor.ReqNo.{ReqNo}
 use Rattle.wire.specs.declared.refusal.Refusal.{Refusal}
@@ -19,12 +19,13 @@ use Rattle.model_partition.specs.declared.server_context.ServerContext.{ServerCo
 use Rattle.model_partition.specs.declared.stage.Stage.{Stage}
 use Rattle.model_partition.specs.declared.stage.Stage.TheVariants as stages
 use Rattle.model_partition.specs.declared.waiting.WaitingGet.{WaitingGet}
-use Rattle.model_partition.specs.Range.{OutGroup, RangeState, RangeOutcome, request, used, goes, if_there, is_serving}
+use Rattle.model_partition.specs.Range.{OutGroup, RangeState, RangeOutcome, request, used, goes, answers, if_there, is_serving}
 use Rattle.model_partition.specs.ServerRun.{RangeHistory, first_history}
 use Rattle.model_partition.specs.Serving.{group_count, appends, forms, transact_fault, transacts, transact_rule, record_of, out_size, log_done}
 use Rattle.model_partition.specs.StreamActions.{Forms, group_of, transact_actions}
 use Rattle.model_partition.specs.StreamMachine as machine
-use Rattle.model_partition.specs.Getting.{get_fault, gets, get_rule, bytes_rule, gives_up_get}
+use Rattle.model_partition.specs.PlaceReads.{moved_on}
+use Rattle.model_partition.specs.Getting.{get_fault, gets, get_rule, read_at, are_no_page, bytes_come, bytes_rule, gives_up_get}
 use Rattle.model_partition.specs.Server.{new_range}
 use Rattle.model_partition.specs.Answering.{serving_news, gives_up_job, give_up_all}
 use Rattle.laws_loads.specs.RangeView.{RangeView, view_after_all}
@@ -37,7 +38,7 @@ use Rattle.laws_log_reads.proofs.UntouchedReads.{same_left}
 module _ (range : ℕ) (w : StreamSystem) (i : ℕ) (m l : machine.MachineState Group) where
   -- a range that was just taken has read nothing
   pub new_read : (d : ServerContext) (n generation until : ℕ) → HasRead range w i m l first_history (new_range d n generation until)
-  new_read d n generation until = record { at = record { said = refl; fixed = refl; streams = record { metadata = refl; log = refl } } }
+  new_read d n generation until = record { at = record { said = refl; fixed = refl; indexes = refl; streams = record { metadata = refl; log = refl } } }
 
   module _ (h : RangeHistory) where
     abbrev Leaves : RangeOutcome → Type 0
@@ -52,7 +53,7 @@ module _ (range : ℕ) (w : StreamSystem) (i : ℕ) (m l : machine.MachineState 
     got : (r : RangeState) (held : List (Place × List ℕ)) (waiting : List WaitingGet) → HasRead range w i m l h r → HasRead range w i m l h (record r { held = held; gets = waiting })
     got r held waiting b =
         same_left range w i m l h r (record r { held = held; gets = waiting })
-        (record { said = refl; fixed = refl; regions = refl; metadata = keeps_all r.metadata; log = keeps_all r.log; metadata_by = λ position z. z; log_by = λ position z. z }) refl b
+        (record { said = refl; fixed = refl; indexes = refl; regions = refl; metadata = keeps_all r.metadata; log = keeps_all r.log; metadata_by = λ position z. z; log_by = λ position z. z }) refl b
 
     get_keeps : (d : ServerContext) (r : RangeState) (from : ActorId) (q : ReqNo) (key : List ℕ) → HasRead range w i m l h r → Leaves (get_rule d r from q key)
     get_keeps d r from q key b = go (get_fault d r key)
@@ -62,7 +63,11 @@ module _ (range : ℕ) (w : StreamSystem) (i : ℕ) (m l : machine.MachineState 
         go None = got r _ _ b
 
     pub bytes_keep : (d : ServerContext) (r : RangeState) (q : ReqNo) (place : Place) (bytes : List ℕ) → HasRead range w i m l h r → Leaves (bytes_rule d r q place bytes)
-    bytes_keep d r q place bytes b = got r _ _ b
+    bytes_keep d r q place bytes b = go (are_no_page (read_at r.gets q) bytes)
+      where
+        go : (t : Bool) → Leaves (if t then answers d r [] else bytes_come d r q place bytes)
+        go true = b
+        go false = got r _ _ b
 
     -- ---- a range that is served
 
@@ -97,10 +102,11 @@ module _ (range : ℕ) (w : StreamSystem) (i : ℕ) (m l : machine.MachineState 
 
     give_up_keeps : (d : ServerContext) (r : RangeState) → HasRead range w i m l h r → Leaves (give_up_all d r)
     give_up_keeps d r b =
-        same_left range w i m l h r (record r { metadata = one.after; log = two.after; gets = map (λ g. (gives_up_get d r g).0) r.gets })
+        same_left range w i m l h r (record r { metadata = one.after; log = two.after; reading = option_map moved_on r.reading; gets = map (λ g. (gives_up_get d r g).0) r.gets })
         (record {
           said = refl;
           fixed = refl;
+          indexes = refl;
           regions = refl;
           metadata = record { base = kept_metadata.base; extents = kept_metadata.extents; checked = kept_metadata.checked };
           log = record { base = kept_log.base; extents = kept_log.extents; checked = kept_log.checked };
@@ -134,6 +140,7 @@ is_served r e = go r.stage e
     go stages.Opening t = absurd cc
     go (stages.Checking kind) t = absurd cc
     go (stages.Reading kind position) t = absurd cc
+    go (stages.Indexing position) t = absurd cc
     go stages.Confirming t = absurd cc
     go stages.Serving t = refl
 

@@ -105,12 +105,17 @@ module _ (generation : ℕ → ℕ) (range : ℕ) (w : StreamSystem) (i : ℕ) (
     is_confirming (stages.Reading kinds.Log position) b = absurd (another phases.Opened b.phase (λ z. cc))
     is_confirming (stages.Reading kinds.RowData position) b = absurd b
     is_confirming (stages.Reading kinds.BlobData position) b = absurd b
+    is_confirming (stages.Indexing position) b = absurd (another phases.Opened b.phase (λ z. cc))
     is_confirming stages.Confirming b = refl
     is_confirming stages.Serving b = absurd (another phases.Confirmed b.phase (λ z. cc))
 
     -- a range that waits for its confirmation has read all
     all_read : Loads r (HasReadAll range w i m.stand.state l.stand.state v.history r)
     all_read = subst (λ z. HasReadAt range w i m.stand.state l.stand.state v.history r z) (is_confirming r.stage f.stage) h.at
+
+    -- and no index
+    pub none_indexed : r.indexes ≡ []
+    none_indexed = all_read.indexes
 
     -- and each extent of the log that it has read is shown
     pub reads_observed : AllShown w (v.history.reads kinds.Log)

@@ -19,6 +19,7 @@ use Rattle.laws_log_reads.proofs.ReadRequests.{Keeps}
 pub record Same (r k : RangeState) : Type 0 where
   pub said : k.said ≡ r.said
   pub fixed : k.fixed ≡ r.fixed
+  pub indexes : k.indexes ≡ r.indexes
   pub regions : k.regions ≡ r.regions
   pub metadata : Keeps r.metadata k.metadata
   pub log : Keeps r.log k.log
@@ -39,7 +40,7 @@ module _ (name : StreamName) (w : StreamSystem) (i : ℕ) (s : machine.MachineSt
 
 module _ (range : ℕ) (w : StreamSystem) (i : ℕ) (m l : machine.MachineState Group) (h : RangeHistory) (r k : RangeState) (same : Same r k) where
   loads_same : (A B : Type 0) → (A → B) → Loads r A → Loads k B
-  loads_same A B f b = record { said = same.said ∙ b.said; fixed = same.fixed ∙ b.fixed; streams = f b.streams }
+  loads_same A B f b = record { said = same.said ∙ b.said; fixed = same.fixed ∙ b.fixed; indexes = same.indexes ∙ b.indexes; streams = f b.streams }
 
   metadata_same : AllRead (metadata_of range) w i m r.metadata (h.reads kinds.Metadata) → AllRead (metadata_of range) w i m k.metadata (h.reads kinds.Metadata)
   metadata_same b = all_same (metadata_of range) w i m r.metadata k.metadata same.metadata (h.reads kinds.Metadata) b
@@ -72,6 +73,7 @@ module _ (range : ℕ) (w : StreamSystem) (i : ℕ) (m l : machine.MachineState 
   at_same (stages.Reading kinds.Log position) b = loads_same (HasReadLogTo range w i m l h r position) (HasReadLogTo range w i m l h k position) (log_to position) b
   at_same (stages.Reading kinds.RowData position) b = absurd b
   at_same (stages.Reading kinds.BlobData position) b = absurd b
+  at_same (stages.Indexing position) b = loads_same (HasReadAll range w i m l h r) (HasReadAll range w i m l h k) both_all b
   at_same stages.Confirming b = loads_same (HasReadAll range w i m l h r) (HasReadAll range w i m l h k) both_all b
   at_same stages.Serving b = tt
 

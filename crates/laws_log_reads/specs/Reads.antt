@@ -130,6 +130,8 @@ module _ (name : StreamName) (w : StreamSystem) where
 pub record Loads (r : RangeState) (Streams : Type 0) : Type 0 where
   pub said : r.said ≡ first_metadata
   pub fixed : r.fixed ≡ None
+  -- the first metadata names no index
+  pub indexes : r.indexes ≡ []
   pub streams : Streams
 
 module _ (range : ℕ) (w : StreamSystem) (i : ℕ) (m l : machine.MachineState Group) (h : RangeHistory) where
@@ -171,6 +173,7 @@ module _ (range : ℕ) (w : StreamSystem) (i : ℕ) (m l : machine.MachineState 
   HasReadAt r (stages.Reading kinds.Log position) = Loads r (HasReadLogTo r position)
   HasReadAt r (stages.Reading kinds.RowData position) = ⊥
   HasReadAt r (stages.Reading kinds.BlobData position) = ⊥
+  HasReadAt r (stages.Indexing position) = Loads r (HasReadAll r)
   HasReadAt r stages.Confirming = Loads r (HasReadAll r)
   HasReadAt r stages.Serving = Unit {0}
 

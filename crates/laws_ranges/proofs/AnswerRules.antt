@@ -8,12 +8,14 @@ use Rattle.model_streams.specs.StreamSystem.{StreamSystem}
 use Rattle.model_partition.specs.declared.server_context.ServerContext.{ServerContext}
 use Rattle.model_partition.specs.declared.stage.Stage.TheVariants as stages
 use Rattle.model_partition.specs.Range.{RangeState, is_serving}
-use Rattle.model_partition.specs.Answering.{answered_number, load_reply, metadata_reply, log_reply, gets_reply, answer_rule}
+use Rattle.model_partition.specs.PlaceReads.{reads_under}
+use Rattle.model_partition.specs.Answering.{answered_number, load_reply, metadata_reply, log_reply, index_reply, gets_reply, answer_rule}
 use Rattle.laws_stream_machine.specs.Refinement.{Means}
 use Rattle.laws_ranges.specs.Serves.{Side, metadata_of, log_of, Follows, BothListed, IsSentBy, RuleGoes}
 use Rattle.laws_ranges.proofs.Confirmed.{confirmed_all}
 use Rattle.laws_ranges.proofs.LoadNews.{metadata_news_both, log_news_by}
 use Rattle.laws_ranges.proofs.OpenedOrConfirmed.{load_reply_by}
+use Rattle.laws_ranges.proofs.ReadIndexes.{index_reply_both}
 use Rattle.laws_ranges.proofs.Gets.{gets_reply_quietly}
 
 module _ (generation : ℕ → ℕ) (range : ℕ) (w : StreamSystem) (i : ℕ) (both : BothListed w range) (m l : Side) (d : ServerContext) (by : IsSentBy d d.count m.sent l.sent)
@@ -32,17 +34,24 @@ module _ (generation : ℕ → ℕ) (range : ℕ) (w : StreamSystem) (i : ℕ) (
       Means generation (log_of range) w l.stand.state l.sent body → RuleGoes generation range w i m l d (answer_rule d r v body)
   answer_both v body number one two = load_first (load_awaits r.load.phase v) refl
     where
-      log_third : (t : Bool) → awaits r.log.job v ≡ t → RuleGoes generation range w i m l d (if t then log_reply d r body else gets_reply d r v body)
+      index_fourth : (t : Bool) → RuleGoes generation range w i m l d (if t then index_reply d r body else gets_reply d r v body)
+      index_fourth true = index_reply_both generation range w i both m l d by r f body
+      index_fourth false = (gets_reply_quietly generation range w i both m l d by r f v body).goes
+
+      log_third : (t : Bool) → awaits r.log.job v ≡ t →
+          RuleGoes generation range w i m l d (if t then log_reply d r body else if reads_under r.reading v then index_reply d r body else gets_reply d r v body)
       log_third true e = log_news_by generation range w i both m l d by r f body (λ served. absurd (is_unserved served)) v e two
-      log_third false e = (gets_reply_quietly generation range w i both m l d by r f v body).goes
+      log_third false e = index_fourth (reads_under r.reading v)
 
       metadata_second : (t : Bool) → awaits r.metadata.job v ≡ t →
-          RuleGoes generation range w i m l d (if t then metadata_reply d r body else if awaits r.log.job v then log_reply d r body else gets_reply d r v body)
+          RuleGoes generation range w i m l d
+          (if t then metadata_reply d r body else if awaits r.log.job v then log_reply d r body else if reads_under r.reading v then index_reply d r body else gets_reply d r v body)
       metadata_second true e = metadata_news_both generation range w i both m l d by r f body v e one
       metadata_second false e = log_third (awaits r.log.job v) refl
 
       load_first : (t : Bool) → load_awaits r.load.phase v ≡ t →
           RuleGoes generation range w i m l d
-          (if t then load_reply d r body else if awaits r.metadata.job v then metadata_reply d r body else if awaits r.log.job v then log_reply d r body else gets_reply d r v body)
+          (if t then load_reply d r body else if awaits r.metadata.job v then metadata_reply d r body else if awaits r.log.job v then log_reply d r body
+          else if reads_under r.reading v then index_reply d r body else gets_reply d r v body)
       load_first true e = load_reply_both v e body number one two
       load_first false e = metadata_second (awaits r.metadata.job v) refl

@@ -188,6 +188,8 @@ module _ (generation : ℕ → ℕ) (range : ℕ) (w : StreamSystem) (i : ℕ) (
     same_stage (stages.Reading kinds.Log position) b = same_log b
     same_stage (stages.Reading kinds.RowData position) b = absurd b
     same_stage (stages.Reading kinds.BlobData position) b = absurd b
+    same_stage (stages.Indexing position) b =
+        record { phase = b.phase; metadata = b.metadata; metadata_idle = b.metadata_idle; log = b.log; log_idle = b.log_idle }
     same_stage stages.Confirming b = record { q = b.q; phase = b.phase; metadata = b.metadata; log = b.log }
     same_stage stages.Serving b = record { phase = b.phase; metadata = b.metadata; metadata_idle = b.metadata_idle; log = b.log; out = b.out }
 

@@ -18,7 +18,8 @@ use Rattle.model_partition.specs.declared.server_context.ServerContext.{ServerCo
 use Rattle.model_partition.specs.declared.waiting.WaitingGet.{WaitingGet}
 use Rattle.model_partition.specs.Range.{RangeState, refuses, answers}
 use Rattle.model_partition.specs.Serving.{lease_ended}
-use Rattle.model_partition.specs.Getting.{Lookup, Is, Needs, Tried, asks_place, answered, try, try_all, get_fault, gets, get_rule, bytes_rule, came, place_of, places_of, look, read_at, standing, used, without}
+use Rattle.model_partition.specs.PlaceReads.{place_of, places_of}
+use Rattle.model_partition.specs.Getting.{Lookup, Is, Needs, Tried, asks_place, answered, try, try_all, get_fault, gets, get_rule, are_no_page, bytes_come, bytes_rule, came, look, read_at, standing, used_for, without}
 use Rattle.model_partition.specs.Answering.{bytes_reply, gets_reply, load_refused}
 use Rattle.laws_stream_machine.specs.Refinement.{Sent}
 use Rattle.laws_ranges.specs.Serves.{Stand, Side, log_of, AreAsked, Follows, BothListed, IsSentBy}
@@ -34,20 +35,20 @@ module _ (generation : ℕ → ℕ) (range : ℕ) (w : StreamSystem) (i : ℕ) (
   abbrev pub IsTry : ServerContext → Tried → Type 0
   IsTry d t = (d.count ≤ t.count) × AreAsked generation range w i name x sent t.packets
 
-  place_try : (d : ServerContext) (g : WaitingGet) (place : Place) (places : Option Nodes) → IsTry d (asks_place d g place places)
-  place_try d g place None = (omega arith, tt)
-  place_try d g place (Some places) = (omega arith, (inl (λ n s z. tt), tt))
+  place_try : (d : ServerContext) (g : WaitingGet) (page : Bool) (place : Place) (places : Option Nodes) → IsTry d (asks_place d g page place places)
+  place_try d g page place None = (omega arith, tt)
+  place_try d g page place (Some places) = (omega arith, (inl (λ n s z. tt), tt))
 
   found_try : (d : ServerContext) (r : RangeState) (g : WaitingGet) (found : Lookup) → IsTry d (answered d r g found)
   found_try d r g (Is value) = (omega arith, (inl (λ n s z. tt), tt))
-  found_try d r g (Needs place) = place_try d g place (places_of r place.extent)
+  found_try d r g (Needs page place) = place_try d g page place (places_of r place.extent)
 
   pub one_try : (d : ServerContext) (r : RangeState) (g : WaitingGet) → IsTry d (try d r g)
   one_try d r g = go (lease_ended d r)
     where
-      go : (t : Bool) → IsTry d (if t then record { waiting = []; count = d.count; packets = refuses d g.from g.request refusals.LeaseEnded ∷ [] } else answered d r g (look r.held (standing r g.key)))
+      go : (t : Bool) → IsTry d (if t then record { waiting = []; count = d.count; packets = refuses d g.from g.request refusals.LeaseEnded ∷ [] } else answered d r g (look r.held r.indexes g.key (standing r g.key)))
       go true = (omega arith, (inl (λ n s z. tt), tt))
-      go false = found_try d r g (look r.held (standing r g.key))
+      go false = found_try d r g (look r.held r.indexes g.key (standing r g.key))
 
   pub all_try : (d : ServerContext) (r : RangeState) (gs : List WaitingGet) → IsTry d (try_all d r gs)
   all_try d r [] = (omega arith, tt)
@@ -73,15 +74,15 @@ module _ (generation : ℕ → ℕ) (range : ℕ) (w : StreamSystem) (i : ℕ) (
       let g : WaitingGet = record { from = from; request = v; key = key; reads = [] } in
       let t : Tried = try d r g in
       let is : IsTry generation range w i (log_of range) l.stand l.sent d t = one_try generation range w i (log_of range) l.stand l.sent d r g in
-      still_quietly generation range w i both m l d by (Some (record r { gets = r.gets ++ t.waiting; held = used r.held (standing r key) })) t.count t.packets
-      (follows_same generation range w i m l r r.until (r.gets ++ t.waiting) (used r.held (standing r key)) f) is.0 is.1
+      still_quietly generation range w i both m l d by (Some (record r { gets = r.gets ++ t.waiting; held = used_for r.held r.indexes key (standing r key) })) t.count t.packets
+      (follows_same generation range w i m l r r.until (r.gets ++ t.waiting) (used_for r.held r.indexes key (standing r key)) f) is.0 is.1
 
   -- a Get
   pub get_quietly : (from : ActorId) (v : ReqNo) (key : List ℕ) → GoesQuietly generation range w i m l d (get_rule d r from v key)
   get_quietly from v key = gets_quietly from v key (get_fault d r key)
 
-  -- the bytes of a value
-  bytes_quietly : (v : ReqNo) (place : Place) (bytes : List ℕ) → GoesQuietly generation range w i m l d (bytes_rule d r v place bytes)
+  -- the bytes of a page or of a value
+  bytes_quietly : (v : ReqNo) (place : Place) (bytes : List ℕ) → GoesQuietly generation range w i m l d (bytes_come d r v place bytes)
   bytes_quietly v place bytes =
       let now : RangeState = record r { held = came r.held (read_at r.gets v) place bytes } in
       let t : Tried = try_all d now (map (without v) r.gets) in
@@ -92,8 +93,16 @@ module _ (generation : ℕ → ℕ) (range : ℕ) (w : StreamSystem) (i : ℕ) (
   rested : GoesQuietly generation range w i m l d (answers d r [])
   rested = still_quietly generation range w i both m l d by (Some r) d.count [] f (omega arith) tt
 
+  -- bytes that spell no page where one is wanted change nothing
+  pages_quietly : (v : ReqNo) (place : Place) (bytes : List ℕ) → GoesQuietly generation range w i m l d (bytes_rule d r v place bytes)
+  pages_quietly v place bytes = go (are_no_page (read_at r.gets v) bytes)
+    where
+      go : (t : Bool) → GoesQuietly generation range w i m l d (if t then answers d r [] else bytes_come d r v place bytes)
+      go true = rested
+      go false = bytes_quietly v place bytes
+
   read_quietly : (v : ReqNo) (body : ReadBody) → GoesQuietly generation range w i m l d (bytes_reply d r v body)
-  read_quietly v (reads.Bytes u e offset bytes) = bytes_quietly v (place_of e offset bytes) bytes
+  read_quietly v (reads.Bytes u e offset bytes) = pages_quietly v (place_of e offset bytes) bytes
   read_quietly v body = rested
 
   -- the refusal of a read

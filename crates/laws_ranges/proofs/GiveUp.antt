@@ -1,6 +1,7 @@
 -- What a range that is served does when it is told to give up.
-use Rattle.std.proofs.Common.{◌≡◌, ℕ, suc, ◌-◌, List, [], ◌∷◌, ◌++◌, length, map, flat_map, Option, Some, None, option_to_list, slice_get, refl, sym, ap, ◌∙◌, subst, inl, arith}
+use Rattle.std.proofs.Common.{◌≡◌, ℕ, suc, ◌-◌, List, [], ◌∷◌, ◌++◌, length, map, flat_map, Option, Some, None, option_map, option_to_list, slice_get, refl, sym, ap, ◌∙◌, subst, inl, arith}
 use Rattle.block_types.specs.declared.record.Nodes.{Nodes}
+use Rattle.wire.specs.declared.packet.Packet.{Packet}
 use Rattle.wire.specs.declared.streams.StreamName.{StreamName}
 use Rattle.client.specs.declared.job.Job.TheVariants as jobs
 use Rattle.client.specs.declared.load.LoadPhase.TheVariants as phases
@@ -11,8 +12,9 @@ use Rattle.model_partition.specs.declared.stage.Stage.TheVariants as stages
 use Rattle.model_partition.specs.declared.waiting.PlaceRead.{PlaceRead}
 use Rattle.model_partition.specs.declared.waiting.WaitingGet.{WaitingGet}
 use Rattle.model_partition.specs.Range.{RangeState, request}
-use Rattle.model_partition.specs.Getting.{asks_again, gives_up_read, gives_up_get, places_of, moved_on}
-use Rattle.model_partition.specs.Answering.{give_up_all}
+use Rattle.model_partition.specs.PlaceReads.{asks_again, places_of, moved_on}
+use Rattle.model_partition.specs.Getting.{gives_up_read, gives_up_get}
+use Rattle.model_partition.specs.Answering.{gives_up_reading, give_up_all}
 use Rattle.laws_stream_machine.specs.Refinement.{Sent, purpose_of}
 use Rattle.laws_ranges.specs.Serves.{Stand, Side, after_turns, sent_with, metadata_of, log_of, Apart, ServingIs, ServesBy, AreAsked, IsServing, StageIs, Follows, BothListed, IsSentBy, RuleGoes}
 use Rattle.laws_ranges.specs.Quiet.{GoesQuietly, Quietly}
@@ -23,7 +25,7 @@ use Rattle.laws_ranges.proofs.LogRules.{asked_both, asked_if, picked_serving}
 use Rattle.laws_ranges.proofs.ServedRules.{unused_on, apart_on, asked_of_both}
 
 module _ (generation : ℕ → ℕ) (range : ℕ) (w : StreamSystem) (i : ℕ) where
-  -- reads of values are plain
+  -- reads of what stands at a place are plain
   again_plain : (name : StreamName) (x : Stand) (sent : List Sent) (d : ServerContext) (read : PlaceRead) (o : Option Nodes) → AreAsked generation range w i name x sent (asks_again d read o)
   again_plain name x sent d read None = tt
   again_plain name x sent d read (Some places) = (inl (λ n s m. tt), tt)
@@ -32,12 +34,25 @@ module _ (generation : ℕ → ℕ) (range : ℕ) (w : StreamSystem) (i : ℕ) w
   read_plain name x sent d r g None = tt
   read_plain name x sent d r g (Some read) = again_plain name x sent d (moved_on read) (places_of r read.place.extent)
 
-  pub gets_plain : (name : StreamName) (x : Stand) (sent : List Sent) (d : ServerContext) (r : RangeState) (gs : List WaitingGet) →
+  gets_plain : (name : StreamName) (x : Stand) (sent : List Sent) (d : ServerContext) (r : RangeState) (gs : List WaitingGet) →
       AreAsked generation range w i name x sent (flat_map (λ g. (gives_up_get d r g).1) gs)
   gets_plain name x sent d r [] = tt
   gets_plain name x sent d r (g ∷ gs) =
       asked_both generation range w i name x sent (gives_up_get d r g).1 (flat_map (λ g. (gives_up_get d r g).1) gs)
       (read_plain name x sent d r g (slice_get g.reads (length g.reads - 1))) (gets_plain name x sent d r gs)
+
+  reading_plain : (name : StreamName) (x : Stand) (sent : List Sent) (d : ServerContext) (r : RangeState) (o : Option PlaceRead) → AreAsked generation range w i name x sent (gives_up_reading d r o)
+  reading_plain name x sent d r None = tt
+  reading_plain name x sent d r (Some read) = again_plain name x sent d (moved_on read) (places_of r read.place.extent)
+
+  -- the reads of an index and of Gets that are sent again
+  abbrev pub read_again : ServerContext → RangeState → List Packet
+  read_again d r = gives_up_reading d r r.reading ++ flat_map (λ g. (gives_up_get d r g).1) r.gets
+
+  pub read_again_plain : (name : StreamName) (x : Stand) (sent : List Sent) (d : ServerContext) (r : RangeState) → AreAsked generation range w i name x sent (read_again d r)
+  read_again_plain name x sent d r =
+      asked_both generation range w i name x sent (gives_up_reading d r r.reading) (flat_map (λ g. (gives_up_get d r g).1) r.gets)
+      (reading_plain name x sent d r r.reading) (gets_plain name x sent d r r.gets)
 
   module _ (both : BothListed w range) (m l : Side) (d : ServerContext) (by : IsSentBy d d.count m.sent l.sent) where
     at_idle : (r : RangeState) → r.metadata.job ≡ jobs.Idle → r.load.phase ≡ phases.Confirmed → Follows generation range w i m l r → IsServing generation range w i m l r → r.stage ≡ stages.Serving →
@@ -63,9 +78,9 @@ module _ (generation : ℕ → ℕ) (range : ℕ) (w : StreamSystem) (i : ℕ) w
               log = λ k le. unused_on d (suc d.count) went.0.purpose l.sent by.log (inl refl) k (omega (arith, le));
             };
             then = record { range_is = f.range_is; under = f.under; stage = subst (λ z. StageIs generation range w i m k after z) (sym stage) serving };
-            asked = asked_of_both generation range w i both m k apart (option_to_list o.packet ++ flat_map (λ g. (gives_up_get d now g).1) r.gets)
-                (asked_both generation range w i (log_of range) k.stand more (option_to_list o.packet) (flat_map (λ g. (gives_up_get d now g).1) r.gets)
-                (asked_if generation range w i (log_of range) k.stand more o.packet went.0.asked) (gets_plain (log_of range) k.stand more d now r.gets));
+            asked = asked_of_both generation range w i both m k apart (option_to_list o.packet ++ read_again d now)
+                (asked_both generation range w i (log_of range) k.stand more (option_to_list o.packet) (read_again d now)
+                (asked_if generation range w i (log_of range) k.stand more o.packet went.0.asked) (read_again_plain (log_of range) k.stand more d now));
           };
           metadata = tt;
           log = went.1;
@@ -99,7 +114,12 @@ module _ (generation : ℕ → ℕ) (range : ℕ) (w : StreamSystem) (i : ℕ) w
         apart = apart_on m.sent l.sent (request d) went.0.purpose by.apart (by.metadata d.count (omega arith))
 
         after : RangeState
-        after = record now { metadata = record r.metadata { job = jobs.Idle; pick = d.pick }; log = o.after; gets = map (λ g. (gives_up_get d now g).0) r.gets }
+        after = record now {
+          metadata = record r.metadata { job = jobs.Idle; pick = d.pick };
+          log = o.after;
+          reading = option_map moved_on r.reading;
+          gets = map (λ g. (gives_up_get d now g).0) r.gets;
+        }
 
         serving : IsServing generation range w i m k after
         serving = record {

@@ -1,5 +1,5 @@
 -- What a range that is not served yet does when it is told to give up, as both streams see it.
-use Rattle.std.proofs.Common.{◌≡◌, ℕ, suc, List, [], ◌++◌, map, flat_map, Option, Some, None, option_to_list, refl, sym, ap, ◌∙◌, subst, inl, arith}
+use Rattle.std.proofs.Common.{◌≡◌, ℕ, suc, List, [], ◌++◌, map, Option, Some, None, option_map, option_to_list, refl, sym, ap, ◌∙◌, subst, inl, arith}
 use Rattle.wire.specs.declared.actor.ReqNo.{ReqNo}
 use Rattle.wire.specs.declared.body.Body.{Body}
 use Rattle.wire.specs.declared.body.Body.TheVariants as bodies
@@ -17,16 +17,17 @@ use Rattle.model_partition.specs.declared.server_context.ServerContext.{ServerCo
 use Rattle.model_partition.specs.declared.stage.Stage.{Stage}
 use Rattle.model_partition.specs.declared.stage.Stage.TheVariants as stages
 use Rattle.model_partition.specs.Range.{RangeState, RangeOutcome, request, used}
+use Rattle.model_partition.specs.PlaceReads.{moved_on}
 use Rattle.model_partition.specs.Getting.{gives_up_get}
 use Rattle.model_partition.specs.Answering.{give_up_all}
 use Rattle.laws_stream_machine.specs.Refinement.{Sent, purpose_of, Opens, Confirms, IsAsked}
-use Rattle.laws_ranges.specs.Serves.{Stand, Side, after_turns, sent_with, metadata_of, log_of, Goes, Apart, AreUnused, LoadingIs, UnreadIs, OpeningIs, ConfirmingIs, IsOpening, LoadsMetadata, LoadsLog, IsConfirming, StageIs, Follows, BothListed, IsSentBy, IsKnown, AskedOfBoth, RuleGoes}
+use Rattle.laws_ranges.specs.Serves.{Stand, Side, after_turns, sent_with, metadata_of, log_of, Goes, Apart, AreUnused, LoadingIs, UnreadIs, OpeningIs, ConfirmingIs, IsOpening, LoadsMetadata, LoadsLog, LoadsIndexes, IsConfirming, StageIs, Follows, BothListed, IsSentBy, IsKnown, AskedOfBoth, RuleGoes}
 use Rattle.laws_ranges.proofs.MachineSteps.{purposes_on}
 use Rattle.laws_ranges.proofs.AppendJob.{rests}
 use Rattle.laws_ranges.proofs.LogRules.{asked_if}
 use Rattle.laws_ranges.proofs.ServedRules.{unused_on, apart_on, asked_of_both}
 use Rattle.laws_ranges.proofs.OpenAndConfirm.{open_asked, confirm_asked}
-use Rattle.laws_ranges.proofs.GiveUp.{gets_plain, give_up_both}
+use Rattle.laws_ranges.proofs.GiveUp.{read_again, read_again_plain, give_up_both}
 use Rattle.laws_ranges.proofs.LoadTurns.{give_up_loading}
 use Rattle.laws_ranges.proofs.ServerPick.{picked_loading, picked_unread, picked_confirming}
 use Rattle.laws_ranges.proofs.BothStreams.{apart_first, asked_of_metadata, asked_joined}
@@ -35,14 +36,14 @@ module _ (generation : ℕ → ℕ) (range : ℕ) (w : StreamSystem) (i : ℕ) (
   -- ---- steps of both clients, with a number for each
 
   abbrev gave_up : Outcome → Outcome → RangeState
-  gave_up a b = record r { metadata = a.after; log = b.after; gets = map (λ g. (gives_up_get d r g).0) r.gets }
+  gave_up a b = record r { metadata = a.after; log = b.after; reading = option_map moved_on r.reading; gets = map (λ g. (gives_up_get d r g).0) r.gets }
 
   abbrev gave : Outcome → Outcome → Option Packet → RangeOutcome
   gave a b first =
       record {
         after = Some (gave_up a b);
         count = (used (used d)).count;
-        packets = option_to_list first ++ (option_to_list b.packet ++ (option_to_list a.packet ++ flat_map (λ g. (gives_up_get d r g).1) r.gets));
+        packets = option_to_list first ++ (option_to_list b.packet ++ (option_to_list a.packet ++ read_again generation range w i d r));
         notes = [];
       }
 
@@ -66,7 +67,7 @@ module _ (generation : ℕ → ℕ) (range : ℕ) (w : StreamSystem) (i : ℕ) (
         let two_sent : List Sent = sent_with (request d) two.purpose l.sent in
         let n : Side = record { stand = after_turns generation i m.stand one.list; sent = one_sent } in
         let k : Side = record { stand = after_turns generation i l.stand two.list; sent = two_sent } in
-        let again_asked : List Packet = flat_map (λ g. (gives_up_get d r g).1) r.gets in
+        let again_asked : List Packet = read_again generation range w i d r in
         let unused : AreUnused d (suc d.count) two_sent = unused_on d (suc d.count) two.purpose l.sent by.log (inl refl) in
         let apart_two : Apart m.sent two_sent = apart_on m.sent l.sent (request d) two.purpose by.apart (by.metadata d.count (omega arith)) in
         let apart : Apart one_sent two_sent = apart_first m.sent two_sent (request (used d)) one.purpose apart_two (unused (suc d.count) (omega arith)) in
@@ -94,7 +95,7 @@ module _ (generation : ℕ → ℕ) (range : ℕ) (w : StreamSystem) (i : ℕ) (
               (asked_of_both generation range w i both n k apart (option_to_list b.packet) (asked_if generation range w i (log_of range) k.stand two_sent b.packet two.asked))
               (asked_joined generation range w i both n k (option_to_list a.packet) again_asked
               (asked_of_metadata generation range w i both n k apart (option_to_list a.packet) (asked_if generation range w i (metadata_of range) n.stand one_sent a.packet one.asked))
-              (asked_of_both generation range w i both n k apart again_asked (gets_plain generation range w i (log_of range) k.stand two_sent d r r.gets))));
+              (asked_of_both generation range w i both n k apart again_asked (read_again_plain generation range w i (log_of range) k.stand two_sent d r))));
         }
 
   -- ---- the jobs of both
@@ -288,6 +289,44 @@ module _ (generation : ℕ → ℕ) (range : ℕ) (w : StreamSystem) (i : ℕ) (
         k : Side
         k = record { stand = after_turns generation i l.stand two.list; sent = sent_with (request d) two.purpose l.sent }
 
+    -- ---- an index is read
+
+    indexes_give_up : (position : ℕ) → LoadsIndexes generation range w i m l r → r.stage ≡ stages.Indexing position → RuleGoes generation range w i m l d (give_up_all d r)
+    indexes_give_up position b stage =
+        gives_up jobs.Idle jobs.Idle phases.Opened b.metadata_idle b.log_idle b.phase
+        (gave_both One Two a z None one two
+        (record {
+          range_is = range_is;
+          under = under;
+          stage = subst (λ s. StageIs generation range w i n k (gave_up a z) s) (sym stage)
+              (record { phase = b.phase; metadata = one.then; metadata_idle = b.metadata_idle; log = two.then; log_idle = b.log_idle });
+        })
+        tt)
+      where
+        a : Outcome
+        a = metadata_gives jobs.Idle
+
+        z : Outcome
+        z = log_gives jobs.Idle
+
+        One : Stand → List Sent → Type 0
+        One = λ y more. LoadingIs generation (metadata_of range) w i y more a.after
+
+        Two : Stand → List Sent → Type 0
+        Two = λ y more. LoadingIs generation (log_of range) w i y more z.after
+
+        one : Goes generation (metadata_of range) w i m.stand m.sent (request (used d)) One None
+        one = rests generation (metadata_of range) w i m.stand m.sent (request (used d)) One (picked_loading generation (metadata_of range) w i m.stand m.sent r.metadata d.pick b.metadata)
+
+        two : Goes generation (log_of range) w i l.stand l.sent (request d) Two None
+        two = rests generation (log_of range) w i l.stand l.sent (request d) Two (picked_loading generation (log_of range) w i l.stand l.sent r.log d.pick b.log)
+
+        n : Side
+        n = record { stand = after_turns generation i m.stand one.list; sent = sent_with (request (used d)) one.purpose m.sent }
+
+        k : Side
+        k = record { stand = after_turns generation i l.stand two.list; sent = sent_with (request d) two.purpose l.sent }
+
 -- ---- whatever the stage
 
 module _ (generation : ℕ → ℕ) (range : ℕ) (w : StreamSystem) (i : ℕ) (both : BothListed w range) (m l : Side) (d : ServerContext) (by : IsSentBy d d.count m.sent l.sent)
@@ -317,6 +356,7 @@ module _ (generation : ℕ → ℕ) (range : ℕ) (w : StreamSystem) (i : ℕ) (
       log_gives_up generation range w i both m l d by r f.range_is f.under b (log_stays (stages.Reading kinds.Log position) e (λ n k s z. z))
   gave_up_at (stages.Reading kinds.RowData position) e b = absurd b
   gave_up_at (stages.Reading kinds.BlobData position) e b = absurd b
+  gave_up_at (stages.Indexing position) e b = indexes_give_up generation range w i both m l d by r f.range_is f.under position b e
   gave_up_at stages.Confirming e b = confirming_gives generation range w i both m l d by r f.range_is f.under b e
   gave_up_at stages.Serving e b = give_up_both generation range w i both m l d by r f e
 

@@ -20,6 +20,7 @@ pub mod GiveUp
 pub mod BothStreamsAtOnce
 pub mod Confirmed
 pub mod ReadInTurn
+pub mod ReadIndexes
 pub mod ReadLog
 pub mod ServerPick
 pub mod BothStreams

@@ -1,5 +1,5 @@
 -- The streams of a range are opened: its metadata is checked and read, and then its log, as both streams see it.
-use Rattle.std.proofs.Common.{◌≡◌, ℕ, length, Bool, true, false, not, ◌&&◌, ◌==◌, nat_lt, Option, Some, None, is_some, refl, sym, ap, ◌∙◌, subst, arith, if◌then◌else◌}
+use Rattle.std.proofs.Common.{◌≡◌, ℕ, length, Bool, true, false, not, ◌&&◌, nat_lt, Option, Some, None, is_some, refl, sym, ap, ◌∙◌, subst, arith, if◌then◌else◌}
 use Rattle.wire.specs.declared.actor.ReqNo.{ReqNo}
 use Rattle.wire.specs.declared.body.Body.TheVariants as bodies
 use Rattle.wire.specs.declared.body.StreamBody.TheVariants as streams
@@ -86,7 +86,7 @@ module _ (generation : ℕ → ℕ) (range : ℕ) (w : StreamSystem) (i : ℕ) (
       go None s = log_checked r b z e s
 
   begins_log_both : (r : RangeState) → ReadsMetadata r → RuleGoes generation range w i m l d (begins_log d r)
-  begins_log_both r b = go (is_some (open_region r.said.regions) && (is_some (first_position r r.said.regions) && (length r.said.indexes == 0)))
+  begins_log_both r b = go (is_some (open_region r.said.regions) && is_some (first_position r r.said.regions))
     where
       now : RangeState
       now = record r { regions = r.said.regions }

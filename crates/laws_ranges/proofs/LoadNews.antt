@@ -221,6 +221,7 @@ module _ (generation : ℕ → ℕ) (range : ℕ) (w : StreamSystem) (i : ℕ) (
       go (stages.Reading kinds.Log position) e b = absurd (none_awaited r.metadata.job v b.metadata_idle waits)
       go (stages.Reading kinds.RowData position) e b = absurd b
       go (stages.Reading kinds.BlobData position) e b = absurd b
+      go (stages.Indexing position) e b = absurd (none_awaited r.metadata.job v b.metadata_idle waits)
       go stages.Confirming e b = absurd (none_awaited r.metadata.job v b.metadata.idle waits)
       go stages.Serving e b = absurd (none_awaited r.metadata.job v b.metadata_idle waits)
 
@@ -238,5 +239,6 @@ module _ (generation : ℕ → ℕ) (range : ℕ) (w : StreamSystem) (i : ℕ) (
       go (stages.Reading kinds.Log position) e b = log_at_reading position e b means
       go (stages.Reading kinds.RowData position) e b = absurd b
       go (stages.Reading kinds.BlobData position) e b = absurd b
+      go (stages.Indexing position) e b = absurd (none_awaited r.log.job v b.log_idle waits)
       go stages.Confirming e b = absurd (none_awaited r.log.job v b.log.idle waits)
       go stages.Serving e b = served e

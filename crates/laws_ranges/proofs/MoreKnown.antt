@@ -123,6 +123,13 @@ module _ (generation : ℕ → ℕ) (range : ℕ) (w v : StreamSystem) (i : ℕ)
   stage_on r (stages.Reading kinds.Log position) b = loads_log_on r b
   stage_on r (stages.Reading kinds.RowData position) b = absurd b
   stage_on r (stages.Reading kinds.BlobData position) b = absurd b
+  stage_on r (stages.Indexing position) b = record {
+    phase = b.phase;
+    metadata = on_metadata r.metadata b.metadata;
+    metadata_idle = b.metadata_idle;
+    log = loading_on generation (log_of range) w v i l.stand k.stand l.sent k.sent gl sl r.log b.log;
+    log_idle = b.log_idle;
+  }
   stage_on r stages.Confirming b = record {
     q = b.q;
     phase = b.phase;

@@ -94,6 +94,7 @@ module _ (generation : ℕ → ℕ) (range : ℕ) (w : StreamSystem) (i : ℕ) (
       go (stages.Reading kinds.Log position) b = absurd (not_awaited r.load.phase phases.Opened v b.phase refl waits)
       go (stages.Reading kinds.RowData position) b = absurd b
       go (stages.Reading kinds.BlobData position) b = absurd b
+      go (stages.Indexing position) b = absurd (not_awaited r.load.phase phases.Opened v b.phase refl waits)
       go stages.Confirming b = confirming_told confirmed b v waits body number means
       go stages.Serving b = absurd (not_awaited r.load.phase phases.Confirmed v b.phase refl waits)
 

@@ -1,4 +1,4 @@
--- The log of a range is read extent by extent, and then its generation is to be confirmed, as both streams see it.
+-- The log of a range is read extent by extent, and then its indexes, as both streams see it.
 use Rattle.std.proofs.Common.{◌≡◌, ℕ, suc, List, length, Bool, true, false, nat_lt, arith, if◌then◌else◌, ◌+◌, ◌^◌, Option, Some, None}
 use Rattle.wire.specs.declared.streams.StreamKind.TheVariants as kinds
 use Rattle.client.specs.declared.load.LoadPhase.TheVariants as phases
@@ -7,9 +7,10 @@ use Rattle.model_streams.specs.StreamSystem.{StreamSystem}
 use Rattle.model_partition.specs.declared.server_context.ServerContext.{ServerContext}
 use Rattle.model_partition.specs.declared.stage.Stage.TheVariants as stages
 use Rattle.model_partition.specs.Range.{RangeState, dropped, picking, request}
-use Rattle.model_partition.specs.Loading.{Group, read_of, log_goes, confirms, reads_log, reads_log_from, replays, replayed, log_read}
+use Rattle.model_partition.specs.Loading.{Group, read_of, log_goes, reads_index, reads_log, reads_log_from, replays, replayed, log_read}
 use Rattle.laws_ranges.specs.Serves.{Side, log_of, LoadingIs, Goes, BothListed, IsSentBy, RuleGoes}
-use Rattle.laws_ranges.proofs.BothStreamsAtOnce.{AllRead, confirms_both}
+use Rattle.laws_ranges.proofs.BothStreamsAtOnce.{AllRead}
+use Rattle.laws_ranges.proofs.ReadIndexes.{reads_index_both}
 use Rattle.laws_ranges.proofs.ServerPick.{reading_goes}
 use Rattle.laws_ranges.proofs.BothStreams.{log_step}
 use Rattle.laws_ranges.proofs.Confirmed.{dropped_both}
@@ -27,11 +28,11 @@ module _ (generation : ℕ → ℕ) (range : ℕ) (w : StreamSystem) (i : ℕ) (
       went : Goes generation (log_of range) w i l.stand l.sent (request d) (λ y more. LoadingIs generation (log_of range) w i y more o.after) o.packet
       went = reading_goes generation (log_of range) w i both.log l.sent d (by.log d.count (omega arith)) l.stand r.log b.log b.log_idle position
 
-      go : (t : Bool) → RuleGoes generation range w i m l d (if t then log_goes d r (stages.Reading kinds.Log position) (read_of d (picking d r.log) position) else confirms d r)
+      go : (t : Bool) → RuleGoes generation range w i m l d (if t then log_goes d r (stages.Reading kinds.Log position) (read_of d (picking d r.log) position) else reads_index d r 0)
       go true =
           log_step generation range w i both m l d by (record r { stage = stages.Reading kinds.Log position; log = o.after }) o.packet _ went
           (record { range_is = b.range_is; under = b.under; stage = record { phase = opened; metadata = b.metadata; metadata_idle = b.metadata_idle; log = went.then } })
-      go false = confirms_both generation range w i m l d by r b
+      go false = reads_index_both generation range w i both m l d by r b opened 0
 
   -- the log is read from a position, or the range is dropped where there is none
   pub reads_log_from_both : (r : RangeState) → AllRead generation range w i m l d by r → r.load.phase ≡ phases.Opened → (o : Option ℕ) → RuleGoes generation range w i m l d (reads_log_from d r o)

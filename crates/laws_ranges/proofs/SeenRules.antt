@@ -14,7 +14,8 @@ use Rattle.model_partition.specs.declared.stage.Stage.TheVariants as stages
 use Rattle.model_partition.specs.Range.{RangeState, RangeOutcome}
 use Rattle.model_partition.specs.Serving.{transact_fault, transacts, transact_rule}
 use Rattle.model_partition.specs.Getting.{get_rule}
-use Rattle.model_partition.specs.Answering.{answered_number, log_reply, gets_reply, is_taken, answer_rule, give_up_all}
+use Rattle.model_partition.specs.PlaceReads.{reads_under}
+use Rattle.model_partition.specs.Answering.{answered_number, log_reply, index_reply, gets_reply, is_taken, answer_rule, give_up_all}
 use Rattle.model_partition.specs.ServerTurns as turns
 use Rattle.model_partition.specs.StreamActions.{StreamAction, transact_actions, log_actions, answered_actions, answer_actions}
 use Rattle.laws_stream_machine.specs.Refinement.{Means}
@@ -23,6 +24,7 @@ use Rattle.laws_loads.specs.StaysLoading.{IsConfirmation}
 use Rattle.laws_loads.proofs.WaitingIsSound.{taken_served}
 use Rattle.laws_loads.proofs.WaitingStays.{answer_stays, give_up_stays}
 use Rattle.laws_ranges.specs.Serves.{Side, metadata_of, log_of, IsCounted, IsConfirming, IsServing, StageIs, Follows, FollowsIf, BothListed, IsSentBy, AreAsked}
+use Rattle.laws_ranges.specs.Quiet.{GoesQuietly}
 use Rattle.laws_ranges.specs.Seen.{LoadIsRead, RuleSees}
 use Rattle.laws_ranges.proofs.SeenTurns.{quiet_sees}
 use Rattle.laws_ranges.proofs.LogRules.{none_formed}
@@ -30,6 +32,7 @@ use Rattle.laws_ranges.proofs.ServedRules.{transact_served, log_reply_served}
 use Rattle.laws_ranges.proofs.BothStreamsAtOnce.{taken, assigned_both}
 use Rattle.laws_ranges.proofs.UnservedRules.{unserved_quietly, stays_quietly}
 use Rattle.laws_ranges.proofs.Gets.{refused_quietly, get_quietly, gets_reply_quietly}
+use Rattle.laws_ranges.proofs.ReadIndexes.{index_reply_quietly}
 use Rattle.laws_ranges.proofs.GiveUp.{give_up_quietly}
 use Rattle.laws_ranges.proofs.GiveUpLoading.{give_up_all_both}
 use Rattle.laws_ranges.proofs.AnswerRules.{answer_both}
@@ -87,7 +90,10 @@ module _ (generation : ℕ → ℕ) (range : ℕ) (w : StreamSystem) (i : ℕ) (
       abbrev Sees : RangeOutcome → List StreamAction → Type 0
       Sees o done = RuleSees generation i range w view m l d o done
 
-      -- what an answer to the log or a Get leads to
+      -- what an answer to the log, of an index or to a Get leads to
+      abbrev reply_of : RangeOutcome
+      reply_of = if awaits r.log.job v then log_reply d r body else if reads_under r.reading v then index_reply d r body else gets_reply d r v body
+
       abbrev rest_of : RangeOutcome → List StreamAction
       rest_of o = if awaits r.log.job v then (if is_taken r body then log_actions d r body o else []) else []
 
@@ -95,8 +101,7 @@ module _ (generation : ℕ → ℕ) (range : ℕ) (w : StreamSystem) (i : ℕ) (
           Sees (answer_rule d r v body) (answer_actions d r v body (answer_rule d r v body))
       served_sees stage counted means =
           subst (λ o. Sees o (if is_some o.after then answered_actions d r v body o else [])) (sym rule_is)
-          (subst (λ done. Sees (if awaits r.log.job v then log_reply d r body else gets_reply d r v body) (if is_some (if awaits r.log.job v then log_reply d r body else gets_reply d r v body).after then done else []))
-          (sym (actions_are (if awaits r.log.job v then log_reply d r body else gets_reply d r v body))) (go (awaits r.log.job v)))
+          (subst (λ done. Sees reply_of (if is_some reply_of.after then done else [])) (sym (actions_are reply_of)) (go (awaits r.log.job v)))
         where
           b : IsServing generation range w i m l r
           b = subst (λ z. StageIs generation range w i m l r z) stage f.stage
@@ -107,18 +112,24 @@ module _ (generation : ℕ → ℕ) (range : ℕ) (w : StreamSystem) (i : ℕ) (
           no_metadata : awaits r.metadata.job v ≡ false
           no_metadata = ap (λ j. awaits j v) b.metadata_idle
 
-          rule_is : answer_rule d r v body ≡ (if awaits r.log.job v then log_reply d r body else gets_reply d r v body)
+          rule_is : answer_rule d r v body ≡ reply_of
           rule_is = chosen (load_awaits r.load.phase v) _ _ no_load ∙ chosen (awaits r.metadata.job v) _ _ no_metadata
 
           actions_are : (o : RangeOutcome) → answered_actions d r v body o ≡ rest_of o
           actions_are o = chosen (load_awaits r.load.phase v) _ _ no_load ∙ chosen (awaits r.metadata.job v) _ _ no_metadata
 
-          go : (t : Bool) → Sees (if t then log_reply d r body else gets_reply d r v body)
-              (if is_some (if t then log_reply d r body else gets_reply d r v body).after then (if t then (if is_taken r body then log_actions d r body (if t then log_reply d r body else gets_reply d r v body) else []) else []) else [])
+          quiet : (o : RangeOutcome) → GoesQuietly generation range w i m l d o → Sees o (if is_some o.after then [] else [])
+          quiet o q = quiet_sees generation range w i view m l d o (if is_some o.after then [] else []) q (kept_reads o.after [] tt)
+
+          others : (t : Bool) → (let o : RangeOutcome = if t then index_reply d r body else gets_reply d r v body in Sees o (if is_some o.after then [] else []))
+          others true = quiet (index_reply d r body) (index_reply_quietly generation range w i both m l d by r f stage body)
+          others false = quiet (gets_reply d r v body) (gets_reply_quietly generation range w i both m l d by r f v body)
+
+          go : (t : Bool) →
+              (let o : RangeOutcome = if t then log_reply d r body else if reads_under r.reading v then index_reply d r body else gets_reply d r v body in
+              Sees o (if is_some o.after then (if t then (if is_taken r body then log_actions d r body o else []) else []) else []))
           go true = log_reply_served generation range w i both m l d by r f stage view counted body means
-          go false =
-              quiet_sees generation range w i view m l d (gets_reply d r v body) (if is_some (gets_reply d r v body).after then [] else [])
-              (gets_reply_quietly generation range w i both m l d by r f v body) (kept_reads (gets_reply d r v body).after [] tt)
+          go false = others (reads_under r.reading v)
 
       -- an answer, as both streams mean it
       pub answer_sees : IsCounted i l.stand → answered_number body ≡ Some v → Means generation (metadata_of range) w m.stand.state m.sent body → Means generation (log_of range) w l.stand.state l.sent body →

@@ -15,6 +15,7 @@ pub serving_only : (stage : Stage) → is_serving stage ≡ true → stage ≡ s
 serving_only stages.Opening e = absurd (cc)
 serving_only (stages.Checking kind) e = absurd (cc)
 serving_only (stages.Reading kind position) e = absurd (cc)
+serving_only (stages.Indexing position) e = absurd (cc)
 serving_only stages.Confirming e = absurd (cc)
 serving_only stages.Serving e = refl
 
@@ -39,6 +40,7 @@ module _ (generation : ℕ → ℕ) (range : ℕ) (w : StreamSystem) (i : ℕ) (
   confirming_by (stages.Reading kinds.Log position) q b e = absurd (let z : phases.Opened ≡ phases.Confirming q = sym b.phase ∙ e in cc)
   confirming_by (stages.Reading kinds.RowData position) q b e = absurd b
   confirming_by (stages.Reading kinds.BlobData position) q b e = absurd b
+  confirming_by (stages.Indexing position) q b e = absurd (let z : phases.Opened ≡ phases.Confirming q = sym b.phase ∙ e in cc)
   confirming_by stages.Confirming q b e = refl
   confirming_by stages.Serving q b e = absurd (let z : phases.Confirmed ≡ phases.Confirming q = sym b.phase ∙ e in cc)
 

@@ -50,6 +50,7 @@ module _ (generation : ℕ → ℕ) (range : ℕ) (w : StreamSystem) (i : ℕ) w
   stage_loading m l r (stages.Reading kinds.Log position) b e = job_loading generation (log_of range) w i l.stand l.sent r.log r.log.job b.log.job
   stage_loading m l r (stages.Reading kinds.RowData position) b e = absurd b
   stage_loading m l r (stages.Reading kinds.BlobData position) b e = absurd b
+  stage_loading m l r (stages.Indexing position) b e = job_loading generation (log_of range) w i l.stand l.sent r.log r.log.job b.log.job
   stage_loading m l r stages.Confirming b e = subst (λ z. IsLoading z) (sym b.log.stands) tt
   stage_loading m l r stages.Serving b e = absurd (cc)
 
@@ -67,6 +68,7 @@ module _ (generation : ℕ → ℕ) (range : ℕ) (w : StreamSystem) (i : ℕ) w
   metadata_loading m l r (stages.Reading kinds.Log position) b e = job_loading generation (metadata_of range) w i m.stand m.sent r.metadata r.metadata.job b.metadata.job
   metadata_loading m l r (stages.Reading kinds.RowData position) b e = absurd b
   metadata_loading m l r (stages.Reading kinds.BlobData position) b e = absurd b
+  metadata_loading m l r (stages.Indexing position) b e = job_loading generation (metadata_of range) w i m.stand m.sent r.metadata r.metadata.job b.metadata.job
   metadata_loading m l r stages.Confirming b e = subst (λ z. IsLoading z) (sym b.metadata.stands) tt
   metadata_loading m l r stages.Serving b e = absurd (cc)
 

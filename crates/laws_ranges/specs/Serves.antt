@@ -293,6 +293,14 @@ module _ (generation : ℕ → ℕ) (range : ℕ) (w : StreamSystem) (i : ℕ) (
     pub metadata_idle : r.metadata.job ≡ jobs.Idle
     pub log : LoadingIs generation (log_of range) w i l.stand l.sent r.log
 
+  -- both streams are read, and an index is being read
+  pub record LoadsIndexes (r : RangeState) : Type 0 where
+    pub phase : r.load.phase ≡ phases.Opened
+    pub metadata : LoadingIs generation (metadata_of range) w i m.stand m.sent r.metadata
+    pub metadata_idle : r.metadata.job ≡ jobs.Idle
+    pub log : LoadingIs generation (log_of range) w i l.stand l.sent r.log
+    pub log_idle : r.log.job ≡ jobs.Idle
+
   pub record IsConfirming (r : RangeState) : Type 0 where
     pub q : ReqNo
     pub phase : r.load.phase ≡ phases.Confirming q
@@ -316,6 +324,7 @@ module _ (generation : ℕ → ℕ) (range : ℕ) (w : StreamSystem) (i : ℕ) (
   StageIs r (stages.Reading kinds.Log position) = LoadsLog r
   StageIs r (stages.Reading kinds.RowData position) = ⊥
   StageIs r (stages.Reading kinds.BlobData position) = ⊥
+  StageIs r (stages.Indexing position) = LoadsIndexes r
   StageIs r stages.Confirming = IsConfirming r
   StageIs r stages.Serving = IsServing r
 

@@ -175,6 +175,7 @@ module _ (texts : ℕ → Bytes) (subject : ℕ) (run : Run) (v : RangeView) (r 
   is_opening stages.Opening phase q is e = refl
   is_opening (stages.Checking kind) phase q is e = absurd cc
   is_opening (stages.Reading kind position) phase q is e = absurd cc
+  is_opening (stages.Indexing position) phase q is e = absurd cc
   is_opening stages.Confirming phase q is e = absurd (let other : phase ≡ phases.Confirming is.0 = is.1 in cc)
   is_opening stages.Serving phase q is e = absurd cc
 
@@ -183,6 +184,7 @@ module _ (texts : ℕ → Bytes) (subject : ℕ) (run : Run) (v : RangeView) (r 
   is_confirming stages.Opening phase q is e = absurd (let other : phase ≡ phases.Opening is.0 = is.1 in cc)
   is_confirming (stages.Checking kind) phase q is e = absurd cc
   is_confirming (stages.Reading kind position) phase q is e = absurd cc
+  is_confirming (stages.Indexing position) phase q is e = absurd cc
   is_confirming stages.Confirming phase q is e = refl
   is_confirming stages.Serving phase q is e = absurd cc
 

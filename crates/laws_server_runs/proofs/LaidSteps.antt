@@ -1,7 +1,8 @@
 -- Each rule of a range, whatever its streams are, keeps its number and what its layer is laid within, and what it shows is of that
 -- number and laid within what was shown.
-use Rattle.std.proofs.Common.{◌≡◌, ℕ, suc, ◌+◌, ◌-◌, ◌^◌, Bool, true, false, not, List, [], ◌∷◌, ◌++◌, length, map, nat_lt, ◌&&◌, ◌==◌, Option, Some, None, is_some, option_to_list, refl, sym, ap, ◌∙◌, subst, if◌then◌else◌}
+use Rattle.std.proofs.Common.{◌≡◌, ℕ, suc, ◌+◌, ◌-◌, ◌^◌, Bool, true, false, not, List, [], ◌∷◌, ◌++◌, length, map, nat_lt, ◌&&◌, Option, Some, None, is_some, option_to_list, refl, sym, ap, ◌∙◌, subst, if◌then◌else◌}
 use Rattle.std.specs.Prelude.{flat_map}
+use Rattle.block_types.specs.declared.record.Nodes.{Nodes}
 use Rattle.wire.specs.declared.actor.ActorId.{ActorId}
 use Rattle.wire.specs.declared.actor.ReqNo.{ReqNo}
 use Rattle.wire.specs.declared.body.AppendBody.{AppendBody}
@@ -20,7 +21,10 @@ use Rattle.wire.specs.declared.streams.StreamKind.TheVariants as kinds
 use Rattle.wire.specs.declared.streams.StreamLists.{StreamLists}
 use Rattle.wire.specs.declared.transaction.Change.{Change}
 use Rattle.memtable.specs.Entries.{Entries, put_all}
+use Rattle.metadata.specs.declared.record.IndexRange.{IndexRange}
 use Rattle.metadata.specs.declared.record.Region.{Region}
+use Rattle.checkpoint_format.specs.declared.index.Index.{Index}
+use Rattle.checkpoint_format.specs.Index.{index_at}
 use Rattle.metadata.specs.Fold.{MetadataState, first_metadata}
 use Rattle.client.specs.declared.job.News.{News}
 use Rattle.client.specs.declared.job.News.TheVariants as news
@@ -36,13 +40,15 @@ use Rattle.model_partition.specs.declared.stage.Stage.TheVariants as stages
 use Rattle.model_partition.specs.declared.table_note.TableNote.{TableNote}
 use Rattle.model_partition.specs.declared.waiting.WaitingTransaction.{WaitingTransaction}
 use Rattle.model_partition.specs.Range.{OutGroup, RangeState, RangeOutcome, request, goes, answers, dropped, refused_users, picking, if_there, is_serving}
-use Rattle.model_partition.specs.Loading.{Group, said_after, confirms, reads_log, open_region, first_position, reads_log_from, checks_log, begins_log, reads_metadata, begins_metadata, opens, are_counted, says, metadata_news, replayed, replays, log_read, log_news, serves, serves_from, serves_region}
+use Rattle.model_partition.specs.Loading.{Group, said_after, confirms, asks_index, index_named, reads_named, reads_index, installs, index_read, reads_log, open_region, first_position, reads_log_from, checks_log, begins_log, reads_metadata, begins_metadata, opens, are_counted, says, metadata_news, replayed, replays, log_read, log_news, serves, serves_from, serves_region}
 use Rattle.model_partition.specs.Serving.{group_count, began, appends as appending, forms, transact_fault, transacts, transact_rule, dones, record_of, out_size, applies, log_done}
-use Rattle.model_partition.specs.Getting.{get_fault, gets, get_rule}
-use Rattle.model_partition.specs.Answering.{load_refused, load_told, load_reply, metadata_reply, serving_news, is_taken, log_taken, log_reply, bytes_reply, gets_reply, groups_of, answer_rule, give_up_all}
+use Rattle.model_partition.specs.PlaceReads.{places_of, reads_under}
+use Rattle.model_partition.specs.Getting.{get_fault, gets, get_rule, read_at, are_no_page}
+use Rattle.model_partition.specs.Answering.{load_refused, load_told, load_reply, metadata_reply, serving_news, is_taken, log_taken, log_reply, index_reply, bytes_reply, gets_reply, groups_of, answer_rule, give_up_all}
 use Rattle.model_partition.specs.Server.{new_range}
 use Rattle.model_partition.specs.StreamActions.{StreamAction, Reads, Forms, group_of, transact_actions, loading_actions, serving_actions, confirmed_actions, load_actions, metadata_actions, log_actions, answer_actions}
 use Rattle.model_partition.specs.ServerRun.{PlacedBytes, RangeHistory, bytes_read}
+use Rattle.laws_loads.proofs.IndexAnswers.{index_reply_elim}
 use Rattle.laws_loads.proofs.WaitingIsSound.{taken_served}
 use Rattle.laws_loads.specs.RangeView.{RangeView, view_after_all}
 use Rattle.laws_server_runs.specs.Places.{IsLaid, NotesWithin, RangeLaid, RangeLaidIf, StepLaid}
@@ -94,8 +100,24 @@ module _ (k : ℕ) (v : RangeView) (r : RangeState) (before : RangeLaid k v.hist
     confirms_left : (s : RangeState) → IsLoading s → Left actions (confirms d s)
     confirms_left s l = goes_left _ _ _ (loads _ l.range l.layer refl)
 
+    asks_index_left : (s : RangeState) → IsLoading s → (position : ℕ) (index : IndexRange) (places : Option Nodes) → Left actions (asks_index d s position index places)
+    asks_index_left s l position index None = drops_left _ _
+    asks_index_left s l position index (Some places) = goes_left _ _ _ (loads _ l.range l.layer refl)
+
+    reads_named_left : (s : RangeState) → IsLoading s → (position : ℕ) (named : Option IndexRange) → Left actions (reads_named d s position named)
+    reads_named_left s l position None = confirms_left (record s { reading = None }) (record { range = l.range; layer = l.layer })
+    reads_named_left s l position (Some index) = asks_index_left s l position index (places_of s index.place.extent)
+
+    reads_index_left : (s : RangeState) → IsLoading s → (position : ℕ) → Left actions (reads_index d s position)
+    reads_index_left s l position = reads_named_left s l position (index_named s.said.indexes position)
+
+    installs_left : (s : RangeState) → IsLoading s → (position : ℕ) (named : Option IndexRange) (index : Option Index) → Left actions (installs d s position named index)
+    installs_left s l position (Some named) (Some index) =
+        reads_index_left (record s { indexes = record { place = named.place; keys = named.keys; index = index } ∷ s.indexes }) (record { range = l.range; layer = l.layer }) (suc position)
+    installs_left s l position named index = drops_left _ _
+
     reads_log_left : (s : RangeState) → IsLoading s → (position : ℕ) → Left actions (reads_log d s position)
-    reads_log_left s l position = if_elim (Left actions) (nat_lt position (length s.log.extents)) _ _ (λ t. goes_left _ _ _ (loads _ l.range l.layer refl)) (λ f. confirms_left s l)
+    reads_log_left s l position = if_elim (Left actions) (nat_lt position (length s.log.extents)) _ _ (λ t. goes_left _ _ _ (loads _ l.range l.layer refl)) (λ f. reads_index_left s l 0)
 
     reads_log_from_left : (s : RangeState) → IsLoading s → (position : Option ℕ) → Left actions (reads_log_from d s position)
     reads_log_from_left s l None = drops_left _ _
@@ -108,7 +130,7 @@ module _ (k : ℕ) (v : RangeView) (r : RangeState) (before : RangeLaid k v.hist
 
     begins_log_left : (s : RangeState) → IsLoading s → Left actions (begins_log d s)
     begins_log_left s l =
-        if_elim (Left actions) (is_some (open_region s.said.regions) && (is_some (first_position s s.said.regions) && (length s.said.indexes == 0))) _ _
+        if_elim (Left actions) (is_some (open_region s.said.regions) && is_some (first_position s s.said.regions)) _ _
         (λ t. checks_log_left (record s { regions = s.said.regions }) (record { range = l.range; layer = l.layer }) (last_extent s.log.extents)) (λ f. drops_left _ _)
 
     reads_metadata_left : (s : RangeState) → IsLoading s → (position : ℕ) → Left actions (reads_metadata d s position)
@@ -160,6 +182,7 @@ module _ (k : ℕ) (v : RangeView) (r : RangeState) (before : RangeLaid k v.hist
     metadata_step stages.Opening is told = rests_with (record r { metadata = c }) (suc d.count) packets (record { range = before.range; confirmed = before.confirmed; layer = before.layer })
     metadata_step (stages.Checking kind) is told = rests_with (record r { metadata = c }) (suc d.count) packets (record { range = before.range; confirmed = before.confirmed; layer = before.layer })
     metadata_step (stages.Reading kind position) is told = rests_with (record r { metadata = c }) (suc d.count) packets (record { range = before.range; confirmed = before.confirmed; layer = before.layer })
+    metadata_step (stages.Indexing position) is told = rests_with (record r { metadata = c }) (suc d.count) packets (record { range = before.range; confirmed = before.confirmed; layer = before.layer })
     metadata_step stages.Confirming is told = rests_with (record r { metadata = c }) (suc d.count) packets (record { range = before.range; confirmed = before.confirmed; layer = before.layer })
     metadata_step stages.Serving is told = rests_with (record r { metadata = c }) (suc d.count) packets (record { range = before.range; confirmed = before.confirmed; layer = before.layer })
 
@@ -200,6 +223,7 @@ module _ (k : ℕ) (v : RangeView) (r : RangeState) (before : RangeLaid k v.hist
     log_step stages.Opening is told = rests_with now (suc d.count) packets (record { range = before.range; confirmed = before.confirmed; layer = before.layer })
     log_step (stages.Checking kind) is told = rests_with now (suc d.count) packets (record { range = before.range; confirmed = before.confirmed; layer = before.layer })
     log_step (stages.Reading kind position) is told = rests_with now (suc d.count) packets (record { range = before.range; confirmed = before.confirmed; layer = before.layer })
+    log_step (stages.Indexing position) is told = rests_with now (suc d.count) packets (record { range = before.range; confirmed = before.confirmed; layer = before.layer })
     log_step stages.Confirming is told = rests_with now (suc d.count) packets (record { range = before.range; confirmed = before.confirmed; layer = before.layer })
     log_step stages.Serving is told = rests_with now (suc d.count) packets (record { range = before.range; confirmed = before.confirmed; layer = before.layer })
 
@@ -304,8 +328,18 @@ module _ (k : ℕ) (v : RangeView) (r : RangeState) (before : RangeLaid k v.hist
   refused_left body = rests_left
 
   bytes_left : (w : ReqNo) (body : ReadBody) → Left [] (bytes_reply d r w body)
-  bytes_left w (reads.Bytes n e offset bytes) = goes_left [] _ _ _ (record { range = before.range; confirmed = before.confirmed; layer = before.layer })
+  bytes_left w (reads.Bytes n e offset bytes) =
+      if_elim (Left []) (are_no_page (read_at r.gets w) bytes) _ _ (λ t. rests_left)
+      (λ f. goes_left [] _ _ _ (record { range = before.range; confirmed = before.confirmed; layer = before.layer }))
   bytes_left w body = rests_left
+
+  index_read_left : (stage : Stage) → r.stage ≡ stage → (bytes : List ℕ) → Left [] (index_read d r stage bytes)
+  index_read_left (stages.Indexing position) is bytes =
+      installs_left [] r (record { range = before.range; layer = layer_of _ is refl }) position (index_named r.said.indexes position) (index_at bytes)
+  index_read_left stage is bytes = rests_left
+
+  index_reply_left : (body : Body) → Left [] (index_reply d r body)
+  index_reply_left body = index_reply_elim (Left []) d r rests_left (drops_left [] _ _) (index_read_left r.stage refl) body
 
   gets_reply_left : (w : ReqNo) (body : Body) → Left [] (gets_reply d r w body)
   gets_reply_left w (bodies.Read body) = bytes_left w body
@@ -375,16 +409,17 @@ module _ (k : ℕ) (v : RangeView) (r : RangeState) (before : RangeLaid k v.hist
     log_left true = taken_left (is_serving r.stage) refl
     log_left false = rests_left
 
-    answered : (w : ReqNo) (a b c : Bool) →
+    answered : (w : ReqNo) (a b c e : Bool) →
         Left
         (if a then load_actions r body else if b then metadata_actions d r body else if c then (if is_taken r body then log_actions d r body
-        (if a then load_reply d r body else if b then metadata_reply d r body else if c then log_reply d r body else gets_reply d r w body) else []) else [])
-        (if a then load_reply d r body else if b then metadata_reply d r body else if c then log_reply d r body else gets_reply d r w body)
-    answered w true b c = load_left body
-    answered w false true c = metadata_left body
-    answered w false false true = log_left (is_taken r body)
-    answered w false false false = gets_reply_left w body
+        (if a then load_reply d r body else if b then metadata_reply d r body else if c then log_reply d r body else if e then index_reply d r body else gets_reply d r w body) else []) else [])
+        (if a then load_reply d r body else if b then metadata_reply d r body else if c then log_reply d r body else if e then index_reply d r body else gets_reply d r w body)
+    answered w true b c e = load_left body
+    answered w false true c e = metadata_left body
+    answered w false false true e = log_left (is_taken r body)
+    answered w false false false true = index_reply_left body
+    answered w false false false false = gets_reply_left w body
 
     -- an answer
     pub answer_laid : (w : ReqNo) → StepLaid k v r.load.generation (answer_actions d r w body (answer_rule d r w body)) (answer_rule d r w body)
-    answer_laid w = answered w (load_awaits r.load.phase w) (awaits r.metadata.job w) (awaits r.log.job w)
+    answer_laid w = answered w (load_awaits r.load.phase w) (awaits r.metadata.job w) (awaits r.log.job w) (reads_under r.reading w)

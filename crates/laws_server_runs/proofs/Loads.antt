@@ -19,13 +19,15 @@ use Rattle.wire.specs.declared.streams.StreamList.{StreamList}
 use Rattle.memtable.specs.declared.cell.Place.{Place}
 use Rattle.client.specs.declared.job.Job.TheVariants as jobs
 use Rattle.client.specs.Client.{ClientState, give_up_job, give_up_rule}
+use Rattle.model_streams.proofs.Tests.{if_elim}
 use Rattle.model_partition.specs.declared.server_context.ServerContext.{ServerContext}
 use Rattle.model_partition.specs.declared.stage.Stage.{Stage}
 use Rattle.model_partition.specs.declared.stage.Stage.TheVariants as stages
+use Rattle.model_partition.specs.declared.waiting.PlaceRead.{PlaceRead}
 use Rattle.model_partition.specs.declared.waiting.WaitingGet.{WaitingGet}
 use Rattle.model_partition.specs.Past.{Bytes}
 use Rattle.model_partition.specs.Range.{RangeState, RangeOutcome, request, used, picking, dropped}
-use Rattle.model_partition.specs.Getting.{get_fault, gets, get_rule}
+use Rattle.model_partition.specs.Getting.{get_fault, gets, get_rule, read_at, are_no_page}
 use Rattle.model_partition.specs.Answering.{load_refused, bytes_reply, gets_reply, give_up_all}
 use Rattle.model_partition.specs.Server.{new_range}
 use Rattle.model_partition.specs.ServerRun.{first_history}
@@ -37,10 +39,10 @@ use Rattle.laws_server_runs.specs.RangeInvariant.{ReadsMetadata, ReadsLog, Match
 
 -- ---- the same range, but for what nothing is kept of
 
-module _ (texts : ℕ → Bytes) (subject : ℕ) (run : Run) (v : RangeView) (r : RangeState) (until : ℕ) (metadata log : ClientState) (row_data blob_data : StreamList) (gets : List WaitingGet) (held : List (Place × List ℕ))
+module _ (texts : ℕ → Bytes) (subject : ℕ) (run : Run) (v : RangeView) (r : RangeState) (until : ℕ) (metadata log : ClientState) (row_data blob_data : StreamList) (reading : Option PlaceRead) (gets : List WaitingGet) (held : List (Place × List ℕ))
     (metadata_idle : r.metadata.job ≡ jobs.Idle → metadata.job ≡ jobs.Idle) (log_idle : r.log.job ≡ jobs.Idle → log.job ≡ jobs.Idle) where
   abbrev other : RangeState
-  other = record r { until = until; metadata = metadata; log = log; row_data = row_data; blob_data = blob_data; gets = gets; held = held }
+  other = record r { until = until; metadata = metadata; log = log; row_data = row_data; blob_data = blob_data; reading = reading; gets = gets; held = held }
 
   metadata_same : ReadsMetadata v.history r → ReadsMetadata v.history other
   metadata_same h = record { said = h.said; log = h.log; live = h.live; fixed = h.fixed; idle = log_idle h.idle }
@@ -71,6 +73,7 @@ module _ (texts : ℕ → Bytes) (subject : ℕ) (run : Run) (v : RangeView) (r 
   stage_same (stages.Reading kinds.Log position) h = log_same h
   stage_same (stages.Reading kinds.RowData position) h = h
   stage_same (stages.Reading kinds.BlobData position) h = h
+  stage_same (stages.Indexing position) h = log_same h
   stage_same stages.Confirming h = log_same h
   stage_same stages.Serving h = record { shown = h.shown; matches = matches_same (held_by first_beginning run r.load.generation) h.matches }
 
@@ -80,7 +83,7 @@ module _ (texts : ℕ → Bytes) (subject : ℕ) (run : Run) (v : RangeView) (r 
 
 -- the lease of a range is renewed
 pub renewed_kept : (texts : ℕ → Bytes) (subject : ℕ) (run : Run) (v : RangeView) (r : RangeState) → RangeKept texts subject run v r → (until : ℕ) → RangeKept texts subject run v (record r { until = until })
-renewed_kept texts subject run v r kept until = same_kept texts subject run v r until r.metadata r.log r.row_data r.blob_data r.gets r.held (λ e. e) (λ e. e) kept
+renewed_kept texts subject run v r kept until = same_kept texts subject run v r until r.metadata r.log r.row_data r.blob_data r.reading r.gets r.held (λ e. e) (λ e. e) kept
 
 -- a range whose load begins
 pub new_kept : (texts : ℕ → Bytes) (subject : ℕ) (run : Run) (v : RangeView) (d : ServerContext) → v.history ≡ first_history → (generation until : ℕ) → RangeKept texts subject run v (new_range d subject generation until)
@@ -115,40 +118,43 @@ calm_kept texts subject run v r o streams quiet kept anew = record {
 
 module _ (texts : ℕ → Bytes) (subject : ℕ) (run : Run) (v : RangeView) (r : RangeState) (kept : RangeKept texts subject run v r) (streams : StreamsKept texts run v) (d : ServerContext) where
   -- nothing is done with a stream, and the range stays at its stage
-  pub rests_kept : (until : ℕ) (metadata log : ClientState) (gets : List WaitingGet) (held : List (Place × List ℕ)) (count : ℕ) (packets : List Packet) →
+  pub rests_kept : (until : ℕ) (metadata log : ClientState) (reading : Option PlaceRead) (gets : List WaitingGet) (held : List (Place × List ℕ)) (count : ℕ) (packets : List Packet) →
       (r.metadata.job ≡ jobs.Idle → metadata.job ≡ jobs.Idle) → (r.log.job ≡ jobs.Idle → log.job ≡ jobs.Idle) →
       StepKept texts subject run v r []
-      (record { after = Some (record r { until = until; metadata = metadata; log = log; gets = gets; held = held }); count = count; packets = packets; notes = [] })
-  rests_kept until metadata log gets held count packets metadata_idle log_idle =
+      (record { after = Some (record r { until = until; metadata = metadata; log = log; reading = reading; gets = gets; held = held }); count = count; packets = packets; notes = [] })
+  rests_kept until metadata log reading gets held count packets metadata_idle log_idle =
       calm_kept texts subject run v r
-      (record { after = Some (record r { until = until; metadata = metadata; log = log; gets = gets; held = held }); count = count; packets = packets; notes = [] })
-      streams refl (same_kept texts subject run v r until metadata log r.row_data r.blob_data gets held metadata_idle log_idle kept, refl) (λ serves. inl serves)
+      (record { after = Some (record r { until = until; metadata = metadata; log = log; reading = reading; gets = gets; held = held }); count = count; packets = packets; notes = [] })
+      streams refl (same_kept texts subject run v r until metadata log r.row_data r.blob_data reading gets held metadata_idle log_idle kept, refl) (λ serves. inl serves)
 
   gets_kept : (from : ActorId) (q : ReqNo) (key : List ℕ) (fault : Option Refusal) → StepKept texts subject run v r [] (gets d r from q key fault)
-  gets_kept from q key (Some refusal) = rests_kept r.until r.metadata r.log r.gets r.held _ _ (λ e. e) (λ e. e)
-  gets_kept from q key None = rests_kept r.until r.metadata r.log _ _ _ _ (λ e. e) (λ e. e)
+  gets_kept from q key (Some refusal) = rests_kept r.until r.metadata r.log r.reading r.gets r.held _ _ (λ e. e) (λ e. e)
+  gets_kept from q key None = rests_kept r.until r.metadata r.log r.reading _ _ _ _ (λ e. e) (λ e. e)
 
   -- a Get
   pub get_kept : (from : ActorId) (q : ReqNo) (key : List ℕ) → StepKept texts subject run v r [] (get_rule d r from q key)
   get_kept from q key = gets_kept from q key (get_fault d r key)
 
   bytes_kept : (w : ReqNo) (body : ReadBody) → StepKept texts subject run v r [] (bytes_reply d r w body)
-  bytes_kept w (reads.Bytes n e offset bytes) = rests_kept r.until r.metadata r.log _ _ _ _ (λ e. e) (λ e. e)
-  bytes_kept w body = rests_kept r.until r.metadata r.log r.gets r.held _ _ (λ e. e) (λ e. e)
+  bytes_kept w (reads.Bytes n e offset bytes) =
+      if_elim (λ o. StepKept texts subject run v r [] o) (are_no_page (read_at r.gets w) bytes) _ _
+      (λ t. rests_kept r.until r.metadata r.log r.reading r.gets r.held _ _ (λ e. e) (λ e. e))
+      (λ f. rests_kept r.until r.metadata r.log r.reading _ _ _ _ (λ e. e) (λ e. e))
+  bytes_kept w body = rests_kept r.until r.metadata r.log r.reading r.gets r.held _ _ (λ e. e) (λ e. e)
 
   -- a range of an old generation is dropped
-  dropped_kept : StepKept texts subject run v r [] (dropped d r)
+  pub dropped_kept : StepKept texts subject run v r [] (dropped d r)
   dropped_kept = calm_kept texts subject run v r (dropped d r) streams refl tt tt
 
   refused_kept : (body : AppendBody) → StepKept texts subject run v r [] (load_refused d r body)
   refused_kept (appends.Refused n refusals.Stale) = dropped_kept
-  refused_kept body = rests_kept r.until r.metadata r.log r.gets r.held _ _ (λ e. e) (λ e. e)
+  refused_kept body = rests_kept r.until r.metadata r.log r.reading r.gets r.held _ _ (λ e. e) (λ e. e)
 
   -- an answer to a Get's read
   pub gets_reply_kept : (w : ReqNo) (body : Body) → StepKept texts subject run v r [] (gets_reply d r w body)
   gets_reply_kept w (bodies.Read body) = bytes_kept w body
   gets_reply_kept w (bodies.Append body) = refused_kept body
-  gets_reply_kept w body = rests_kept r.until r.metadata r.log r.gets r.held _ _ (λ e. e) (λ e. e)
+  gets_reply_kept w body = rests_kept r.until r.metadata r.log r.reading r.gets r.held _ _ (λ e. e) (λ e. e)
 
   -- a client that waits for nothing gives nothing up
   idle_rests : (c : ClientState) (q : ReqNo) (pick : Nodes) → c.job ≡ jobs.Idle → (give_up_rule c q pick).after.job ≡ jobs.Idle
@@ -156,4 +162,4 @@ module _ (texts : ℕ → Bytes) (subject : ℕ) (run : Run) (v : RangeView) (r 
 
   -- the jobs of the range give up
   pub give_up_kept : StepKept texts subject run v r [] (give_up_all d r)
-  give_up_kept = rests_kept r.until _ _ _ r.held _ _ (idle_rests (picking d r.metadata) (request (used d)) d.pick) (idle_rests (picking d r.log) (request d) d.pick)
+  give_up_kept = rests_kept r.until _ _ _ _ r.held _ _ (idle_rests (picking d r.metadata) (request (used d)) d.pick) (idle_rests (picking d r.log) (request d) d.pick)

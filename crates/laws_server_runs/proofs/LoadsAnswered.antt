@@ -5,15 +5,22 @@ use Rattle.wire.specs.declared.actor.ReqNo.{ReqNo}
 use Rattle.wire.specs.declared.body.Body.{Body}
 use Rattle.client.specs.Client.{awaits}
 use Rattle.client.specs.Load.{load_awaits}
+use Rattle.checkpoint_format.specs.Index.{index_at}
 use Rattle.model_partition.specs.declared.server_context.ServerContext.{ServerContext}
+use Rattle.model_partition.specs.declared.stage.Stage.{Stage}
+use Rattle.model_partition.specs.declared.stage.Stage.TheVariants as stages
 use Rattle.model_partition.specs.Past.{Bytes}
-use Rattle.model_partition.specs.Range.{RangeState, RangeOutcome, is_serving}
-use Rattle.model_partition.specs.Answering.{load_reply, log_reply, is_taken, answer_rule, metadata_reply, gets_reply}
+use Rattle.model_partition.specs.Range.{RangeState, RangeOutcome, answers, is_serving}
+use Rattle.model_partition.specs.PlaceReads.{reads_under}
+use Rattle.model_partition.specs.Loading.{index_named, installs, index_read}
+use Rattle.model_partition.specs.Answering.{load_reply, log_reply, is_taken, answer_rule, metadata_reply, index_reply, gets_reply}
 use Rattle.model_partition.specs.StreamActions.{StreamAction, load_actions, log_actions, metadata_actions, answer_actions}
 use Rattle.laws_loads.specs.RangeView.{RangeView}
+use Rattle.laws_loads.proofs.IndexAnswers.{index_reply_elim}
 use Rattle.laws_tables.specs.Runs.{Run}
-use Rattle.laws_server_runs.specs.RangeInvariant.{RangeKept, StreamsKept, StepKept}
-use Rattle.laws_server_runs.proofs.Loads.{gets_reply_kept}
+use Rattle.laws_server_runs.specs.RangeInvariant.{PhaseIs, StageIs, RangeKept, StreamsKept, StepKept}
+use Rattle.laws_server_runs.proofs.Loads.{rests_kept, dropped_kept, gets_reply_kept}
+use Rattle.laws_server_runs.proofs.LoadsSteps.{installs_left, without_actions}
 use Rattle.laws_server_runs.proofs.LoadsAnswers.{metadata_kept, log_loading_kept}
 
 module _ (texts : ℕ → Bytes) (subject : ℕ) (run : Run) (v : RangeView) (r : RangeState) (kept : RangeKept texts subject run v r) (streams : StreamsKept texts run v) (d : ServerContext) (w : ReqNo) (body : Body)
@@ -32,14 +39,30 @@ module _ (texts : ℕ → Bytes) (subject : ℕ) (run : Run) (v : RangeView) (r 
   nothing true o h = h
   nothing false o h = h
 
-  answered : (a b c : Bool) → load_awaits r.load.phase w ≡ a → awaits r.metadata.job w ≡ b → awaits r.log.job w ≡ c →
+  rested : StepKept texts subject run v r [] (answers d r [])
+  rested = rests_kept texts subject run v r kept streams d r.until r.metadata r.log r.reading r.gets r.held _ _ (λ idle. idle) (λ idle. idle)
+
+  index_read_kept : (stage : Stage) → PhaseIs texts stage r.load.phase → StageIs texts run v r stage → (bytes : List ℕ) → StepKept texts subject run v r [] (index_read d r stage bytes)
+  index_read_kept (stages.Indexing position) p s bytes =
+      without_actions texts subject run v r (installs d r position (index_named r.said.indexes position) (index_at bytes))
+      (installs_left texts subject run v r streams d [] v.history refl r (record { range = kept.range; generation = refl; opened = p; sound = kept.sound }) s position (index_named r.said.indexes position)
+      (index_at bytes))
+  index_read_kept stage p s bytes = rested
+
+  -- the answer to the read of an index
+  index_reply_kept : StepKept texts subject run v r [] (index_reply d r body)
+  index_reply_kept =
+      index_reply_elim (λ o. StepKept texts subject run v r [] o) d r rested (dropped_kept texts subject run v r kept streams d) (index_read_kept r.stage kept.phase kept.stage) body
+
+  answered : (a b c e : Bool) → load_awaits r.load.phase w ≡ a → awaits r.metadata.job w ≡ b → awaits r.log.job w ≡ c →
       Kept (λ o. if a then load_actions r body else if b then metadata_actions d r body else if c then (if is_taken r body then log_actions d r body o else []) else [])
-      (if a then load_reply d r body else if b then metadata_reply d r body else if c then log_reply d r body else gets_reply d r w body)
-  answered true b c e f g = load e
-  answered false true c e f g = metadata_kept texts subject run v r kept streams d w body f
-  answered false false true e f g = log_answer g (is_serving r.stage) refl
-  answered false false false e f g = nothing (is_some (gets_reply d r w body).after) (gets_reply d r w body) (gets_reply_kept texts subject run v r kept streams d w body)
+      (if a then load_reply d r body else if b then metadata_reply d r body else if c then log_reply d r body else if e then index_reply d r body else gets_reply d r w body)
+  answered true b c e x f g = load x
+  answered false true c e x f g = metadata_kept texts subject run v r kept streams d w body f
+  answered false false true e x f g = log_answer g (is_serving r.stage) refl
+  answered false false false true x f g = nothing (is_some (index_reply d r body).after) (index_reply d r body) index_reply_kept
+  answered false false false false x f g = nothing (is_some (gets_reply d r w body).after) (gets_reply d r w body) (gets_reply_kept texts subject run v r kept streams d w body)
 
   -- an answer, where that of the opening or the confirmation and that of a served range's log are kept
   pub answer_kept : StepKept texts subject run v r (answer_actions d r w body (answer_rule d r w body)) (answer_rule d r w body)
-  answer_kept = answered (load_awaits r.load.phase w) (awaits r.metadata.job w) (awaits r.log.job w) refl refl refl
+  answer_kept = answered (load_awaits r.load.phase w) (awaits r.metadata.job w) (awaits r.log.job w) (reads_under r.reading w) refl refl refl

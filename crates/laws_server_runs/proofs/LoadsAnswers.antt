@@ -147,7 +147,7 @@ module _ (texts : ℕ → Bytes) (subject : ℕ) (run : Run) (v : RangeView) (r 
   module _ (w : ReqNo) (waited : awaits r.metadata.job w ≡ true) (groups : List Group) (packets : List Packet) (c : ClientState) where
     metadata_rests : (count : ℕ) → StepKept texts subject run v r [] (record { after = Some (record r { metadata = c }); count = count; packets = packets; notes = [] })
     metadata_rests count =
-        rests_kept texts subject run v r kept streams d r.until c r.log r.gets r.held count packets (λ idle. absurd (busy r.metadata.job w waited idle)) (λ idle. idle)
+        rests_kept texts subject run v r kept streams d r.until c r.log r.reading r.gets r.held count packets (λ idle. absurd (busy r.metadata.job w waited idle)) (λ idle. idle)
 
     -- the next extent is read, or the log
     metadata_next : r.load.phase ≡ phases.Opened → ReadsMetadata v.history r → c.job ≡ jobs.Idle → (position : ℕ) → NoneRead (reads_metadata d (record r { metadata = c }) position)
@@ -208,7 +208,7 @@ module _ (texts : ℕ → Bytes) (subject : ℕ) (run : Run) (v : RangeView) (r 
   module _ (w : ReqNo) (waited : awaits r.log.job w ≡ true) (groups : List Group) (packets : List Packet) (c : ClientState) where
     log_rests : (count : ℕ) → StepKept texts subject run v r [] (record { after = Some (record r { log = c }); count = count; packets = packets; notes = [] })
     log_rests count =
-        rests_kept texts subject run v r kept streams d r.until r.metadata c r.gets r.held count packets (λ idle. idle) (λ idle. absurd (busy r.log.job w waited idle))
+        rests_kept texts subject run v r kept streams d r.until r.metadata c r.reading r.gets r.held count packets (λ idle. idle) (λ idle. absurd (busy r.log.job w waited idle))
 
     abbrev now : RangeState
     now = record r { log = c }
@@ -304,7 +304,7 @@ module _ (texts : ℕ → Bytes) (subject : ℕ) (run : Run) (v : RangeView) (r 
 
     replied_kept : is_serving r.stage ≡ false → (t : Bool) → StepKept texts subject run v r (if is_some (replied t).after then (if t then log_actions d r body (replied t) else []) else []) (replied t)
     replied_kept unserved true = taken_kept (is_serving r.stage) unserved
-    replied_kept unserved false = rests_kept texts subject run v r kept streams d r.until r.metadata r.log r.gets r.held d.count [] (λ idle. idle) (λ idle. idle)
+    replied_kept unserved false = rests_kept texts subject run v r kept streams d r.until r.metadata r.log r.reading r.gets r.held d.count [] (λ idle. idle) (λ idle. idle)
 
   -- an answer to the log's client of a range that is not served yet
   pub log_loading_kept : is_serving r.stage ≡ false → (w : ReqNo) (body : Body) → awaits r.log.job w ≡ true →

@@ -1,20 +1,26 @@
 -- A load goes on: what is kept through each of its steps, from the opening of the streams up to the confirmation.
-use Rattle.std.proofs.Common.{◌≡◌, ℕ, Bool, List, [], length, ◌&&◌, ◌==◌, nat_lt, true, false, Option, Some, None, is_some, refl, sym, ap, ◌∙◌, subst, inl}
+use Rattle.std.proofs.Common.{◌≡◌, ℕ, suc, Bool, List, [], ◌∷◌, length, ◌&&◌, nat_lt, true, false, Option, Some, None, is_some, refl, sym, ap, ◌∙◌, subst, inl}
 use Rattle.std.specs.Prelude.{if◌then◌else◌}
+use Rattle.block_types.specs.declared.record.Nodes.{Nodes}
 use Rattle.wire.specs.declared.packet.Packet.{Packet}
 use Rattle.wire.specs.declared.streams.StreamExtent.{StreamExtent}
 use Rattle.wire.specs.declared.streams.StreamKind.TheVariants as kinds
 use Rattle.wire.specs.declared.streams.StreamLists.{StreamLists}
 use Rattle.client.specs.declared.job.Job.TheVariants as jobs
+use Rattle.client.specs.declared.job.Place.TheVariants.{First}
 use Rattle.client.specs.declared.load.LoadPhase.TheVariants as phases
 use Rattle.client.specs.Client.{ClientState, new_client, last_extent}
+use Rattle.metadata.specs.declared.record.IndexRange.{IndexRange}
 use Rattle.metadata.specs.Fold.{first_metadata}
+use Rattle.checkpoint_format.specs.declared.index.Index.{Index}
 use Rattle.model_streams.proofs.Tests.{if_elim}
 use Rattle.model_partition.specs.declared.server_context.ServerContext.{ServerContext}
 use Rattle.model_partition.specs.declared.stage.Stage.TheVariants as stages
+use Rattle.model_partition.specs.declared.waiting.PlaceRead.{PlaceRead}
 use Rattle.model_partition.specs.Past.{Bytes}
 use Rattle.model_partition.specs.Range.{RangeState, RangeOutcome, request, is_serving}
-use Rattle.model_partition.specs.Loading.{said_after, confirms, reads_log, open_region, first_position, reads_log_from, checks_log, begins_log, reads_metadata, begins_metadata, opens}
+use Rattle.model_partition.specs.PlaceReads.{places_of}
+use Rattle.model_partition.specs.Loading.{said_after, confirms, asks_index, index_named, reads_named, reads_index, installs, reads_log, open_region, first_position, reads_log_from, checks_log, begins_log, reads_metadata, begins_metadata, opens}
 use Rattle.model_partition.specs.ServerRun.{RangeHistory}
 use Rattle.model_partition.specs.StreamActions.{StreamAction}
 use Rattle.laws_loads.specs.Sound.{IsSound}
@@ -84,11 +90,37 @@ module _ (texts : ℕ → Bytes) (subject : ℕ) (run : Run) (v : RangeView) (r 
       (record { range = b.range; phase = (request d, refl); sound = b.sound; stage = record { said = reads.said; made = reads.made; fixed = reads.fixed; idle = reads.idle } })
       b.generation (λ z. absurd cc)
 
+  -- an index is asked for
+  asks_index_left : (s : RangeState) → IsLoading s → ReadsLog h s → (position : ℕ) (index : IndexRange) (places : Option Nodes) → Left (asks_index d s position index places)
+  asks_index_left s b reads position index None = drops_left _ _
+  asks_index_left s b reads position index (Some places) =
+      let read : PlaceRead = record { request = request d; place = index.place; page = false; replica = First } in
+      goes_left (record s { stage = stages.Indexing position; reading = Some read }) _ _
+      (record { range = b.range; phase = b.opened; sound = b.sound; stage = record { said = reads.said; made = reads.made; fixed = reads.fixed; idle = reads.idle } })
+      b.generation (λ z. absurd cc)
+
+  reads_named_left : (s : RangeState) → IsLoading s → ReadsLog h s → (position : ℕ) (named : Option IndexRange) → Left (reads_named d s position named)
+  reads_named_left s b reads position None =
+      confirms_left (record s { reading = None }) (record { range = b.range; generation = b.generation; opened = b.opened; sound = b.sound })
+      (record { said = reads.said; made = reads.made; fixed = reads.fixed; idle = reads.idle })
+  reads_named_left s b reads position (Some index) = asks_index_left s b reads position index (places_of s index.place.extent)
+
+  reads_index_left : (s : RangeState) → IsLoading s → ReadsLog h s → (position : ℕ) → Left (reads_index d s position)
+  reads_index_left s b reads position = reads_named_left s b reads position (index_named s.said.indexes position)
+
+  -- the next index is read
+  pub installs_left : (s : RangeState) → IsLoading s → ReadsLog h s → (position : ℕ) (named : Option IndexRange) (index : Option Index) → Left (installs d s position named index)
+  installs_left s b reads position (Some named) (Some index) =
+      reads_index_left (record s { indexes = record { place = named.place; keys = named.keys; index = index } ∷ s.indexes })
+      (record { range = b.range; generation = b.generation; opened = b.opened; sound = b.sound })
+      (record { said = reads.said; made = reads.made; fixed = reads.fixed; idle = reads.idle }) (suc position)
+  installs_left s b reads position named index = drops_left _ _
+
   pub reads_log_left : (s : RangeState) → IsLoading s → ReadsLog h s → (position : ℕ) → Left (reads_log d s position)
   reads_log_left s b reads position =
       if_elim Left (nat_lt position (length s.log.extents)) _ _
       (λ t. goes_left _ _ _ (log_reads s b _ reads position) b.generation (λ z. absurd cc))
-      (λ f. confirms_left s b reads)
+      (λ f. reads_index_left s b reads 0)
 
   pub reads_log_from_left : (s : RangeState) → IsLoading s → ReadsLog h s → (position : Option ℕ) → Left (reads_log_from d s position)
   reads_log_from_left s b reads None = drops_left _ _
@@ -105,7 +137,7 @@ module _ (texts : ℕ → Bytes) (subject : ℕ) (run : Run) (v : RangeView) (r 
 
   begins_log_left : (s : RangeState) → IsLoading s → ReadsMetadata h s → s.metadata.job ≡ jobs.Idle → Left (begins_log d s)
   begins_log_left s b reads idle =
-      if_elim Left (is_some (open_region s.said.regions) && (is_some (first_position s s.said.regions) && (length s.said.indexes == 0))) _ _
+      if_elim Left (is_some (open_region s.said.regions) && is_some (first_position s s.said.regions)) _ _
       (λ t. checks_log_left (record s { regions = s.said.regions }) (record { range = b.range; generation = b.generation; opened = b.opened; sound = b.sound })
       (record { said = reads.said; made = made; fixed = reads.fixed; idle = idle }) (last_extent s.log.extents))
       (λ f. drops_left _ _)

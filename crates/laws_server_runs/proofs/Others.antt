@@ -105,6 +105,7 @@ module _ (texts : ℕ → Bytes) (subject : ℕ) where
     still_at (stages.Reading kinds.Log position) apart k = subst (λ h. ReadsLog h u) (sym same) k
     still_at (stages.Reading kinds.RowData position) apart k = k
     still_at (stages.Reading kinds.BlobData position) apart k = k
+    still_at (stages.Indexing position) apart k = subst (λ h. ReadsLog h u) (sym same) k
     still_at stages.Confirming apart k = subst (λ h. ReadsLog h u) (sym same) k
     still_at stages.Serving apart k = still_serves (apart refl) k
 

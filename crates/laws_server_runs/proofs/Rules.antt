@@ -7,7 +7,8 @@ use Rattle.client.specs.Load.{load_awaits}
 use Rattle.model_partition.specs.declared.server_context.ServerContext.{ServerContext}
 use Rattle.model_partition.specs.Past.{Bytes}
 use Rattle.model_partition.specs.Range.{RangeState, RangeOutcome}
-use Rattle.model_partition.specs.Answering.{load_reply, log_reply, metadata_reply, gets_reply, is_taken, answer_rule}
+use Rattle.model_partition.specs.Answering.{load_reply, log_reply, metadata_reply, index_reply, gets_reply, is_taken, answer_rule}
+use Rattle.model_partition.specs.PlaceReads.{reads_under}
 use Rattle.model_partition.specs.StreamActions.{StreamAction, load_actions, metadata_actions, log_actions, answer_actions}
 use Rattle.laws_loads.specs.RangeView.{RangeView, view_after_all}
 use Rattle.laws_tables.specs.Runs.{Run}
@@ -39,11 +40,11 @@ module _ (texts : ℕ → Bytes) (subject : ℕ) (run : Run) (v : RangeView) (r 
           Premise b =
               InOrder texts
               (after
-              (if is_some (if b then load_reply d r body else if awaits r.metadata.job w then metadata_reply d r body else if awaits r.log.job w then log_reply d r body else gets_reply d r w body).after
+              (if is_some (if b then load_reply d r body else if awaits r.metadata.job w then metadata_reply d r body else if awaits r.log.job w then log_reply d r body else if reads_under r.reading w then index_reply d r body else gets_reply d r w body).after
               then (if b then load_actions r body
               else if awaits r.metadata.job w then metadata_actions d r body
               else if awaits r.log.job w then (if is_taken r body then log_actions d r body
-              (if b then load_reply d r body else if awaits r.metadata.job w then metadata_reply d r body else if awaits r.log.job w then log_reply d r body else gets_reply d r w body) else [])
+              (if b then load_reply d r body else if awaits r.metadata.job w then metadata_reply d r body else if awaits r.log.job w then log_reply d r body else if reads_under r.reading w then index_reply d r body else gets_reply d r w body) else [])
               else [])
               else []))
 

@@ -34,6 +34,7 @@ module _ (texts : ℕ → Bytes) (subject : ℕ) where
       by stages.Opening b e = absurd cc
       by (stages.Checking kind) b e = absurd cc
       by (stages.Reading kind position) b e = absurd cc
+      by (stages.Indexing position) b e = absurd cc
       by stages.Confirming b e = absurd cc
 
   -- the range that is served at a server, and what is kept of it

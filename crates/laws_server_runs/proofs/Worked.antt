@@ -149,6 +149,8 @@ served =
       regions = record { start = record { index = 0; offset = 0 }; end = None; next = 2; keys = all_keys } ∷ [];
       live = loaded;
       fixed = None;
+      indexes = [];
+      reading = None;
       next = 2;
       position = record { index = 0; offset = 24 };
       queue = [];

@@ -62,7 +62,7 @@ pub record ReadsMetadata (h : RangeHistory) (r : RangeState) : Type 0 where
   pub fixed : r.fixed ≡ None
   pub idle : r.log.job ≡ jobs.Idle
 
--- all of the metadata is read, and the log is being read
+-- all of the metadata is read, and the log is being read, or the indexes after it
 pub record ReadsLog (h : RangeHistory) (r : RangeState) : Type 0 where
   pub said : said_after first_metadata (groups_read (h.reads kinds.Metadata)) ≡ Some r.said
   pub made : replayed_all r.said.keys (h.reads kinds.Log) (r.said.regions, []) ≡ Some (r.regions, r.live)
@@ -136,6 +136,7 @@ module _ (texts : ℕ → Bytes) where
   PhaseIs stages.Opening phase = (q : ReqNo) × (phase ≡ phases.Opening q)
   PhaseIs (stages.Checking kind) phase = phase ≡ phases.Opened
   PhaseIs (stages.Reading kind position) phase = phase ≡ phases.Opened
+  PhaseIs (stages.Indexing position) phase = phase ≡ phases.Opened
   PhaseIs stages.Confirming phase = (q : ReqNo) × (phase ≡ phases.Confirming q)
   PhaseIs stages.Serving phase = phase ≡ phases.Confirmed
 
@@ -149,6 +150,7 @@ module _ (texts : ℕ → Bytes) where
   StageIs run v r (stages.Reading kinds.Log position) = ReadsLog v.history r
   StageIs run v r (stages.Reading kinds.RowData position) = ⊥
   StageIs run v r (stages.Reading kinds.BlobData position) = ⊥
+  StageIs run v r (stages.Indexing position) = ReadsLog v.history r
   StageIs run v r stages.Confirming = ReadsLog v.history r
   StageIs run v r stages.Serving = Serves run v r
 

@@ -1,5 +1,5 @@
 -- What a step of a range sends is from a server, and what it shows is plain, but for the table that it loads.
-use Rattle.std.proofs.Common.{ℕ, suc, not, ◌&&◌, ◌==◌, nat_lt, List, [], ◌∷◌, ◌++◌, Option, Some, None, refl, inl, inr, map, flat_map, slice_get, length, ◌-◌, ◌+◌, ◌^◌, take, is_some}
+use Rattle.std.proofs.Common.{ℕ, suc, not, Bool, ◌&&◌, nat_lt, List, [], ◌∷◌, ◌++◌, Option, Some, None, refl, inl, inr, map, flat_map, slice_get, length, ◌-◌, ◌+◌, ◌^◌, take, is_some}
 use Rattle.std.specs.Prelude.{option_to_list}
 use Rattle.block_types.specs.declared.record.Nodes.{Nodes}
 use Rattle.wire.specs.declared.actor.ActorId.{ActorId}
@@ -29,13 +29,16 @@ use Rattle.memtable.specs.declared.cell.Place.{Place}
 use Rattle.commitlog.specs.Record.{spelling}
 use Rattle.commitlog.specs.Places.{kept}
 use Rattle.memtable.specs.Entries.{Entries, put_all}
+use Rattle.checkpoint_format.specs.declared.index.Index.{Index}
+use Rattle.checkpoint_format.specs.Index.{index_at}
 use Rattle.metadata.specs.Fold.{MetadataState, first_metadata}
+use Rattle.metadata.specs.declared.record.IndexRange.{IndexRange}
 use Rattle.metadata.specs.declared.record.Region.{Region}
 use Rattle.model_streams.proofs.Tests.{if_elim}
 use Rattle.model_partition.specs.declared.server_context.ServerContext.{ServerContext}
 use Rattle.model_partition.specs.declared.shown_table.ShownTable.{ShownTable}
 use Rattle.model_partition.specs.declared.stage.Stage.{Stage}
-use Rattle.model_partition.specs.declared.stage.Stage.TheVariants.{Checking, Reading}
+use Rattle.model_partition.specs.declared.stage.Stage.TheVariants.{Checking, Reading, Indexing}
 use Rattle.model_partition.specs.declared.table_note.TableNote.{TableNote}
 use Rattle.model_partition.specs.declared.table_note.TableNote.TheVariants.{Loaded}
 use Rattle.model_partition.specs.declared.waiting.PlaceRead.{PlaceRead}
@@ -43,9 +46,10 @@ use Rattle.model_partition.specs.declared.waiting.WaitingGet.{WaitingGet}
 use Rattle.model_partition.specs.declared.waiting.WaitingTransaction.{WaitingTransaction}
 use Rattle.model_partition.specs.Range.{OutGroup, RangeState, RangeOutcome, request, used, refuses, waiting_out, refused_users, dropped, given, picking, is_serving}
 use Rattle.model_partition.specs.Serving.{record_of, group_count, began, appends as appends_next, forms, transact_fault, lease_ended, transacts, transact_rule, dones, committed, out_size, after_these, applies, log_done}
-use Rattle.model_partition.specs.Loading.{Group, said_after, replayed, read_by, read_of, reads_log, first_position, reads_log_from, checks_log, begins_log, reads_metadata, begins_metadata, opens, says, metadata_news, replays, log_read, log_news, open_region, serves_from, serves, shown_table, are_counted}
-use Rattle.model_partition.specs.Getting.{Lookup, Is, Needs, Tried, asks_place, answered, try, try_all, get_fault, gets, get_rule, bytes_rule, came, place_of, gives_up_read, gives_up_get, asks_again, moved_on, places_of, look, read_at, standing, without}
-use Rattle.model_partition.specs.Answering.{load_refused, load_told, load_reply, metadata_reply, serving_news, is_taken, log_taken, log_reply, bytes_reply, gets_reply, answer_rule, gives_up_job, give_up_all, groups_of}
+use Rattle.model_partition.specs.PlaceReads.{is_place, place_of, places_of, reads_under, moved_on, asks_again}
+use Rattle.model_partition.specs.Loading.{Group, said_after, replayed, read_by, read_of, asks_index, index_named, reads_named, reads_index, installs, index_read, index_bytes, reads_log, first_position, reads_log_from, checks_log, begins_log, reads_metadata, begins_metadata, opens, says, metadata_news, replays, log_read, log_news, open_region, serves_from, serves, shown_table, are_counted}
+use Rattle.model_partition.specs.Getting.{Lookup, Is, Needs, Tried, asks_place, answered, try, try_all, get_fault, gets, get_rule, are_no_page, bytes_rule, came, gives_up_read, gives_up_get, look, read_at, standing, without}
+use Rattle.model_partition.specs.Answering.{load_refused, load_told, load_reply, metadata_reply, serving_news, is_taken, log_taken, log_reply, index_told, index_reply, bytes_reply, gets_reply, answer_rule, gives_up_job, gives_up_reading, give_up_all, groups_of}
 use Rattle.model_partition.specs.Servers.{ArePlain, ShowsLoad}
 use Rattle.laws_servers.specs.Sending.{AllFromServers}
 use Rattle.laws_servers.proofs.ClientPackets.{all_both, all_map, all_flat, listed, Calls, given_calls, append_rule_calls, check_rule_calls, read_sealed_calls, read_checked_calls, reply_calls, give_up_calls, again_calls}
@@ -133,17 +137,17 @@ log_done_tidy d r (Some out) extent offset = applies_tidy d r out extent offset
 
 -- ---- Gets
 
-asks_place_sends : (d : ServerContext) (g : WaitingGet) (place : Place) (places : Option Nodes) → AllFromServers (asks_place d g place places).packets
-asks_place_sends d g place None = tt
-asks_place_sends d g place (Some places) = ((d.server, refl, inl refl), tt)
+asks_place_sends : (d : ServerContext) (g : WaitingGet) (page : Bool) (place : Place) (places : Option Nodes) → AllFromServers (asks_place d g page place places).packets
+asks_place_sends d g page place None = tt
+asks_place_sends d g page place (Some places) = ((d.server, refl, inl refl), tt)
 
 answered_sends : (d : ServerContext) (r : RangeState) (g : WaitingGet) (found : Lookup) → AllFromServers (answered d r g found).packets
 answered_sends d r g (Is value) = ((d.server, refl, inr refl), tt)
-answered_sends d r g (Needs place) = asks_place_sends d g place (places_of r place.extent)
+answered_sends d r g (Needs page place) = asks_place_sends d g page place (places_of r place.extent)
 
 try_sends : (d : ServerContext) (r : RangeState) (g : WaitingGet) → AllFromServers (try d r g).packets
 try_sends d r g =
-    if_elim (λ (t : Tried). AllFromServers t.packets) (lease_ended d r) _ _ (λ t. ((d.server, refl, inr refl), tt)) (λ f. answered_sends d r g (look r.held (standing r g.key)))
+    if_elim (λ (t : Tried). AllFromServers t.packets) (lease_ended d r) _ _ (λ t. ((d.server, refl, inr refl), tt)) (λ f. answered_sends d r g (look r.held r.indexes g.key (standing r g.key)))
 
 try_all_sends : (d : ServerContext) (r : RangeState) (gs : List WaitingGet) → AllFromServers (try_all d r gs).packets
 try_all_sends d r [] = tt
@@ -157,7 +161,9 @@ pub get_tidy : (d : ServerContext) (r : RangeState) (from : ActorId) (q : ReqNo)
 get_tidy d r from q key = gets_tidy d r from q key (get_fault d r key)
 
 bytes_tidy : (d : ServerContext) (r : RangeState) (w : ReqNo) (place : Place) (bytes : List ℕ) → IsTidy (bytes_rule d r w place bytes)
-bytes_tidy d r w place bytes = (try_all_sends d (record r { held = came r.held (read_at r.gets w) place bytes }) (map (without w) r.gets), tt)
+bytes_tidy d r w place bytes =
+    if_elim IsTidy (are_no_page (read_at r.gets w) bytes) _ _ (λ t. (tt, tt))
+    (λ f. (try_all_sends d (record r { held = came r.held (read_at r.gets w) place bytes }) (map (without w) r.gets), tt))
 
 -- ---- the load
 
@@ -168,12 +174,23 @@ read_by_calls d c position (Some x) =
     (λ t. given_calls c (read_sealed_rule c (request d) position) (read_sealed_calls c (request d) position))
     (λ f. given_calls c (read_checked_rule c (request d)) (read_checked_calls c (request d)))
 
+asks_index_tidy : (d : ServerContext) (r : RangeState) (position : ℕ) (index : IndexRange) (places : Option Nodes) → IsTidy (asks_index d r position index places)
+asks_index_tidy d r position index None = dropped_tidy d r
+asks_index_tidy d r position index (Some places) = (((d.server, refl, inl refl), tt), tt)
+
+reads_named_tidy : (d : ServerContext) (r : RangeState) (position : ℕ) (named : Option IndexRange) → IsTidy (reads_named d r position named)
+reads_named_tidy d r position None = (((r.load.server, refl, inl refl), tt), tt)
+reads_named_tidy d r position (Some index) = asks_index_tidy d r position index (places_of r index.place.extent)
+
+reads_index_tidy : (d : ServerContext) (r : RangeState) (position : ℕ) → IsTidy (reads_index d r position)
+reads_index_tidy d r position = reads_named_tidy d r position (index_named r.said.indexes position)
+
 reads_log_tidy : (d : ServerContext) (r : RangeState) (position : ℕ) → IsTidy (reads_log d r position)
 reads_log_tidy d r position =
     let c : ClientState = picking d r.log in
     if_elim IsTidy (nat_lt position (length r.log.extents)) _ _
     (λ t. (listed (read_of d c position).packet (read_by_calls d c position (slice_get c.extents position)), tt))
-    (λ f. (((r.load.server, refl, inl refl), tt), tt))
+    (λ f. reads_index_tidy d r 0)
 
 reads_log_from_tidy : (d : ServerContext) (r : RangeState) (position : Option ℕ) → IsTidy (reads_log_from d r position)
 reads_log_from_tidy d r None = dropped_tidy d r
@@ -189,7 +206,7 @@ checks_log_tidy d r (Some x) =
 
 begins_log_tidy : (d : ServerContext) (r : RangeState) → IsTidy (begins_log d r)
 begins_log_tidy d r =
-    if_elim IsTidy (is_some (open_region r.said.regions) && (is_some (first_position r r.said.regions) && (length r.said.indexes == 0))) _ _
+    if_elim IsTidy (is_some (open_region r.said.regions) && is_some (first_position r r.said.regions)) _ _
     (λ t. checks_log_tidy d (record r { regions = r.said.regions }) (last_extent r.log.extents))
     (λ f. dropped_tidy d r)
 
@@ -286,6 +303,21 @@ load_told_shows d r (phases.Opening q) (streams.Opened w lists) = tidy_shows Non
 load_told_shows d r (phases.Confirming q) (streams.Confirmed w) = serves_shows d r
 load_told_shows d r phase body = (tt, inl tt)
 
+-- what a range shows where a confirmation is waited for
+abbrev pub table_awaited : RangeState → LoadPhase → Option ShownTable
+table_awaited r (phases.Confirming q) = Some (shown_table r)
+table_awaited r phase = None
+
+load_told_loads : (d : ServerContext) (r : RangeState) (phase : LoadPhase) (body : StreamBody) → ShowsFrom (table_awaited r phase) (load_told d r phase body)
+load_told_loads d r (phases.Opening q) (streams.Opened w lists) = tidy_shows None (opens d r lists) (opens_tidy d r lists)
+load_told_loads d r (phases.Confirming q) (streams.Confirmed w) = serves_shows d r
+load_told_loads d r phase body = (tt, inl tt)
+
+load_reply_loads : (d : ServerContext) (r : RangeState) (body : Body) → ShowsFrom (table_awaited r r.load.phase) (load_reply d r body)
+load_reply_loads d r (bodies.Append body) = tidy_shows (table_awaited r r.load.phase) (load_refused d r body) (load_refused_tidy d r body)
+load_reply_loads d r (bodies.Stream body) = load_told_loads d r r.load.phase body
+load_reply_loads d r body = (tt, inl tt)
+
 load_reply_shows : (d : ServerContext) (r : RangeState) (body : Body) → ShowsFrom (table_with r body) (load_reply d r body)
 load_reply_shows d r (bodies.Append body) = tidy_shows None (load_refused d r body) (load_refused_tidy d r body)
 load_reply_shows d r (bodies.Stream body) = load_told_shows d r r.load.phase body
@@ -314,6 +346,28 @@ log_taken_tidy d r body =
 log_reply_tidy : (d : ServerContext) (r : RangeState) (body : Body) → IsTidy (log_reply d r body)
 log_reply_tidy d r body = if_elim IsTidy (is_taken r body) _ _ (λ t. log_taken_tidy d r body) (λ f. (tt, tt))
 
+installs_tidy : (d : ServerContext) (r : RangeState) (position : ℕ) (named : Option IndexRange) (index : Option Index) → IsTidy (installs d r position named index)
+installs_tidy d r position (Some named) (Some index) =
+    reads_index_tidy d (record r { indexes = record { place = named.place; keys = named.keys; index = index } ∷ r.indexes }) (suc position)
+installs_tidy d r position named index = dropped_tidy d r
+
+index_read_tidy : (d : ServerContext) (r : RangeState) (stage : Stage) (bytes : List ℕ) → IsTidy (index_read d r stage bytes)
+index_read_tidy d r (Indexing position) bytes = installs_tidy d r position (index_named r.said.indexes position) (index_at bytes)
+index_read_tidy d r stage bytes = (tt, tt)
+
+index_bytes_tidy : (d : ServerContext) (r : RangeState) (reading : Option PlaceRead) (place : Place) (bytes : List ℕ) → IsTidy (index_bytes d r reading place bytes)
+index_bytes_tidy d r None place bytes = (tt, tt)
+index_bytes_tidy d r (Some read) place bytes = if_elim IsTidy (is_place read.place place) _ _ (λ t. index_read_tidy d r r.stage bytes) (λ f. (tt, tt))
+
+index_told_tidy : (d : ServerContext) (r : RangeState) (body : ReadBody) → IsTidy (index_told d r body)
+index_told_tidy d r (reads.Bytes w e offset bytes) = index_bytes_tidy d r r.reading (place_of e offset bytes) bytes
+index_told_tidy d r body = (tt, tt)
+
+index_reply_tidy : (d : ServerContext) (r : RangeState) (body : Body) → IsTidy (index_reply d r body)
+index_reply_tidy d r (bodies.Read body) = index_told_tidy d r body
+index_reply_tidy d r (bodies.Append body) = load_refused_tidy d r body
+index_reply_tidy d r body = (tt, tt)
+
 bytes_reply_tidy : (d : ServerContext) (r : RangeState) (w : ReqNo) (body : ReadBody) → IsTidy (bytes_reply d r w body)
 bytes_reply_tidy d r w (reads.Bytes v e offset bytes) = bytes_tidy d r w (place_of e offset bytes) bytes
 bytes_reply_tidy d r w body = (tt, tt)
@@ -323,15 +377,24 @@ gets_reply_tidy d r w (bodies.Read body) = bytes_reply_tidy d r w body
 gets_reply_tidy d r w (bodies.Append body) = load_refused_tidy d r body
 gets_reply_tidy d r w body = (tt, tt)
 
+-- no answer but to the load shows a loaded table
+answer_by : (loading : Option ShownTable) (d : ServerContext) (r : RangeState) (w : ReqNo) (body : Body) → ShowsFrom loading (load_reply d r body) → ShowsFrom loading (answer_rule d r w body)
+answer_by loading d r w body loads =
+    if_elim (ShowsFrom loading) (load_awaits r.load.phase w) _ _
+    (λ t. loads)
+    (λ f. if_elim (ShowsFrom loading) (awaits r.metadata.job w) _ _
+    (λ t. tidy_shows loading (metadata_reply d r body) (metadata_reply_tidy d r body))
+    (λ g. if_elim (ShowsFrom loading) (awaits r.log.job w) _ _
+    (λ t. tidy_shows loading (log_reply d r body) (log_reply_tidy d r body))
+    (λ h. if_elim (ShowsFrom loading) (reads_under r.reading w) _ _
+    (λ t. tidy_shows loading (index_reply d r body) (index_reply_tidy d r body))
+    (λ k. tidy_shows loading (gets_reply d r w body) (gets_reply_tidy d r w body)))))
+
 pub answer_shows : (d : ServerContext) (r : RangeState) (w : ReqNo) (body : Body) → ShowsFrom (table_with r body) (answer_rule d r w body)
-answer_shows d r w body =
-    if_elim (ShowsFrom (table_with r body)) (load_awaits r.load.phase w) _ _
-    (λ t. load_reply_shows d r body)
-    (λ f. if_elim (ShowsFrom (table_with r body)) (awaits r.metadata.job w) _ _
-    (λ t. tidy_shows (table_with r body) (metadata_reply d r body) (metadata_reply_tidy d r body))
-    (λ g. if_elim (ShowsFrom (table_with r body)) (awaits r.log.job w) _ _
-    (λ t. tidy_shows (table_with r body) (log_reply d r body) (log_reply_tidy d r body))
-    (λ h. tidy_shows (table_with r body) (gets_reply d r w body) (gets_reply_tidy d r w body))))
+answer_shows d r w body = answer_by (table_with r body) d r w body (load_reply_shows d r body)
+
+pub answer_loads : (d : ServerContext) (r : RangeState) (w : ReqNo) (body : Body) → ShowsFrom (table_awaited r r.load.phase) (answer_rule d r w body)
+answer_loads d r w body = answer_by (table_awaited r r.load.phase) d r w body (load_reply_loads d r body)
 
 -- ---- giving up
 
@@ -343,6 +406,10 @@ gives_up_read_all : (d : ServerContext) (r : RangeState) (g : WaitingGet) (read 
 gives_up_read_all d r g None = tt
 gives_up_read_all d r g (Some read) = asks_again_all d (moved_on read) (places_of r read.place.extent)
 
+gives_up_reading_all : (d : ServerContext) (r : RangeState) (reading : Option PlaceRead) → AllFromServers (gives_up_reading d r reading)
+gives_up_reading_all d r None = tt
+gives_up_reading_all d r (Some read) = asks_again_all d (moved_on read) (places_of r read.place.extent)
+
 pub give_up_tidy : (d : ServerContext) (r : RangeState) → IsTidy (give_up_all d r)
 give_up_tidy d r =
     let l : Outcome = gives_up_job d r.log in
@@ -350,6 +417,7 @@ give_up_tidy d r =
       all_both (option_to_list (again r.load r.load.phase)) _ (listed (again r.load r.load.phase) (again_calls r.load r.load.phase))
           (all_both (option_to_list l.packet) _ (listed l.packet (give_up_calls (picking d r.log) (request d) d.pick))
           (all_both (option_to_list m.packet) _ (listed m.packet (give_up_calls (picking d r.metadata) (request (used d)) d.pick))
-          (all_flat (λ (g : WaitingGet). (gives_up_get d r g).1) (λ g. gives_up_read_all d r g (slice_get g.reads (length g.reads - 1))) r.gets))),
+          (all_both (gives_up_reading d r r.reading) _ (gives_up_reading_all d r r.reading)
+          (all_flat (λ (g : WaitingGet). (gives_up_get d r g).1) (λ g. gives_up_read_all d r g (slice_get g.reads (length g.reads - 1))) r.gets)))),
       tt,
     )

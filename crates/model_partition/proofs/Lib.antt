@@ -1,3 +1,4 @@
 pub mod Partitions
 pub mod Spelling
 pub mod Replaying
+pub mod Extents

@@ -1,5 +1,5 @@
 -- What a range does with an answer, and with being told to give up.
-use Rattle.std.specs.Prelude.{ℕ, ◌+◌, ◌^◌, Bool, true, false, ◌||◌, ◌&&◌, nat_lt, List, [], ◌++◌, map, flat_map, Option, Some, None, option_to_list, if◌then◌else◌}
+use Rattle.std.specs.Prelude.{ℕ, ◌+◌, ◌^◌, Bool, true, false, ◌||◌, ◌&&◌, nat_lt, List, [], ◌++◌, map, flat_map, Option, Some, None, option_map, option_to_list, if◌then◌else◌}
 use Rattle.std.specs.List.{list_any}
 use Rattle.wire.specs.declared.actor.ActorId.{ActorId}
 use Rattle.wire.specs.declared.actor.ActorId.TheVariants.{Node, Manager, Map}
@@ -27,12 +27,14 @@ use Rattle.client.specs.declared.load.LoadPhase.TheVariants as phases
 use Rattle.client.specs.Client.{ClientState, Outcome, awaits, reply_rule, give_up_rule}
 use Rattle.client.specs.Load.{again, load_awaits}
 use Rattle.client.specs.Requests.{is_same}
+use Rattle.model_partition.specs.declared.waiting.PlaceRead.{PlaceRead}
 use Rattle.model_partition.specs.declared.waiting.WaitingGet.{WaitingGet}
 use Rattle.model_partition.specs.declared.server_context.ServerContext.{ServerContext}
 use Rattle.model_partition.specs.Range.{OutGroup, RangeState, RangeOutcome, request, used, goes, answers, dropped, picking, is_serving}
-use Rattle.model_partition.specs.Loading.{Group, are_counted, opens, serves, metadata_news, log_news}
+use Rattle.model_partition.specs.Loading.{Group, are_counted, opens, serves, metadata_news, log_news, index_bytes}
 use Rattle.model_partition.specs.Serving.{log_done, out_size}
-use Rattle.model_partition.specs.Getting.{bytes_rule, place_of, gives_up_get}
+use Rattle.model_partition.specs.PlaceReads.{place_of, places_of, reads_under, moved_on, asks_again}
+use Rattle.model_partition.specs.Getting.{bytes_rule, gives_up_get}
 
 -- ---- whose answer it is
 
@@ -41,7 +43,9 @@ get_awaits g w = list_any (λ read. is_same read.request w) g.reads
 
 -- whether a job of the range waits for an answer of this number
 abbrev pub range_awaits : RangeState → ReqNo → Bool
-range_awaits r w = load_awaits r.load.phase w || (awaits r.metadata.job w || (awaits r.log.job w || list_any (λ g. get_awaits g w) r.gets))
+range_awaits r w =
+    load_awaits r.load.phase w
+    || (awaits r.metadata.job w || (awaits r.log.job w || (reads_under r.reading w || list_any (λ g. get_awaits g w) r.gets)))
 
 abbrev pub append_number : AppendBody → Option ReqNo
 append_number (appends.Appended w e offset) = Some w
@@ -177,11 +181,21 @@ log_taken d r body =
 abbrev pub log_reply : ServerContext → RangeState → Body → RangeOutcome
 log_reply d r body = if is_taken r body then log_taken d r body else answers d r []
 
+abbrev pub index_told : ServerContext → RangeState → ReadBody → RangeOutcome
+index_told d r (reads.Bytes w e offset bytes) = index_bytes d r r.reading (place_of e offset bytes) bytes
+index_told d r body = answers d r []
+
+-- the bytes of an index, or a refusal of their read
+abbrev pub index_reply : ServerContext → RangeState → Body → RangeOutcome
+index_reply d r (bodies.Read body) = index_told d r body
+index_reply d r (bodies.Append body) = load_refused d r body
+index_reply d r body = answers d r []
+
 abbrev pub bytes_reply : ServerContext → RangeState → ReqNo → ReadBody → RangeOutcome
 bytes_reply d r w (reads.Bytes v e offset bytes) = bytes_rule d r w (place_of e offset bytes) bytes
 bytes_reply d r w body = answers d r []
 
--- The bytes of a value, or a refusal of their read. An old generation (3) drops the range here too, and no other refusal changes
+-- The bytes of a page or of a value, or a refusal of their read. An old generation (3) drops the range here too, and no other refusal changes
 -- anything.
 abbrev pub gets_reply : ServerContext → RangeState → ReqNo → Body → RangeOutcome
 gets_reply d r w (bodies.Read body) = bytes_reply d r w body
@@ -194,6 +208,7 @@ answer_rule d r w body =
     if load_awaits r.load.phase w then load_reply d r body
     else if awaits r.metadata.job w then metadata_reply d r body
     else if awaits r.log.job w then log_reply d r body
+    else if reads_under r.reading w then index_reply d r body
     else gets_reply d r w body
 
 -- ---- giving up
@@ -202,15 +217,21 @@ answer_rule d r w body =
 abbrev pub gives_up_job : ServerContext → ClientState → Outcome
 gives_up_job d c = give_up_rule (picking d c) (request d) d.pick
 
--- The load, the log's job, the metadata's job and the Gets give up, in this order. Each job takes the next number.
+-- the read goes to the next place of its extent, with its number
+abbrev pub gives_up_reading : ServerContext → RangeState → Option PlaceRead → List Packet
+gives_up_reading d r None = []
+gives_up_reading d r (Some read) = asks_again d (moved_on read) (places_of r read.place.extent)
+
+-- The load, the log's job, the metadata's job, the read of an index and the Gets give up, in this order. A client's job takes the
+-- next number.
 abbrev pub give_up_all : ServerContext → RangeState → RangeOutcome
 give_up_all d r =
     let l : Outcome = gives_up_job d r.log in
     let m : Outcome = gives_up_job (used d) r.metadata in
     record {
-      after = Some (record r { metadata = m.after; log = l.after; gets = map (λ g. (gives_up_get d r g).0) r.gets });
+      after = Some (record r { metadata = m.after; log = l.after; reading = option_map moved_on r.reading; gets = map (λ g. (gives_up_get d r g).0) r.gets });
       count = (used (used d)).count;
       packets = option_to_list (again r.load r.load.phase)
-          ++ (option_to_list l.packet ++ (option_to_list m.packet ++ flat_map (λ g. (gives_up_get d r g).1) r.gets));
+          ++ (option_to_list l.packet ++ (option_to_list m.packet ++ (gives_up_reading d r r.reading ++ flat_map (λ g. (gives_up_get d r g).1) r.gets)));
       notes = [];
     }

@@ -2,6 +2,7 @@ pub mod StreamMachine
 pub mod Lines
 pub mod Answering
 pub mod Getting
+pub mod PlaceReads
 pub mod Loading
 pub mod Log
 pub mod Past

@@ -1,17 +1,22 @@
--- The load of a range: its streams are opened, its metadata is read and then its log, and its generation is confirmed.
+-- The load of a range: its streams are opened, its metadata is read, then its log, then its indexes, and its generation is
+-- confirmed.
 use Rattle.std.specs.Prelude.{ℕ, suc, ◌+◌, ◌-◌, ◌^◌, Bool, true, false, ◌&&◌, ◌||◌, ◌==◌, nat_lt, List, [], ◌∷◌, length, drop, filter, flat_map, Option, Some, None, option_to_list, is_some, slice_get, if◌then◌else◌}
 use Rattle.blocks.specs.Format.{◌>>=◌}
 use Rattle.block_types.specs.Limits.{group_size}
+use Rattle.block_types.specs.declared.record.Nodes.{Nodes}
 use Rattle.wire.specs.declared.streams.StreamExtent.{StreamExtent}
 use Rattle.wire.specs.declared.streams.StreamKind.TheVariants as kinds
 use Rattle.wire.specs.declared.streams.StreamLists.{StreamLists}
 use Rattle.wire.specs.declared.packet.Packet.{Packet}
 use Rattle.streams.specs.declared.table.Position.{Position}
+use Rattle.memtable.specs.declared.cell.Place.{Place}
+use Rattle.client.specs.declared.job.Place.TheVariants.{First}
 use Rattle.client.specs.declared.job.News.{News}
 use Rattle.client.specs.declared.job.News.TheVariants as news
 use Rattle.client.specs.declared.load.LoadPhase.TheVariants as phases
 use Rattle.client.specs.Client.{ClientState, Outcome, new_client, last_extent, check_rule, read_sealed_rule, read_checked_rule}
 use Rattle.client.specs.Load.{confirm_packet}
+use Rattle.metadata.specs.declared.record.IndexRange.{IndexRange}
 use Rattle.metadata.specs.declared.record.KeyRange.{KeyRange}
 use Rattle.metadata.specs.declared.record.Region.{Region}
 use Rattle.metadata.specs.Fold.{MetadataState, first_metadata, folded}
@@ -21,12 +26,17 @@ use Rattle.commitlog.specs.Reading.{record_at, each_of}
 use Rattle.commitlog.specs.Places.{kept}
 use Rattle.model_partition.specs.declared.shown_table.ShownTable.{ShownTable}
 use Rattle.model_partition.specs.declared.stage.Stage.{Stage}
-use Rattle.model_partition.specs.declared.stage.Stage.TheVariants.{Checking, Reading, Confirming, Serving}
+use Rattle.model_partition.specs.declared.stage.Stage.TheVariants.{Checking, Reading, Indexing, Confirming, Serving}
 use Rattle.model_partition.specs.declared.table_note.TableNote.TheVariants.{Loaded}
 use Rattle.metadata.specs.Keys.{within}
 use Rattle.memtable.specs.Entries.{Entries as Layer, put_all}
+use Rattle.checkpoint_format.specs.declared.index.Index.{Index}
+use Rattle.checkpoint_format.specs.Index.{index_at}
+use Rattle.checkpoint.specs.declared.installed_index.InstalledIndex.{InstalledIndex}
+use Rattle.model_partition.specs.declared.waiting.PlaceRead.{PlaceRead}
 use Rattle.model_partition.specs.declared.server_context.ServerContext.{ServerContext}
-use Rattle.model_partition.specs.Range.{RangeState, RangeOutcome, request, goes, dropped, given, picking, later}
+use Rattle.model_partition.specs.Range.{RangeState, RangeOutcome, request, answers, goes, dropped, given, picking, later}
+use Rattle.model_partition.specs.PlaceReads.{is_place, places_of, reads_place}
 
 abbrev pub Group : Type 0
 Group = List (List ℕ)
@@ -93,9 +103,28 @@ abbrev pub confirms : ServerContext → RangeState → RangeOutcome
 confirms d r =
     goes d (record r { stage = Confirming; load = record r.load { phase = phases.Confirming (request d) } }) (confirm_packet r.load (request d) ∷ []) []
 
+-- an index in an extent that the load was not told of never comes
+abbrev pub asks_index : ServerContext → RangeState → ℕ → IndexRange → Option Nodes → RangeOutcome
+asks_index d r position index None = dropped d r
+asks_index d r position index (Some places) =
+    let read : PlaceRead = record { request = request d; place = index.place; page = false; replica = First } in
+    goes d (record r { stage = Indexing position; reading = Some read }) (reads_place d places read ∷ []) []
+
+-- the metadata names the newest index first, and the oldest is read first
+abbrev pub index_named : List IndexRange → ℕ → Option IndexRange
+index_named indexes position = if nat_lt position (length indexes) then slice_get indexes (length indexes - suc position) else None
+
+abbrev pub reads_named : ServerContext → RangeState → ℕ → Option IndexRange → RangeOutcome
+reads_named d r position None = confirms d (record r { reading = None })
+reads_named d r position (Some index) = asks_index d r position index (places_of r index.place.extent)
+
+-- the index at a position is read, from 0 for the oldest
+abbrev pub reads_index : ServerContext → RangeState → ℕ → RangeOutcome
+reads_index d r position = reads_named d r position (index_named r.said.indexes position)
+
 abbrev pub reads_log : ServerContext → RangeState → ℕ → RangeOutcome
 reads_log d r position =
-    if nat_lt position (length r.log.extents) then log_goes d r (Reading kinds.Log position) (read_of d (picking d r.log) position) else confirms d r
+    if nat_lt position (length r.log.extents) then log_goes d r (Reading kinds.Log position) (read_of d (picking d r.log) position) else reads_index d r 0
 
 -- the region without end, which stands last
 abbrev pub open_region : List Region → Option Region
@@ -120,10 +149,10 @@ checks_log d r (Some x) =
     if is_some x.length then reads_log_from d r (first_position r r.regions)
     else log_goes d r (Checking kinds.Log) (given (picking d r.log) (check_rule (picking d r.log) (request d)))
 
--- the log is read where the metadata leaves something to be applied; an index is never there before checkpoints are
+-- the log is read where the metadata leaves something to be applied
 abbrev pub begins_log : ServerContext → RangeState → RangeOutcome
 begins_log d r =
-    if is_some (open_region r.said.regions) && (is_some (first_position r r.said.regions) && (length r.said.indexes == 0))
+    if is_some (open_region r.said.regions) && is_some (first_position r r.said.regions)
     then checks_log d (record r { regions = r.said.regions }) (last_extent r.log.extents)
     else dropped d r
 
@@ -192,6 +221,21 @@ log_news d r groups (Reading kind position) (Some (news.Sealed e l)) packets = r
 log_news d r groups (Reading kind position) (Some (news.Content e upto)) packets = log_read d r position e groups
 log_news d r groups stage told packets = goes d r packets []
 
+-- an index that was read counts within the keys under which it was named; bytes that spell no index are damaged
+abbrev pub installs : ServerContext → RangeState → ℕ → Option IndexRange → Option Index → RangeOutcome
+installs d r position (Some named) (Some index) =
+    reads_index d (record r { indexes = record { place = named.place; keys = named.keys; index = index } ∷ r.indexes }) (suc position)
+installs d r position named index = dropped d r
+
+abbrev pub index_read : ServerContext → RangeState → Stage → List ℕ → RangeOutcome
+index_read d r (Indexing position) bytes = installs d r position (index_named r.said.indexes position) (index_at bytes)
+index_read d r stage bytes = answers d r []
+
+-- bytes have come for a read; those of another place are not what was asked for
+abbrev pub index_bytes : ServerContext → RangeState → Option PlaceRead → Place → List ℕ → RangeOutcome
+index_bytes d r None place bytes = answers d r []
+index_bytes d r (Some read) place bytes = if is_place read.place place then index_read d r r.stage bytes else answers d r []
+
 -- ---- the range is served
 
 abbrev pub length_or : Option ℕ → Option ℕ → ℕ
@@ -206,7 +250,7 @@ log_end c (Some x) start = later (record { index = (c.base + length c.extents) -
 
 -- what a range shows once it is loaded
 abbrev pub shown_table : RangeState → ShownTable
-shown_table r = record { live = r.live; indexes = r.said.indexes; keys = r.said.keys }
+shown_table r = record { live = r.live; indexes = r.indexes; keys = r.said.keys }
 
 -- The table is that of the log after the last checkpoint, and its next number that of the region without end. No transaction
 -- waits yet.

@@ -16,6 +16,7 @@ use Rattle.memtable.specs.declared.cell.Place.{Place}
 use Rattle.memtable.specs.Entries.{Entries}
 use Rattle.metadata.specs.declared.record.Region.{Region}
 use Rattle.metadata.specs.Fold.{MetadataState}
+use Rattle.checkpoint.specs.declared.installed_index.InstalledIndex.{InstalledIndex}
 use Rattle.client.specs.declared.fault.ClientFault.{ClientFault}
 use Rattle.client.specs.Client.{ClientState, Outcome, waits}
 use Rattle.client.specs.Load.{LoadState}
@@ -23,6 +24,7 @@ use Rattle.model_partition.specs.declared.server_context.ServerContext.{ServerCo
 use Rattle.model_partition.specs.declared.stage.Stage.{Stage}
 use Rattle.model_partition.specs.declared.stage.Stage.TheVariants.{Serving}
 use Rattle.model_partition.specs.declared.table_note.TableNote.{TableNote}
+use Rattle.model_partition.specs.declared.waiting.PlaceRead.{PlaceRead}
 use Rattle.model_partition.specs.declared.waiting.WaitingGet.{WaitingGet}
 use Rattle.model_partition.specs.declared.waiting.WaitingTransaction.{WaitingTransaction}
 
@@ -33,9 +35,9 @@ pub record OutGroup : Type 0 where
 
 -- A range at a server: the end of its lease; the opening and the confirmation of its streams; its stage; its metadata and
 -- its log, as clients know them, and its other two streams; what its metadata says; the regions of the log, each with the
--- number that is to be applied next; the two layers of its memory table; the number of the next transaction; the end of what
--- was appended to the log; the transactions that wait, and those that are being appended; the Gets that wait, and what was
--- read for them.
+-- number that is to be applied next; the two layers of its memory table; the indexes below it that were read, the newest
+-- first, and the index that is being read; the number of the next transaction; the end of what was appended to the log; the
+-- transactions that wait, and those that are being appended; the Gets that wait, and what was read for them.
 pub record RangeState : Type 0 where
   pub until : ℕ
   pub load : LoadState
@@ -48,6 +50,8 @@ pub record RangeState : Type 0 where
   pub regions : List Region
   pub live : Entries
   pub fixed : Option Entries
+  pub indexes : List InstalledIndex
+  pub reading : Option PlaceRead
   pub next : ℕ
   pub position : Position
   pub queue : List WaitingTransaction

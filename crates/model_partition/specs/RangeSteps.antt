@@ -20,6 +20,8 @@ put x r =
       regions = x.regions.items;
       live = x.table.live;
       fixed = x.table.fixed;
+      indexes = x.indexes;
+      reading = x.reading;
     }
 
 -- what comes of a range whose load went so far

@@ -87,6 +87,8 @@ new_range d range generation until =
       regions = [];
       live = [];
       fixed = None;
+      indexes = [];
+      reading = None;
       next = 1;
       position = record { index = 0; offset = 0 };
       queue = [];

@@ -1,5 +1,5 @@
 -- The servers of a run: what they hold, what comes of packets and events to them, and what their loaded tables show.
-use Rattle.std.specs.Prelude.{◌≡◌, ◌⊎◌, ℕ, zero, suc, ◌+◌, ◌-◌, ◌^◌, ◌&&◌, ◌==◌, nat_lt, nat_le, List, [], ◌∷◌, ◌++◌, length, take, drop, flat_map, Option, Some, None, option_map, is_some, slice_set, if◌then◌else◌}
+use Rattle.std.specs.Prelude.{◌≡◌, ◌⊎◌, ℕ, zero, suc, ◌+◌, ◌-◌, ◌^◌, ◌&&◌, ◌==◌, nat_lt, nat_le, List, [], ◌∷◌, ◌++◌, length, map, take, drop, flat_map, Option, Some, None, option_map, is_some, slice_set, if◌then◌else◌}
 use Rattle.block_types.specs.declared.record.Nodes.{Nodes}
 use Rattle.wire.specs.declared.body.StreamBody.{StreamBody}
 use Rattle.wire.specs.declared.body.StreamBody.TheVariants.{Confirmed}
@@ -17,7 +17,11 @@ use Rattle.model_streams.specs.StreamSystem.{StreamSystem}
 use Rattle.memtable.specs.declared.cell.Cell.{Cell}
 use Rattle.memtable.specs.declared.cell.Cell.TheVariants.{Deleted, Inline, Placed}
 use Rattle.memtable.specs.declared.cell.Place.{Place}
-use Rattle.memtable.specs.Entries.{Entries}
+use Rattle.memtable.specs.Entries.{Entries, put_all}
+use Rattle.checkpoint_format.specs.declared.index.PageAt.{PageAt}
+use Rattle.checkpoint_format.specs.Page.{entries_at}
+use Rattle.checkpoint.specs.declared.installed_index.InstalledIndex.{InstalledIndex}
+use Rattle.checkpoint.specs.Pages.{IndexContent, merged}
 use Rattle.model_partition.specs.declared.shown_table.ShownTable.{ShownTable}
 use Rattle.model_partition.specs.declared.shown_table.TableView.{TableView}
 use Rattle.model_partition.specs.declared.table_note.TableNote.{TableNote}
@@ -72,9 +76,29 @@ rows_in notes entries = flat_map (λ entry. row_of notes entry.0 entry.1) entrie
 abbrev pub table_of_view : TableView → ShownTable
 table_of_view view = record { live = view.live.now.entries; indexes = view.indexes.now; keys = view.keys.now }
 
+-- no entries where bytes spell no page
+abbrev pub entries_if : Option Entries → Entries
+entries_if None = []
+entries_if (Some entries) = entries
+
+abbrev pub entries_shown_in : Option (List ℕ) → Entries
+entries_shown_in None = []
+entries_shown_in (Some bytes) = entries_if (entries_at bytes)
+
+-- what the earliest observation that covers a page shows of its entries
+abbrev pub page_shown : List Note → PageAt → Entries
+page_shown notes page = entries_shown_in (first_shown notes page.place)
+
+abbrev pub index_shown : List Note → InstalledIndex → IndexContent
+index_shown notes x = record { keys = x.keys; entries = flat_map (page_shown notes) x.index.pages }
+
+-- the memory table over the indexes, each within its keys and the range's
+abbrev pub entries_shown : List Note → ShownTable → Entries
+entries_shown notes table = put_all (merged table.keys (map (index_shown notes) table.indexes)) table.live
+
 -- the rows of this table
 abbrev pub rows_of : List Note → ShownTable → List Row
-rows_of notes table = rows_in notes table.live
+rows_of notes table = rows_in notes (entries_shown notes table)
 
 -- an observation of a server, after these
 abbrev pub told : List Note → TableNote → Note

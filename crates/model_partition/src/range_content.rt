@@ -4,13 +4,16 @@ ghost use Rattle.client.specs.Load.{is_open};
 ghost use Rattle.model_partition.specs.LoadStages.{is_reading};
 
 use crate::stage::Stage;
+use crate::waiting::PlaceRead;
+use checkpoint::InstalledIndexes;
 use client::{RangeLoad, StreamClient};
 use memtable::MemTable;
 use metadata::{Metadata, Region};
 use wire::StreamList;
 
 /// What a server knows of a range beside its transactions and Gets: how far its load is, its streams, what its metadata says,
-/// the regions of its log with the numbers that are to be applied next, and its table.
+/// the regions of its log with the numbers that are to be applied next, its table, the indexes below it, and the index that is
+/// being read.
 pub struct RangeContent {
     pub load: RangeLoad,
     pub stage: Stage,
@@ -21,6 +24,9 @@ pub struct RangeContent {
     pub said: Metadata,
     pub regions: Vec<Region>,
     pub table: MemTable,
+    /// The newest first.
+    pub indexes: InstalledIndexes,
+    pub reading: Option<PlaceRead>,
     // Streams are read only once they are opened, and no more once the generation is to be confirmed.
     pub ghost opened: { is_reading stage ≡ true → is_open load.phase ≡ true },
 }
@@ -38,6 +44,8 @@ impl Drop for RangeContent {
             said: _,
             regions: _,
             table: _,
+            indexes: _,
+            reading: _,
         } = self;
     }
 }

@@ -1,8 +1,9 @@
 //! What a loaded table shows.
 
 use bytes::Bytes;
+use checkpoint::InstalledIndexes;
 use memtable::Cell;
-use metadata::{IndexRange, IndexRanges, KeyRange};
+use metadata::KeyRange;
 use std::collections::BTreeMap;
 use std::marker::Model;
 
@@ -31,7 +32,7 @@ impl Model for Entries {
 pub struct ShownTable {
     pub live: Entries,
     /// The newest first.
-    pub indexes: IndexRanges,
+    pub indexes: InstalledIndexes,
     pub keys: KeyRange,
 }
 
@@ -51,6 +52,6 @@ impl Drop for ShownTable {
 pub struct TableView<'a> {
     pub live: &'a BTreeMap<Bytes, Cell>,
     /// The newest first.
-    pub indexes: &'a [IndexRange],
+    pub indexes: &'a InstalledIndexes,
     pub keys: &'a KeyRange,
 }

@@ -10,6 +10,8 @@ pub enum Stage {
     Checking { kind: StreamKind },
     /// The extent at this position of the stream, from 0, is being read.
     Reading { kind: StreamKind, position: u64 },
+    /// The index at this position is being read, from 0 for the oldest.
+    Indexing { position: u64 },
     /// All is read, and the manager is asked whether the generation is still the fence.
     Confirming,
     /// Transactions are taken.

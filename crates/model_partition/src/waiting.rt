@@ -24,11 +24,13 @@ impl Drop for WaitingTransaction {
     }
 }
 
-/// A read of a value that a Get asked for: its number, the place, and the replica that was asked last.
+/// A read of an index, of a page or of a value: its number, the place, whether a page is wanted, and the replica that was asked
+/// last.
 #[derive(Clone, Copy)]
 pub struct PlaceRead {
     pub request: ReqNo,
     pub place: Place,
+    pub page: bool,
     pub replica: Replica,
 }
 
@@ -53,7 +55,7 @@ impl Model for PlaceReads {
     ghost view = { λ list. list.items.items };
 }
 
-/// A Get that waits for the bytes of a value.
+/// A Get that waits for the bytes of a page or of a value.
 #[derive(Drop)]
 pub struct WaitingGet {
     pub from: ActorId,

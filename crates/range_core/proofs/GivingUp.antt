@@ -1,26 +1,28 @@
 -- What a range leaves that is told to give up.
 use Rattle.std.proofs.Common.{◌≡◌, ◌∙◌, ◌+◌, false, List, [], ◌++◌, map, Option, Some, None, refl, sym, ap, arith, append_assoc}
-use Rattle.std.specs.Prelude.{option_to_list, flat_map}
+use Rattle.std.specs.Prelude.{option_map, option_to_list, flat_map}
 use Rattle.wire.specs.declared.packet.Packet.{Packet}
 use Rattle.client.specs.Client.{ClientState}
 use Rattle.client.specs.Load.{again}
 use Rattle.model_partition.specs.declared.server_context.ServerContext.{ServerContext}
 use Rattle.model_partition.specs.declared.waiting.WaitingGet.{WaitingGet}
 use Rattle.model_partition.specs.Range.{RangeState, used}
-use Rattle.model_partition.specs.Answering.{gives_up_job, give_up_all}
+use Rattle.model_partition.specs.Answering.{gives_up_job, gives_up_reading, give_up_all}
+use Rattle.model_partition.specs.PlaceReads.{moved_on}
 use Rattle.model_partition.specs.Getting.{gives_up_get}
 use Rattle.range_core.specs.Steps.{RangeStep, outcome}
 
-pub given_up : (d : ServerContext) (r : RangeState) (log metadata : ClientState) (gets : List WaitingGet) (l g m : Option Packet) (reads packets : List Packet) (t : RangeStep)
+pub given_up : (d : ServerContext) (r : RangeState) (log metadata : ClientState) (gets : List WaitingGet) (l g m x : Option Packet) (reads packets : List Packet) (t : RangeStep)
     → l ≡ again r.load r.load.phase → gives_up_job d r.log ≡ record { after = log; packet = g; news = None }
     → gives_up_job (used d) r.metadata ≡ record { after = metadata; packet = m; news = None }
-    → gets ≡ map (λ x. (gives_up_get d r x).0) r.gets → reads ≡ flat_map (λ x. (gives_up_get d r x).1) r.gets
-    → packets ≡ ((option_to_list l ++ option_to_list g) ++ option_to_list m) ++ reads → t ≡ record { dropped = false; count = d.count + 2; packets = packets; notes = [] }
-    → give_up_all d r ≡ outcome t (record r { metadata = metadata; log = log; gets = gets })
-given_up d r log metadata gets l g m reads packets t l_is g_is m_is gets_is reads_is packets_is t_is =
+    → option_to_list x ≡ gives_up_reading d r r.reading
+    → gets ≡ map (λ y. (gives_up_get d r y).0) r.gets → reads ≡ flat_map (λ y. (gives_up_get d r y).1) r.gets
+    → packets ≡ (((option_to_list l ++ option_to_list g) ++ option_to_list m) ++ option_to_list x) ++ reads → t ≡ record { dropped = false; count = d.count + 2; packets = packets; notes = [] }
+    → give_up_all d r ≡ outcome t (record r { metadata = metadata; log = log; reading = option_map moved_on r.reading; gets = gets })
+given_up d r log metadata gets l g m x reads packets t l_is g_is m_is x_is gets_is reads_is packets_is t_is =
     let counted : (used (used d)).count ≡ d.count + 2 = omega arith in
-    let nested : option_to_list l ++ (option_to_list g ++ (option_to_list m ++ reads)) ≡ ((option_to_list l ++ option_to_list g) ++ option_to_list m) ++ reads = simp append_assoc refl in
-    let first : give_up_all d r ≡ record { after = Some (record r { metadata = metadata; log = log; gets = gets }); count = d.count + 2; packets = option_to_list l ++ (option_to_list g ++ (option_to_list m ++ reads)); notes = [] } = λ i.
-    record { after = Some (record r { metadata = (m_is i).after; log = (g_is i).after; gets = sym gets_is i }); count = counted i; packets = option_to_list (sym l_is i) ++ (option_to_list (g_is i).packet ++ (option_to_list (m_is i).packet ++ sym reads_is i)); notes = [] } in
-    first ∙ ap (λ (ps : List Packet). outcome (record { dropped = false; count = d.count + 2; packets = ps; notes = [] }) (record r { metadata = metadata; log = log; gets = gets })) (nested ∙ sym packets_is)
-    ∙ ap (λ (x : RangeStep). outcome x (record r { metadata = metadata; log = log; gets = gets })) (sym t_is)
+    let nested : option_to_list l ++ (option_to_list g ++ (option_to_list m ++ (option_to_list x ++ reads))) ≡ (((option_to_list l ++ option_to_list g) ++ option_to_list m) ++ option_to_list x) ++ reads = simp append_assoc refl in
+    let first : give_up_all d r ≡ record { after = Some (record r { metadata = metadata; log = log; reading = option_map moved_on r.reading; gets = gets }); count = d.count + 2; packets = option_to_list l ++ (option_to_list g ++ (option_to_list m ++ (option_to_list x ++ reads))); notes = [] } = λ i.
+    record { after = Some (record r { metadata = (m_is i).after; log = (g_is i).after; reading = option_map moved_on r.reading; gets = sym gets_is i }); count = counted i; packets = option_to_list (sym l_is i) ++ (option_to_list (g_is i).packet ++ (option_to_list (m_is i).packet ++ (sym x_is i ++ sym reads_is i))); notes = [] } in
+    first ∙ ap (λ (ps : List Packet). outcome (record { dropped = false; count = d.count + 2; packets = ps; notes = [] }) (record r { metadata = metadata; log = log; reading = option_map moved_on r.reading; gets = gets })) (nested ∙ sym packets_is)
+    ∙ ap (λ (x : RangeStep). outcome x (record r { metadata = metadata; log = log; reading = option_map moved_on r.reading; gets = gets })) (sym t_is)

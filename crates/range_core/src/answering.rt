@@ -13,7 +13,7 @@ use crate::range_step::{RangeStep, push_some};
 use crate::state::RangeState;
 use model_partition::{Progress, RangeContent, ServerContext, Service, TableNote};
 use range_commit::Queue;
-use range_load::{load_reply, log_load_reply, metadata_reply};
+use range_load::{index_reply, load_reply, log_load_reply, metadata_reply, reads_under};
 use std::alloc::{AllocError, Global};
 use wire::{Packet, ReqNo};
 
@@ -47,6 +47,8 @@ pub enum Waiter {
     Metadata,
     /// The log's client, which is the load's until the range is served.
     Log,
+    /// The read of an index.
+    Index,
 }
 
 /// What an answer to this one leaves of what is loaded.
@@ -66,6 +68,7 @@ fn progress_of(
         Waiter::Load => load_reply(content, alloc, context, packet),
         Waiter::Metadata => metadata_reply(content, alloc, context, packet),
         Waiter::Log => log_load_reply(content, alloc, context, packet),
+        Waiter::Index => index_reply(content, alloc, context, packet),
     }
 }
 
@@ -120,10 +123,11 @@ impl RangeState {
         }
     }
 
-    /// The load goes on by the answer to this one: the streams are opened, the metadata is read and then the log, the generation
-    /// is confirmed, and the range is served from then on, with the number of the next transaction and the log's position. The
-    /// range is dropped where its generation is an old one (3) or what was read is damaged (21), and those who wait are told so
-    /// (30). Where memory runs out (22) nothing has changed.
+    /// The load goes on by the answer to this one: the streams are opened, the metadata is read, then the log, then the indexes,
+    /// the generation is confirmed, and the range is served from then on, with the number of the next transaction and the log's
+    /// position. The range is dropped where its generation is an old one (3), what was read is damaged (21), or an index stands in
+    /// an extent that is in none of its streams, and those who wait are told so (30). Where memory runs out (22) nothing has
+    /// changed.
     pub fn load(
         &mut self,
         alloc: Global,
@@ -174,11 +178,13 @@ impl RangeState {
         self.content.load.awaits(request)
             || self.content.metadata.awaits(request)
             || self.content.log.awaits(request)
+            || reads_under(&self.content.reading, request)
             || self.lookups.awaits(request)
     }
 
-    /// The answer of this number, a packet: what the load, the metadata's client, the log's client or the Gets do with it, whichever waits
-    /// for it first. That it bears the number is the caller's condition. For want of memory (22) nothing has changed.
+    /// The answer of this number, a packet: what the load, the metadata's client, the log's client, the read of an index or the
+    /// Gets do with it, whichever waits for it first. That it bears the number is the caller's condition. For want of memory (22)
+    /// nothing has changed.
     #[tactic(auto, using(crate::proofs::LogAnswers::awaited, crate::proofs::LogAnswers::load_awaited))]
     pub fn answer(
         &mut self,
@@ -201,6 +207,9 @@ impl RangeState {
         }
         if self.content.log.awaits(request) {
             return self.log_reply(alloc, context, packet);
+        }
+        if reads_under(&self.content.reading, request) {
+            return self.load(alloc, context, Waiter::Index, packet);
         }
         self.gets_reply(alloc, context, request, &packet.body)
     }

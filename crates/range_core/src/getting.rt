@@ -1,11 +1,11 @@
-//! A Get comes, or the bytes of a value.
+//! A Get comes, or the bytes of a page or of a value.
 ghost use Rattle.std.specs.Prelude.{◌≡◌, ◌<◌, ◌+◌, ◌^◌, length, None, IfOk, OnErr};
 ghost use Rattle.model_partition.specs.Getting.{get_fault, get_rule};
 ghost use Rattle.model_partition.specs.Answering.{gets_reply, load_refused};
 ghost use Rattle.range_core.specs.Steps.{outcome, IsShort};
 
 use crate::range_step::RangeStep;
-use crate::state::{RangeState, extents_of, known_extents};
+use crate::state::{RangeState, extents_of, indexes_of, known_extents};
 use crate::transacting::refused;
 use bytes::Bytes;
 use memtable::MAX_KEY;
@@ -38,10 +38,11 @@ impl RangeState {
         None
     }
 
-    /// A Get of a user is answered from the memory table, or waits for the bytes of a value that stands elsewhere. It is refused
-    /// 38 while the range is loaded, 32 once its lease has ended, 36 where the key has no byte or more than 256, 33 where it is
-    /// not of the range, and 35 where 256 wait, the first of these that is met; nothing changes then. A value that
-    /// it finds in the cache is then the one most recently used. Where memory runs out (22) nothing has changed.
+    /// A Get of a user is answered from the memory table and the indexes, or waits for the bytes of a page or of a value. It is
+    /// refused 38 while the range is loaded, 32 once its lease has ended, 36 where the key has no byte or more than 256, 33 where
+    /// it is not of the range, and 35 where 256 wait, the first of these that is met; nothing changes then. The pages that may have
+    /// its key, where the memory table does not, and the value that it finds in the cache are then those most recently used. Where
+    /// memory runs out (22) nothing has changed.
     pub fn get(
         &mut self,
         alloc: Global,
@@ -67,6 +68,7 @@ impl RangeState {
             log: known_extents(&content.log),
             blob: extents_of(&content.blob_data),
             rows: extents_of(&content.row_data),
+            indexes: indexes_of(content),
         };
         match self.lookups.get(alloc, &asking, from, *request, key) {
             Ok(tried) => Ok(RangeStep::sends(alloc, tried.count, tried.packets)),
@@ -74,8 +76,8 @@ impl RangeState {
         }
     }
 
-    /// The read of a value is refused: the range is dropped where its generation is an old one (3), and those who wait are told
-    /// so (30). Nothing comes of another refusal. An error is out of memory (22).
+    /// The read of a page or of a value is refused: the range is dropped where its generation is an old one (3), and those who
+    /// wait are told so (30). Nothing comes of another refusal. An error is out of memory (22).
     fn read_refused(
         &self,
         alloc: Global,
@@ -98,9 +100,9 @@ impl RangeState {
         }
     }
 
-    /// The bytes of a value have come: each Get that waits is tried again, and the bytes are held, the most recently used, where
-    /// they are what was asked for. Or the read of a value is refused. No other answer is for a Get. Where memory runs out (22)
-    /// nothing has changed.
+    /// The bytes of a page or of a value have come: each Get that waits is tried again, and the bytes are held, the most recently
+    /// used, where they are what was asked for. Bytes that spell no page where one was asked for change nothing. Or the read is
+    /// refused. No other answer is for a Get. Where memory runs out (22) nothing has changed.
     pub(crate) fn gets_reply(
         &mut self,
         alloc: Global,
@@ -130,6 +132,7 @@ impl RangeState {
                     log: known_extents(&content.log),
                     blob: extents_of(&content.blob_data),
                     rows: extents_of(&content.row_data),
+                    indexes: indexes_of(content),
                 };
                 match self
                     .lookups

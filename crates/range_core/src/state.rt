@@ -9,6 +9,7 @@ ghost use Rattle.model_partition.specs.Servers.{table_of_view};
 ghost use Rattle.range_core.specs.Phases.{phase_of};
 
 use crate::phase::Phase;
+use checkpoint::InstalledIndexes;
 use client::StreamClient;
 use metadata::{IndexRange, Region};
 use model_partition::{RangeContent, ServerContext, Stage, TableView};
@@ -62,6 +63,8 @@ impl Model for RangeState {
       regions = r.content.regions.items;
       live = r.content.table.live;
       fixed = r.content.table.fixed;
+      indexes = r.content.indexes;
+      reading = r.content.reading;
       next = r.queue.next;
       position = r.position;
       queue = r.queue.queue;
@@ -83,6 +86,13 @@ pub(crate) fn extents_of(list: &StreamList) -> &[StreamExtent]
     ensures { result.now ≡ list.now.extents }
 {
     &list.extents.items
+}
+
+/// The indexes that were read. A call, as above.
+pub(crate) fn indexes_of(content: &RangeContent) -> &InstalledIndexes
+    ensures { result.now ≡ content.now.indexes }
+{
+    &content.indexes
 }
 
 impl RangeState {
@@ -164,7 +174,7 @@ impl RangeState {
     {
         TableView {
             live: self.content.table.live(),
-            indexes: self.indexes(),
+            indexes: &self.content.indexes,
             keys: &self.content.said.keys,
         }
     }

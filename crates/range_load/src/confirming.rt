@@ -1,5 +1,5 @@
 //! All is read: the generation is confirmed, and the range is served.
-ghost use Rattle.std.specs.Prelude.{◌≡◌, ◌+◌, ◌<◌, length, true, IfOk, OnErr};
+ghost use Rattle.std.specs.Prelude.{◌≡◌, ◌+◌, ◌<◌, length, true, None, IfOk, OnErr};
 ghost use Rattle.client.specs.declared.load.LoadPhase.TheVariants as phases;
 ghost use Rattle.client.specs.Client.{last_extent};
 ghost use Rattle.client.specs.Load.{is_open, reply_phase};
@@ -9,9 +9,9 @@ ghost use Rattle.model_partition.specs.Range.{position_le};
 ghost use Rattle.model_partition.specs.Loading as rows;
 ghost use Rattle.model_partition.specs.RangeSteps.{RangePerforms};
 
-use crate::copying::live_entries;
+use crate::copying::{copied_installed, live_entries};
 use client::StreamClient;
-use metadata::{IndexRanges, copied_indexes, copied_keys};
+use metadata::copied_keys;
 use model_partition::{
     Progress, RangeContent, ServerContext, Service, ShownTable, Stage, TableNote, next_request,
 };
@@ -59,22 +59,21 @@ fn are_counted(log: &StreamClient) -> bool
 /// The manager is asked whether the generation is still the fence.
 pub(crate) fn confirms(content: &mut RangeContent, context: &ServerContext) -> Progress
     requires { is_open content.old.load.phase ≡ true }
-    ensures { RangePerforms context.now (λ r. rows.confirms context.now r) content.old content.new result }
+    ensures { RangePerforms context.now (λ r. rows.confirms context.now (record r { reading = None })) content.old content.new result }
 {
     let packet = content.load.confirm(&next_request(context));
     content.stage = Stage::Confirming;
+    content.reading = None;
     Progress::Goes(packet)
 }
 
 /// What is shown of the range once it is served.
 fn loaded(content: &RangeContent, alloc: Global, next: u64) -> Result<TableNote, AllocError>
-    ensures { IfOk result (λ note. note ≡ notes.Loaded content.now.load.range content.now.load.generation (record { live = content.now.table.live; indexes = content.now.said.indexes; keys = content.now.said.keys }) next) }
+    ensures { IfOk result (λ note. note ≡ notes.Loaded content.now.load.range content.now.load.generation (record { live = content.now.table.live; indexes = content.now.indexes; keys = content.now.said.keys }) next) }
 {
     let table = ShownTable {
         live: live_entries(alloc, &content.table)?,
-        indexes: IndexRanges {
-            items: copied_indexes(alloc, &content.said.indexes.items)?,
-        },
+        indexes: copied_installed(alloc, &content.indexes)?,
         keys: copied_keys(&content.said.keys)?,
     };
     Ok(TableNote::Loaded {

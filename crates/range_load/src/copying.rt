@@ -2,7 +2,10 @@
 ghost use Rattle.std.specs.Prelude.{◌≡◌, [], IfOk};
 
 use bytes::Bytes;
+use checkpoint::{InstalledIndex, InstalledIndexes};
+use checkpoint_format::{Index, PageAt, PageList};
 use memtable::{Cell, MemTable};
+use metadata::copied_keys;
 use model_partition::Entries;
 use std::alloc::{AllocError, Global};
 use wire::{StreamExtents, StreamList};
@@ -41,4 +44,49 @@ pub(crate) fn live_entries(alloc: Global, table: &MemTable) -> Result<Entries, A
         copies.push((key.clone()?, cell.copy()?))?;
     }
     Ok(Entries { items: copies })
+}
+
+/// The same pages again, which share their first keys.
+fn copied_pages(alloc: Global, pages: &[PageAt]) -> Result<PageList, AllocError>
+    ensures { IfOk result (λ copies. copies ≡ pages.now) }
+{
+    let mut copies: Vec<PageAt> = Vec::with_capacity(alloc, pages.len())?;
+    for page in pages {
+        copies.push(PageAt {
+            first: page.first.clone()?,
+            place: page.place,
+        })?;
+    }
+    Ok(PageList { items: copies })
+}
+
+/// The same index again, which shares its keys.
+fn copied_index(alloc: Global, one: &InstalledIndex) -> Result<InstalledIndex, AllocError>
+    ensures { IfOk result (λ copy. copy ≡ one.now) }
+{
+    let keys = copied_keys(&one.keys)?;
+    let pages = copied_pages(alloc, one.index.pages.as_slice())?;
+    Ok(InstalledIndex {
+        place: one.place,
+        keys,
+        index: Index {
+            pages,
+            has_place: one.index.has_place,
+        },
+    })
+}
+
+/// The same indexes again, which share their keys.
+pub(crate) fn copied_installed(
+    alloc: Global,
+    indexes: &InstalledIndexes,
+) -> Result<InstalledIndexes, AllocError>
+    ensures { IfOk result (λ copies. copies ≡ indexes.now) }
+{
+    let all = indexes.as_slice();
+    let mut copies: Vec<InstalledIndex> = Vec::with_capacity(alloc, all.len())?;
+    for one in all {
+        copies.push(copied_index(alloc, one)?)?;
+    }
+    Ok(InstalledIndexes::of(copies))
 }

@@ -7,13 +7,13 @@ ghost use Rattle.model_partition.specs.Loading as rows;
 ghost use Rattle.model_partition.specs.RangeSteps.{put, RangePerforms};
 
 use crate::asking::{check_last, read_at};
-use crate::confirming::confirms;
+use crate::index_reading::reads_index;
 use metadata::Region;
 use model_partition::{Progress, RangeContent, ServerContext, Stage};
 use range_replay::open_region;
 use wire::StreamKind;
 
-/// The extent at the position is read, or all is.
+/// The extent at the position is read, or all are, and then the indexes.
 pub(crate) fn reads_log(
     content: &mut RangeContent,
     context: &ServerContext,
@@ -31,7 +31,7 @@ pub(crate) fn reads_log(
         };
         Progress::Goes(packet)
     } else {
-        confirms(content, context)
+        reads_index(content, context, 0)
     }
 }
 
@@ -47,7 +47,7 @@ pub(crate) fn reads_log_behind(
     if position < content.log.extents.len() as u64 {
         reads_log(content, context, position + 1)
     } else {
-        confirms(content, context)
+        reads_index(content, context, 0)
     }
 }
 
@@ -113,7 +113,7 @@ pub(crate) fn begins_log(
     if open_region(&regions).is_none() {
         return Progress::Dropped;
     }
-    if first_position(content, &regions).is_none() || !content.said.indexes.items.is_empty() {
+    if first_position(content, &regions).is_none() {
         return Progress::Dropped;
     }
     content.regions = regions;

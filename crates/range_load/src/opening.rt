@@ -12,6 +12,7 @@ ghost use Rattle.model_partition.specs.RangeSteps.{put, RangePerforms};
 
 use crate::copying::{copied_list, no_list};
 use crate::metadata_reading::begins_metadata;
+use checkpoint::InstalledIndexes;
 use client::{RangeLoad, StreamClient};
 use memtable::MemTable;
 use metadata::{Metadata, Region, copied_regions};
@@ -129,6 +130,8 @@ fn begun(
             said,
             regions: Vec::new(alloc),
             table: MemTable::new(alloc),
+            indexes: InstalledIndexes::of(Vec::new(alloc)),
+            reading: None,
         }),
         Err(full) => {
             drop(said);

@@ -8,7 +8,8 @@ use Rattle.wire.specs.declared.packet.Packet.{Packet}
 use Rattle.model_partition.specs.declared.server_context.ServerContext.{ServerContext}
 use Rattle.model_partition.specs.declared.waiting.PlaceRead.{PlaceRead}
 use Rattle.model_partition.specs.declared.waiting.WaitingGet.{WaitingGet}
-use Rattle.model_partition.specs.Getting.{gives_up_read, moved_on}
+use Rattle.model_partition.specs.Getting.{gives_up_read}
+use Rattle.model_partition.specs.PlaceReads.{moved_on}
 use Rattle.model_partition.specs.Range.{RangeState}
 use Rattle.range_reads.specs.Moving.{last_moved, last_asked}
 

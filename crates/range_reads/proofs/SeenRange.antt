@@ -1,17 +1,21 @@
 -- What Gets see is the range.
-use Rattle.std.proofs.Common.{◌≡◌, Option, None, refl, ℕ, List, [], ◌++◌, map, Some, sym, ap, ◌∙◌}
+use Rattle.std.proofs.Common.{◌≡◌, Option, None, refl, ℕ, true, List, [], ◌++◌, map, Some, sym, ap, ◌∙◌}
 use Rattle.std.specs.Prelude.{option_to_list}
 use Rattle.wire.specs.declared.actor.ReqNo.{ReqNo}
 use Rattle.wire.specs.declared.packet.Packet.{Packet}
 use Rattle.model_partition.specs.declared.server_context.ServerContext.{ServerContext}
 use Rattle.model_partition.specs.declared.waiting.WaitingGet.{WaitingGet}
-use Rattle.model_partition.specs.Getting.{Tried, try, try_all, without, gets_after, standing, used}
+use Rattle.checkpoint.specs.declared.installed_index.InstalledIndex.{InstalledIndex}
+use Rattle.checkpoint.specs.Lookup.{looked_up}
+use Rattle.model_partition.specs.Getting.{Tried, try, try_all, without, gets_after, standing, held_at, used, used_all, used_for, pages_of_key, found_cell, read_at, are_no_page, bytes_rule}
 use Rattle.model_partition.specs.Range.{RangeState, RangeOutcome}
 use Rattle.range_reads.specs.declared.asking.Asking.{Asking}
 use Rattle.range_reads.specs.declared.trying.OneTry.{OneTry}
-use Rattle.range_reads.specs.Caching.{placed, used_at}
+use Rattle.range_reads.specs.Caching.{placed, used_at, pages_used}
+use Rattle.range_reads.specs.Looking.{newest_cell}
 use Rattle.range_reads.specs.ValueCache.{Values}
 use Rattle.memtable.specs.declared.cell.Cell.{Cell}
+use Rattle.memtable.specs.declared.cell.Place.{Place}
 use Rattle.memtable.specs.declared.cell.Cell.TheVariants.{Deleted, Inline, Placed}
 use Rattle.memtable.specs.Layers.{found_in, or_else, cell_at}
 use Rattle.memtable.specs.Entries.{found}
@@ -23,6 +27,7 @@ is_seen r a held s = λ i.
       until = s.until i;
       live = s.live i;
       fixed = s.fixed i;
+      indexes = s.indexes i;
       log = record r.log { extents = s.log i };
       blob_data = record r.blob_data { extents = s.blob i };
       row_data = record r.row_data { extents = s.rows i };
@@ -42,6 +47,12 @@ get_taken d r a s g one held gets packets sees own tried gets_are packets_are =
 abbrev pub bytes_with : ServerContext → RangeState → ReqNo → Values → RangeOutcome
 bytes_with d r w held = gets_after (record r { held = held }) [] (try_all d (record r { held = held }) (map (without w) r.gets))
 
+-- bytes that spell no page
+pub none_taken : (d : ServerContext) (r : RangeState) (s : LookupsState) (w : ReqNo) (place : Place) (bytes : List ℕ) (packets : List Packet) → IsOf r s → are_no_page (read_at r.gets w) bytes ≡ true → packets ≡ []
+    → bytes_rule d r w place bytes ≡ record { after = Some (record r { gets = s.gets; held = s.held }); count = d.count; packets = packets; notes = [] }
+none_taken d r s w place bytes packets own none empty =
+    rw none (λ i. record { after = Some (record r { gets = sym own.gets i; held = sym own.held i }); count = d.count; packets = sym empty i; notes = [] })
+
 pub bytes_taken : (d : ServerContext) (r : RangeState) (a : Asking) (s : LookupsState) (w : ReqNo) (gets : List WaitingGet) (held after : Values) (t : Tried) → Sees r a → IsOf r s → gets ≡ s.gets → after ≡ held
     → try_all d (seen a held r) (map (without w) gets) ≡ t → bytes_with d r w after ≡ record { after = Some (record r { gets = t.waiting; held = after }); count = t.count; packets = t.packets; notes = [] }
 bytes_taken d r a s w gets held after t sees own gets_are after_is tried =
@@ -59,3 +70,9 @@ is_used held None = refl
 is_used held (Some Deleted) = refl
 is_used held (Some (Inline value)) = refl
 is_used held (Some (Placed place)) = refl
+
+-- what serves a Get goes to the front
+pub is_used_for : (held : Values) (indexes : List InstalledIndex) (key : List ℕ) (cell : Option Cell)
+    → used_at (used_all held (pages_used indexes key cell)) (placed (found_cell (newest_cell (held_at held) indexes key cell))) ≡ used_for held indexes key cell
+is_used_for held indexes key None = is_used (used_all held (pages_of_key indexes key)) (found_cell (looked_up (held_at held) indexes key))
+is_used_for held indexes key (Some cell) = is_used held (Some cell)

@@ -1,15 +1,19 @@
 -- Tries in turn.
-use Rattle.std.proofs.Common.{◌≡◌, ℕ, false, ◌+◌, ◌<◌, ◌≤◌, List, ◌∷◌, ◌++◌, length, map, drop, get_or, Option, Some, None, sym, ap, ◌∙◌, arith, append_assoc, append-nil, length-append}
+use Rattle.std.proofs.Common.{◌≡◌, ℕ, false, ◌+◌, ◌<◌, ◌≤◌, List, ◌∷◌, ◌++◌, length, map, drop, get_or, Option, Some, None, refl, sym, ap, ◌∙◌, arith, append_assoc, append-nil, length-append}
 use Rattle.std.specs.Prelude.{option_to_list}
 use Rattle.std.proofs.lemmas.List.{drop_more, drop_all}
 use Rattle.wire.specs.declared.actor.ReqNo.{ReqNo}
 use Rattle.wire.specs.declared.packet.Packet.{Packet}
 use Rattle.model_partition.specs.declared.server_context.ServerContext.{ServerContext}
 use Rattle.model_partition.specs.declared.waiting.WaitingGet.{WaitingGet}
-use Rattle.model_partition.specs.Getting.{Lookup, Tried, look, standing, answered, try, try_all, without}
+use Rattle.memtable.specs.declared.cell.Cell.{Cell}
+use Rattle.checkpoint.specs.declared.installed_index.InstalledIndex.{InstalledIndex}
+use Rattle.model_partition.specs.Getting.{Lookup, Tried, look, held_at, indexed_value, standing, answered, try, try_all, without}
 use Rattle.model_partition.specs.Range.{RangeState}
 use Rattle.model_partition.specs.Serving.{lease_ended}
 use Rattle.range_reads.specs.declared.trying.OneTry.{OneTry}
+use Rattle.range_reads.specs.Looking.{newest_cell}
+use Rattle.range_reads.specs.ValueCache.{Values}
 use Rattle.range_reads.specs.Lookups.{tried_of}
 
 -- what earlier tries left, and then these
@@ -52,5 +56,10 @@ pub no_more : {A : Type 0} (i : ℕ) (o : Option A) (before after : List A) → 
 no_more i o before after le is = omega (arith, ap length is, length-append before (option_to_list o), at_most_one o)
 
 -- what is looked up before the lease has ended is answered
-pub in_time : (d : ServerContext) (r : RangeState) (g : WaitingGet) (found : Lookup) → lease_ended d r ≡ false → found ≡ look r.held (standing r g.key) → answered d r g found ≡ try d r g
+pub in_time : (d : ServerContext) (r : RangeState) (g : WaitingGet) (found : Lookup) → lease_ended d r ≡ false → found ≡ look r.held r.indexes g.key (standing r g.key) → answered d r g found ≡ try d r g
 in_time d r g found ended is = rw ended (ap (answered d r g) is)
+
+-- the value of what a key has
+pub look_is : (held : Values) (indexes : List InstalledIndex) (key : List ℕ) (cell : Option Cell) → indexed_value held (newest_cell (held_at held) indexes key cell) ≡ look held indexes key cell
+look_is held indexes key None = refl
+look_is held indexes key (Some cell) = refl

@@ -10,8 +10,11 @@ use Rattle.std.proofs.lemmas.Map.{lookup-remove_entry}
 use Rattle.memtable.specs.declared.cell.Place.{Place}
 use Rattle.lru.specs.LruCache.{lru_cache, put_entries, last_entry}
 use Rattle.lru.proofs.CallerLemmas.{Contains-lookup_entry, lookup-put_entries}
-use Rattle.model_partition.specs.Getting.{is_place, held_at, came, most_held}
+use Rattle.model_partition.specs.declared.waiting.PlaceRead.{PlaceRead}
+use Rattle.model_partition.specs.Getting.{held_at, came, most_held}
+use Rattle.model_partition.specs.PlaceReads.{is_place}
 use Rattle.range_reads.specs.declared.value_cache.Fresh.{Fresh}
+use Rattle.range_reads.specs.Caching.{IsFor}
 use Rattle.range_reads.specs.ValueCache.{Values, with_fresh, is_of, goes_for}
 
 pub held_lookup : (held : Values) (place : Place) → lookup (is_place place) held ≡ held_at held place
@@ -166,15 +169,14 @@ with_other held fresh place other apart le = stays held fresh place (lookup_entr
 -- ---- what is held after bytes have come
 
 -- what was asked for is held, and nothing else
-pub exactly : (held : Values) (fresh : Option Fresh) (asked : Option Place) (place : Place) (bytes : List ℕ)
-    → (asked ≡ Some place → fresh ≡ Some (record { place = place; bytes = bytes })) → ((asked ≡ Some place → ⊥) → fresh ≡ None)
+pub exactly : (held : Values) (fresh : Option Fresh) (asked : Option PlaceRead) (place : Place) (bytes : List ℕ)
+    → (IsFor asked place → fresh ≡ Some (record { place = place; bytes = bytes })) → ((IsFor asked place → ⊥) → fresh ≡ None)
     → with_fresh held fresh ≡ came held asked place bytes
-exactly held fresh None place bytes there other = ap (with_fresh held) (other (λ e. cc))
+exactly held fresh None place bytes there other = ap (with_fresh held) (other (λ e. e))
 exactly held fresh (Some asked) place bytes there other =
-    elim (is_place place asked) as (λ b. is_place place asked ≡ b → with_fresh held fresh ≡ came held (Some asked) place bytes) [
-      | true ↦ λ is. rw is (ap (with_fresh held) (there (ap Some (sym (place_same place asked is)))))
-      | false ↦ λ is. rw is (ap (with_fresh held) (other (λ e.
-          let same : asked ≡ place = cc in
-          let yes : is_place place asked ≡ true = subst (λ (p : Place). is_place place p ≡ true) (sym same) (place_itself place) in
+    elim (is_place place asked.place) as (λ b. is_place place asked.place ≡ b → with_fresh held fresh ≡ came held (Some asked) place bytes) [
+      | true ↦ λ is. rw is (ap (with_fresh held) (there (sym (place_same place asked.place is))))
+      | false ↦ λ is. rw is (ap (with_fresh held) (other (λ same.
+          let yes : is_place place asked.place ≡ true = subst (λ (p : Place). is_place place p ≡ true) (sym same) (place_itself place) in
           cc)))
     ] refl

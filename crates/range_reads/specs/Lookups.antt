@@ -7,7 +7,7 @@ use Rattle.range_reads.specs.declared.asking.Asking.{Asking}
 use Rattle.range_reads.specs.declared.trying.OneTry.{OneTry}
 use Rattle.range_reads.specs.ValueCache.{Values}
 
--- the Gets that wait, and the values that are held
+-- the Gets that wait, and the pages and values that are held
 pub record LookupsState : Type 0 where
   pub gets : List WaitingGet
   pub held : Values
@@ -17,6 +17,7 @@ pub record Sees (r : RangeState) (a : Asking) : Type 0 where
   pub until : a.until ≡ r.until
   pub live : a.table.now.live ≡ r.live
   pub fixed : a.table.now.fixed ≡ r.fixed
+  pub indexes : a.indexes.now ≡ r.indexes
   pub log : a.log.now ≡ r.log.extents
   pub blob : a.blob.now ≡ r.blob_data.extents
   pub rows : a.rows.now ≡ r.row_data.extents
@@ -33,6 +34,7 @@ seen a held r =
       until = a.until;
       live = a.table.now.live;
       fixed = a.table.now.fixed;
+      indexes = a.indexes.now;
       log = record r.log { extents = a.log.now };
       blob_data = record r.blob_data { extents = a.blob.now };
       row_data = record r.row_data { extents = a.rows.now };

@@ -3,7 +3,7 @@ use Rattle.std.specs.Prelude.{◌-◌, List, [], length, Option, Some, None, sli
 use Rattle.wire.specs.declared.packet.Packet.{Packet}
 use Rattle.model_partition.specs.declared.server_context.ServerContext.{ServerContext}
 use Rattle.model_partition.specs.declared.waiting.PlaceRead.{PlaceRead}
-use Rattle.model_partition.specs.Getting.{moved_on, asks_again, places_of}
+use Rattle.model_partition.specs.PlaceReads.{moved_on, asks_again, places_of}
 use Rattle.model_partition.specs.Range.{RangeState}
 
 abbrev pub last_moved : List PlaceRead → Option PlaceRead → List PlaceRead

@@ -1,44 +1,29 @@
 //! What Gets look at.
 ghost use Rattle.std.specs.Prelude.{◌≡◌, ◌++◌};
-ghost use Rattle.model_partition.specs.Getting.{places_in as nodes_in};
+ghost use Rattle.model_partition.specs.PlaceReads.{places_in as nodes_in};
 
 use block_types::Nodes;
+use checkpoint::InstalledIndexes;
 use memtable::MemTable;
 use model_partition::ServerContext;
 use wire::{ExtentId, StreamExtent};
 
-/// What a try of a Get looks at: the server, the end of the range's lease, in ticks, its memory table, and the extents of the
-/// streams that values stand in.
+/// What a try of a Get looks at: the server, the end of the range's lease, in ticks, its memory table, the indexes below it, and
+/// the extents of the streams that pages and values stand in.
 #[derive(Drop)]
 pub struct Asking<'a> {
     pub context: &'a ServerContext,
     pub until: u64,
     pub table: &'a MemTable,
+    pub indexes: &'a InstalledIndexes,
     pub log: &'a [StreamExtent],
     pub blob: &'a [StreamExtent],
     pub rows: &'a [StreamExtent],
 }
 
-fn places_in(extents: &[StreamExtent], extent: ExtentId) -> Option<Nodes>
-    ensures { result ≡ nodes_in extents.now extent }
-{
-    for known in extents {
-        if known.extent.0 == extent.0 {
-            return Some(known.places);
-        }
-    }
-    None
-}
-
-/// The places of an extent that values stand in.
+/// The replicas of an extent that pages and values stand in.
 pub(crate) fn places_of(asking: &Asking<'_>, extent: ExtentId) -> Option<Nodes>
     ensures { result ≡ nodes_in (asking.now.log.now ++ (asking.now.blob.now ++ asking.now.rows.now)) extent }
 {
-    match places_in(asking.log, extent) {
-        Some(places) => Some(places),
-        None => match places_in(asking.blob, extent) {
-            Some(places) => Some(places),
-            None => places_in(asking.rows, extent),
-        },
-    }
+    model_partition::places_of(asking.log, asking.blob, asking.rows, extent)
 }

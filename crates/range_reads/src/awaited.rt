@@ -3,57 +3,68 @@ ghost use Rattle.std.specs.Prelude.{◌≡◌, None, Some, map, IfOk};
 ghost use Rattle.std.specs.List.{list_any};
 ghost use Rattle.client.specs.Requests.{is_same as are_same};
 ghost use Rattle.model_partition.specs.Answering.{get_awaits};
-ghost use Rattle.model_partition.specs.Getting.{place_of, read_at, read_in as place_in};
+ghost use Rattle.model_partition.specs.Getting.{are_no_page as no_page, read_at, read_in as found_in};
+ghost use Rattle.model_partition.specs.PlaceReads.{place_of};
+ghost use Rattle.range_reads.specs.Caching.{IsFor};
 ghost use Rattle.model_partition.specs.Range.{refuses as refuses_of};
 ghost use Rattle.wire.specs.declared.refusal.Refusal.TheVariants as refusals;
 
-use crate::requests::is_same;
 use crate::trying::refuses;
 use crate::value_cache::Fresh;
 use bytes::Bytes;
-use memtable::Place;
-use model_partition::{PlaceRead, ServerContext, WaitingGet};
+use checkpoint_format::is_page;
+use model_partition::{PlaceRead, ServerContext, WaitingGet, is_same};
 use std::alloc::{AllocError, Global};
 use wire::{ExtentId, Packet, Refusal, ReqNo};
 
-fn read_in(reads: &[PlaceRead], number: &ReqNo) -> Option<Place>
-    ensures { result ≡ place_in reads.now number.now }
+fn read_in(reads: &[PlaceRead], number: &ReqNo) -> Option<PlaceRead>
+    ensures { result ≡ found_in reads.now number.now }
 {
     for read in reads {
         if is_same(&read.request, number) {
-            return Some(read.place);
+            return Some(*read);
         }
     }
     None
 }
 
-/// The place that a read of this number asked for.
-fn place_asked(gets: &[WaitingGet], number: &ReqNo) -> Option<Place>
+/// The read of this number.
+pub(crate) fn read_of(gets: &[WaitingGet], number: &ReqNo) -> Option<PlaceRead>
     ensures { result ≡ read_at gets.now number.now }
 {
     for get in gets {
-        if let Some(place) = read_in(&get.reads.items, number) {
-            return Some(place);
+        if let Some(read) = read_in(&get.reads.items, number) {
+            return Some(read);
         }
     }
     None
 }
 
-/// The bytes, to be held, if a read of this number asked for just these.
+/// Whether a page was asked for, and the bytes spell none. It takes no memory.
+pub(crate) fn are_no_page(asked: &Option<PlaceRead>, bytes: &[u8]) -> bool
+    ensures { result ≡ no_page asked.now bytes.now }
+{
+    match asked {
+        None => false,
+        Some(read) => read.page && !is_page(bytes),
+    }
+}
+
+/// The bytes, to be held, if these were asked for.
 pub(crate) fn fresh_of(
-    gets: &[WaitingGet],
-    number: &ReqNo,
+    asked: &Option<PlaceRead>,
     extent: ExtentId,
     offset: u32,
     bytes: &Bytes,
 ) -> Result<Option<Fresh>, AllocError>
-    ensures there { IfOk result (λ fresh. read_at gets.now number.now ≡ Some (place_of extent offset bytes.now)
+    ensures there { IfOk result (λ fresh. IsFor asked.now (place_of extent offset bytes.now)
         → fresh ≡ Some (record { place = place_of extent offset bytes.now; bytes = bytes.now })) }
-    ensures other { IfOk result (λ fresh. (read_at gets.now number.now ≡ Some (place_of extent offset bytes.now) → ⊥) → fresh ≡ None) }
+    ensures other { IfOk result (λ fresh. (IsFor asked.now (place_of extent offset bytes.now) → ⊥) → fresh ≡ None) }
 {
-    match place_asked(gets, number) {
+    match asked {
         None => Ok(None),
-        Some(place) => {
+        Some(read) => {
+            let place = read.place;
             if place.extent.0 == extent.0
                 && place.offset == offset
                 && place.length as usize == bytes.len()

@@ -3,14 +3,13 @@ ghost use Rattle.std.specs.Prelude.{◌≡◌, ◌≤◌, ◌-◌, ◌++◌, ◌
 ghost use Rattle.range_reads.specs.Lookups.{seen};
 ghost use Rattle.range_reads.specs.ValueCache.{Values};
 ghost use Rattle.range_reads.specs.Moving.{last_asked, last_moved};
-ghost use Rattle.model_partition.specs.Getting.{gives_up_get, moved_on as moved_read};
+ghost use Rattle.model_partition.specs.Getting.{gives_up_get};
+ghost use Rattle.model_partition.specs.PlaceReads.{moved_on as moved_read};
 ghost use Rattle.model_partition.specs.Range.{RangeState};
 
 use crate::adding::push_some;
 use crate::asking::{Asking, places_of};
-use crate::requests::next_place;
-use crate::trying::reads_place;
-use model_partition::{PlaceRead, PlaceReads, WaitingGet};
+use model_partition::{PlaceRead, PlaceReads, WaitingGet, moved_on, reads_place};
 use std::alloc::{AllocError, Global};
 use wire::Packet;
 
@@ -26,16 +25,6 @@ pub(crate) struct Moved {
 pub(crate) struct MovedGets {
     pub(crate) gets: Vec<WaitingGet>,
     pub(crate) packets: Vec<Packet>,
-}
-
-fn moved_on(read: &PlaceRead) -> PlaceRead
-    ensures { result ≡ moved_read read.now }
-{
-    PlaceRead {
-        request: read.request,
-        place: read.place,
-        replica: next_place(read.replica),
-    }
 }
 
 /// Reads, of which the last has moved on, and that one, if there is one.

@@ -1,11 +1,13 @@
-//! The Gets of a range: keys are looked up, and values that stand elsewhere are read first.
+//! The Gets of a range: keys are looked up in the memory table and then in the indexes, and pages and values that are not held are
+//! read first.
 //!
-//! The values that were read are held, `MAX_HELD` at most, and the one least recently used goes for a new one. This crate touches
-//! memory alone, and answers what is to be sent; it sends nothing.
+//! The pages and values that were read are held, `MAX_HELD` at most, and the one least recently used goes for a new one. This crate
+//! touches memory alone, and answers what is to be sent; it sends nothing.
 //! What the layers above may build on, each a clause here:
-//! - `get` answers a Get at once, or keeps it and asks for the value that it needs. A value that it finds is then the one most
-//!   recently used.
+//! - `get` answers a Get at once, or keeps it and asks for the page or the value that it needs. What it found is then the most
+//!   recently used, of the pages that may have the key and of values.
 //! - `bytes` takes what was read, tries each Get again, and holds the bytes only where a read that waits asked for just these.
+//!   Bytes that spell no page where one is wanted change nothing.
 //! - `give_up` sends the last read of each Get to the next place.
 //! - What is held after each, and in which order, is a function of what was held and of what came (`ok` of `get` and `bytes`).
 //!
@@ -15,10 +17,12 @@
 mod adding;
 mod asking;
 mod awaited;
+mod cache_view;
 mod giving_up;
+mod key_lookup;
 mod lookups;
-mod requests;
 mod trying;
+mod usage;
 mod value_cache;
 
 pub use asking::Asking;

@@ -1,22 +1,24 @@
-//! The Gets that wait, and the values that are held for them.
-ghost use Rattle.std.specs.Prelude.{◌≡◌, ◌+◌, ◌<◌, ◌≤◌, ◌^◌, [], None, Some, length, map, flat_map, option_copied, option_to_list, IfOk, OnErr, OnOk};
+//! The Gets that wait, and the pages and values that are held for them.
+ghost use Rattle.std.specs.Prelude.{◌≡◌, ◌+◌, ◌<◌, ◌≤◌, ◌^◌, [], None, Some, length, map, flat_map, option_to_list, IfOk, OnErr, OnOk};
 ghost use Rattle.std.specs.List.{list_any};
-ghost use Rattle.range_reads.specs.Caching.{placed, used_at};
 ghost use Rattle.range_reads.specs.ValueCache.{with_fresh};
 ghost use Rattle.range_reads.specs.Lookups.{Sees, IsOf};
 ghost use Rattle.model_partition.specs.Answering.{get_awaits};
-ghost use Rattle.model_partition.specs.Getting.{bytes_rule, gets as gets_of, gives_up_get, place_of};
+ghost use Rattle.model_partition.specs.Getting.{bytes_rule, gets as gets_of, gives_up_get};
+ghost use Rattle.model_partition.specs.PlaceReads.{place_of};
 ghost use Rattle.model_partition.specs.Range.{RangeState, refuses as refuses_of};
 ghost use Rattle.wire.specs.declared.refusal.Refusal.TheVariants as refusals;
 
 use crate::adding::push_some;
 use crate::asking::Asking;
-use crate::awaited::{fresh_of, refusals_of, some_awaits};
+use crate::awaited::{are_no_page, fresh_of, read_of, refusals_of, some_awaits};
+use crate::cache_view::CacheView;
 use crate::giving_up::{MovedGets, move_each};
+use crate::key_lookup::newest_cell;
 use crate::trying::{OneTry, Tries, one_try, try_each};
+use crate::usage::{pages_used, promote_each, promote_some, value_used};
 use crate::value_cache::{Fresh, ValueCache};
 use bytes::Bytes;
-use memtable::{Cell, Place};
 use model_partition::{PlaceReads, ServerContext, WaitingGet};
 use std::alloc::{AllocError, Global};
 use std::marker::Model;
@@ -32,7 +34,7 @@ pub struct Tried {
     pub packets: Vec<Packet>,
 }
 
-/// The Gets of a range that wait, at most 256, and the values that were read for Gets, the most recently used first.
+/// The Gets of a range that wait, at most 256, and the pages and values that were read for Gets, the most recently used first.
 pub struct Lookups {
     gets: Vec<WaitingGet>,
     held: ValueCache,
@@ -57,29 +59,12 @@ impl Model for Lookups {
     ghost invariant = { λ l. length l.gets.items ≤ 256 };
 }
 
-fn place_in_cell(cell: Option<&Cell>) -> Option<Place>
-    ensures { result ≡ placed (option_copied cell.entry) }
-{
-    match cell {
-        Some(Cell::Placed(place)) => Some(*place),
-        _ => None,
-    }
-}
-
 fn packets_of(alloc: Global, packet: Option<Packet>) -> Result<Vec<Packet>, AllocError>
     ensures { IfOk result (λ packets. packets.items ≡ option_to_list packet) }
 {
     let mut packets = Vec::new(alloc);
     push_some(&mut packets, packet)?;
     Ok(packets)
-}
-
-fn promote_some(held: &mut ValueCache, place: &Option<Place>)
-    ensures { held.new ≡ used_at held.old place.now }
-{
-    if let Some(place) = place {
-        held.promote(place);
-    }
 }
 
 fn hold_some(held: &mut ValueCache, fresh: Option<Fresh>) -> Result<(), AllocError>
@@ -93,7 +78,7 @@ fn hold_some(held: &mut ValueCache, fresh: Option<Fresh>) -> Result<(), AllocErr
 }
 
 impl Lookups {
-    /// No Get waits and no value is held. An error is out of memory (22).
+    /// No Get waits and nothing is held. An error is out of memory (22).
     pub fn new(alloc: Global) -> Result<Lookups, AllocError>
         ensures { IfOk result (λ made. made ≡ record { gets = []; held = [] }) }
     {
@@ -120,8 +105,9 @@ impl Lookups {
     }
 
     /// A Get of a key that is not refused otherwise: it is refused once the lease has ended, else answered, or kept, with a read
-    /// of what it needs. That there is room for it and a number for the read is the caller's condition. A value that serves it
-    /// becomes the most recently used. Where memory runs out (22) nothing has changed.
+    /// of what it needs. That there is room for it and a number for the read is the caller's condition. Where the memory table has
+    /// no cell of the key, the pages that may have it become the most recently used, that of the oldest index last, and then the
+    /// value that it finds. Where memory runs out (22) nothing has changed.
     pub fn get(
         &mut self,
         alloc: Global,
@@ -138,7 +124,14 @@ impl Lookups {
         ensures bound { IfOk result (λ tried. length tried.packets.items ≤ 256) }
         ensures err { OnErr result (self.new ≡ self.old) }
     {
-        let place = place_in_cell(asking.table.get(&key));
+        let view = CacheView {
+            held: &self.held,
+            fresh: &None,
+        };
+        let cell = asking.table.get(&key);
+        let found = newest_cell(asking, &view, &key, cell)?;
+        let place = value_used(&found);
+        let pages = pages_used(alloc, asking.indexes, &key, cell)?;
         let get = WaitingGet {
             from,
             request: number,
@@ -147,7 +140,7 @@ impl Lookups {
                 items: Vec::new(alloc),
             },
         };
-        let one = one_try(alloc, asking, &self.held, &None, asking.context.count, get)?;
+        let one = one_try(alloc, asking, &view, asking.context.count, get, &found)?;
         let OneTry {
             waiting,
             count,
@@ -155,12 +148,14 @@ impl Lookups {
         } = one;
         let packets = packets_of(alloc, packet)?;
         push_some(&mut self.gets, waiting)?;
+        promote_each(&mut self.held, &pages);
         promote_some(&mut self.held, &place);
         Ok(Tried { count, packets })
     }
 
     /// The bytes of a read of this number have come: each Get is tried again, without that read. They are held only where a read
-    /// of this number asked for just these. Where memory runs out (22) nothing has changed.
+    /// of this number asked for just these. Where a page was asked for and the bytes spell none, nothing changes and nothing is
+    /// sent. Where memory runs out (22) nothing has changed.
     pub fn bytes(
         &mut self,
         alloc: Global,
@@ -177,8 +172,19 @@ impl Lookups {
         ensures bound { IfOk result (λ tried. length tried.packets.items ≤ 256) }
         ensures err { OnErr result (self.new ≡ self.old) }
     {
-        let fresh = fresh_of(&self.gets, number, extent, offset, bytes)?;
-        let tries = try_each(alloc, asking, &self.held, &fresh, number, &self.gets)?;
+        let asked = read_of(&self.gets, number);
+        if are_no_page(&asked, bytes) {
+            return Ok(Tried {
+                count: asking.context.count,
+                packets: Vec::new(alloc),
+            });
+        }
+        let fresh = fresh_of(&asked, extent, offset, bytes)?;
+        let view = CacheView {
+            held: &self.held,
+            fresh: &fresh,
+        };
+        let tries = try_each(alloc, asking, &view, number, &self.gets)?;
         hold_some(&mut self.held, fresh)?;
         let Tries {
             waiting,

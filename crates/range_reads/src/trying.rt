@@ -1,23 +1,26 @@
 //! One try of a Get.
 ghost use Rattle.std.specs.Prelude.{◌≡◌, ◌+◌, ◌++◌, ◌∷◌, ◌<◌, ◌≤◌, ◌^◌, [], Some, None, filter, map, not, length, option_copied, option_to_list, IfOk, OnOk};
 ghost use Rattle.client.specs.Requests.{is_same as are_same};
-ghost use Rattle.range_reads.specs.ValueCache.{with_fresh};
 ghost use Rattle.range_reads.specs.Lookups.{seen, tried_of};
-ghost use Rattle.range_reads.specs.Looking.{answer_of, lookup_of};
-ghost use Rattle.model_partition.specs.Getting.{look as looks, try as tries, try_all, places_in as nodes_in, asks_place as asks_of, without as without_read, reads_place as reads_of};
+ghost use Rattle.range_reads.specs.Looking.{answer_of, newest_cell as newest_of, view_content};
+ghost use Rattle.memtable.specs.Layers.{cell_at};
+ghost use Rattle.model_partition.specs.Getting.{try as tries, try_all, held_at, asks_place as asks_of, without as without_read};
+ghost use Rattle.model_partition.specs.PlaceReads.{places_in as nodes_in};
 ghost use Rattle.model_partition.specs.Range.{RangeState, refuses as refuses_of};
 
 use crate::adding::push_some;
 use crate::asking::{Asking, places_of};
-use crate::requests::{is_same, node_at};
-use crate::value_cache::{Fresh, ValueCache};
-use block_types::Nodes;
+use crate::cache_view::CacheView;
+use crate::key_lookup::{Found, newest_cell, value_or_place};
 use bytes::Bytes;
+use checkpoint::Lookup;
 use client::Place as Replica;
-use memtable::{Cell, Place};
-use model_partition::{PlaceRead, PlaceReads, ServerContext, WaitingGet};
+use memtable::Place;
+use model_partition::{
+    PlaceRead, PlaceReads, ServerContext, WaitingGet, is_same, next_request, reads_place,
+};
 use std::alloc::{AllocError, Global};
-use wire::{ActorId, AppendBody, Body, Packet, ReadBody, Refusal, ReqNo, TableBody};
+use wire::{ActorId, AppendBody, Body, Packet, Refusal, ReqNo, TableBody};
 
 /// What a try leaves: the Get, if it still waits, the number of the next request, and the packet, if there is one.
 #[derive(Drop)]
@@ -35,46 +38,6 @@ pub(crate) struct Tries {
     pub(crate) packets: Vec<Packet>,
 }
 
-/// What a look-up gives.
-#[derive(Drop)]
-pub(crate) enum Found {
-    /// A value, or that there is none.
-    Is(Option<Bytes>),
-    /// The place of a value that is to be read.
-    Needs(Place),
-}
-
-fn look(held: &ValueCache, fresh: &Option<Fresh>, cell: Option<&Cell>) -> Result<Found, AllocError>
-    ensures { IfOk result (λ found. lookup_of found ≡ looks (with_fresh held.now fresh.now) (option_copied cell.entry)) }
-{
-    match cell {
-        None => Ok(Found::Is(None)),
-        Some(Cell::Deleted) => Ok(Found::Is(None)),
-        Some(Cell::Inline(value)) => Ok(Found::Is(Some(value.clone()?))),
-        Some(Cell::Placed(place)) => match held.value_with(fresh, place) {
-            Ok(None) => Ok(Found::Needs(*place)),
-            Ok(Some(value)) => Ok(Found::Is(Some(value))),
-            Err(full) => Err(full),
-        },
-    }
-}
-
-/// The packet of a read, at the place that it is for.
-pub(crate) fn reads_place(context: &ServerContext, places: &Nodes, read: &PlaceRead) -> Packet
-    ensures { result ≡ reads_of context.now places.now read.now }
-{
-    Packet {
-        from: ActorId::Server(context.server),
-        to: ActorId::Node(node_at(places, read.replica)),
-        body: Body::Read(ReadBody::ReadAt {
-            extent: read.place.extent,
-            offset: read.place.offset,
-            length: read.place.length,
-            request: read.request,
-        }),
-    }
-}
-
 fn with_read(alloc: Global, reads: &PlaceReads, read: PlaceRead) -> Result<PlaceReads, AllocError>
     ensures { IfOk result (λ made. made ≡ reads.now ++ read ∷ []) }
 {
@@ -89,10 +52,11 @@ fn asks_place(
     asking: &Asking<'_>,
     count: u64,
     get: WaitingGet,
+    page: bool,
     place: Place,
 ) -> Result<OneTry, AllocError>
     requires { count + 1 < 2 ^ 64 }
-    ensures { IfOk result (λ one. tried_of one ≡ asks_of (record asking.now.context.now { count = count }) get place
+    ensures { IfOk result (λ one. tried_of one ≡ asks_of (record asking.now.context.now { count = count }) get page place
         (nodes_in (asking.now.log.now ++ (asking.now.blob.now ++ asking.now.rows.now)) place.extent)) }
 {
     match places_of(asking, place.extent) {
@@ -102,14 +66,14 @@ fn asks_place(
             packet: None,
         }),
         Some(places) => {
-            let request = ReqNo::Server {
-                server: asking.context.server,
-                session: asking.context.session,
+            let request = next_request(&ServerContext {
                 count,
-            };
+                ..*asking.context
+            });
             let read = PlaceRead {
                 request,
                 place,
+                page,
                 replica: Replica::First,
             };
             match with_read(alloc, &get.reads, read) {
@@ -152,19 +116,20 @@ pub(crate) fn refuses(context: &ServerContext, get: &WaitingGet, refusal: Refusa
     }
 }
 
-/// A Get is tried, with a value that has come beside what is held: refused once the lease has ended, else answered, or one more
-/// read is sent for what is missing.
+/// A Get is tried, of whose key this was found: refused once the lease has ended, else answered, or one more read is sent for
+/// what is missing.
 pub(crate) fn one_try(
     alloc: Global,
     asking: &Asking<'_>,
-    held: &ValueCache,
-    fresh: &Option<Fresh>,
+    view: &CacheView<'_>,
     count: u64,
     get: WaitingGet,
+    found: &Lookup,
 ) -> Result<OneTry, AllocError>
     requires { count + 1 < 2 ^ 64 }
     ensures value { IfOk result (λ one. (r : RangeState)
-        → tried_of one ≡ tries (record asking.now.context.now { count = count }) (seen asking.now (with_fresh held.now fresh.now) r) get) }
+        → found.now ≡ newest_of (held_at (view_content view.now)) asking.now.indexes.now get.key (cell_at asking.now.table.now get.key)
+        → tried_of one ≡ tries (record asking.now.context.now { count = count }) (seen asking.now (view_content view.now) r) get) }
     ensures bound { IfOk result (λ one. one.count ≤ count + 1) }
 {
     if asking.until <= asking.context.moment {
@@ -175,15 +140,32 @@ pub(crate) fn one_try(
             packet: Some(packet),
         });
     }
-    match look(held, fresh, asking.table.get(&get.key)) {
+    match value_or_place(view, found) {
         Ok(Found::Is(value)) => Ok(OneTry {
             waiting: None,
             count,
             packet: Some(answers(asking.context, &get, value)),
         }),
-        Ok(Found::Needs(place)) => asks_place(alloc, asking, count, get, place),
+        Ok(Found::Needs { page, place }) => asks_place(alloc, asking, count, get, page, place),
         Err(full) => Err(full),
     }
+}
+
+/// A Get is looked up and tried.
+fn next_try(
+    alloc: Global,
+    asking: &Asking<'_>,
+    view: &CacheView<'_>,
+    count: u64,
+    get: WaitingGet,
+) -> Result<OneTry, AllocError>
+    requires { count + 1 < 2 ^ 64 }
+    ensures value { IfOk result (λ one. (r : RangeState)
+        → tried_of one ≡ tries (record asking.now.context.now { count = count }) (seen asking.now (view_content view.now) r) get) }
+    ensures bound { IfOk result (λ one. one.count ≤ count + 1) }
+{
+    let found = newest_cell(asking, view, &get.key, asking.table.get(&get.key))?;
+    one_try(alloc, asking, view, count, get, &found)
 }
 
 fn other_reads(
@@ -235,15 +217,14 @@ fn no_tries(alloc: Global, count: u64, most: usize) -> Result<Tries, AllocError>
 pub(crate) fn try_each(
     alloc: Global,
     asking: &Asking<'_>,
-    held: &ValueCache,
-    fresh: &Option<Fresh>,
+    view: &CacheView<'_>,
     answered: &ReqNo,
     gets: &[WaitingGet],
 ) -> Result<Tries, AllocError>
     requires room { asking.now.context.now.count + 1024 < 2 ^ 64 }
     requires most { length gets.now ≤ 256 }
     ensures value { IfOk result (λ tries. (r : RangeState)
-        → try_all asking.now.context.now (seen asking.now (with_fresh held.now fresh.now) r) (map (without_read answered.now) gets.now)
+        → try_all asking.now.context.now (seen asking.now (view_content view.now) r) (map (without_read answered.now) gets.now)
         ≡ record { waiting = tries.waiting.items; count = tries.count; packets = tries.packets.items }) }
     ensures waiting { IfOk result (λ tries. length tries.waiting.items ≤ length gets.now) }
     ensures packets { IfOk result (λ tries. length tries.packets.items ≤ length gets.now) }
@@ -251,7 +232,7 @@ pub(crate) fn try_each(
     let mut tries = no_tries(alloc, asking.context.count, gets.len())?;
     for get in gets {
         let left = without(alloc, answered, get)?;
-        let one = one_try(alloc, asking, held, fresh, tries.count, left)?;
+        let one = next_try(alloc, asking, view, tries.count, left)?;
         take_in(&mut tries, one)?;
     }
     Ok(tries)

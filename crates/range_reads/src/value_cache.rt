@@ -1,10 +1,11 @@
-//! The values that were read for Gets, as many as there is room for.
+//! The pages and values that were read for Gets, as many as there is room for.
 ghost use Rattle.std.specs.Prelude.{◌≡◌, ◌≤◌, [], Some, length, option_copied, IfOk, OnOk, OnErr};
 ghost use Rattle.std.specs.List.{IsDistinct};
 ghost use Rattle.std.specs.Map.{keys_of};
 ghost use Rattle.range_reads.specs.ValueCache.{goes_for, with_fresh};
 ghost use Rattle.lru.specs.LruCache.{promoted};
-ghost use Rattle.model_partition.specs.Getting.{held_at, is_place, most_held};
+ghost use Rattle.model_partition.specs.Getting.{held_at, most_held};
+ghost use Rattle.model_partition.specs.PlaceReads.{is_place};
 
 use bytes::Bytes;
 use lru::LruCache;
@@ -13,10 +14,10 @@ use std::alloc::{AllocError, Global};
 use std::marker::Model;
 use std::num::NonZeroUsize;
 
-/// How many values are held at most.
+/// How many pages and values are held at most.
 pub const MAX_HELD: usize = 1024;
 
-/// The place of a value that is held.
+/// The place of a page or of a value that is held.
 #[derive(Clone, Copy, PartialEq, Eq, Hash)]
 pub(crate) struct HeldPlace {
     extent: u64,
@@ -44,7 +45,7 @@ fn key_of(place: &Place) -> HeldPlace
     }
 }
 
-/// A value that has just come, and its place.
+/// A page or a value that has just come, and its place.
 #[derive(Drop)]
 pub(crate) struct Fresh {
     pub(crate) place: Place,
@@ -57,7 +58,7 @@ pub(crate) fn is_same_place(one: &Place, other: &Place) -> bool
     one.extent.0 == other.extent.0 && one.offset == other.offset && one.length == other.length
 }
 
-/// Values by their places, the most recently used first.
+/// Pages and values by their places, the most recently used first.
 #[derive(Drop)]
 pub(crate) struct ValueCache {
     cache: LruCache<HeldPlace, Bytes>,
@@ -84,14 +85,14 @@ impl ValueCache {
         Ok(ValueCache { cache })
     }
 
-    /// The value at a place, if it is held.
+    /// What stands at a place, if it is held.
     pub(crate) fn value(&self, place: &Place) -> Option<&Bytes>
         ensures { option_copied result ≡ held_at self.now place.now }
     {
         self.cache.peek(&key_of(place))
     }
 
-    /// Whether the value at a place goes once that of another is held.
+    /// Whether what stands at a place goes once what stands at another is held.
     fn goes_for(&self, fresh: &Place, place: &Place) -> bool
         ensures value { result ≡ goes_for self.now fresh.now place.now }
         ensures distinct { IsDistinct is_place (keys_of self.now) }
@@ -106,47 +107,34 @@ impl ValueCache {
         }
     }
 
-    /// The value at a place again, if it is held. It shares its bytes; an error is out of memory.
-    fn copied(&self, place: &Place) -> Result<Option<Bytes>, AllocError>
-        ensures { IfOk result (λ value. value ≡ held_at self.now place.now) }
-    {
-        match self.value(place) {
-            None => Ok(None),
-            Some(bytes) => Ok(Some(bytes.clone()?)),
-        }
-    }
-
-    /// The same, once this value is held too.
-    fn copied_beside(&self, fresh: &Fresh, place: &Place) -> Result<Option<Bytes>, AllocError>
-        ensures { IfOk result (λ value. value ≡ held_at (with_fresh self.now (Some fresh.now)) place.now) }
+    /// The same, once this has come too.
+    fn value_beside<'a>(&'a self, fresh: &'a Fresh, place: &Place) -> Option<&'a Bytes>
+        ensures { option_copied result ≡ held_at (with_fresh self.now (Some fresh.now)) place.now }
     {
         if is_same_place(place, &fresh.place) {
-            return Ok(Some(fresh.bytes.clone()?));
+            return Some(&fresh.bytes);
         }
         if self.goes_for(&fresh.place, place) {
-            return Ok(None);
+            return None;
         }
-        match self.copied(place) {
-            Ok(value) => Ok(value),
-            Err(full) => Err(full),
-        }
+        self.value(place)
     }
 
-    /// The value at a place, if it is held once one that has come is. It shares its bytes; an error is out of memory.
-    pub(crate) fn value_with(
-        &self,
-        fresh: &Option<Fresh>,
+    /// What stands at a place, if it is held once what has come is.
+    pub(crate) fn value_with<'a>(
+        &'a self,
+        fresh: &'a Option<Fresh>,
         place: &Place,
-    ) -> Result<Option<Bytes>, AllocError>
-        ensures { IfOk result (λ value. value ≡ held_at (with_fresh self.now fresh.now) place.now) }
+    ) -> Option<&'a Bytes>
+        ensures { option_copied result ≡ held_at (with_fresh self.now fresh.now) place.now }
     {
         match fresh {
-            None => self.copied(place),
-            Some(came) => self.copied_beside(came, place),
+            None => self.value(place),
+            Some(came) => self.value_beside(came, place),
         }
     }
 
-    /// The value at a place becomes the most recently used, if it is held.
+    /// What stands at a place becomes the most recently used, if it is held.
     pub(crate) fn promote(&mut self, place: &Place)
         ensures { self.new ≡ promoted (is_place place.now) self.old }
     {
@@ -154,7 +142,7 @@ impl ValueCache {
         let _held = self.cache.promote(&key_of(place));
     }
 
-    /// Holds one value more.
+    /// Holds one more.
     pub(crate) fn put(&mut self, fresh: Fresh) -> Result<(), AllocError>
         ensures ok { OnOk result (self.new ≡ with_fresh self.old (Some fresh)) }
         ensures err { OnErr result (self.new ≡ self.old) }

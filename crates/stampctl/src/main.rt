@@ -59,6 +59,8 @@ mod failover;
 #[cfg(test)]
 mod maps;
 #[cfg(test)]
+mod page_rows;
+#[cfg(test)]
 mod printed;
 #[cfg(test)]
 mod requests;

@@ -1,6 +1,7 @@
 //! What no clause says: that a call succeeds where there is memory, and rows that were worked out by hand.
 use block_types::{Group, Groups};
 use bytes::Bytes;
+use checkpoint::InstalledIndexes;
 use memtable::{Cell, Place};
 use metadata::KeyRange;
 use model_partition::TableView;
@@ -157,9 +158,10 @@ fn rows(alloc: Global, kept: &Kept, notes: &[Note]) -> Result<Rows, Fail> {
         low: Bytes::new(),
         high: None,
     };
+    let indexes = InstalledIndexes::of(Vec::new(alloc));
     let table = TableView {
         live: &entries,
-        indexes: &[],
+        indexes: &indexes,
         keys: &keys,
     };
     Ok(rows_of(alloc, notes, &seen, &table)?)

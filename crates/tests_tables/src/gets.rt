@@ -4,8 +4,12 @@ ghost use Rattle.memtable.specs.Cell.{IsCell};
 
 use crate::asking::{context, extent, number};
 use crate::cases::{Case, Tested, holds};
+use crate::records::{INDEX, NO_PAGE, PAGE};
 use bytes::Bytes;
+use checkpoint::{InstalledIndex, InstalledIndexes};
+use checkpoint_format::decode;
 use memtable::{Cell, MemTable, Place};
+use metadata::KeyRange;
 use range_reads::{Asking, Lookups, MAX_GETS, Tried};
 use std::alloc::{AllocError, Global};
 use std::test::Fail;
@@ -15,15 +19,20 @@ use wire::{ActorId, AppendBody, Body, ExtentId, Packet, ReadBody, Refusal, ReqNo
 pub(crate) enum Call {
     /// A Get of this key comes.
     Get(&'static [u8]),
-    /// The read of this number brings 5,000 bytes.
+    /// The read of this number brings 5,000 bytes from 100 on.
     Bytes(u32),
+    /// The read of this number brings these bytes from 0 on.
+    Page(u32, &'static [u8]),
     GiveUp,
 }
 
-/// The one packet that a call sends.
+/// What a call sends, one packet at most.
 pub(crate) enum Sent {
+    Nothing,
     /// A value of this length.
     Value(usize),
+    /// That there is no value.
+    NoValue,
     /// A read at this node and this offset.
     Read(u8, u32),
     Refusal(Refusal),
@@ -33,7 +42,7 @@ pub(crate) enum Sent {
 pub(crate) enum Step {
     /// The lease ends at this moment, and no more at 9.
     LeaseEnds(u64),
-    /// It is called where the server's next request has the first number, which has the second then, and sends one packet.
+    /// It is called where the server's next request has the first number, which has the second then, and sends this.
     Does(u32, Call, u64, Sent),
     /// How many Gets wait.
     Waits(usize),
@@ -46,7 +55,35 @@ pub(crate) enum Step {
 /// A Get of `b` reads what stands elsewhere.
 const READS: Step = Step::Does(4, Call::Get(b"b"), 5, Sent::Read(1, 100));
 
+/// A Get of `c` reads the one page that may have it.
+const READS_PAGE: Step = Step::Does(4, Call::Get(b"c"), 5, Sent::Read(1, 0));
+
 const CASES: &[Case<Step>] = &[
+    (
+        "a page is read once, and has what the memory table does not have",
+        &[&[
+            READS_PAGE,
+            Step::Does(20, Call::Page(4, PAGE), 20, Sent::Value(1)),
+            Step::Waits(0),
+            Step::Does(4, Call::Get(b"c"), 4, Sent::Value(1)),
+            Step::Does(4, Call::Get(b"d"), 4, Sent::NoValue),
+            Step::Does(4, Call::Get(b"a"), 4, Sent::Value(1)),
+        ]],
+    ),
+    (
+        "bytes that spell no page leave the read out",
+        &[&[
+            READS_PAGE,
+            Step::Does(20, Call::Page(4, NO_PAGE), 20, Sent::Nothing),
+            Step::Awaits(4, true),
+            Step::Waits(1),
+            Step::Does(20, Call::Page(4, PAGE), 20, Sent::Value(1)),
+        ]],
+    ),
+    (
+        "no page is read for a key below all pages",
+        &[&[Step::Does(4, Call::Get(b"bb"), 4, Sent::NoValue)]],
+    ),
     (
         "a small value is answered",
         &[&[
@@ -102,10 +139,11 @@ fn place() -> Place
     }
 }
 
-/// A table under a lease, and the Gets that wait for what is in it.
+/// A table under a lease, the index below it, and the Gets that wait for what is in them.
 #[derive(Drop)]
 struct Getting {
     table: MemTable,
+    indexes: InstalledIndexes,
     lookups: Lookups,
     /// The moment when the lease ends.
     until: u64,
@@ -138,20 +176,43 @@ fn filled(alloc: Global) -> Result<MemTable, Fail> {
     }
 }
 
-/// Such a table, for which no Get waits.
-fn begun(alloc: Global) -> Result<Getting, Fail> {
-    let table = filled(alloc)?;
-    match Lookups::new(alloc) {
-        Ok(lookups) => Ok(Getting {
-            table,
-            lookups,
-            until: 9,
-        }),
-        Err(full) => {
-            drop(table);
-            Err(Fail::from(full))
+fn install(alloc: Global, indexes: &mut InstalledIndexes) -> Result<(), Fail> {
+    let index = InstalledIndex {
+        place: place(),
+        keys: KeyRange {
+            low: Bytes::from_static(b""),
+            high: None,
+        },
+        index: decode(alloc, INDEX)?,
+    };
+    indexes.install(index)?;
+    Ok(())
+}
+
+/// The index of one page.
+fn indexed(alloc: Global) -> Result<InstalledIndexes, Fail> {
+    let mut indexes = InstalledIndexes::of(Vec::new(alloc));
+    let told = install(alloc, &mut indexes);
+    match told {
+        Ok(()) => Ok(indexes),
+        Err(fail) => {
+            drop(indexes);
+            Err(fail)
         }
     }
+}
+
+/// Such a table over such an index, for which no Get waits.
+fn begun(alloc: Global) -> Result<Getting, Fail> {
+    let indexes = indexed(alloc)?;
+    let table = filled(alloc)?;
+    let lookups = Lookups::new(alloc)?;
+    Ok(Getting {
+        table,
+        indexes,
+        lookups,
+        until: 9,
+    })
 }
 
 fn gets(
@@ -193,6 +254,29 @@ fn brings(
     Ok(Some(tried?))
 }
 
+/// What these bytes bring, as the answer of the read of this number.
+fn brings_page(
+    alloc: Global,
+    lookups: &mut Lookups,
+    asking: &Asking<'_>,
+    count: u32,
+    text: &'static [u8],
+) -> Result<Option<Tried>, AllocError>
+    requires { asking.now.context.now.count + 1024 < 2 ^ 64 }
+{
+    let page = Bytes::from_static(text);
+    let tried = lookups.bytes(
+        alloc,
+        asking,
+        &number(u64::from(count)),
+        ExtentId(7),
+        0,
+        &page,
+    );
+    drop(page);
+    Ok(Some(tried?))
+}
+
 fn gives_up(
     alloc: Global,
     lookups: &mut Lookups,
@@ -220,10 +304,14 @@ fn called(
         log: &log,
         blob: &[],
         rows: &[],
+        indexes: &getting.indexes,
     };
     match call {
         Call::Get(key) => gets(alloc, &mut getting.lookups, &asking, key),
         Call::Bytes(count) => brings(alloc, &mut getting.lookups, &asking, *count),
+        Call::Page(count, text) => {
+            brings_page(alloc, &mut getting.lookups, &asking, *count, text)
+        }
         Call::GiveUp => gives_up(alloc, &mut getting.lookups, &asking),
     }
 }
@@ -239,6 +327,7 @@ fn is_sent(packet: &Packet, sent: &Sent) -> bool {
             ),
             Sent::Value(length),
         ) => bytes.len() == *length,
+        (Body::Table(TableBody::Value { value: None, .. }), Sent::NoValue) => true,
         (Body::Read(ReadBody::ReadAt { offset: at, .. }), Sent::Read(node, offset)) => {
             packet.to == ActorId::Node(*node) && *at == *offset
         }
@@ -251,8 +340,9 @@ fn is_sent(packet: &Packet, sent: &Sent) -> bool {
 
 fn comes_to(tried: &Option<Tried>, count: u64, sent: &Sent) -> bool {
     match tried {
-        Some(tried) => match tried.packets.as_slice() {
-            [only] => tried.count == count && is_sent(only, sent),
+        Some(tried) => match (tried.packets.as_slice(), sent) {
+            ([], Sent::Nothing) => tried.count == count,
+            ([only], _) => tried.count == count && is_sent(only, sent),
             _ => false,
         },
         None => false,

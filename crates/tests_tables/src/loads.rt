@@ -3,10 +3,12 @@ mod answers;
 
 use crate::asking::{answer_of, context, number};
 use crate::cases::{Case, Tested, holds};
-use crate::records::{FIRST, GAP, KEYS};
+use crate::records::{CHECKPOINT, FIRST, GAP, INDEX, KEYS, NO_INDEX, PAGE};
 use answers::{Answer, body_of};
 use model_partition::{Progress, RangeContent, ServerContext, Stage};
-use range_load::{begin_load, give_up, load_reply, log_load_reply, metadata_reply};
+use range_load::{
+    begin_load, give_up, index_reply, load_reply, log_load_reply, metadata_reply, reads_under,
+};
 use std::alloc::{AllocError, Global};
 use std::test::Fail;
 use streams::Position;
@@ -17,6 +19,7 @@ pub(crate) enum Part {
     Load,
     Metadata,
     Log,
+    Index,
 }
 
 /// What comes of an answer.
@@ -37,21 +40,72 @@ pub(crate) enum Outcome {
 pub(crate) enum Step {
     /// The request of the first number is answered, where the server's next request has the second, and this comes of it.
     Answered(Part, u32, u32, Answer, Outcome),
-    /// No answer comes, where the server's next request has this number. Whether the opening, the metadata's job and the log's are
-    /// asked for again.
-    GivesUp(u32, (bool, bool, bool)),
+    /// No answer comes, where the server's next request has this number. Whether the opening, the metadata's job, the log's and the
+    /// read of an index are asked for again.
+    GivesUp(u32, (bool, bool, bool, bool)),
     IsAt(Stage),
     /// How many keys the table has.
     Keys(usize),
     /// The number of the next record of the metadata.
     NextRecord(u64),
+    /// How many indexes were read.
+    Indexes(usize),
 }
 
 use Outcome::{Confirm, Dropped, Request, Rests, Serves, Silence};
-use Part::{Load, Log, Metadata};
-use Step::{Answered, GivesUp, IsAt, Keys, NextRecord};
+use Part::{Index, Load, Log, Metadata};
+use Step::{Answered, GivesUp, Indexes, IsAt, Keys, NextRecord};
+
+/// The metadata of a range is read, which names an index, and that index is asked for under the number 3.
+const ASKED: &[Step] = &[
+    Answered(Load, 1, 2, Answer::MetadataAndRows(46), Request),
+    Answered(Metadata, 2, 3, Answer::Group(CHECKPOINT), Request),
+    IsAt(Stage::Indexing { position: 0 }),
+];
 
 const CASES: &[Case<Step>] = &[
+    (
+        "an index is read before the generation is confirmed",
+        &[
+            ASKED,
+            &[
+                Answered(Index, 4, 4, Answer::Bytes(INDEX), Rests),
+                Answered(Index, 3, 4, Answer::Bytes(PAGE), Rests),
+                Indexes(0),
+                Answered(Index, 3, 4, Answer::Bytes(INDEX), Confirm),
+                Indexes(1),
+                Answered(Load, 4, 5, Answer::Confirmed, Serves(2, 24)),
+            ],
+        ],
+    ),
+    (
+        "bytes that spell no index drop the range",
+        &[
+            ASKED,
+            &[Answered(Index, 3, 4, Answer::Bytes(NO_INDEX), Dropped)],
+        ],
+    ),
+    (
+        "an index in an extent that was not told drops the range",
+        &[&[
+            Answered(Load, 1, 2, Answer::Metadata(46), Request),
+            Answered(Metadata, 2, 3, Answer::Group(CHECKPOINT), Dropped),
+        ]],
+    ),
+    (
+        "an old generation drops a range whose index is being read",
+        &[ASKED, &[Answered(Index, 3, 4, Answer::Stale, Dropped)]],
+    ),
+    (
+        "an index that does not come is asked for again",
+        &[
+            ASKED,
+            &[
+                GivesUp(4, (false, false, false, true)),
+                Answered(Index, 3, 6, Answer::Bytes(INDEX), Confirm),
+            ],
+        ],
+    ),
     (
         "an empty range is served",
         &[&[
@@ -104,9 +158,9 @@ const CASES: &[Case<Step>] = &[
     (
         "what is not answered is asked for again",
         &[&[
-            GivesUp(2, (true, false, false)),
+            GivesUp(2, (true, false, false, false)),
             Answered(Load, 1, 4, Answer::Log(None), Request),
-            GivesUp(5, (false, false, true)),
+            GivesUp(5, (false, false, true, false)),
         ]],
     ),
 ];
@@ -135,6 +189,7 @@ fn reply(
             }
             log_load_reply(content, alloc, context, packet)?
         }
+        Part::Index => index_reply(content, alloc, context, packet)?,
     };
     Ok(Some(progress))
 }
@@ -182,18 +237,22 @@ fn answered(
     answer: &Answer,
     outcome: &Outcome,
 ) -> Result<bool, Fail> {
+    if matches!(part, Part::Index) && !reads_under(&content.reading, &number(u64::from(asked))) {
+        return Ok(matches!(outcome, Rests));
+    }
     let packet = answer_of(body_of(alloc, asked, answer)?);
     let told = reply(content, alloc, &context(count, 5), part, &packet);
     drop(packet);
     Ok(comes_to(told?, count, outcome))
 }
 
-fn gives_up(content: &mut RangeContent, count: u32) -> (bool, bool, bool) {
+fn gives_up(content: &mut RangeContent, count: u32) -> (bool, bool, bool, bool) {
     let given = give_up(content, &context(count, 5));
     let asked = (
         given.load.is_some(),
         given.metadata.is_some(),
         given.log.is_some(),
+        given.reading.is_some(),
     );
     drop(given);
     asked
@@ -211,6 +270,7 @@ impl Tested for RangeContent {
             IsAt(stage) => Ok(self.stage == *stage),
             Keys(count) => Ok(self.table.live().len() == *count),
             NextRecord(number) => Ok(self.said.next == *number),
+            Indexes(count) => Ok(self.indexes.as_slice().len() == *count),
         }
     }
 }

@@ -1,5 +1,5 @@
 -- How far groups reach.
-use Rattle.std.proofs.Common.{◌≡◌, ℕ, ◌+◌, ◌-◌, ◌≤◌, Bool, true, false, List, ◌∷◌, refl, sym, arith, nat_le}
+use Rattle.std.proofs.Common.{◌≡◌, ℕ, ◌-◌, Bool, true, false, List, ◌∷◌, refl, sym, arith, nat_le}
 use Rattle.std.proofs.lemmas.Bool.{leb-true, le-leb}
 use Rattle.block_types.specs.Limits.{group_size as counted}
 use Rattle.replica.specs.Groups.{Group, size, text_length}

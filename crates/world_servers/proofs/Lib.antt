@@ -1,4 +1,5 @@
 pub mod RowEntries
+pub mod PageEntries
 pub mod GroupReach
 pub mod SeenIndex
 pub mod ServerList

@@ -1,11 +1,10 @@
 -- An index of observations: one more, and what is found through it.
-use Rattle.std.proofs.Common.{◌≡◌, ◌≤◌, ◌<◌, ◌+◌, ℕ, zero, suc, Bool, true, false, List, [], ◌∷◌, ◌++◌, length, take, Option, Some, None, refl, sym, ap, ◌∙◌, subst, slice_get, slice_index_or, arith, append_assoc, append-nil, zero-add}
-use Rattle.std.specs.Prelude.{◌==◌, if◌then◌else◌}
+use Rattle.std.proofs.Common.{◌≡◌, ◌+◌, ℕ, suc, true, false, List, [], ◌∷◌, ◌++◌, length, Option, Some, None, refl, sym, ap, ◌∙◌, slice_get, arith, append_assoc, append-nil, zero-add}
 use Rattle.wire.specs.declared.note.Note.{Note}
 use Rattle.wire.specs.declared.note.Note.TheVariants as notes
 use Rattle.memtable.specs.declared.cell.Place.{Place}
-use Rattle.model_partition.specs.Servers.{part, shown_in, first_shown, or_later}
-use Rattle.world_servers.specs.Seen.{is_of, is_number, place_if, places_from, places_in, Index, IsIndex, IsIndexOfFirst, shown_if, shown_at, first_at}
+use Rattle.model_partition.specs.Servers.{shown_in, first_shown, or_later}
+use Rattle.world_servers.specs.Seen.{is_of, is_number, place_if, places_from, places_in, Index, IsIndex, shown_if, first_at}
 
 -- ---- one observation more
 

@@ -1,6 +1,5 @@
 -- The list of servers, one after the other.
-use Rattle.std.proofs.Common.{◌≡◌, ℕ, zero, suc, ◌<◌, ◌≤◌, ◌+◌, ◌-◌, Bool, true, false, nat_lt, List, [], ◌∷◌, ◌++◌, Option, Some, None, refl, sym, ap, ◌∙◌, subst, arith, length, slice_get, slice_index_or, slice_set, map, append-nil, if◌then◌else◌}
-use Rattle.std.proofs.lemmas.Option.{same_Some}
+use Rattle.std.proofs.Common.{◌≡◌, ℕ, zero, suc, ◌<◌, ◌≤◌, ◌+◌, ◌-◌, Bool, false, nat_lt, List, [], ◌∷◌, ◌++◌, Some, None, refl, sym, ap, ◌∙◌, arith, length, slice_get, slice_index_or, slice_set, map, append-nil, if◌then◌else◌}
 use Rattle.model_streams.specs.Maps.{entry_at}
 use Rattle.model_partition.specs.Servers.{ServerCell, CellOutcome, at_server, cell_rests, cell_starts, cell_stops, server_starts, server_stops, told_moment, first_server, first_servers}
 use Rattle.world_server.specs.Seen.{ServerSeen, cell_outcome, moment_shown, new_server}

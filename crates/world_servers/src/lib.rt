@@ -6,8 +6,9 @@
 //! - `give` and `give_up`: what one server does; nothing where there is none of the number, or where it has stopped.
 //! - `loading`: the table that an answer to a server is about to show.
 //! - `moment`: the clock of leases, which all see.
-//! - `rows_of`: the rows of a table, each value that stands elsewhere taken from the earliest observation that covers
-//!   its place. Only observations of its extent are looked at: `SeenByExtent` has their places.
+//! - `rows_of`: the rows of a table, which is its memory table over the pages of its indexes, the oldest index first. Each page,
+//!   and each value that stands elsewhere, is taken from the earliest observation that covers its place. Only observations of
+//!   its extent are looked at: `SeenByExtent` has their places.
 //!
 //! An error is out of memory (22), and nothing has changed; that is the one error that no clause limits.
 #![tactic(auto)]
@@ -16,6 +17,7 @@ mod list;
 mod place;
 mod rows;
 mod seen;
+mod table_entries;
 
 pub use list::Servers;
 pub use rows::rows_of;

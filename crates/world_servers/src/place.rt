@@ -21,26 +21,15 @@ fn covers(offset: u64, count: u64, place: &Place) -> bool
     offset <= start && start + u64::from(place.length) <= offset + count
 }
 
-fn in_bytes(
-    alloc: Global,
-    offset: u32,
-    bytes: &Bytes,
-    place: &Place,
-) -> Result<Option<Bytes>, AllocError>
+/// What shows of the place shares the buffer of the bytes.
+fn in_bytes(offset: u32, bytes: &Bytes, place: &Place) -> Result<Option<Bytes>, AllocError>
     ensures { IfOk result (λ shown. shown ≡ part offset bytes.now place.now) }
 {
-    let text = bytes.as_slice();
-    if !covers(u64::from(offset), text.len() as u64, place) {
+    if !covers(u64::from(offset), bytes.len() as u64, place) {
         return Ok(None);
     }
     let from = (place.offset - offset) as usize;
-    let Some(rest) = text.get(from..) else {
-        return Ok(None);
-    };
-    let Some(value) = rest.get(..place.length as usize) else {
-        return Ok(None);
-    };
-    Ok(Some(Bytes::copy_from_slice(alloc, value)?))
+    Ok(Some(bytes.slice(from..from + place.length as usize)?))
 }
 
 #[tactic(auto, using(crate::proofs::GroupReach::counted_is))]
@@ -117,7 +106,7 @@ fn shown_in(alloc: Global, note: &Note, place: &Place) -> Result<Option<Bytes>, 
             ..
         } => {
             if *extent == place.extent {
-                in_bytes(alloc, *offset, bytes, place)
+                in_bytes(*offset, bytes, place)
             } else {
                 Ok(None)
             }

@@ -5,6 +5,7 @@ ghost use Rattle.world_servers.specs.Seen.{IsIndex};
 
 use crate::place::first_shown;
 use crate::seen::SeenByExtent;
+use crate::table_entries::entries_shown;
 use bytes::Bytes;
 use memtable::Cell;
 use model_partition::TableView;
@@ -55,8 +56,9 @@ fn rows_in(
     Ok(Rows { items: rows })
 }
 
-/// The rows of this table, after these observations: a key that was deleted has none, and neither has one whose value no
-/// observation covers. The index is one of these observations. An error is out of memory (22).
+/// The rows of this table, after these observations: those of its memory table over those of its indexes' pages, of which
+/// one that no observation covers has none. A key that was deleted has no row, and neither has one whose value no observation
+/// covers. The index is one of these observations. An error is out of memory (22).
 pub fn rows_of(
     alloc: Global,
     notes: &[Note],
@@ -66,5 +68,6 @@ pub fn rows_of(
     requires { IsIndex notes.now seen.now }
     ensures { IfOk result (λ rows. rows ≡ rows_of notes.now (table_of_view table.now)) }
 {
-    rows_in(alloc, notes, seen, table.live)
+    let entries = entries_shown(alloc, notes, seen, table)?;
+    rows_in(alloc, notes, seen, &entries)
 }

@@ -2,6 +2,7 @@
 use crate::asking::{extent, number};
 use crate::records::groups;
 use block_types::Groups;
+use bytes::Bytes;
 use std::alloc::Global;
 use std::test::Fail;
 use wire::{
@@ -15,10 +16,14 @@ pub(crate) enum Answer {
     Empty,
     /// The metadata has one extent, sealed at this length.
     Metadata(u32),
+    /// The metadata has the extent 7, sealed at this length, and so has row data.
+    MetadataAndRows(u32),
     /// The log has one extent, of this length where it is sealed.
     Log(Option<u32>),
     /// One group of the extent 7, of one block with this text.
     Group(&'static [u8]),
+    /// These bytes stand at 11 of the extent 7.
+    Bytes(&'static [u8]),
     /// The extent has this length on all places.
     Checked(u32),
     Stale,
@@ -44,16 +49,39 @@ fn one_extent(alloc: Global, length: Option<u32>) -> Result<StreamList, Fail> {
     })
 }
 
-fn opened(alloc: Global, request: ReqNo, metadata: StreamList, log: StreamList) -> Body {
+fn opened(
+    alloc: Global,
+    request: ReqNo,
+    metadata: StreamList,
+    log: StreamList,
+    row_data: StreamList,
+) -> Body {
     Body::Stream(StreamBody::Opened {
         request,
         streams: StreamLists {
             metadata,
             log,
-            row_data: no_extent(alloc),
+            row_data,
             blob_data: no_extent(alloc),
         },
     })
+}
+
+/// The streams of a range whose metadata has one extent of this length, and whose log has none.
+fn metadata_opened(
+    alloc: Global,
+    request: ReqNo,
+    length: u32,
+    row_data: StreamList,
+) -> Result<Body, Fail> {
+    let metadata = one_extent(alloc, Some(length))?;
+    Ok(opened(alloc, request, metadata, no_extent(alloc), row_data))
+}
+
+/// The streams of a range whose log has one extent, and whose metadata has none.
+fn log_opened(alloc: Global, request: ReqNo, length: Option<u32>) -> Result<Body, Fail> {
+    let log = one_extent(alloc, length)?;
+    Ok(opened(alloc, request, no_extent(alloc), log, no_extent(alloc)))
 }
 
 fn read(alloc: Global, request: ReqNo, text: &[u8]) -> Result<Body, Fail> {
@@ -70,16 +98,25 @@ fn read(alloc: Global, request: ReqNo, text: &[u8]) -> Result<Body, Fail> {
 pub(crate) fn body_of(alloc: Global, asked: u32, answer: &Answer) -> Result<Body, Fail> {
     let request = number(u64::from(asked));
     match answer {
-        Answer::Empty => Ok(opened(alloc, request, no_extent(alloc), no_extent(alloc))),
-        Answer::Metadata(length) => {
-            let metadata = one_extent(alloc, Some(*length))?;
-            Ok(opened(alloc, request, metadata, no_extent(alloc)))
+        Answer::Empty => Ok(opened(
+            alloc,
+            request,
+            no_extent(alloc),
+            no_extent(alloc),
+            no_extent(alloc),
+        )),
+        Answer::Metadata(length) => metadata_opened(alloc, request, *length, no_extent(alloc)),
+        Answer::MetadataAndRows(length) => {
+            metadata_opened(alloc, request, *length, one_extent(alloc, None)?)
         }
-        Answer::Log(length) => {
-            let log = one_extent(alloc, *length)?;
-            Ok(opened(alloc, request, no_extent(alloc), log))
-        }
+        Answer::Log(length) => log_opened(alloc, request, *length),
         Answer::Group(text) => read(alloc, request, text),
+        Answer::Bytes(text) => Ok(Body::Read(ReadBody::Bytes {
+            request,
+            extent: ExtentId(7),
+            offset: 11,
+            bytes: Bytes::from_static(text),
+        })),
         Answer::Checked(length) => Ok(Body::Check(CheckBody::Checked {
             request,
             length: Some(*length),

@@ -1,7 +1,8 @@
 use Rattle.std.proofs.Common.{ap, ◌∙◌}
 use Rattle.std.specs.Map.{lookup}
 use Rattle.memtable.specs.declared.cell.Place.{Place}
-use Rattle.model_partition.specs.Getting.{is_place, held_at}
+use Rattle.model_partition.specs.Getting.{held_at}
+use Rattle.model_partition.specs.PlaceReads.{is_place}
 use Rattle.range_reads.specs.ValueCache.{Values}
 use Rattle.range_reads.proofs.Values.{held_lookup}
 use Rattle.range_reads.proofs.value_cache.ValueCache.value.Goals as goal

@@ -1,6 +1,0 @@
-use Rattle.std.proofs.Common.{◌≡◌, drop}
-use Rattle.model_partition.specs.Getting.{places_in}
-use Rattle.range_reads.proofs.asking.places_in.Given as goal
-
-abbrev pub invariant-loop-known : goal.invariant-loop-known
-invariant-loop-known l = places_in (drop l.known-index l.extents) l.extent-inside.0 ≡ places_in l.extents l.extent-inside.0
