@@ -16,7 +16,8 @@ use Rattle.memtable.specs.Entries.{Entries}
 use Rattle.checkpoint_format.specs.Page.{large_place_at, fields_at, cell_at, entry_at, is_ascending, counted_entries_at, entries_at}
 use Rattle.metadata.specs.declared.record.KeyRange.{KeyRange}
 use Rattle.metadata.specs.Keys.{within as is_within_keys}
-use Rattle.checkpoint.specs.Pages.{IsFit, kept_within}
+use Rattle.memtable.specs.Entries.{IsFit}
+use Rattle.checkpoint.specs.Pages.{kept_within}
 use Rattle.checkpoint.proofs.Merging.{all_kept}
 
 -- a value that passed a test

@@ -3,3 +3,4 @@ pub mod PageSearch
 pub mod Merging
 pub mod Fitting
 pub mod Finding
+pub mod PageGroups

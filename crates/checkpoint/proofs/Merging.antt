@@ -2,21 +2,22 @@
 use Rattle.std.proofs.Common.{◌≡◌, ℕ, Bool, true, false, cond, not, List, [], ◌∷◌, Option, Some, None, refl, sym, ap, ◌∙◌}
 use Rattle.std.specs.Prelude.{◌&&◌, filter}
 use Rattle.std.specs.List.{AllByRecursion}
-use Rattle.std.specs.declared.cmp.Ordering.TheVariants.{Less, Equal, Greater}
+use Rattle.std.specs.declared.cmp.Ordering.TheVariants.{Less}
 use Rattle.std.specs.Cmp.Lexicographic.{nat_list_cmp_total}
 use Rattle.std.specs.Map.{keys_of}
-use Rattle.std.specs.BTreeMap.{insert_entry, is_at}
+use Rattle.std.specs.BTreeMap.{is_at}
 use Rattle.std.proofs.lemmas.Cmp.{eq_by_cmp_equiv}
 use Rattle.std.proofs.lemmas.Map.Keys.{IsDistinct-from_sorted}
 use Rattle.std.proofs.lemmas.Map.Entries.{lookup-filter-keys, lookup-filter-values, option_filter}
 use Rattle.memtable.specs.declared.cell.Cell.{Cell}
 use Rattle.memtable.specs.declared.cell.Cell.TheVariants.{Deleted, Inline, Placed}
-use Rattle.memtable.specs.Entries.{Entries, key_cmp, found, put_all}
+use Rattle.memtable.specs.Entries.{Entries, IsFit, AllFit, key_cmp, found, put_all}
 use Rattle.memtable.specs.Layers.{or_else}
+use Rattle.memtable.proofs.Entries.{IsOfParts, all_put, fits_put}
 use Rattle.checkpoint_format.specs.Page.{IsPageEntry}
 use Rattle.metadata.specs.declared.record.KeyRange.{KeyRange}
 use Rattle.metadata.specs.Keys.{within}
-use Rattle.checkpoint.specs.Pages.{IsFit, AllFit, is_deleted, without_deleted, kept_within, merged, combined}
+use Rattle.checkpoint.specs.Pages.{is_deleted, without_deleted, kept_within, merged, combined}
 use Rattle.checkpoint.specs.Contents.{AreEntries, shown, MergedIsTheMap, MergedAreEntries, CombinedIsTheMap, CombinedAreEntries}
 use Rattle.checkpoint.proofs.Orders.{IsSorted, equal_keys, head_below, tail, sorted_cons, sorted_none, sorted_from_ascending, ascending_from_sorted, sorted_put, found_put, latest_sorted}
 
@@ -48,36 +49,12 @@ sorted_kept p (e ∷ es) sorted = by (p e) (sorted_kept p es (tail e es sorted))
 
 -- ---- what an insertion keeps
 
--- what holds of entries holds of the key of one with the cell of another
-abbrev IsOfParts : (List ℕ × Cell → Type 0) → Type 0
-IsOfParts P = (a b : List ℕ × Cell) → P a → P b → P (a.0, b.1)
-
-all_insert : (P : List ℕ × Cell → Type 0) → IsOfParts P → (key : List ℕ) (cell : Cell) (es : Entries) → P (key, cell) → AllByRecursion P es → AllByRecursion P (insert_entry key_cmp es key cell)
-all_insert P parts key cell [] here all = (here, tt)
-all_insert P parts key cell (e ∷ es) here all =
-    elim (key_cmp key e.0) as (λ r. key_cmp key e.0 ≡ r → AllByRecursion P (insert_entry key_cmp (e ∷ es) key cell)) [
-      | Less ↦ λ is. rw is (here, all)
-      | Equal ↦ λ is. rw is (parts e (key, cell) all.0 here, all.1)
-      | Greater ↦ λ is. rw is (all.0, all_insert P parts key cell es here all.1)
-    ] refl
-
-all_put : (P : List ℕ × Cell → Type 0) → IsOfParts P → (es : Entries) (changes : Entries) → AllByRecursion P es → AllByRecursion P changes → AllByRecursion P (put_all es changes)
-all_put P parts es [] all fit = all
-all_put P parts es (c ∷ changes) all fit = all_put P parts (insert_entry key_cmp es c.0 c.1) changes (all_insert P parts c.0 c.1 es fit.0 all) fit.1
-
-entry_parts : IsOfParts IsFit
-entry_parts a b of_a of_b = (of_a.0, of_b.1)
-
 page_entry_parts : IsOfParts IsPageEntry
 page_entry_parts a b of_a of_b = ((of_a.0.0, of_b.0.1), of_b.1)
 
--- so a map that took entries takes more
-pub fits_put : (es : Entries) (changes : Entries) → AllByRecursion IsFit es → AllByRecursion IsFit changes → AllByRecursion IsFit (put_all es changes)
-fits_put es changes all fit = all_put IsFit entry_parts es changes all fit
-
 pub fits_combined : (es : Entries) (newer : Option Entries) → AllByRecursion IsFit es → AllFit newer → AllByRecursion IsFit (combined es newer)
 fits_combined es None all fit = all_kept IsFit (λ e. not (is_deleted e.1)) es all
-fits_combined es (Some newer) all fit = all_kept IsFit (λ e. not (is_deleted e.1)) (put_all es newer) (all_put IsFit entry_parts es newer all fit)
+fits_combined es (Some newer) all fit = all_kept IsFit (λ e. not (is_deleted e.1)) (put_all es newer) (fits_put es newer all fit)
 
 pub sorted_entries : (es : Entries) → AreEntries es → IsSorted es
 sorted_entries es are = sorted_from_ascending es are.ascending

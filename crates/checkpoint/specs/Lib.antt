@@ -1,3 +1,4 @@
 pub mod Lookup
 pub mod Pages
 pub mod Contents
+pub mod PageGroups

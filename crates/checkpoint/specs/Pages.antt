@@ -2,8 +2,6 @@
 use Rattle.std.specs.Prelude.{◌≡◌, ℕ, Bool, true, false, not, ◌&&◌, ◌||◌, ◌++◌, List, [], ◌∷◌, filter, Option, Some, None, if◌then◌else◌}
 use Rattle.memtable.specs.declared.cell.Cell.{Cell}
 use Rattle.memtable.specs.declared.cell.Cell.TheVariants.{Deleted, Inline, Placed}
-use Rattle.std.specs.List.{AllByRecursion}
-use Rattle.memtable.specs.Cell.{IsEntry}
 use Rattle.memtable.specs.Entries.{Entries, found, put_all}
 use Rattle.memtable.specs.Layers.{or_else}
 use Rattle.metadata.specs.declared.record.KeyRange.{KeyRange}
@@ -72,15 +70,6 @@ combined entries (Some newer) = without_deleted (put_all entries newer)
 abbrev pub Adds : KeyRange → KeyRange → Entries → Entries → Option Entries → Bool → Type 0
 Adds a b old new None answer = (answer ≡ false) × (new ≡ old)
 Adds a b old new (Some entries) answer = (answer ≡ true) × (new ≡ old ++ kept_within a b entries)
-
--- a key and a cell that a row may have
-abbrev pub IsFit : List ℕ × Cell → Type 0
-IsFit e = IsEntry e.0 e.1
-
--- the same of entries that may be there
-abbrev pub AllFit : Option Entries → Type 0
-AllFit None = Unit {0}
-AllFit (Some entries) = AllByRecursion IsFit entries
 
 abbrev pub is_placed : Cell → Bool
 is_placed Deleted = false

@@ -1,7 +1,7 @@
 //! Combining what the pages of several checkpoints say.
 ghost use Rattle.std.specs.Prelude.{◌≡◌, ◌++◌, List, [], IfOk, OnOk, OnErr, map, option_map};
 ghost use Rattle.std.specs.List.{AllByRecursion};
-ghost use Rattle.memtable.specs.Entries.{put_all};
+ghost use Rattle.memtable.specs.Entries.{IsFit, AllFit, put_all};
 ghost use Rattle.checkpoint_format.specs.Page.{entries_at, page_of, pages_of};
 ghost use Rattle.checkpoint.specs.Pages as specs;
 
@@ -45,7 +45,7 @@ pub fn add_page(
     ensures err { OnErr result (changes.new.items ≡ changes.old.items) }
 
     // So a map that took those before takes these too.
-    ensures fit { AllByRecursion specs.IsFit changes.old.items → AllByRecursion specs.IsFit changes.new.items }
+    ensures fit { AllByRecursion IsFit changes.old.items → AllByRecursion IsFit changes.new.items }
 {
     match entries_of(alloc, page) {
         Ok(entries) => {
@@ -117,8 +117,8 @@ pub fn combine(
     merged: &CellMap,
     newer: Option<&BTreeMap<Bytes, Cell>>,
 ) -> Result<Vec<Page>, AllocError>
-    requires merged { AllByRecursion specs.IsFit merged.now }
-    requires newer { specs.AllFit (option_map (λ layer. layer.now.entries) newer) }
+    requires merged { AllByRecursion IsFit merged.now }
+    requires newer { AllFit (option_map (λ layer. layer.now.entries) newer) }
     ensures { IfOk result (λ pages. pages.items
         ≡ map page_of (pages_of (specs.combined merged.now (option_map (λ layer. layer.now.entries) newer.entry)))) }
 {

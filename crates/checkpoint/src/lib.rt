@@ -11,6 +11,7 @@
 //! Running out of memory is the one error that no clause limits.
 #![tactic(auto)]
 
+mod checkpoint_pages;
 mod combination;
 mod installed_index;
 mod installed_indexes;
@@ -20,6 +21,7 @@ mod pages;
 mod search;
 
 pub use checkpoint_format::{Index, Page, PageAt, PageList, write_pages};
+pub use checkpoint_pages::CheckpointPages;
 pub use combination::{add_page, combine, combined_entries, has_place};
 pub use installed_index::InstalledIndex;
 pub use installed_indexes::InstalledIndexes;

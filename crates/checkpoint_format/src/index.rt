@@ -1,5 +1,5 @@
 //! An index: where the pages of a checkpoint stand, by their first keys.
-ghost use Rattle.std.specs.Prelude.{◌≡◌, ◌+◌, ◌<◌, ◌^◌, ◌++◌, length, nat_le, IfOk, OnOk, MatchResult};
+ghost use Rattle.std.specs.Prelude.{◌≡◌, ◌+◌, ◌<◌, ◌^◌, ◌++◌, length, nat_le, IfOk, OnOk, OnErr, MatchResult};
 ghost use Rattle.std.specs.List.{AllByRecursion, flat_map, sum_by};
 ghost use Rattle.blocks.specs.Format.{Gives, only_at, many_at};
 ghost use Rattle.blocks.specs.Record.{number};
@@ -52,6 +52,37 @@ impl PageList {
     {
         &self.items
     }
+
+    /// The same pages again, which share their first keys. An error is out of memory (22).
+    pub fn copy(&self, alloc: Global) -> Result<PageList, AllocError>
+        ensures { IfOk result (λ copy. copy ≡ self.now) }
+    {
+        Ok(PageList {
+            items: copied_pages(alloc, &self.items)?,
+        })
+    }
+
+    /// These pages stand behind the others. Where memory runs out (22) nothing has changed.
+    pub fn append(&mut self, mut more: Vec<PageAt>) -> Result<(), AllocError>
+        ensures ok { OnOk result (self.new ≡ self.old ++ more.items) }
+        ensures err { OnErr result (self.new ≡ self.old) }
+    {
+        self.items.append(&mut more)
+    }
+}
+
+/// The same pages again.
+fn copied_pages(alloc: Global, pages: &[PageAt]) -> Result<Vec<PageAt>, AllocError>
+    ensures { IfOk result (λ copy. copy.items ≡ pages.now) }
+{
+    let mut copy = Vec::with_capacity(alloc, pages.len())?;
+    for page in pages {
+        copy.push(PageAt {
+            first: page.first.clone()?,
+            place: page.place,
+        })?;
+    }
+    Ok(copy)
 }
 
 impl Model for PageList {

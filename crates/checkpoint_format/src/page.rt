@@ -1,9 +1,11 @@
 //! Pages: the entries of a table, in blocks.
-ghost use Rattle.std.specs.Prelude.{◌≡◌, ◌+◌, ◌<◌, ◌≤◌, ◌∷◌, [], is_some, IfOk, length, map, take, drop};
+ghost use Rattle.std.specs.Prelude.{◌≡◌, ◌+◌, ◌<◌, ◌≤◌, ◌∷◌, [], is_some, IfOk, OnOk, length, map, take, drop};
 ghost use Rattle.std.specs.List.{AllByRecursion};
+ghost use Rattle.std.specs.List.Sorted.{IsStrictlySortedBy};
+ghost use Rattle.std.specs.Map.{keys_of};
 ghost use Rattle.blocks.specs.Format.{Gives, IsEndOf};
 ghost use Rattle.memtable.specs.Cell.{IsEntry};
-ghost use Rattle.memtable.specs.Entries.{Entries, found};
+ghost use Rattle.memtable.specs.Entries.{Entries, IsFit, found, key_cmp};
 ghost use Rattle.memtable.specs.Layers.{or_else};
 ghost use Rattle.checkpoint_format.specs.Page.{page_of, pages_of, entries_at, found_at};
 ghost use Rattle.checkpoint_format.specs.Writing.{HasWritten};
@@ -188,8 +190,11 @@ fn add_entry(
 ///
 /// That the entries are in range is the caller's condition.
 pub fn write_pages(alloc: Global, entries: &BTreeMap<Bytes, Cell>) -> Result<Vec<Page>, AllocError>
-    requires { AllByRecursion (λ e. IsEntry e.0 e.1) entries.now.entries }
-    ensures { IfOk result (λ pages. pages.items ≡ map page_of (pages_of entries.now.entries)) }
+    requires { AllByRecursion IsFit entries.now.entries }
+    ensures pages { IfOk result (λ pages. pages.items ≡ map page_of (pages_of entries.now.entries)) }
+
+    // The keys of a map ascend, so that those of its pages do.
+    ensures ascending { OnOk result (IsStrictlySortedBy key_cmp (keys_of entries.now.entries)) }
 {
     let mut pages = Vec::new(alloc);
     let mut text = PageText::new(alloc)?;

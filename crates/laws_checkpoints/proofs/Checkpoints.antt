@@ -18,7 +18,7 @@ use Rattle.model_partition.specs.TableContents.{value_in}
 use Rattle.laws_tables.specs.Layers.{Layer, over, flat, indexed}
 use Rattle.laws_tables.specs.Runs.{Beginning, Serving, said, Covers}
 use Rattle.laws_tables.proofs.Layers.{pick}
-use Rattle.laws_server_runs.specs.RangeInvariant.{layer_in}
+use Rattle.laws_loads.specs.MemoryLayers.{layer_in}
 use Rattle.laws_checkpoints.specs.IndexLayers.{index_entries, layer_at, contents_of, IsWritten, AreWritten}
 use Rattle.laws_checkpoints.proofs.WrittenIndexes.{layer_says, contents_written, contents_ascending}
 

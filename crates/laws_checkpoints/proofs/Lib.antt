@@ -4,3 +4,5 @@ pub mod ObservedPages
 pub mod Worked
 pub mod ShownRows
 pub mod HeldPages
+pub mod WrittenPages
+pub mod CheckpointRecords

@@ -26,7 +26,7 @@ use Rattle.model_partition.specs.TableContents.{AllTellRightly, value_of, table_
 use Rattle.laws_loads.proofs.Rows.{Later, Ordered, ordered_put, IsCovered, first_rightly, AreShown, rows_say}
 use Rattle.laws_tables.specs.Layers.{flat, indexed}
 use Rattle.laws_tables.proofs.Layers.{pick, pick_none}
-use Rattle.laws_server_runs.specs.RangeInvariant.{layer_in}
+use Rattle.laws_loads.specs.MemoryLayers.{layer_in}
 use Rattle.laws_checkpoints.specs.IndexLayers.{bytes_in, page_in, pages_in, indexed_entries, index_entries, layer_at, content_of, contents_of, AreWritten}
 use Rattle.laws_checkpoints.specs.ShownTables.{IsSeen, ArePagesSeen, AreSeen, AreValuesSeen, IsInstalled, AreInstalled, AreAscending, RowsSayLayers, RowsSayMemory, RowsShowLayers}
 use Rattle.laws_checkpoints.proofs.Checkpoints.{known_of, known_first, merged_says}

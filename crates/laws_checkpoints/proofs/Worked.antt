@@ -29,14 +29,20 @@ use Rattle.model_partition.specs.TableContents.{AllTellRightly}
 use Rattle.laws_tables.specs.Layers.{Layer, empty_layer, over, flat, indexed}
 use Rattle.laws_tables.specs.Runs.{Beginning, Serving, nothing_held, Covers}
 use Rattle.laws_tables.proofs.Layers.{in_all}
-use Rattle.laws_server_runs.specs.RangeInvariant.{layer_in}
+use Rattle.laws_loads.specs.MemoryLayers.{layer_in}
 use Rattle.laws_checkpoints.specs.IndexLayers.{bytes_in, index_entries, layer_at, contents_of, IsWritten}
 use Rattle.laws_checkpoints.specs.ShownTables.{AreInstalled, AreSearchable, AreValuesSeen, HoldsBytes, IsAnswer}
 use Rattle.laws_checkpoints.proofs.Checkpoints.{plain_covers, combined_covers}
 use Rattle.laws_checkpoints.proofs.HeldPages.{installed_searchable, look_says_layers}
 use Rattle.laws_checkpoints.proofs.ObservedPages.{first_seen}
 use Rattle.laws_checkpoints.proofs.ShownRows.{written_ascending, rows_say_layers, rows_say_memory, rows_show_layers}
-use Rattle.laws_checkpoints.proofs.WrittenIndexes.{index_read}
+use Rattle.checkpoint.specs.PageGroups.{PagesState, next_group, pages_to_write, with_next_placed}
+use Rattle.checkpoint.proofs.PageGroups.{pages_begin}
+use Rattle.checkpoint.proofs.Orders.{sorted_from_ascending}
+use Rattle.model_partition.specs.TableContents.{StandsAt}
+use Rattle.laws_checkpoints.proofs.WrittenIndexes.{joined_group, index_read}
+use Rattle.laws_checkpoints.specs.WritingPages.{WritesPages}
+use Rattle.laws_checkpoints.proofs.WrittenPages.{writing_begins, writing_goes, writing_ends, none_unwritten}
 
 -- one key has a value, and another was deleted
 abbrev pub entries : Entries
@@ -116,6 +122,34 @@ says : (index_entries texts index_place ≡ entries) × (layer_at texts index_pl
     × (layer_at texts index_place (99 ∷ []) ≡ None) × (index_entries texts page_place ≡ [])
 unfolding places.flag_at places.place_at values.counted_at large_place_at fields_at cell_at entry_at counted_entries_at entries_at one_page_at body_at index_at
 says = (refl, refl, refl, refl, refl)
+
+-- ---- pages while they are written
+
+abbrev pub begun : PagesState
+begun = pages_to_write entries
+
+-- the page of all entries stands behind the three other bytes
+abbrev pub placed : PagesState
+placed = with_next_placed begun 7 3
+
+-- so the index is complete, and no group is left
+is_placed : (placed.index ≡ index) × (next_group placed ≡ None)
+unfolding numbers.number
+is_placed = (refl, refl)
+
+writes : WritesPages texts entries placed
+unfolding numbers.number
+writes =
+    writing_goes texts entries begun
+    (writing_begins texts entries (pages_begin entries (((omega arith, omega arith), omega arith), (((omega arith, omega arith), tt), tt)) (sorted_from_ascending entries refl)))
+    7 3 (omega arith) refl (record { before = 5 ∷ 5 ∷ 5 ∷ []; behind = index_bytes; is = refl; at = refl })
+
+-- and it is written where it stands
+is_written_so : IsWritten texts placed.index entries index_place
+unfolding numbers.number
+is_written_so =
+    writing_ends texts entries placed writes (none_unwritten placed is_placed.1) is_written.entries_are refl 7 18
+    (subst (StandsAt (texts 7) 18) (sym (joined_group index)) is_written.stands)
 
 -- ---- combining
 

@@ -21,7 +21,7 @@ use Rattle.checkpoint.specs.Contents.{AreEntries, HasEntries, IsAscending}
 use Rattle.model_partition.specs.Past.{Bytes}
 use Rattle.model_partition.specs.TableContents.{StandsAt}
 use Rattle.laws_loads.proofs.Cells.{taken_there}
-use Rattle.laws_server_runs.specs.RangeInvariant.{layer_in}
+use Rattle.laws_loads.specs.MemoryLayers.{layer_in}
 use Rattle.model_partition.specs.Servers.{entries_if}
 use Rattle.laws_checkpoints.specs.IndexLayers.{bytes_in, page_in, pages_in, indexed_entries, index_entries, layer_at, contents_of, PageStands, PagesStand, IsWritten, AreWritten}
 

@@ -13,7 +13,7 @@ use Rattle.model_partition.specs.Past.{Bytes}
 use Rattle.model_partition.specs.Servers.{entries_if}
 use Rattle.model_partition.specs.TableContents.{StandsAt}
 use Rattle.laws_tables.specs.Layers.{Layer}
-use Rattle.laws_server_runs.specs.RangeInvariant.{layer_in}
+use Rattle.laws_loads.specs.MemoryLayers.{layer_in}
 
 module _ (texts : ℕ → Bytes) where
   -- the bytes of a place

@@ -1,2 +1,3 @@
 pub mod IndexLayers
 pub mod ShownTables
+pub mod WritingPages

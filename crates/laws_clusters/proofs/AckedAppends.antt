@@ -64,6 +64,10 @@ module _ (P : ℕ → ℕ → Type 0) where
     pub appended_tells : Tells (reply_rule c q body)
     appended_tells = reply_takes q Tells c body (λ a b told. absurd cc) (λ v t a b told. absurd cc) (by_job c.job refl)
 
+-- a client without a job is told of none
+pub idle_tells : (c : ClientState) (q : ReqNo) (body : Body) → c.job ≡ jobs.Idle → (e offset : ℕ) → (reply_rule c q body).news ≡ Some (news.Appended e offset) → ⊥
+idle_tells c q body idle = appended_tells (λ e offset. ⊥) c q body (λ e r v n offset at same is. absurd (let z : jobs.Idle ≡ jobs.Sent e r = sym idle ∙ at in cc))
+
 -- ---- one stream
 
 module _ (generation : ℕ → ℕ) (name : StreamName) (nodes target : ℕ) (moves : List Move) (whole : Whole Group generation) (sent : List Sent)

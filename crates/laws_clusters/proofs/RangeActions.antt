@@ -1,5 +1,5 @@
 -- What the actions of a range leave of the stories of all streams, and of what servers see of extents.
-use Rattle.std.proofs.Common.{◌≡◌, ℕ, List, [], ◌∷◌, ◌++◌, map, Bool, true, false, ◌==◌, ◌&&◌, Option, Some, None, is_some, Contains, refl, ap, ◌∙◌, inl, inr, eqb-true, if◌then◌else◌}
+use Rattle.std.proofs.Common.{◌≡◌, ◌⊎◌, ℕ, List, [], ◌∷◌, ◌++◌, map, Bool, true, false, ◌==◌, ◌&&◌, Option, Some, None, is_some, Contains, refl, ap, ◌∙◌, inl, inr, eqb-true, if◌then◌else◌}
 use Rattle.wire.specs.declared.actor.ReqNo.{ReqNo}
 use Rattle.wire.specs.declared.body.Body.{Body}
 use Rattle.wire.specs.declared.body.Body.TheVariants as bodies
@@ -11,6 +11,7 @@ use Rattle.wire.specs.declared.streams.StreamKind.{StreamKind}
 use Rattle.wire.specs.declared.streams.StreamKind.TheVariants as kinds
 use Rattle.wire.specs.declared.streams.StreamName.{StreamName}
 use Rattle.replica.specs.Groups.{Group, joined, text}
+use Rattle.memtable.specs.declared.cell.Place.{Place}
 use Rattle.client.specs.declared.job.News.{News}
 use Rattle.client.specs.declared.job.News.TheVariants as news
 use Rattle.client.specs.declared.load.LoadPhase.{LoadPhase}
@@ -24,10 +25,14 @@ use Rattle.model_partition.specs.declared.server_context.ServerContext.{ServerCo
 use Rattle.model_partition.specs.declared.stage.Stage.{Stage}
 use Rattle.model_partition.specs.declared.stage.Stage.TheVariants as stages
 use Rattle.model_partition.specs.Answering.{groups_of, is_taken}
+use Rattle.model_partition.specs.CheckpointStates.{CheckpointState}
+use Rattle.model_partition.specs.declared.checkpoint_job.CheckpointPhase.{CheckpointPhase}
+use Rattle.model_partition.specs.declared.checkpoint_job.CheckpointPhase.TheVariants as checkpoints
+use Rattle.model_partition.specs.Checkpoints.{may_record, rows_may_stand}
 use Rattle.model_partition.specs.Range.{OutGroup, RangeState, RangeOutcome, request, picking, if_there, is_serving}
 use Rattle.model_partition.specs.ServerRun.{PlacedBytes, RangeHistory, ServerRun, place_number, placed_reads, placed_behind, with_event, is_kind, is_stream, stream_named, bytes_read, after_action, after_actions}
 use Rattle.model_partition.specs.Story.{Story, StreamEvent, Showed}
-use Rattle.model_partition.specs.StreamActions.{ExtentRead, StreamAction, Reads, Forms, Stands, Shows, group_of, formed, transact_actions, last_position, stood, serving_actions, loading_actions, confirmed_actions, load_actions, answer_actions}
+use Rattle.model_partition.specs.StreamActions.{ExtentRead, StreamAction, Reads, Forms, Stands, Shows, group_of, formed, transact_actions, last_position, stood, serving_actions, loading_actions, confirmed_actions, load_actions, record_group, record_stood_in, record_stood, record_actions, metadata_actions, index_stood_in, index_stood, rows_told_actions, rows_actions, answer_actions}
 use Rattle.laws_loads.specs.RangeView.{RangeView, view_after_all}
 use Rattle.laws_log_reads.specs.Reads.{IsShown, AllShown}
 use Rattle.laws_clusters.proofs.ObservedBytes.{IsObserved, AsContent, AsSeen, AsAcked, AreObserved, observed_both}
@@ -54,70 +59,110 @@ none_there stories a b event other = go (is_stream a b) refl
     go true e = absurd (other (same_stream a b e))
     go false e = refl
 
--- ---- what is formed, and what stands, is of the log
+-- ---- what is formed, and what stands, is of the metadata or of the log
 
-abbrev pub IsOnLog : StreamAction → Type 0
-IsOnLog (Forms kind group) = kind ≡ kinds.Log
-IsOnLog (Stands kind extent at group) = kind ≡ kinds.Log
-IsOnLog action = Unit {0}
+abbrev pub IsEither : StreamKind → Type 0
+IsEither kind = (kind ≡ kinds.Metadata) ⊎ (kind ≡ kinds.Log)
 
-abbrev pub AreOnLog : List StreamAction → Type 0
-AreOnLog [] = Unit {0}
-AreOnLog (action ∷ earlier) = IsOnLog action × AreOnLog earlier
+abbrev pub IsOnEither : StreamAction → Type 0
+IsOnEither (Forms kind group) = IsEither kind
+IsOnEither (Stands kind extent at group) = IsEither kind
+IsOnEither action = Unit {0}
 
-on_both : (xs ys : List StreamAction) → AreOnLog xs → AreOnLog ys → AreOnLog (xs ++ ys)
+abbrev pub AreOnEither : List StreamAction → Type 0
+AreOnEither [] = Unit {0}
+AreOnEither (action ∷ earlier) = IsOnEither action × AreOnEither earlier
+
+on_both : (xs ys : List StreamAction) → AreOnEither xs → AreOnEither ys → AreOnEither (xs ++ ys)
 on_both [] ys a b = b
 on_both (x ∷ xs) ys a b = (a.0, on_both xs ys a.1 b)
 
-formed_on : (o : Option RangeState) → AreOnLog (formed o)
+formed_on : (o : Option RangeState) → AreOnEither (formed o)
 formed_on None = tt
 formed_on (Some r) = go r.out
   where
-    go : (out : Option OutGroup) → AreOnLog (map (λ group. Forms kinds.Log (group_of group)) (if_there out))
+    go : (out : Option OutGroup) → AreOnEither (map (λ group. Forms kinds.Log (group_of group)) (if_there out))
     go None = tt
-    go (Some group) = (refl, tt)
+    go (Some group) = (inr refl, tt)
 
-pub transact_on : (r : RangeState) (o : RangeOutcome) → AreOnLog (transact_actions r o)
-transact_on r o = if_elim AreOnLog (is_some r.out) _ _ (λ t. tt) (λ t. formed_on o.after)
+pub transact_on : (r : RangeState) (o : RangeOutcome) → AreOnEither (transact_actions r o)
+transact_on r o = if_elim AreOnEither (is_some r.out) _ _ (λ t. tt) (λ t. formed_on o.after)
 
-stood_on : (r : RangeState) (out : Option OutGroup) (extent offset : ℕ) (o : RangeOutcome) → AreOnLog (stood r out extent offset o)
+stood_on : (r : RangeState) (out : Option OutGroup) (extent offset : ℕ) (o : RangeOutcome) → AreOnEither (stood r out extent offset o)
 stood_on r None extent offset o = tt
-stood_on r (Some out) extent offset o = on_both (formed o.after) _ (formed_on o.after) (refl, tt)
+stood_on r (Some out) extent offset o = on_both (formed o.after) _ (formed_on o.after) (inr refl, tt)
 
-serving_on : (r : RangeState) (told : Option News) (o : RangeOutcome) → AreOnLog (serving_actions r told o)
+serving_on : (r : RangeState) (told : Option News) (o : RangeOutcome) → AreOnEither (serving_actions r told o)
 serving_on r (Some (news.Appended extent offset)) o = stood_on r r.out extent offset o
 serving_on r told o = tt
 
-loading_on : (kind : StreamKind) (c : ClientState) (stage : Stage) (groups : List Group) (told : Option News) → AreOnLog (loading_actions kind c stage groups told)
+loading_on : (kind : StreamKind) (c : ClientState) (stage : Stage) (groups : List Group) (told : Option News) → AreOnEither (loading_actions kind c stage groups told)
 loading_on kind c (stages.Reading k position) groups (Some (news.Content extent upto)) = (tt, tt)
 loading_on kind c stage groups told = tt
 
-confirmed_on : (r : RangeState) (phase : LoadPhase) (body : StreamBody) → AreOnLog (confirmed_actions r phase body)
+confirmed_on : (r : RangeState) (phase : LoadPhase) (body : StreamBody) → AreOnEither (confirmed_actions r phase body)
 confirmed_on r (phases.Confirming q) (streams.Confirmed w) = (tt, tt)
 confirmed_on r phase body = tt
 
-load_on : (r : RangeState) (body : Body) → AreOnLog (load_actions r body)
+load_on : (r : RangeState) (body : Body) → AreOnEither (load_actions r body)
 load_on r (bodies.Stream body) = confirmed_on r r.load.phase body
 load_on r body = tt
 
-pub answer_on : (d : ServerContext) (r : RangeState) (w : ReqNo) (body : Body) (o : RangeOutcome) → AreOnLog (answer_actions d r w body o)
+record_in_on : (r : RangeState) (job : CheckpointState) (phase : CheckpointPhase) (extent offset : ℕ) → AreOnEither (record_stood_in r job phase extent offset)
+record_in_on r job (checkpoints.Record index) extent offset = (inl refl, tt)
+record_in_on r job phase extent offset = tt
+
+record_stood_on : (r : RangeState) (job : Option CheckpointState) (extent offset : ℕ) → AreOnEither (record_stood r job extent offset)
+record_stood_on r None extent offset = tt
+record_stood_on r (Some job) extent offset = record_in_on r job job.phase extent offset
+
+record_on : (r : RangeState) (told : Option News) → AreOnEither (record_actions r told)
+record_on r (Some (news.Appended extent offset)) = record_stood_on r r.control extent offset
+record_on r told = tt
+
+metadata_on : (d : ServerContext) (r : RangeState) (body : Body) → AreOnEither (metadata_actions d r body)
+metadata_on d r body =
+    let told : Option News = (reply_rule (picking d r.metadata) (request d) body).news in
+    if_elim AreOnEither (is_serving r.stage) _ _ (λ t. record_on r told) (λ f. loading_on kinds.Metadata r.metadata r.stage (groups_of body) told)
+
+index_in_on : (r : RangeState) (job : CheckpointState) (phase : CheckpointPhase) (extent offset : ℕ) → AreOnEither (index_stood_in r job phase extent offset)
+index_in_on r job checkpoints.Index extent offset = if_elim AreOnEither (may_record r job) _ _ (λ t. (inl refl, tt)) (λ f. tt)
+index_in_on r job phase extent offset = tt
+
+index_stood_on : (r : RangeState) (job : Option CheckpointState) (extent offset : ℕ) → AreOnEither (index_stood r job extent offset)
+index_stood_on r None extent offset = tt
+index_stood_on r (Some job) extent offset = index_in_on r job job.phase extent offset
+
+rows_told_on : (r : RangeState) (told : Option News) → AreOnEither (rows_told_actions r told)
+rows_told_on r (Some (news.Appended extent offset)) = index_stood_on r r.control extent offset
+rows_told_on r told = tt
+
+rows_on : (d : ServerContext) (r : RangeState) (body : Body) → AreOnEither (rows_actions d r body)
+rows_on d r body = if_elim AreOnEither (rows_may_stand r.control body) _ _ (λ t. rows_told_on r (reply_rule (picking d r.rows) (request d) body).news) (λ f. tt)
+
+pub answer_on : (d : ServerContext) (r : RangeState) (w : ReqNo) (body : Body) (o : RangeOutcome) → AreOnEither (answer_actions d r w body o)
 answer_on d r w body o =
-    if_elim AreOnLog (is_some o.after) _ _
-    (λ a. if_elim AreOnLog (load_awaits r.load.phase w) _ _ (λ b. load_on r body)
-    (λ b. if_elim AreOnLog (awaits r.metadata.job w) _ _ (λ e. loading_on kinds.Metadata r.metadata r.stage (groups_of body) (reply_rule (picking d r.metadata) (request d) body).news)
-    (λ e. if_elim AreOnLog (awaits r.log.job w) _ _
-    (λ f. if_elim AreOnLog (is_taken r body) _ _
-    (λ g. if_elim AreOnLog (is_serving r.stage) _ _ (λ h. serving_on r (reply_rule (picking d r.log) (request d) body).news o)
+    if_elim AreOnEither (is_some o.after) _ _
+    (λ a. if_elim AreOnEither (load_awaits r.load.phase w) _ _ (λ b. load_on r body)
+    (λ b. if_elim AreOnEither (awaits r.metadata.job w) _ _ (λ e. metadata_on d r body)
+    (λ e. if_elim AreOnEither (awaits r.log.job w) _ _
+    (λ f. if_elim AreOnEither (is_taken r body) _ _
+    (λ g. if_elim AreOnEither (is_serving r.stage) _ _ (λ h. serving_on r (reply_rule (picking d r.log) (request d) body).news o)
     (λ h. loading_on kinds.Log r.log r.stage (groups_of body) (reply_rule (picking d r.log) (request d) body).news))
-    (λ g. tt)) (λ f. tt))))
+    (λ g. tt))
+    (λ f. if_elim AreOnEither (awaits r.rows.job w) _ _ (λ g. rows_on d r body) (λ g. tt)))))
     (λ a. tt)
 
 -- such actions add nothing to the story of a stream that is not of the range
 module _ (server range generation : ℕ) where
-  action_aside : (x : ServerRun) (action : StreamAction) → IsOnLog action → (name : StreamName) → IsOther range name → (after_action server range generation x action).story name ≡ x.story name
+  aside_of : (name : StreamName) → IsOther range name → (kind : StreamKind) → IsEither kind → name ≡ stream_named range kind → ⊥
+  aside_of name other kind (inl is) same = other.0 (same ∙ ap (stream_named range) is)
+  aside_of name other kind (inr is) same = other.1 (same ∙ ap (stream_named range) is)
+
+  action_aside : (x : ServerRun) (action : StreamAction) → IsOnEither action → (name : StreamName) → IsOther range name → (after_action server range generation x action).story name ≡ x.story name
   action_aside x (Reads kind read) on name other = refl
-  action_aside x (Forms kind group) on name other = none_there x.story name (stream_named range kind) _ (λ same. other.1 (same ∙ ap (stream_named range) on))
-  action_aside x (Stands kind extent at group) on name other = none_there x.story name (stream_named range kind) _ (λ same. other.1 (same ∙ ap (stream_named range) on))
+  action_aside x (Forms kind group) on name other = none_there x.story name (stream_named range kind) _ (aside_of name other kind on)
+  action_aside x (Stands kind extent at group) on name other = none_there x.story name (stream_named range kind) _ (aside_of name other kind on)
   action_aside x (Shows start log_end metadata_end) on name other =
       let h : RangeHistory = x.history server range in
       let metadata : StreamEvent Group = Showed generation 0 (place_number metadata_end) (placed_reads (h.reads kinds.Metadata)) in
@@ -125,7 +170,7 @@ module _ (server range generation : ℕ) where
       none_there (with_event x.story (stream_named range kinds.Metadata) metadata) name (stream_named range kinds.Log) log other.1
       ∙ none_there x.story name (stream_named range kinds.Metadata) metadata other.0
 
-  pub actions_aside : (x : ServerRun) (actions : List StreamAction) → AreOnLog actions → (name : StreamName) → IsOther range name → (after_actions server range generation x actions).story name ≡ x.story name
+  pub actions_aside : (x : ServerRun) (actions : List StreamAction) → AreOnEither actions → (name : StreamName) → IsOther range name → (after_actions server range generation x actions).story name ≡ x.story name
   actions_aside x [] on name other = refl
   actions_aside x (action ∷ earlier) on name other = action_aside (after_actions server range generation x earlier) action on.0 name other ∙ actions_aside x earlier on.1 name other
 
@@ -189,6 +234,51 @@ module _ (generation : ℕ) (notes : List Note) (v : RangeView) (old : SeesBytes
     serving_seen (Some (news.Appended extent offset)) acked o = stood_seen r.out refl extent offset (acked extent offset refl) o
     serving_seen told acked o = old
 
+    -- ---- checkpoints
+
+    -- the record of a checkpoint was acknowledged where it stands
+    abbrev pub RecordAcked : Option News → Type 0
+    RecordAcked told = (extent offset : ℕ) → told ≡ Some (news.Appended extent offset) → (job : CheckpointState) → r.control ≡ Some job → (index : Place) → job.phase ≡ checkpoints.Record index →
+        Contains notes (Acked extent offset (record_group r job index))
+
+    record_in_seen : (job : CheckpointState) (extent offset : ℕ) → ((index : Place) → job.phase ≡ checkpoints.Record index → Contains notes (Acked extent offset (record_group r job index))) →
+        (phase : CheckpointPhase) → job.phase ≡ phase → Observed (record_stood_in r job phase extent offset)
+    record_in_seen job extent offset acked (checkpoints.Record index) e =
+        record { shown_there = old.shown_there; answered_there = (AsAcked (record_group r job index) (acked index e) refl, old.answered_there) }
+    record_in_seen job extent offset acked phase e = old
+
+    record_stood_seen : (extent offset : ℕ) →
+        ((job : CheckpointState) → r.control ≡ Some job → (index : Place) → job.phase ≡ checkpoints.Record index → Contains notes (Acked extent offset (record_group r job index))) →
+        (job : Option CheckpointState) → r.control ≡ job → Observed (record_stood r job extent offset)
+    record_stood_seen extent offset acked None e = old
+    record_stood_seen extent offset acked (Some job) e = record_in_seen job extent offset (acked job e) job.phase refl
+
+    record_seen : (told : Option News) → RecordAcked told → Observed (record_actions r told)
+    record_seen (Some (news.Appended extent offset)) acked = record_stood_seen extent offset (acked extent offset refl) r.control refl
+    record_seen told acked = old
+
+    metadata_seen : (d : ServerContext) (body : Body) → (is_serving r.stage ≡ true → RecordAcked (reply_rule (picking d r.metadata) (request d) body).news) → Observed (metadata_actions d r body)
+    metadata_seen d body acked =
+        let told : Option News = (reply_rule (picking d r.metadata) (request d) body).news in
+        if_elim Observed (is_serving r.stage) _ _ (λ t. record_seen told (acked t)) (λ f. loading_seen kinds.Metadata r.metadata r.stage (groups_of body) told)
+
+    index_in_seen : (job : CheckpointState) (phase : CheckpointPhase) (extent offset : ℕ) → Observed (index_stood_in r job phase extent offset)
+    index_in_seen job checkpoints.Index extent offset = if_elim Observed (may_record r job) _ _ (λ t. old) (λ f. old)
+    index_in_seen job phase extent offset = old
+
+    index_stood_seen : (job : Option CheckpointState) (extent offset : ℕ) → Observed (index_stood r job extent offset)
+    index_stood_seen None extent offset = old
+    index_stood_seen (Some job) extent offset = index_in_seen job job.phase extent offset
+
+    rows_told_seen : (told : Option News) → Observed (rows_told_actions r told)
+    rows_told_seen (Some (news.Appended extent offset)) = index_stood_seen r.control extent offset
+    rows_told_seen told = old
+
+    rows_seen : (d : ServerContext) (body : Body) → Observed (rows_actions d r body)
+    rows_seen d body = if_elim Observed (rows_may_stand r.control body) _ _ (λ t. rows_told_seen (reply_rule (picking d r.rows) (request d) body).news) (λ f. old)
+
+    -- ---- answers
+
     module _ (reads : (q : ReqNo) → r.load.phase ≡ phases.Confirming q → AreObserved notes (bytes_read (v.history.reads kinds.Log))) where
       confirmed_seen : (phase : LoadPhase) (body : StreamBody) → r.load.phase ≡ phase → Observed (confirmed_actions r phase body)
       confirmed_seen (phases.Confirming q) (streams.Confirmed w) e =
@@ -200,14 +290,15 @@ module _ (generation : ℕ) (notes : List Note) (v : RangeView) (old : SeesBytes
       load_seen body = old
 
       pub answer_seen : (d : ServerContext) (w : ReqNo) (body : Body) (o : RangeOutcome) → (is_serving r.stage ≡ true → OutAcked (reply_rule (picking d r.log) (request d) body).news) →
-          Observed (answer_actions d r w body o)
-      answer_seen d w body o acked =
+          (is_serving r.stage ≡ true → RecordAcked (reply_rule (picking d r.metadata) (request d) body).news) → Observed (answer_actions d r w body o)
+      answer_seen d w body o acked recorded =
           if_elim Observed (is_some o.after) _ _
           (λ a. if_elim Observed (load_awaits r.load.phase w) _ _ (λ b. load_seen body)
-          (λ b. if_elim Observed (awaits r.metadata.job w) _ _ (λ e. loading_seen kinds.Metadata r.metadata r.stage (groups_of body) (reply_rule (picking d r.metadata) (request d) body).news)
+          (λ b. if_elim Observed (awaits r.metadata.job w) _ _ (λ e. metadata_seen d body recorded)
           (λ e. if_elim Observed (awaits r.log.job w) _ _
           (λ f. if_elim Observed (is_taken r body) _ _
           (λ g. if_elim Observed (is_serving r.stage) _ _ (λ h. serving_seen (reply_rule (picking d r.log) (request d) body).news (acked h) o)
           (λ h. loading_seen kinds.Log r.log r.stage (groups_of body) (reply_rule (picking d r.log) (request d) body).news))
-          (λ g. old)) (λ f. old))))
+          (λ g. old))
+          (λ f. if_elim Observed (awaits r.rows.job w) _ _ (λ g. rows_seen d body) (λ g. old)))))
           (λ a. old)

@@ -40,12 +40,12 @@ use Rattle.laws_log_reads.proofs.OtherRules.{new_read, get_left, give_up_left, t
 use Rattle.laws_log_reads.proofs.ReadCopies.{load_is_read, none_indexed, reads_observed}
 use Rattle.laws_log_reads.proofs.ToldIsShown.{shows_now}
 use Rattle.laws_servers.proofs.RangeSteps.{transact_tidy, get_tidy, answer_loads, give_up_tidy}
-use Rattle.laws_clusters.proofs.AckedAppends.{out_acked}
+use Rattle.laws_clusters.proofs.AckedAppends.{idle_tells, out_acked}
 use Rattle.laws_clusters.proofs.BareTables.{AreBare, plain_bare, load_bare}
 use Rattle.laws_clusters.proofs.Copies.{metadata_empty}
 use Rattle.laws_clusters.proofs.Invariant.{Machines, AreBeside, here, m_side, l_side, Holds, Standing}
 use Rattle.laws_clusters.proofs.ObservedBytes.{AreObserved}
-use Rattle.laws_clusters.proofs.RangeActions.{AreOnLog, SeesBytes, OutAcked, transact_on, answer_on, reads_seen, transact_seen, answer_seen}
+use Rattle.laws_clusters.proofs.RangeActions.{AreOnEither, SeesBytes, OutAcked, RecordAcked, transact_on, answer_on, reads_seen, transact_seen, answer_seen}
 
 kinds_differ : (range : ℕ) → metadata_of range ≡ log_of range → ⊥
 kinds_differ range e = let z : kinds.Metadata ≡ kinds.Log = ap (λ (n : StreamName). n.kind) e in cc
@@ -90,7 +90,7 @@ module _ (generation : ℕ → ℕ) (nodes target : ℕ) (c : Cluster) (y : Serv
     pub record Done (v : RangeView) (o : RangeOutcome) (actions : List StreamAction) : Type 0 where
       pub rule : RuleSees generation i range w v m l d o actions
       pub read : RuleReads generation range w i m l v o actions
-      pub on_log : AreOnLog actions
+      pub on_either : AreOnEither actions
       pub observed : SeesBytes w.notes (view_after_all (generation i) v actions).shown (view_after_all (generation i) v actions).answered
       pub bare : AreBare o.notes
 
@@ -100,7 +100,7 @@ module _ (generation : ℕ → ℕ) (nodes target : ℕ) (c : Cluster) (y : Serv
         transact_done from q changes = record {
           rule = transact_sees generation range w i both m l d by v r h.follows from q changes;
           read = transact_left generation range w i m l v d r h.read from q changes;
-          on_log = transact_on r (transact_rule d r from q changes);
+          on_either = transact_on r (transact_rule d r from q changes);
           observed = transact_seen (generation i) w.notes v seen r (transact_rule d r from q changes);
           bare = plain_bare (transact_rule d r from q changes).notes (transact_tidy d r from q changes).1;
         }
@@ -109,7 +109,7 @@ module _ (generation : ℕ → ℕ) (nodes target : ℕ) (c : Cluster) (y : Serv
         get_done from q key = record {
           rule = get_sees generation range w i both m l d by v r h.follows from q key;
           read = get_left generation range w i m l v d r h.read from q key;
-          on_log = tt;
+          on_either = tt;
           observed = seen;
           bare = plain_bare (get_rule d r from q key).notes (get_tidy d r from q key).1;
         }
@@ -118,7 +118,7 @@ module _ (generation : ℕ → ℕ) (nodes target : ℕ) (c : Cluster) (y : Serv
         give_up_done = record {
           rule = give_up_sees generation range w i both m l d by v r h.follows;
           read = give_up_left generation range w i m l v d r h.read;
-          on_log = tt;
+          on_either = tt;
           observed = seen;
           bare = plain_bare (give_up_all d r).notes (give_up_tidy d r).1;
         }
@@ -163,13 +163,19 @@ module _ (generation : ℕ → ℕ) (nodes target : ℕ) (c : Cluster) (y : Serv
               let b : IsServing generation range w i m l r = subst (λ z. StageIs generation range w i m l r z) (serving_only r.stage serves) h.follows.stage in
               out_acked generation (log_of range) nodes target x.moves (after_all Group generation z.l) z.l_sent log_below i r.log r.out b.log.told b.log.job b.out d from server body there two
 
+          -- nothing is appended to the metadata of a range that is served
+          none_recorded : is_serving r.stage ≡ true → RecordAcked (generation i) w.notes v seen r (reply_rule (picking d r.metadata) (request d) body).news
+          none_recorded serves =
+              let b : IsServing generation range w i m l r = subst (λ z. StageIs generation range w i m l r z) (serving_only r.stage serves) h.follows.stage in
+              λ extent offset told job under_way index recording. absurd (idle_tells (picking d r.metadata) (request d) body b.metadata_idle extent offset told)
+
           pub answer_done : Done v (answer_rule d r u body) (answer_actions d r u body (answer_rule d r u body))
           answer_done = record {
             rule = answer_sees generation range w i both m l d by v r h.follows u body counts number one two read_rightly;
             read = answer_left generation range w i both m l d v r h.read h.follows (metadata_empty generation z.m beside.m_are beside.unformed i) u body number (one, two)
                 (shows_now nodes target x.moves generation (log_of range) l.stand.state z.l_sent log_below.follows from server body there);
-            on_log = answer_on d r u body (answer_rule d r u body);
-            observed = answer_seen (generation i) w.notes v seen r reads_were_seen d u body (answer_rule d r u body) out_acked_there;
+            on_either = answer_on d r u body (answer_rule d r u body);
+            observed = answer_seen (generation i) w.notes v seen r reads_were_seen d u body (answer_rule d r u body) out_acked_there none_recorded;
             bare = load_bare r none_there (answer_rule d r u body).notes (answer_loads d r u body).1;
           }
 
@@ -181,7 +187,7 @@ module _ (generation : ℕ → ℕ) (nodes target : ℕ) (c : Cluster) (y : Serv
           record {
             rule = assigned_sees generation range w i both m l d by v until idle.0 idle.1;
             read = subst (λ h. HasRead range w i m.stand.state l.stand.state h (new_range d range (generation i) until)) (sym fresh) (new_read range w i m.stand.state l.stand.state d range (generation i) until);
-            on_log = tt;
+            on_either = tt;
             observed = seen;
             bare = tt;
           }

@@ -441,7 +441,7 @@ module _ (generation : ℕ → ℕ) (nodes target : ℕ) where
       -- ---- what is seen
 
       story_aside : (name : StreamName) → IsOther range name → next_run.story name ≡ y.story name
-      story_aside name other = actions_aside s range (generation i) b actions k.on_log name other ∙ near.story name
+      story_aside name other = actions_aside s range (generation i) b actions k.on_either name other ∙ near.story name
 
       of_other : (j : ℕ) (kind : StreamKind) → (j ≡ range → ⊥) → IsOther range (stream_named j kind)
       of_other j kind apart = ((λ same. apart (ap (λ (u : StreamName). u.range) same)), (λ same. apart (ap (λ (u : StreamName). u.range) same)))

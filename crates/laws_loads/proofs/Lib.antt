@@ -5,3 +5,4 @@ pub mod WaitingIsSound
 pub mod WaitingStays
 pub mod IndexAnswers
 pub mod Entries
+pub mod CheckpointAnswers

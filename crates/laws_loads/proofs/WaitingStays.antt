@@ -40,7 +40,9 @@ use Rattle.model_partition.specs.Loading.{Group, said_after, replayed, asks_inde
 use Rattle.model_partition.specs.Answering.{load_refused, load_told, load_reply, metadata_reply, is_taken, log_reply, index_told, index_reply, bytes_reply, gets_reply, answer_rule, give_up_all, groups_of}
 use Rattle.model_partition.specs.Server.{new_range}
 use Rattle.laws_loads.specs.Sound.{IsSound}
-use Rattle.laws_loads.specs.StaysLoading.{StaysIf, Stays, IsUnserved, IsConfirmation}
+use Rattle.model_partition.specs.Checkpoints.{trim_awaits}
+use Rattle.laws_loads.proofs.CheckpointAnswers.{rows_reply_same, record_news_same, trim_reply_same}
+use Rattle.laws_loads.specs.StaysLoading.{StaysIf, Stays, IsAsBeforeIf, LeavesAsBefore, IsUnserved, IsConfirmation}
 
 -- ---- the load
 
@@ -92,7 +94,7 @@ opens_stays d r lists =
       load = record r.load { phase = phases.Opened };
       metadata = new_client d.server (record { range = r.load.range; kind = kinds.Metadata }) r.load.generation lists.metadata d.pick;
       log = new_client d.server (record { range = r.load.range; kind = kinds.Log }) r.load.generation lists.log d.pick;
-      row_data = lists.row_data;
+      rows = new_client d.server (record { range = r.load.range; kind = kinds.RowData }) r.load.generation lists.row_data d.pick;
       blob_data = lists.blob_data;
       said = first_metadata;
     })
@@ -133,11 +135,21 @@ log_news_stays d r groups stage told packets = calm_stays d r packets
 
 -- ---- answers
 
+-- what leaves the range as it was leaves its stage
+before_stays : (r : RangeState) (o : Option RangeState) → IsAsBeforeIf r o → StaysIf r.stage o
+before_stays r None b = tt
+before_stays r (Some s) b = inr b.stage
+
+same_stays : (r : RangeState) (o : RangeOutcome) → LeavesAsBefore r o → Stays r o
+same_stays r o s = before_stays r o.after s.after
+
 -- an answer to the metadata
 pub metadata_reply_stays : (d : ServerContext) (r : RangeState) (body : Body) → Stays r (metadata_reply d r body)
 metadata_reply_stays d r body =
     let o : Outcome = reply_rule (picking d r.metadata) (request d) body in
-    metadata_news_stays d (record r { metadata = o.after }) (groups_of body) r.stage o.news (option_to_list o.packet)
+    if_elim (Stays r) (is_serving r.stage) _ _
+    (λ t. same_stays r _ (record_news_same d r o.after o.news (option_to_list o.packet)))
+    (λ f. metadata_news_stays d (record r { metadata = o.after }) (groups_of body) r.stage o.news (option_to_list o.packet))
 
 -- an answer to the log of a range that is not served
 pub log_reply_stays : (d : ServerContext) (r : RangeState) (body : Body) → is_serving r.stage ≡ false → Stays r (log_reply d r body)
@@ -215,7 +227,9 @@ answer_stays d r v body unserved =
     if_elim (λ o. Stays r o ⊎ IsConfirmation d r v body o) (load_awaits r.load.phase v) _ _ (λ t. load_reply_stays d r v body t)
     (λ f. inl (if_elim (Stays r) (awaits r.metadata.job v) _ _ (λ t. metadata_reply_stays d r body)
     (λ f. if_elim (Stays r) (awaits r.log.job v) _ _ (λ t. log_reply_stays d r body unserved)
-    (λ f. if_elim (Stays r) (reads_under r.reading v) _ _ (λ t. index_reply_stays d r body) (λ f. gets_reply_stays d r v body)))))
+    (λ f. if_elim (Stays r) (awaits r.rows.job v) _ _ (λ t. same_stays r _ (rows_reply_same d r body))
+    (λ f. if_elim (Stays r) (reads_under r.reading v) _ _ (λ t. index_reply_stays d r body)
+    (λ f. if_elim (Stays r) (trim_awaits r.control v) _ _ (λ t. same_stays r _ (trim_reply_same d r body)) (λ f. gets_reply_stays d r v body)))))))
 
 -- ---- what is not served stays so
 

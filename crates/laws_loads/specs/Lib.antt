@@ -1,3 +1,4 @@
 pub mod Sound
 pub mod StaysLoading
 pub mod RangeView
+pub mod MemoryLayers

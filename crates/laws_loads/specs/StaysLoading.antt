@@ -1,5 +1,5 @@
 -- Rules that leave a range in its load.
-use Rattle.std.specs.Prelude.{◌≡◌, ◌⊎◌, true, false, Option, Some, None}
+use Rattle.std.specs.Prelude.{◌≡◌, ◌⊎◌, true, false, [], Option, Some, None}
 use Rattle.wire.specs.declared.actor.ReqNo.{ReqNo}
 use Rattle.wire.specs.declared.body.Body.{Body}
 use Rattle.wire.specs.declared.body.Body.TheVariants as bodies
@@ -19,6 +19,24 @@ StaysIf stage (Some r) = (is_serving r.stage ≡ false) ⊎ (r.stage ≡ stage)
 -- so it is, or the range is dropped
 abbrev pub Stays : RangeState → RangeOutcome → Type 0
 Stays r o = StaysIf r.stage o.after
+
+-- its load, its stage, its live layer and what waits at it are as they were
+pub record IsAsBefore (r s : RangeState) : Type 0 where
+  pub load : s.load ≡ r.load
+  pub stage : s.stage ≡ r.stage
+  pub live : s.live ≡ r.live
+  pub next : s.next ≡ r.next
+  pub queue : s.queue ≡ r.queue
+  pub out : s.out ≡ r.out
+
+abbrev pub IsAsBeforeIf : RangeState → Option RangeState → Type 0
+IsAsBeforeIf r None = Unit {0}
+IsAsBeforeIf r (Some s) = IsAsBefore r s
+
+-- so it is, or the range is dropped, and nothing is shown
+pub record LeavesAsBefore (r : RangeState) (o : RangeOutcome) : Type 0 where
+  pub after : IsAsBeforeIf r o.after
+  pub quiet : o.notes ≡ []
 
 -- the range is not served
 abbrev pub IsUnserved : Option RangeState → Type 0

@@ -24,11 +24,12 @@ use Rattle.model_partition.specs.declared.stage.Stage.{Stage}
 use Rattle.model_partition.specs.declared.stage.Stage.TheVariants as stages
 use Rattle.model_partition.specs.Range.{RangeState, RangeOutcome, request, answers, dropped, picking, is_serving}
 use Rattle.model_partition.specs.ServerRun.{RangeHistory}
-use Rattle.model_partition.specs.StreamActions.{StreamAction, serving_actions, loading_actions, confirmed_actions, load_actions, metadata_actions, log_actions, answered_actions, answer_actions}
+use Rattle.model_partition.specs.StreamActions.{StreamAction, serving_actions, loading_actions, confirmed_actions, load_actions, metadata_actions, log_actions, rows_actions, answered_actions, answer_actions}
 use Rattle.checkpoint_format.specs.Index.{index_at}
 use Rattle.model_partition.specs.PlaceReads.{place_of, reads_under}
 use Rattle.model_partition.specs.Loading.{open_region, opens, are_counted, serves_region, serves_from, serves, log_news, index_read}
-use Rattle.model_partition.specs.Answering.{answered_number, stream_number, groups_of, load_refused, load_told, load_reply, metadata_reply, serving_news, is_taken, log_taken, log_reply, index_reply, bytes_reply, gets_reply, answer_rule}
+use Rattle.model_partition.specs.Checkpoints.{rows_reply, trim_awaits}
+use Rattle.model_partition.specs.Answering.{answered_number, stream_number, groups_of, load_refused, load_told, load_reply, metadata_reply, serving_news, is_taken, log_taken, log_reply, index_reply, trim_reply, bytes_reply, gets_reply, answer_rule}
 use Rattle.laws_loads.specs.RangeView.{RangeView, view_after_all}
 use Rattle.laws_stream_machine.specs.Refinement.{Opens, purpose_of, Means, StreamMeans}
 use Rattle.laws_stream_machine.proofs.ServerRequests.{same_request}
@@ -188,29 +189,41 @@ module _ (generation : ℕ → ℕ) (range : ℕ) (w : StreamSystem) (i : ℕ) (
             log_part : List StreamAction
             log_part = if is_taken r body then log_actions d r body whole else []
 
-            fourth : (t : Bool) → Leaves (if t then index_reply d r body else gets_reply d r u body) []
-            fourth true = index_reply_left body
-            fourth false = gets_reply_left u body
+            rows_part : List StreamAction
+            rows_part = if awaits r.rows.job u then rows_actions d r body else []
 
-            third : (t : Bool) →
-                Leaves (if t then log_reply d r body else (if reads_under r.reading u then index_reply d r body else gets_reply d r u body)) (if t then log_part else [])
+            index_or_later : RangeOutcome
+            index_or_later = if reads_under r.reading u then index_reply d r body else if trim_awaits r.control u then trim_reply d r body else gets_reply d r u body
+
+            rows_or_later : RangeOutcome
+            rows_or_later = if awaits r.rows.job u then rows_reply d r body else index_or_later
+
+            log_or_later : RangeOutcome
+            log_or_later = if awaits r.log.job u then log_reply d r body else rows_or_later
+
+            sixth : (t : Bool) → trim_awaits r.control u ≡ t → Leaves (if t then trim_reply d r body else gets_reply d r u body) []
+            sixth true e = absurd (let z : false ≡ true = subst (λ c. trim_awaits c u ≡ true) f.calm.1 e in cc)
+            sixth false e = gets_reply_left u body
+
+            fifth : (t : Bool) → Leaves (if t then index_reply d r body else if trim_awaits r.control u then trim_reply d r body else gets_reply d r u body) []
+            fifth true = index_reply_left body
+            fifth false = sixth (trim_awaits r.control u) refl
+
+            fourth : (t : Bool) → awaits r.rows.job u ≡ t → Leaves (if t then rows_reply d r body else index_or_later) (if t then rows_actions d r body else [])
+            fourth true e = absurd (let z : false ≡ true = subst (λ j. awaits j u ≡ true) f.calm.0 e in cc)
+            fourth false e = fifth (reads_under r.reading u)
+
+            third : (t : Bool) → Leaves (if t then log_reply d r body else rows_or_later) (if t then log_part else rows_part)
             third true = log_reply_left body shows means.1 whole
-            third false = fourth (reads_under r.reading u)
+            third false = fourth (awaits r.rows.job u) refl
 
-            second : (t : Bool) →
-                Leaves
-                (if t then metadata_reply d r body
-                else (if awaits r.log.job u then log_reply d r body else (if reads_under r.reading u then index_reply d r body else gets_reply d r u body)))
-                (if t then metadata_actions d r body else (if awaits r.log.job u then log_part else []))
+            second : (t : Bool) → Leaves (if t then metadata_reply d r body else log_or_later) (if t then metadata_actions d r body else (if awaits r.log.job u then log_part else rows_part))
             second true = metadata_reply_left generation range w i both m l d v r h body empty f means.0
             second false = third (awaits r.log.job u)
 
             first : (t : Bool) → load_awaits r.load.phase u ≡ t →
-                Leaves
-                (if t then load_reply d r body
-                else (if awaits r.metadata.job u then metadata_reply d r body
-                else (if awaits r.log.job u then log_reply d r body else (if reads_under r.reading u then index_reply d r body else gets_reply d r u body))))
-                (if t then load_actions r body else (if awaits r.metadata.job u then metadata_actions d r body else (if awaits r.log.job u then log_part else [])))
+                Leaves (if t then load_reply d r body else (if awaits r.metadata.job u then metadata_reply d r body else log_or_later))
+                (if t then load_actions r body else (if awaits r.metadata.job u then metadata_actions d r body else (if awaits r.log.job u then log_part else rows_part)))
             first true e = load_reply_left u e body number means
             first false e = second (awaits r.metadata.job u)
 

@@ -1,5 +1,5 @@
 -- What answers to a range's metadata leave of what was read.
-use Rattle.std.proofs.Common.{◌≡◌, ℕ, suc, List, [], ◌∷◌, option_to_list, refl, sym, ap, ◌∙◌, subst}
+use Rattle.std.proofs.Common.{◌≡◌, ℕ, suc, List, [], ◌∷◌, option_to_list, refl, sym, ap, ◌∙◌, subst, if◌then◌else◌}
 use Rattle.wire.specs.declared.body.Body.{Body}
 use Rattle.wire.specs.declared.streams.StreamExtent.{StreamExtent}
 use Rattle.wire.specs.declared.streams.StreamKind.TheVariants as kinds
@@ -11,10 +11,11 @@ use Rattle.model_streams.specs.StreamSystem.{StreamSystem}
 use Rattle.model_partition.specs.declared.server_context.ServerContext.{ServerContext}
 use Rattle.model_partition.specs.declared.stage.Stage.{Stage}
 use Rattle.model_partition.specs.declared.stage.Stage.TheVariants as stages
-use Rattle.model_partition.specs.Range.{RangeState, RangeOutcome, request, picking}
+use Rattle.model_partition.specs.Range.{RangeState, RangeOutcome, request, picking, is_serving}
 use Rattle.model_partition.specs.ServerRun.{RangeHistory, one_more_read}
-use Rattle.model_partition.specs.StreamActions.{StreamAction, Reads, loading_actions, metadata_actions}
+use Rattle.model_partition.specs.StreamActions.{StreamAction, Reads, loading_actions, record_actions, metadata_actions}
 use Rattle.model_partition.specs.Loading.{metadata_news, says, said_after, reads_metadata}
+use Rattle.model_partition.specs.Checkpoints.{record_told}
 use Rattle.model_partition.specs.Answering.{groups_of, metadata_reply}
 use Rattle.laws_loads.specs.RangeView.{RangeView}
 use Rattle.laws_stream_machine.specs.Refinement.{Means}
@@ -45,7 +46,10 @@ module _ (generation : ℕ → ℕ) (range : ℕ) (w : StreamSystem) (i : ℕ) (
     -- what an answer to the metadata's client leaves
     abbrev AtStage : Stage → Outcome → Type 0
     AtStage stage o =
-        Leaves (metadata_news d (record r { metadata = o.after }) (groups_of body) stage o.news (option_to_list o.packet)) (loading_actions kinds.Metadata r.metadata stage (groups_of body) o.news)
+        Leaves
+        (if is_serving stage then record_told d (record r { metadata = o.after }) r.control o.news (option_to_list o.packet)
+        else metadata_news d (record r { metadata = o.after }) (groups_of body) stage o.news (option_to_list o.packet))
+        (if is_serving stage then record_actions r o.news else loading_actions kinds.Metadata r.metadata stage (groups_of body) o.news)
 
   module _ (empty : IsEmpty i m.stand.state) (r : RangeState) (b : LoadsMetadata generation range w i m l r) (body : Body) (means : Means generation (metadata_of range) w m.stand.state m.sent body) where
     -- ---- the length of the last extent is asked for, or it is sealed

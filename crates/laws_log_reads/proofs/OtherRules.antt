@@ -102,7 +102,7 @@ module _ (range : ℕ) (w : StreamSystem) (i : ℕ) (m l : machine.MachineState 
 
     give_up_keeps : (d : ServerContext) (r : RangeState) → HasRead range w i m l h r → Leaves (give_up_all d r)
     give_up_keeps d r b =
-        same_left range w i m l h r (record r { metadata = one.after; log = two.after; reading = option_map moved_on r.reading; gets = map (λ g. (gives_up_get d r g).0) r.gets })
+        same_left range w i m l h r (record r { metadata = one.after; log = two.after; rows = (gives_up_job (used (used d)) r.rows).after; reading = option_map moved_on r.reading; gets = map (λ g. (gives_up_get d r g).0) r.gets })
         (record {
           said = refl;
           fixed = refl;

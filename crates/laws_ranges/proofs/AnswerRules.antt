@@ -1,5 +1,5 @@
 -- What a range that is not served does with an answer that it waits for, as both streams see it.
-use Rattle.std.proofs.Common.{◌≡◌, ℕ, Bool, true, false, Some, refl, sym, ap, ◌∙◌, if◌then◌else◌}
+use Rattle.std.proofs.Common.{◌≡◌, ℕ, Bool, true, false, Some, refl, sym, ap, ◌∙◌, subst, if◌then◌else◌}
 use Rattle.wire.specs.declared.actor.ReqNo.{ReqNo}
 use Rattle.wire.specs.declared.body.Body.{Body}
 use Rattle.client.specs.Client.{awaits}
@@ -7,9 +7,10 @@ use Rattle.client.specs.Load.{load_awaits}
 use Rattle.model_streams.specs.StreamSystem.{StreamSystem}
 use Rattle.model_partition.specs.declared.server_context.ServerContext.{ServerContext}
 use Rattle.model_partition.specs.declared.stage.Stage.TheVariants as stages
-use Rattle.model_partition.specs.Range.{RangeState, is_serving}
+use Rattle.model_partition.specs.Range.{RangeState, RangeOutcome, is_serving}
 use Rattle.model_partition.specs.PlaceReads.{reads_under}
-use Rattle.model_partition.specs.Answering.{answered_number, load_reply, metadata_reply, log_reply, index_reply, gets_reply, answer_rule}
+use Rattle.model_partition.specs.Answering.{answered_number, load_reply, metadata_reply, log_reply, index_reply, trim_reply, gets_reply, answer_rule}
+use Rattle.model_partition.specs.Checkpoints.{rows_reply, trim_awaits}
 use Rattle.laws_stream_machine.specs.Refinement.{Means}
 use Rattle.laws_ranges.specs.Serves.{Side, metadata_of, log_of, Follows, BothListed, IsSentBy, RuleGoes}
 use Rattle.laws_ranges.proofs.Confirmed.{confirmed_all}
@@ -27,31 +28,43 @@ module _ (generation : ℕ → ℕ) (range : ℕ) (w : StreamSystem) (i : ℕ) (
   load_reply_both : (v : ReqNo) → load_awaits r.load.phase v ≡ true → (body : Body) → answered_number body ≡ Some v → Means generation (metadata_of range) w m.stand.state m.sent body →
       Means generation (log_of range) w l.stand.state l.sent body → RuleGoes generation range w i m l d (load_reply d r body)
   load_reply_both v waits body number one two =
-      load_reply_by generation range w i both m l d by r f (λ b u same a z. (confirmed_all generation range w i both m l d by r b f.range_is f.under u same a z).0) v waits body number one two
+      load_reply_by generation range w i both m l d by r f (λ b u same a z. (confirmed_all generation range w i both m l d by r b f.range_is f.under f.calm u same a z).0) v waits body number one two
+
+  module _ (v : ReqNo) (body : Body) where
+    -- what an answer to none of both clients leads to
+    abbrev index_or_later : RangeOutcome
+    index_or_later = if reads_under r.reading v then index_reply d r body else if trim_awaits r.control v then trim_reply d r body else gets_reply d r v body
+
+    abbrev rows_or_later : RangeOutcome
+    rows_or_later = if awaits r.rows.job v then rows_reply d r body else index_or_later
 
   -- the answer of a number, which means what it says to both streams
   pub answer_both : (v : ReqNo) (body : Body) → answered_number body ≡ Some v → Means generation (metadata_of range) w m.stand.state m.sent body →
       Means generation (log_of range) w l.stand.state l.sent body → RuleGoes generation range w i m l d (answer_rule d r v body)
   answer_both v body number one two = load_first (load_awaits r.load.phase v) refl
     where
-      index_fourth : (t : Bool) → RuleGoes generation range w i m l d (if t then index_reply d r body else gets_reply d r v body)
-      index_fourth true = index_reply_both generation range w i both m l d by r f body
-      index_fourth false = (gets_reply_quietly generation range w i both m l d by r f v body).goes
+      trim_sixth : (t : Bool) → trim_awaits r.control v ≡ t → RuleGoes generation range w i m l d (if t then trim_reply d r body else gets_reply d r v body)
+      trim_sixth true e = absurd (let z : false ≡ true = subst (λ c. trim_awaits c v ≡ true) f.calm.1 e in cc)
+      trim_sixth false e = (gets_reply_quietly generation range w i both m l d by r f v body).goes
 
-      log_third : (t : Bool) → awaits r.log.job v ≡ t →
-          RuleGoes generation range w i m l d (if t then log_reply d r body else if reads_under r.reading v then index_reply d r body else gets_reply d r v body)
+      index_fifth : (t : Bool) → RuleGoes generation range w i m l d (if t then index_reply d r body else if trim_awaits r.control v then trim_reply d r body else gets_reply d r v body)
+      index_fifth true = index_reply_both generation range w i both m l d by r f body
+      index_fifth false = trim_sixth (trim_awaits r.control v) refl
+
+      rows_fourth : (t : Bool) → awaits r.rows.job v ≡ t → RuleGoes generation range w i m l d (if t then rows_reply d r body else index_or_later v body)
+      rows_fourth true e = absurd (let z : false ≡ true = subst (λ j. awaits j v ≡ true) f.calm.0 e in cc)
+      rows_fourth false e = index_fifth (reads_under r.reading v)
+
+      log_third : (t : Bool) → awaits r.log.job v ≡ t → RuleGoes generation range w i m l d (if t then log_reply d r body else rows_or_later v body)
       log_third true e = log_news_by generation range w i both m l d by r f body (λ served. absurd (is_unserved served)) v e two
-      log_third false e = index_fourth (reads_under r.reading v)
+      log_third false e = rows_fourth (awaits r.rows.job v) refl
 
-      metadata_second : (t : Bool) → awaits r.metadata.job v ≡ t →
-          RuleGoes generation range w i m l d
-          (if t then metadata_reply d r body else if awaits r.log.job v then log_reply d r body else if reads_under r.reading v then index_reply d r body else gets_reply d r v body)
+      metadata_second : (t : Bool) → awaits r.metadata.job v ≡ t → RuleGoes generation range w i m l d (if t then metadata_reply d r body else if awaits r.log.job v then log_reply d r body else rows_or_later v body)
       metadata_second true e = metadata_news_both generation range w i both m l d by r f body v e one
       metadata_second false e = log_third (awaits r.log.job v) refl
 
       load_first : (t : Bool) → load_awaits r.load.phase v ≡ t →
           RuleGoes generation range w i m l d
-          (if t then load_reply d r body else if awaits r.metadata.job v then metadata_reply d r body else if awaits r.log.job v then log_reply d r body
-          else if reads_under r.reading v then index_reply d r body else gets_reply d r v body)
+          (if t then load_reply d r body else if awaits r.metadata.job v then metadata_reply d r body else if awaits r.log.job v then log_reply d r body else rows_or_later v body)
       load_first true e = load_reply_both v e body number one two
       load_first false e = metadata_second (awaits r.metadata.job v) refl

@@ -63,6 +63,22 @@ module _ (generation : ℕ → ℕ) (name : StreamName) (w : StreamSystem) (i : 
       let first = told.tells.ends none in
       omega (arith, none, first)
 
+  -- ---- its client
+
+  -- the client with the server's pick
+  picked : (x : Stand) (sent : List Sent) (c : ClientState) (j : Job) (pick : _) → IsTold generation name w i x sent c → ServesBy generation name w i x sent c j →
+      ServesBy generation name w i x sent (record c { pick = pick }) j
+  picked x sent c jobs.Idle pick told b = b
+  picked x sent c (jobs.Sent e v) pick told b = record { index = b.index; append = b.append; last = record { places = b.last.places; last = b.last.last; index_is = b.last.index_is }; stands = b.stands; for = b.for; fact = b.fact }
+  picked x sent c (jobs.Closing e v) pick told b = record { index = b.index; append = b.append; last = record { places = b.last.places; last = b.last.last; index_is = b.last.index_is }; stands = b.stands; for = b.for }
+  picked x sent c (jobs.Growing last v) pick told b = record { append = b.append; all_sealed = b.all_sealed; stands = b.stands; for = b.for; last_is = b.last_is; fact = b.fact }
+  picked x sent c (jobs.Checking e v) pick told b = absurd b
+  picked x sent c (jobs.Shutting e v) pick told b = absurd b
+  picked x sent c (jobs.Reading e places upto sealed place v) pick told b = absurd b
+
+  pub picked_serving : (x : Stand) (sent : List Sent) (c : ClientState) (pick : _) → ServingIs generation name w i x sent c → ServingIs generation name w i x sent (record c { pick = pick })
+  picked_serving x sent c pick b = record { told = record { stream = b.told.stream; under = b.told.under; tells = b.told.tells }; job = picked x sent c c.job pick b.told b.job }
+
   module _ (listed : Listed w name) (sent : List Sent) (q : ReqNo) (fresh : purpose_of sent q ≡ None) where
     -- ---- a group is formed
 

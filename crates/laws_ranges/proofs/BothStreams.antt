@@ -194,4 +194,4 @@ module _ (generation : ℕ → ℕ) (range : ℕ) (w : StreamSystem) (i : ℕ) (
     same_stage stages.Serving b = record { phase = b.phase; metadata = b.metadata; metadata_idle = b.metadata_idle; log = b.log; out = b.out }
 
     pub follows_same : Follows generation range w i m l r → Follows generation range w i m l (kept_but r until gets held)
-    follows_same b = record { range_is = b.range_is; under = b.under; stage = same_stage r.stage b.stage }
+    follows_same b = record { range_is = b.range_is; under = b.under; calm = b.calm; stage = same_stage r.stage b.stage }

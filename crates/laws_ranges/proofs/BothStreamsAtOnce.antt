@@ -13,7 +13,7 @@ use Rattle.model_partition.specs.Loading.{confirms}
 use Rattle.model_partition.specs.Server.{new_range}
 use Rattle.model_partition.specs.ServerTurns as turns
 use Rattle.laws_stream_machine.specs.Refinement.{Purpose, Sent, purpose_of, Opens, Confirms, IsAsked}
-use Rattle.laws_ranges.specs.Serves.{Side, after_turns, sent_with, is_alone, metadata_of, log_of, LoadingIs, Goes, Apart, IsSentBy, RuleGoes}
+use Rattle.laws_ranges.specs.Serves.{HasNoCheckpoint, Side, after_turns, sent_with, is_alone, metadata_of, log_of, LoadingIs, Goes, Apart, IsSentBy, RuleGoes}
 use Rattle.laws_ranges.proofs.OpenAndConfirm.{assigned_goes, confirms_goes, ConfirmsNow, open_asked, confirm_asked}
 use Rattle.laws_ranges.proofs.BothStreams.{both_step}
 
@@ -46,6 +46,7 @@ module _ (generation : ℕ → ℕ) (range : ℕ) (w : StreamSystem) (i : ℕ) (
   pub record AllRead (r : RangeState) : Type 0 where
     pub range_is : r.load.range ≡ range
     pub under : r.load.generation ≡ generation i
+    pub calm : HasNoCheckpoint r
     pub metadata : LoadingIs generation (metadata_of range) w i m.stand m.sent r.metadata
     pub metadata_idle : r.metadata.job ≡ jobs.Idle
     pub log : LoadingIs generation (log_of range) w i l.stand l.sent r.log
@@ -76,6 +77,7 @@ module _ (generation : ℕ → ℕ) (range : ℕ) (w : StreamSystem) (i : ℕ) (
       (record {
         range_is = b.range_is;
         under = b.under;
+        calm = b.calm;
         stage = record {
           q = q;
           phase = refl;
@@ -103,6 +105,7 @@ module _ (generation : ℕ → ℕ) (range : ℕ) (w : StreamSystem) (i : ℕ) (
       (record {
         range_is = refl;
         under = refl;
+        calm = (refl, refl);
         stage = record {
           q = q;
           phase = refl;

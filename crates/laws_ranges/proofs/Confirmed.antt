@@ -18,7 +18,7 @@ use Rattle.model_partition.specs.StreamMachine as machine
 use Rattle.model_partition.specs.ServerTurns as turns
 use Rattle.laws_stream_machine.specs.Refinement.{Sent, purpose_of, Means, StreamMeans}
 use Rattle.laws_stream_machine.proofs.ServerRequests.{same_request}
-use Rattle.laws_ranges.specs.Serves.{Stand, Side, after_turns, known, is_live, sent_with, metadata_of, log_of, OutIs, ServesBy, ServingIs, ConfirmingIs, Apart, BothListed, IsSentBy, IsConfirming, RuleGoes}
+use Rattle.laws_ranges.specs.Serves.{HasNoCheckpoint, Stand, Side, after_turns, known, is_live, sent_with, metadata_of, log_of, OutIs, ServesBy, ServingIs, ConfirmingIs, Apart, BothListed, IsSentBy, IsConfirming, RuleGoes}
 use Rattle.laws_ranges.specs.Quiet.{GoesQuietly, ShowsOnly}
 use Rattle.laws_ranges.proofs.AppendJob.{GoesBy, told_here, told_after, at_phase_by}
 use Rattle.laws_ranges.proofs.LogRules.{refused_plain}
@@ -65,7 +65,7 @@ module _ (generation : ℕ → ℕ) (range : ℕ) (w : StreamSystem) (i : ℕ) (
         (goes : RuleGoes generation range w i m l d o)
         × (((goes.metadata_turns ≡ turns.ConfirmedIs 0 b.metadata.end b.metadata.read ∷ []) × (goes.log_turns ≡ turns.ConfirmedIs 0 b.log.end b.log.read ∷ [])) ⊎ (o.after ≡ None))
 
-    module _ (range_is : r.load.range ≡ range) (under : r.load.generation ≡ generation i)
+    module _ (range_is : r.load.range ≡ range) (under : r.load.generation ≡ generation i) (calm : HasNoCheckpoint r)
         (one_fact : machine.In (machine.Confirmed i b.metadata.read b.metadata.end) m.stand.state.facts) (two_fact : machine.In (machine.Confirmed i b.log.read b.log.end) l.stand.state.facts) where
       region_shows : (region : Region) → ShowsAll (serves_region d r region)
       unfolding both_step
@@ -81,6 +81,7 @@ module _ (generation : ℕ → ℕ) (range : ℕ) (w : StreamSystem) (i : ℕ) (
           (record {
             range_is = range_is;
             under = under;
+            calm = calm;
             stage = record {
               phase = refl;
               metadata = one.then.0;
@@ -108,11 +109,11 @@ module _ (generation : ℕ → ℕ) (range : ℕ) (w : StreamSystem) (i : ℕ) (
           go false = (dropped_both r, inr refl)
 
     -- Confirmed, of the number that is waited for, as both streams mean it
-    pub confirmed_all : r.load.range ≡ range → r.load.generation ≡ generation i → (v : ReqNo) → is_same b.q v ≡ true →
+    pub confirmed_all : r.load.range ≡ range → r.load.generation ≡ generation i → HasNoCheckpoint r → (v : ReqNo) → is_same b.q v ≡ true →
         Means generation (metadata_of range) w m.stand.state m.sent (bodies.Stream (streams.Confirmed v)) →
         Means generation (log_of range) w l.stand.state l.sent (bodies.Stream (streams.Confirmed v)) → ShowsAll (serves d r)
-    confirmed_all range_is under v same one two =
+    confirmed_all range_is under calm v same one two =
         let e : b.q ≡ v = same_request b.q v same in
-        serves_all range_is under
+        serves_all range_is under calm
         (subst (λ z. StreamMeans generation (metadata_of range) w m.stand.state m.sent z (streams.Confirmed v)) (ap (λ k. purpose_of m.sent k) (sym e) ∙ b.metadata.for) one)
         (subst (λ z. StreamMeans generation (log_of range) w l.stand.state l.sent z (streams.Confirmed v)) (ap (λ k. purpose_of l.sent k) (sym e) ∙ b.log.for) two)

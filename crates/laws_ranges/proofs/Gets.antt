@@ -12,11 +12,12 @@ use Rattle.wire.specs.declared.body.Body.TheVariants as bodies
 use Rattle.wire.specs.declared.refusal.Refusal.{Refusal}
 use Rattle.wire.specs.declared.refusal.Refusal.TheVariants as refusals
 use Rattle.wire.specs.declared.streams.StreamName.{StreamName}
+use Rattle.wire.specs.declared.packet.Packet.{Packet}
 use Rattle.memtable.specs.declared.cell.Place.{Place}
 use Rattle.model_streams.specs.StreamSystem.{StreamSystem}
 use Rattle.model_partition.specs.declared.server_context.ServerContext.{ServerContext}
 use Rattle.model_partition.specs.declared.waiting.WaitingGet.{WaitingGet}
-use Rattle.model_partition.specs.Range.{RangeState, refuses, answers}
+use Rattle.model_partition.specs.Range.{RangeState, RangeOutcome, refuses, answers, dropped}
 use Rattle.model_partition.specs.Serving.{lease_ended}
 use Rattle.model_partition.specs.PlaceReads.{place_of, places_of}
 use Rattle.model_partition.specs.Getting.{Lookup, Is, Needs, Tried, asks_place, answered, try, try_all, get_fault, gets, get_rule, are_no_page, bytes_come, bytes_rule, came, look, read_at, standing, used_for, without}
@@ -63,54 +64,77 @@ module _ (generation : ℕ → ℕ) (range : ℕ) (w : StreamSystem) (i : ℕ) (
 
 -- ---- the rules
 
-module _ (generation : ℕ → ℕ) (range : ℕ) (w : StreamSystem) (i : ℕ) (both : BothListed w range) (m l : Side) (d : ServerContext) (by : IsSentBy d d.count m.sent l.sent)
-    (r : RangeState) (f : Follows generation range w i m l r) where
-  pub refused_quietly : (from : ActorId) (v : ReqNo) (why : Refusal) → GoesQuietly generation range w i m l d (answers d r (refuses d from v why ∷ []))
-  refused_quietly from v why = still_quietly generation range w i both m l d by (Some r) d.count (refuses d from v why ∷ []) f (omega arith) (inl (λ n s z. tt), tt)
+-- what is so where the range keeps all but its Gets and what was read for them, and where it is dropped
+module _ (generation : ℕ → ℕ) (range : ℕ) (w : StreamSystem) (i : ℕ) (l : Side) (d : ServerContext) (r : RangeState) (Holds : RangeOutcome → Type 0)
+    (still : (gets : List WaitingGet) (held : List (Place × List ℕ)) (count : ℕ) (packets : List Packet) → d.count ≤ count → AreAsked generation range w i (log_of range) l.stand l.sent packets →
+    Holds (record { after = Some (record r { gets = gets; held = held }); count = count; packets = packets; notes = [] }))
+    (gone : Holds (dropped d r)) where
+  pub refused_is : (from : ActorId) (v : ReqNo) (why : Refusal) → Holds (answers d r (refuses d from v why ∷ []))
+  refused_is from v why = still r.gets r.held d.count (refuses d from v why ∷ []) (omega arith) (inl (λ n s z. tt), tt)
 
-  gets_quietly : (from : ActorId) (v : ReqNo) (key : List ℕ) (fault : Option Refusal) → GoesQuietly generation range w i m l d (gets d r from v key fault)
-  gets_quietly from v key (Some why) = refused_quietly from v why
-  gets_quietly from v key None =
+  gets_is : (from : ActorId) (v : ReqNo) (key : List ℕ) (fault : Option Refusal) → Holds (gets d r from v key fault)
+  gets_is from v key (Some why) = refused_is from v why
+  gets_is from v key None =
       let g : WaitingGet = record { from = from; request = v; key = key; reads = [] } in
       let t : Tried = try d r g in
       let is : IsTry generation range w i (log_of range) l.stand l.sent d t = one_try generation range w i (log_of range) l.stand l.sent d r g in
-      still_quietly generation range w i both m l d by (Some (record r { gets = r.gets ++ t.waiting; held = used_for r.held r.indexes key (standing r key) })) t.count t.packets
-      (follows_same generation range w i m l r r.until (r.gets ++ t.waiting) (used_for r.held r.indexes key (standing r key)) f) is.0 is.1
+      still (r.gets ++ t.waiting) (used_for r.held r.indexes key (standing r key)) t.count t.packets is.0 is.1
 
   -- a Get
-  pub get_quietly : (from : ActorId) (v : ReqNo) (key : List ℕ) → GoesQuietly generation range w i m l d (get_rule d r from v key)
-  get_quietly from v key = gets_quietly from v key (get_fault d r key)
+  pub get_is : (from : ActorId) (v : ReqNo) (key : List ℕ) → Holds (get_rule d r from v key)
+  get_is from v key = gets_is from v key (get_fault d r key)
 
   -- the bytes of a page or of a value
-  bytes_quietly : (v : ReqNo) (place : Place) (bytes : List ℕ) → GoesQuietly generation range w i m l d (bytes_come d r v place bytes)
-  bytes_quietly v place bytes =
+  bytes_is : (v : ReqNo) (place : Place) (bytes : List ℕ) → Holds (bytes_come d r v place bytes)
+  bytes_is v place bytes =
       let now : RangeState = record r { held = came r.held (read_at r.gets v) place bytes } in
       let t : Tried = try_all d now (map (without v) r.gets) in
       let is : IsTry generation range w i (log_of range) l.stand l.sent d t = all_try generation range w i (log_of range) l.stand l.sent d now (map (without v) r.gets) in
-      still_quietly generation range w i both m l d by (Some (record r { gets = t.waiting; held = now.held })) t.count t.packets
-      (follows_same generation range w i m l r r.until t.waiting now.held f) is.0 is.1
+      still t.waiting now.held t.count t.packets is.0 is.1
 
-  rested : GoesQuietly generation range w i m l d (answers d r [])
-  rested = still_quietly generation range w i both m l d by (Some r) d.count [] f (omega arith) tt
+  rested : Holds (answers d r [])
+  rested = still r.gets r.held d.count [] (omega arith) tt
 
   -- bytes that spell no page where one is wanted change nothing
-  pages_quietly : (v : ReqNo) (place : Place) (bytes : List ℕ) → GoesQuietly generation range w i m l d (bytes_rule d r v place bytes)
-  pages_quietly v place bytes = go (are_no_page (read_at r.gets v) bytes)
+  pages_are : (v : ReqNo) (place : Place) (bytes : List ℕ) → Holds (bytes_rule d r v place bytes)
+  pages_are v place bytes = go (are_no_page (read_at r.gets v) bytes)
     where
-      go : (t : Bool) → GoesQuietly generation range w i m l d (if t then answers d r [] else bytes_come d r v place bytes)
+      go : (t : Bool) → Holds (if t then answers d r [] else bytes_come d r v place bytes)
       go true = rested
-      go false = bytes_quietly v place bytes
+      go false = bytes_is v place bytes
 
-  read_quietly : (v : ReqNo) (body : ReadBody) → GoesQuietly generation range w i m l d (bytes_reply d r v body)
-  read_quietly v (reads.Bytes u e offset bytes) = pages_quietly v (place_of e offset bytes) bytes
-  read_quietly v body = rested
+  read_is : (v : ReqNo) (body : ReadBody) → Holds (bytes_reply d r v body)
+  read_is v (reads.Bytes u e offset bytes) = pages_are v (place_of e offset bytes) bytes
+  read_is v body = rested
 
   -- the refusal of a read
-  refused_read : (body : AppendBody) → GoesQuietly generation range w i m l d (load_refused d r body)
-  refused_read (appends.Refused u refusals.Stale) = dropped_quietly generation range w i both m l d by r
+  refused_read : (body : AppendBody) → Holds (load_refused d r body)
+  refused_read (appends.Refused u refusals.Stale) = gone
   refused_read body = rested
 
-  pub gets_reply_quietly : (v : ReqNo) (body : Body) → GoesQuietly generation range w i m l d (gets_reply d r v body)
-  gets_reply_quietly v (bodies.Read body) = read_quietly v body
-  gets_reply_quietly v (bodies.Append body) = refused_read body
-  gets_reply_quietly v body = rested
+  pub gets_reply_is : (v : ReqNo) (body : Body) → Holds (gets_reply d r v body)
+  gets_reply_is v (bodies.Read body) = read_is v body
+  gets_reply_is v (bodies.Append body) = refused_read body
+  gets_reply_is v body = rested
+
+module _ (generation : ℕ → ℕ) (range : ℕ) (w : StreamSystem) (i : ℕ) (both : BothListed w range) (m l : Side) (d : ServerContext) (by : IsSentBy d d.count m.sent l.sent)
+    (r : RangeState) (f : Follows generation range w i m l r) where
+  abbrev Quiet : RangeOutcome → Type 0
+  Quiet o = GoesQuietly generation range w i m l d o
+
+  still : (gets : List WaitingGet) (held : List (Place × List ℕ)) (count : ℕ) (packets : List Packet) → d.count ≤ count → AreAsked generation range w i (log_of range) l.stand l.sent packets →
+      Quiet (record { after = Some (record r { gets = gets; held = held }); count = count; packets = packets; notes = [] })
+  still gets held count packets more asked =
+      still_quietly generation range w i both m l d by (Some (record r { gets = gets; held = held })) count packets (follows_same generation range w i m l r r.until gets held f) more asked
+
+  gone : Quiet (dropped d r)
+  gone = dropped_quietly generation range w i both m l d by r
+
+  pub refused_quietly : (from : ActorId) (v : ReqNo) (why : Refusal) → Quiet (answers d r (refuses d from v why ∷ []))
+  refused_quietly from v why = refused_is generation range w i l d r (λ o. Quiet o) still gone from v why
+
+  pub get_quietly : (from : ActorId) (v : ReqNo) (key : List ℕ) → Quiet (get_rule d r from v key)
+  get_quietly from v key = get_is generation range w i l d r (λ o. Quiet o) still gone from v key
+
+  pub gets_reply_quietly : (v : ReqNo) (body : Body) → Quiet (gets_reply d r v body)
+  gets_reply_quietly v body = gets_reply_is generation range w i l d r (λ o. Quiet o) still gone v body

@@ -16,12 +16,12 @@ use Rattle.model_partition.specs.PlaceReads.{asks_again, places_of, moved_on}
 use Rattle.model_partition.specs.Getting.{gives_up_read, gives_up_get}
 use Rattle.model_partition.specs.Answering.{gives_up_reading, give_up_all}
 use Rattle.laws_stream_machine.specs.Refinement.{Sent, purpose_of}
-use Rattle.laws_ranges.specs.Serves.{Stand, Side, after_turns, sent_with, metadata_of, log_of, Apart, ServingIs, ServesBy, AreAsked, IsServing, StageIs, Follows, BothListed, IsSentBy, RuleGoes}
+use Rattle.laws_ranges.specs.Serves.{HasNoCheckpoint, Stand, Side, after_turns, sent_with, metadata_of, log_of, Apart, ServingIs, ServesBy, AreAsked, IsServing, StageIs, Follows, BothListed, IsSentBy, RuleGoes}
 use Rattle.laws_ranges.specs.Quiet.{GoesQuietly, Quietly}
 use Rattle.laws_ranges.proofs.MachineSteps.{purposes_on}
-use Rattle.laws_ranges.proofs.AppendJob.{GoesBy, give_up_goes}
+use Rattle.laws_ranges.proofs.AppendJob.{GoesBy, picked_serving, give_up_goes}
 use Rattle.laws_ranges.proofs.OutGroup.{give_up_out}
-use Rattle.laws_ranges.proofs.LogRules.{asked_both, asked_if, picked_serving}
+use Rattle.laws_ranges.proofs.LogRules.{asked_both, asked_if}
 use Rattle.laws_ranges.proofs.ServedRules.{unused_on, apart_on, asked_of_both}
 
 module _ (generation : ℕ → ℕ) (range : ℕ) (w : StreamSystem) (i : ℕ) where
@@ -34,14 +34,14 @@ module _ (generation : ℕ → ℕ) (range : ℕ) (w : StreamSystem) (i : ℕ) w
   read_plain name x sent d r g None = tt
   read_plain name x sent d r g (Some read) = again_plain name x sent d (moved_on read) (places_of r read.place.extent)
 
-  gets_plain : (name : StreamName) (x : Stand) (sent : List Sent) (d : ServerContext) (r : RangeState) (gs : List WaitingGet) →
+  pub gets_plain : (name : StreamName) (x : Stand) (sent : List Sent) (d : ServerContext) (r : RangeState) (gs : List WaitingGet) →
       AreAsked generation range w i name x sent (flat_map (λ g. (gives_up_get d r g).1) gs)
   gets_plain name x sent d r [] = tt
   gets_plain name x sent d r (g ∷ gs) =
       asked_both generation range w i name x sent (gives_up_get d r g).1 (flat_map (λ g. (gives_up_get d r g).1) gs)
       (read_plain name x sent d r g (slice_get g.reads (length g.reads - 1))) (gets_plain name x sent d r gs)
 
-  reading_plain : (name : StreamName) (x : Stand) (sent : List Sent) (d : ServerContext) (r : RangeState) (o : Option PlaceRead) → AreAsked generation range w i name x sent (gives_up_reading d r o)
+  pub reading_plain : (name : StreamName) (x : Stand) (sent : List Sent) (d : ServerContext) (r : RangeState) (o : Option PlaceRead) → AreAsked generation range w i name x sent (gives_up_reading d r o)
   reading_plain name x sent d r None = tt
   reading_plain name x sent d r (Some read) = again_plain name x sent d (moved_on read) (places_of r read.place.extent)
 
@@ -55,8 +55,12 @@ module _ (generation : ℕ → ℕ) (range : ℕ) (w : StreamSystem) (i : ℕ) w
       (reading_plain name x sent d r r.reading) (gets_plain name x sent d r r.gets)
 
   module _ (both : BothListed w range) (m l : Side) (d : ServerContext) (by : IsSentBy d d.count m.sent l.sent) where
+    -- the range, where nothing but its log can have a job
+    abbrev bare : RangeState → RangeState
+    bare r = record r { metadata = record r.metadata { job = jobs.Idle }; load = record r.load { phase = phases.Confirmed }; rows = record r.rows { job = jobs.Idle }; control = None }
+
     at_idle : (r : RangeState) → r.metadata.job ≡ jobs.Idle → r.load.phase ≡ phases.Confirmed → Follows generation range w i m l r → IsServing generation range w i m l r → r.stage ≡ stages.Serving →
-        GoesQuietly generation range w i m l d (give_up_all d (record r { metadata = record r.metadata { job = jobs.Idle }; load = record r.load { phase = phases.Confirmed } }))
+        GoesQuietly generation range w i m l d (give_up_all d (bare r))
     at_idle r idle phase f b stage =
         record {
           goes = record {
@@ -77,7 +81,7 @@ module _ (generation : ℕ → ℕ) (range : ℕ) (w : StreamSystem) (i : ℕ) w
               metadata = λ k le. by.metadata k (omega (arith, le));
               log = λ k le. unused_on d (suc d.count) went.0.purpose l.sent by.log (inl refl) k (omega (arith, le));
             };
-            then = record { range_is = f.range_is; under = f.under; stage = subst (λ z. StageIs generation range w i m k after z) (sym stage) serving };
+            then = record { range_is = f.range_is; under = f.under; calm = (refl, refl); stage = subst (λ z. StageIs generation range w i m k after z) (sym stage) serving };
             asked = asked_of_both generation range w i both m k apart (option_to_list o.packet ++ read_again d now)
                 (asked_both generation range w i (log_of range) k.stand more (option_to_list o.packet) (read_again d now)
                 (asked_if generation range w i (log_of range) k.stand more o.packet went.0.asked) (read_again_plain (log_of range) k.stand more d now));
@@ -87,7 +91,7 @@ module _ (generation : ℕ → ℕ) (range : ℕ) (w : StreamSystem) (i : ℕ) w
         }
       where
         now : RangeState
-        now = record r { metadata = record r.metadata { job = jobs.Idle }; load = record r.load { phase = phases.Confirmed } }
+        now = bare r
 
         fresh : purpose_of l.sent (request d) ≡ None
         fresh = by.log d.count (omega arith)
@@ -99,7 +103,7 @@ module _ (generation : ℕ → ℕ) (range : ℕ) (w : StreamSystem) (i : ℕ) w
         o = give_up_job c (request d) r.log.job
 
         picked : ServingIs generation (log_of range) w i l.stand l.sent c
-        picked = picked_serving generation range w i both.log d l.sent (by.log d.count (omega arith)) l.stand r.log d.pick b.log
+        picked = picked_serving generation (log_of range) w i l.stand l.sent r.log d.pick b.log
 
         went : GoesBy generation (log_of range) w i l.stand l.sent (request d) (λ y more. ServingIs generation (log_of range) w i y more o.after) o.packet Quietly
         went = give_up_goes generation (log_of range) w i both.log l.sent (request d) fresh l.stand c picked.told r.log.job refl picked.job
@@ -117,6 +121,7 @@ module _ (generation : ℕ → ℕ) (range : ℕ) (w : StreamSystem) (i : ℕ) w
         after = record now {
           metadata = record r.metadata { job = jobs.Idle; pick = d.pick };
           log = o.after;
+          rows = record r.rows { job = jobs.Idle; pick = d.pick };
           reading = option_map moved_on r.reading;
           gets = map (λ g. (gives_up_get d now g).0) r.gets;
         }
@@ -137,12 +142,14 @@ module _ (generation : ℕ → ℕ) (range : ℕ) (w : StreamSystem) (i : ℕ) w
     pub give_up_quietly : (r : RangeState) → Follows generation range w i m l r → r.stage ≡ stages.Serving → GoesQuietly generation range w i m l d (give_up_all d r)
     give_up_quietly r f stage =
         let b : IsServing generation range w i m l r = subst (λ z. StageIs generation range w i m l r z) stage f.stage in
-        subst (λ z. GoesQuietly generation range w i m l d (give_up_all d z)) (whole r b.metadata_idle b.phase) (at_idle r b.metadata_idle b.phase f b stage)
+        subst (λ z. GoesQuietly generation range w i m l d (give_up_all d z)) (whole r b.metadata_idle b.phase f.calm) (at_idle r b.metadata_idle b.phase f b stage)
       where
-        whole : (r : RangeState) → r.metadata.job ≡ jobs.Idle → r.load.phase ≡ phases.Confirmed → record r { metadata = record r.metadata { job = jobs.Idle }; load = record r.load { phase = phases.Confirmed } } ≡ r
-        whole r idle phase =
-            ap (λ j. record r { metadata = record r.metadata { job = j }; load = record r.load { phase = phases.Confirmed } }) (sym idle)
-            ∙ ap (λ p. record r { load = record r.load { phase = p } }) (sym phase)
+        whole : (r : RangeState) → r.metadata.job ≡ jobs.Idle → r.load.phase ≡ phases.Confirmed → HasNoCheckpoint r → bare r ≡ r
+        whole r idle phase calm =
+            ap (λ j. record r { metadata = record r.metadata { job = j }; load = record r.load { phase = phases.Confirmed }; rows = record r.rows { job = jobs.Idle }; control = None }) (sym idle)
+            ∙ ap (λ p. record r { load = record r.load { phase = p }; rows = record r.rows { job = jobs.Idle }; control = None }) (sym phase)
+            ∙ ap (λ j. record r { rows = record r.rows { job = j }; control = None }) (sym calm.0)
+            ∙ ap (λ c. record r { control = c }) (sym calm.1)
 
     pub give_up_both : (r : RangeState) → Follows generation range w i m l r → r.stage ≡ stages.Serving → RuleGoes generation range w i m l d (give_up_all d r)
     give_up_both r f stage = (give_up_quietly r f stage).goes

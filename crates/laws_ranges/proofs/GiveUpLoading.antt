@@ -1,5 +1,5 @@
 -- What a range that is not served yet does when it is told to give up, as both streams see it.
-use Rattle.std.proofs.Common.{◌≡◌, ℕ, suc, List, [], ◌++◌, map, Option, Some, None, option_map, option_to_list, refl, sym, ap, ◌∙◌, subst, inl, arith}
+use Rattle.std.proofs.Common.{◌≡◌, ℕ, suc, List, [], ◌++◌, map, flat_map, Option, Some, None, option_map, option_to_list, refl, sym, ap, ◌∙◌, subst, inl, arith}
 use Rattle.wire.specs.declared.actor.ReqNo.{ReqNo}
 use Rattle.wire.specs.declared.body.Body.{Body}
 use Rattle.wire.specs.declared.body.Body.TheVariants as bodies
@@ -19,9 +19,11 @@ use Rattle.model_partition.specs.declared.stage.Stage.TheVariants as stages
 use Rattle.model_partition.specs.Range.{RangeState, RangeOutcome, request, used}
 use Rattle.model_partition.specs.PlaceReads.{moved_on}
 use Rattle.model_partition.specs.Getting.{gives_up_get}
-use Rattle.model_partition.specs.Answering.{give_up_all}
+use Rattle.model_partition.specs.Answering.{gives_up_reading, give_up_all}
+use Rattle.model_partition.specs.CheckpointStates.{CheckpointState}
+use Rattle.model_partition.specs.Checkpoints.{trim_again}
 use Rattle.laws_stream_machine.specs.Refinement.{Sent, purpose_of, Opens, Confirms, IsAsked}
-use Rattle.laws_ranges.specs.Serves.{Stand, Side, after_turns, sent_with, metadata_of, log_of, Goes, Apart, AreUnused, LoadingIs, UnreadIs, OpeningIs, ConfirmingIs, IsOpening, LoadsMetadata, LoadsLog, LoadsIndexes, IsConfirming, StageIs, Follows, BothListed, IsSentBy, IsKnown, AskedOfBoth, RuleGoes}
+use Rattle.laws_ranges.specs.Serves.{HasNoCheckpoint, Stand, Side, after_turns, sent_with, metadata_of, log_of, Goes, Apart, AreUnused, LoadingIs, UnreadIs, OpeningIs, ConfirmingIs, IsOpening, LoadsMetadata, LoadsLog, LoadsIndexes, IsConfirming, StageIs, Follows, BothListed, IsSentBy, IsKnown, AskedOfBoth, RuleGoes}
 use Rattle.laws_ranges.proofs.MachineSteps.{purposes_on}
 use Rattle.laws_ranges.proofs.AppendJob.{rests}
 use Rattle.laws_ranges.proofs.LogRules.{asked_if}
@@ -36,13 +38,13 @@ module _ (generation : ℕ → ℕ) (range : ℕ) (w : StreamSystem) (i : ℕ) (
   -- ---- steps of both clients, with a number for each
 
   abbrev gave_up : Outcome → Outcome → RangeState
-  gave_up a b = record r { metadata = a.after; log = b.after; reading = option_map moved_on r.reading; gets = map (λ g. (gives_up_get d r g).0) r.gets }
+  gave_up a b = record r { metadata = a.after; log = b.after; rows = record r.rows { pick = d.pick }; reading = option_map moved_on r.reading; gets = map (λ g. (gives_up_get d r g).0) r.gets }
 
   abbrev gave : Outcome → Outcome → Option Packet → RangeOutcome
   gave a b first =
       record {
         after = Some (gave_up a b);
-        count = (used (used d)).count;
+        count = (used (used (used d))).count;
         packets = option_to_list first ++ (option_to_list b.packet ++ (option_to_list a.packet ++ read_again generation range w i d r));
         notes = [];
       }
@@ -86,7 +88,7 @@ module _ (generation : ℕ → ℕ) (range : ℕ) (w : StreamSystem) (i : ℕ) (
           log_adds = record { number = d.count; from = omega arith; purpose = two.purpose; is = refl };
           sent_by = record {
             apart = apart;
-            metadata = unused_on (used d) (suc (suc d.count)) one.purpose m.sent (λ j le. by.metadata j (omega (arith, le))) (inl refl);
+            metadata = λ j le. unused_on (used d) (suc (suc d.count)) one.purpose m.sent (λ u low. by.metadata u (omega (arith, low))) (inl refl) j (omega (arith, le));
             log = λ j le. unused j (omega (arith, le));
           };
           then = follows;
@@ -106,15 +108,35 @@ module _ (generation : ℕ → ℕ) (range : ℕ) (w : StreamSystem) (i : ℕ) (
   abbrev log_gives : Job → Outcome
   log_gives j = give_up_job (record r.log { pick = d.pick }) (request d) j
 
+  abbrev rows_gives : Job → Outcome
+  rows_gives g = give_up_job (record r.rows { pick = d.pick }) (request (used (used d))) g
+
+  -- row data's client and the Trim among them
+  abbrev gave_all : Outcome → Outcome → Outcome → Option CheckpointState → Option Packet → RangeOutcome
+  gave_all a b z control first =
+      record {
+        after = Some (record (gave_up a b) { rows = z.after });
+        count = (used (used (used d))).count;
+        packets = option_to_list first
+            ++ (option_to_list b.packet
+            ++ (option_to_list a.packet
+            ++ (option_to_list z.packet ++ (gives_up_reading d r r.reading ++ (trim_again d r control ++ flat_map (λ g. (gives_up_get d r g).1) r.gets)))));
+        notes = [];
+      }
+
   -- where the range stands
-  abbrev GivesUp : Job → Job → LoadPhase → Type 0
-  GivesUp j k p = RuleGoes generation range w i m l d (gave (metadata_gives j) (log_gives k) (again r.load p))
+  abbrev GivesUp : Job → Job → LoadPhase → Job → Option CheckpointState → Type 0
+  GivesUp j k p g control = RuleGoes generation range w i m l d (gave_all (metadata_gives j) (log_gives k) (rows_gives g) control (again r.load p))
 
-  gives_up : (j k : Job) (p : LoadPhase) → r.metadata.job ≡ j → r.log.job ≡ k → r.load.phase ≡ p → GivesUp j k p → RuleGoes generation range w i m l d (give_up_all d r)
-  gives_up j k p ej ek ep rule =
-      subst (λ z. GivesUp z r.log.job r.load.phase) (sym ej) (subst (λ z. GivesUp j z r.load.phase) (sym ek) (subst (λ z. GivesUp j k z) (sym ep) rule))
+  module _ (range_is : r.load.range ≡ range) (under : r.load.generation ≡ generation i) (calm : HasNoCheckpoint r) where
+    gives_up : (j k : Job) (p : LoadPhase) → r.metadata.job ≡ j → r.log.job ≡ k → r.load.phase ≡ p → RuleGoes generation range w i m l d (gave (metadata_gives j) (log_gives k) (again r.load p)) →
+        RuleGoes generation range w i m l d (give_up_all d r)
+    gives_up j k p ej ek ep rule =
+        subst (λ z. GivesUp z r.log.job r.load.phase r.rows.job r.control) (sym ej)
+        (subst (λ z. GivesUp j z r.load.phase r.rows.job r.control) (sym ek)
+        (subst (λ z. GivesUp j k z r.rows.job r.control) (sym ep)
+        (subst (λ z. GivesUp j k p z r.control) (sym calm.0) (subst (λ z. GivesUp j k p jobs.Idle z) (sym calm.1) rule))))
 
-  module _ (range_is : r.load.range ≡ range) (under : r.load.generation ≡ generation i) where
     abbrev AskedTwice : Side → Side → Body → Type 0
     AskedTwice n k body = IsAsked generation (metadata_of range) w n.stand.state n.sent body × IsAsked generation (log_of range) w k.stand.state k.sent body × IsKnown generation range w i n.sent k.sent body
 
@@ -132,6 +154,7 @@ module _ (generation : ℕ → ℕ) (range : ℕ) (w : StreamSystem) (i : ℕ) (
         (record {
           range_is = range_is;
           under = under;
+          calm = calm;
           stage = subst (λ s. StageIs generation range w i n k (gave_up a z) s) (sym stage)
               (record { q = b.q; phase = b.phase; metadata = one.then; log = two.then; metadata_idle = b.metadata_idle; log_idle = b.log_idle });
         })
@@ -173,6 +196,7 @@ module _ (generation : ℕ → ℕ) (range : ℕ) (w : StreamSystem) (i : ℕ) (
         (record {
           range_is = range_is;
           under = under;
+          calm = calm;
           stage = subst (λ s. StageIs generation range w i n k (gave_up a z) s) (sym stage) (record { q = b.q; phase = b.phase; metadata = one.then; log = two.then });
         }) (
           of_load n k (λ g h. bodies.Stream (streams.Confirm g h b.q))
@@ -217,6 +241,7 @@ module _ (generation : ℕ → ℕ) (range : ℕ) (w : StreamSystem) (i : ℕ) (
         (record {
           range_is = range_is;
           under = under;
+          calm = calm;
           stage = keeps n k (gave_up a z) refl (record { phase = b.phase; metadata = one.then; log = two.then });
         })
         tt)
@@ -258,6 +283,7 @@ module _ (generation : ℕ → ℕ) (range : ℕ) (w : StreamSystem) (i : ℕ) (
         (record {
           range_is = range_is;
           under = under;
+          calm = calm;
           stage = keeps n k (gave_up a z) refl (record { phase = b.phase; metadata = one.then; metadata_idle = b.metadata_idle; log = two.then });
         })
         tt)
@@ -298,6 +324,7 @@ module _ (generation : ℕ → ℕ) (range : ℕ) (w : StreamSystem) (i : ℕ) (
         (record {
           range_is = range_is;
           under = under;
+          calm = calm;
           stage = subst (λ s. StageIs generation range w i n k (gave_up a z) s) (sym stage)
               (record { phase = b.phase; metadata = one.then; metadata_idle = b.metadata_idle; log = two.then; log_idle = b.log_idle });
         })
@@ -343,21 +370,21 @@ module _ (generation : ℕ → ℕ) (range : ℕ) (w : StreamSystem) (i : ℕ) (
   log_stays e stage is n k s same b = subst (λ g. StageIs generation range w i n k s g) (sym (same ∙ stage)) (is n k s b)
 
   gave_up_at : (s : Stage) → r.stage ≡ s → StageIs generation range w i m l r s → GaveUp
-  gave_up_at stages.Opening e b = opening_gives generation range w i both m l d by r f.range_is f.under b e
+  gave_up_at stages.Opening e b = opening_gives generation range w i both m l d by r f.range_is f.under f.calm b e
   gave_up_at (stages.Checking kinds.Metadata) e b =
-      metadata_gives_up generation range w i both m l d by r f.range_is f.under b (metadata_stays (stages.Checking kinds.Metadata) e (λ n k s z. z))
+      metadata_gives_up generation range w i both m l d by r f.range_is f.under f.calm b (metadata_stays (stages.Checking kinds.Metadata) e (λ n k s z. z))
   gave_up_at (stages.Checking kinds.Log) e b =
-      log_gives_up generation range w i both m l d by r f.range_is f.under b (log_stays (stages.Checking kinds.Log) e (λ n k s z. z))
+      log_gives_up generation range w i both m l d by r f.range_is f.under f.calm b (log_stays (stages.Checking kinds.Log) e (λ n k s z. z))
   gave_up_at (stages.Checking kinds.RowData) e b = absurd b
   gave_up_at (stages.Checking kinds.BlobData) e b = absurd b
   gave_up_at (stages.Reading kinds.Metadata position) e b =
-      metadata_gives_up generation range w i both m l d by r f.range_is f.under b (metadata_stays (stages.Reading kinds.Metadata position) e (λ n k s z. z))
+      metadata_gives_up generation range w i both m l d by r f.range_is f.under f.calm b (metadata_stays (stages.Reading kinds.Metadata position) e (λ n k s z. z))
   gave_up_at (stages.Reading kinds.Log position) e b =
-      log_gives_up generation range w i both m l d by r f.range_is f.under b (log_stays (stages.Reading kinds.Log position) e (λ n k s z. z))
+      log_gives_up generation range w i both m l d by r f.range_is f.under f.calm b (log_stays (stages.Reading kinds.Log position) e (λ n k s z. z))
   gave_up_at (stages.Reading kinds.RowData position) e b = absurd b
   gave_up_at (stages.Reading kinds.BlobData position) e b = absurd b
-  gave_up_at (stages.Indexing position) e b = indexes_give_up generation range w i both m l d by r f.range_is f.under position b e
-  gave_up_at stages.Confirming e b = confirming_gives generation range w i both m l d by r f.range_is f.under b e
+  gave_up_at (stages.Indexing position) e b = indexes_give_up generation range w i both m l d by r f.range_is f.under f.calm position b e
+  gave_up_at stages.Confirming e b = confirming_gives generation range w i both m l d by r f.range_is f.under f.calm b e
   gave_up_at stages.Serving e b = give_up_both generation range w i both m l d by r f e
 
   pub give_up_all_both : RuleGoes generation range w i m l d (give_up_all d r)

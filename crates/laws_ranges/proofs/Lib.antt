@@ -9,8 +9,11 @@ pub mod ClientReplies
 pub mod AppendReplies
 pub mod OutGroup
 pub mod QuietTurns
+pub mod OneStory
 pub mod SeenTurns
 pub mod LogRules
+pub mod RecordRules
+pub mod TrimmedLog
 pub mod LoadTurns
 pub mod OpenAndConfirm
 pub mod LoadReply
@@ -24,10 +27,14 @@ pub mod ReadIndexes
 pub mod ReadLog
 pub mod ServerPick
 pub mod BothStreams
+pub mod BothServed
+pub mod GiveUpServed
 pub mod LoadBegins
 pub mod LoadNews
 pub mod OpenedOrConfirmed
 pub mod Gets
+pub mod TrimAnswers
+pub mod AnswersServed
 pub mod GiveUpLoading
 pub mod AnswerRules
 pub mod UnservedRules

@@ -18,7 +18,7 @@ use Rattle.model_partition.specs.Range.{RangeState, dropped, given, picking, req
 use Rattle.model_partition.specs.Loading.{read_of, metadata_goes, log_goes, reads_log_from, checks_log, begins_log, reads_metadata, begins_metadata, opens, first_position, open_region}
 use Rattle.laws_stream_machine.specs.Refinement.{Opens, purpose_of, Means, StreamMeans}
 use Rattle.laws_stream_machine.proofs.ServerRequests.{same_request}
-use Rattle.laws_ranges.specs.Serves.{Side, is_live, metadata_of, log_of, LoadingIs, UnreadIs, IsOpening, Goes, BothListed, IsSentBy, RuleGoes}
+use Rattle.laws_ranges.specs.Serves.{HasNoCheckpoint, Side, is_live, metadata_of, log_of, LoadingIs, UnreadIs, IsOpening, Goes, BothListed, IsSentBy, RuleGoes}
 use Rattle.laws_ranges.proofs.OpenAndConfirm.{readable_goes}
 use Rattle.laws_ranges.proofs.Confirmed.{dropped_both}
 use Rattle.laws_ranges.proofs.BothStreamsAtOnce.{AllRead}
@@ -35,6 +35,7 @@ module _ (generation : ℕ → ℕ) (range : ℕ) (w : StreamSystem) (i : ℕ) (
   pub record ReadsMetadata (r : RangeState) : Type 0 where
     pub range_is : r.load.range ≡ range
     pub under : r.load.generation ≡ generation i
+    pub calm : HasNoCheckpoint r
     pub phase : r.load.phase ≡ phases.Opened
     pub metadata : LoadingIs generation (metadata_of range) w i m.stand m.sent r.metadata
     pub metadata_idle : r.metadata.job ≡ jobs.Idle
@@ -44,6 +45,7 @@ module _ (generation : ℕ → ℕ) (range : ℕ) (w : StreamSystem) (i : ℕ) (
   pub record BothUnread (r : RangeState) : Type 0 where
     pub range_is : r.load.range ≡ range
     pub under : r.load.generation ≡ generation i
+    pub calm : HasNoCheckpoint r
     pub phase : r.load.phase ≡ phases.Opened
     pub metadata : UnreadIs generation (metadata_of range) w i m.stand m.sent r.metadata
     pub log : UnreadIs generation (log_of range) w i l.stand l.sent r.log
@@ -55,6 +57,7 @@ module _ (generation : ℕ → ℕ) (range : ℕ) (w : StreamSystem) (i : ℕ) (
       record {
         range_is = b.range_is;
         under = b.under;
+        calm = b.calm;
         metadata = b.metadata;
         metadata_idle = b.metadata_idle;
         log = readable_goes generation (log_of range) w i l.sent (request d) (by.log d.count (omega arith)) l.stand r.log b.log live;
@@ -72,7 +75,7 @@ module _ (generation : ℕ → ℕ) (range : ℕ) (w : StreamSystem) (i : ℕ) (
       let went : Goes generation (log_of range) w i l.stand l.sent (request d) (λ y more. LoadingIs generation (log_of range) w i y more o.after) o.packet =
       check_goes generation (log_of range) w i both.log l.sent d (by.log d.count (omega arith)) l.stand r.log b.log z e none in
       log_step generation range w i both m l d by (record r { stage = stages.Checking kinds.Log; log = o.after }) o.packet _ went
-      (record { range_is = b.range_is; under = b.under; stage = record { phase = b.phase; metadata = b.metadata; metadata_idle = b.metadata_idle; log = went.then } })
+      (record { range_is = b.range_is; under = b.under; calm = b.calm; stage = record { phase = b.phase; metadata = b.metadata; metadata_idle = b.metadata_idle; log = went.then } })
 
   checks_log_both : (r : RangeState) → ReadsMetadata r → (o : Option StreamExtent) → last_extent r.log.extents ≡ o → RuleGoes generation range w i m l d (checks_log d r o)
   checks_log_both r b None e = log_read_from r b (ap is_live e)
@@ -94,7 +97,7 @@ module _ (generation : ℕ → ℕ) (range : ℕ) (w : StreamSystem) (i : ℕ) (
       go : (t : Bool) → RuleGoes generation range w i m l d (if t then checks_log d (record r { regions = r.said.regions }) (last_extent r.log.extents) else dropped d r)
       go true =
           checks_log_both now
-          (record { range_is = b.range_is; under = b.under; phase = b.phase; metadata = b.metadata; metadata_idle = b.metadata_idle; log = b.log })
+          (record { range_is = b.range_is; under = b.under; calm = b.calm; phase = b.phase; metadata = b.metadata; metadata_idle = b.metadata_idle; log = b.log })
           (last_extent r.log.extents) refl
       go false = dropped_both generation range w i both m l d by r
 
@@ -114,7 +117,7 @@ module _ (generation : ℕ → ℕ) (range : ℕ) (w : StreamSystem) (i : ℕ) (
           (if t then metadata_goes d r (stages.Reading kinds.Metadata position) (read_of d (picking d r.metadata) position) else begins_log d r)
       go true =
           metadata_step generation range w i both m l d by (record r { stage = stages.Reading kinds.Metadata position; metadata = o.after }) o.packet _ went
-          (record { range_is = b.range_is; under = b.under; stage = record { phase = b.phase; metadata = went.then; log = b.log } })
+          (record { range_is = b.range_is; under = b.under; calm = b.calm; stage = record { phase = b.phase; metadata = went.then; log = b.log } })
       go false = begins_log_both r b
 
   metadata_checked : (r : RangeState) → BothUnread r → (z : StreamExtent) → last_extent r.metadata.extents ≡ Some z → z.length ≡ None →
@@ -124,7 +127,7 @@ module _ (generation : ℕ → ℕ) (range : ℕ) (w : StreamSystem) (i : ℕ) (
       let went : Goes generation (metadata_of range) w i m.stand m.sent (request d) (λ y more. LoadingIs generation (metadata_of range) w i y more o.after) o.packet =
       check_goes generation (metadata_of range) w i both.metadata m.sent d (by.metadata d.count (omega arith)) m.stand r.metadata b.metadata z e none in
       metadata_step generation range w i both m l d by (record r { stage = stages.Checking kinds.Metadata; metadata = o.after }) o.packet _ went
-      (record { range_is = b.range_is; under = b.under; stage = record { phase = b.phase; metadata = went.then; log = b.log } })
+      (record { range_is = b.range_is; under = b.under; calm = b.calm; stage = record { phase = b.phase; metadata = went.then; log = b.log } })
 
   -- where its last extent is not open it can be read at once
   reads_at_once : (r : RangeState) → BothUnread r → is_live (last_extent r.metadata.extents) ≡ false → ReadsMetadata r
@@ -132,6 +135,7 @@ module _ (generation : ℕ → ℕ) (range : ℕ) (w : StreamSystem) (i : ℕ) (
       record {
         range_is = b.range_is;
         under = b.under;
+        calm = b.calm;
         phase = b.phase;
         metadata = readable_goes generation (metadata_of range) w i m.sent (request d) (by.metadata d.count (omega arith)) m.stand r.metadata b.metadata live;
         metadata_idle = b.metadata.idle;
@@ -152,10 +156,10 @@ module _ (generation : ℕ → ℕ) (range : ℕ) (w : StreamSystem) (i : ℕ) (
   -- ---- both are opened
 
   -- the answer to the opening, as both streams mean it
-  pub opens_both : (r : RangeState) → r.load.range ≡ range → r.load.generation ≡ generation i → (b : IsOpening generation range w i m l r) (v : ReqNo) (lists : StreamLists) → is_same b.q v ≡ true →
+  pub opens_both : (r : RangeState) → r.load.range ≡ range → r.load.generation ≡ generation i → HasNoCheckpoint r → (b : IsOpening generation range w i m l r) (v : ReqNo) (lists : StreamLists) → is_same b.q v ≡ true →
       Means generation (metadata_of range) w m.stand.state m.sent (bodies.Stream (streams.Opened v lists)) →
       Means generation (log_of range) w l.stand.state l.sent (bodies.Stream (streams.Opened v lists)) → RuleGoes generation range w i m l d (opens d r lists)
-  opens_both r range_is under b v lists same one two =
+  opens_both r range_is under calm b v lists same one two =
       let e : b.q ≡ v = same_request b.q v same in
       let metadata_means : StreamMeans generation (metadata_of range) w m.stand.state m.sent (Some (Opens i)) (streams.Opened v lists) =
       subst (λ z. StreamMeans generation (metadata_of range) w m.stand.state m.sent z (streams.Opened v lists)) (ap (λ k. purpose_of m.sent k) (sym e) ∙ b.metadata.for) one in
@@ -166,13 +170,14 @@ module _ (generation : ℕ → ℕ) (range : ℕ) (w : StreamSystem) (i : ℕ) (
         load = record r.load { phase = phases.Opened };
         metadata = new_client d.server (record { range = r.load.range; kind = kinds.Metadata }) r.load.generation lists.metadata d.pick;
         log = new_client d.server (record { range = r.load.range; kind = kinds.Log }) r.load.generation lists.log d.pick;
-        row_data = lists.row_data;
+        rows = new_client d.server (record { range = r.load.range; kind = kinds.RowData }) r.load.generation lists.row_data d.pick;
         blob_data = lists.blob_data;
         said = first_metadata;
       })
       (record {
         range_is = range_is;
         under = under;
+        calm = (refl, calm.1);
         phase = refl;
         metadata = record {
           told = record {

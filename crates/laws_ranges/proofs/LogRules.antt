@@ -33,17 +33,17 @@ use Rattle.model_partition.specs.ServerTurns as turns
 use Rattle.model_partition.specs.StreamActions as actions
 use Rattle.model_partition.specs.StreamActions.{StreamAction}
 use Rattle.laws_stream_machine.specs.Refinement.{Sent, purpose_of, Means}
-use Rattle.laws_ranges.specs.Serves.{Stand, after_turns, AreTurns, group_in, known, is_live, IsTold, ServesBy, ServingIs, Listed, sent_with, IsAskedIf, Goes, ServesAfter, IsCounted, OutIs, log_of, AreAsked, ServesLog, ServesLogIf}
-use Rattle.laws_ranges.specs.Seen.{AreSeen, LogRule}
+use Rattle.laws_ranges.specs.Serves.{Stand, after_turns, AreTurns, group_in, known, is_live, IsTold, ServesBy, ServingIs, Listed, sent_with, IsAskedIf, Goes, ServesAfter, IsCounted, GroupIs, OutIs, log_of, AreAsked, ServesLog, ServesLogIf}
+use Rattle.laws_ranges.specs.Seen.{AreOf, AreSeenOf, LogRule}
 use Rattle.laws_loads.specs.RangeView.{RangeView, view_after_all}
 use Rattle.laws_ranges.specs.Quiet.{AreQuiet, AreReads, IsSent, AppendsOnly, FormsOnly, MadeBy, OutStands}
 use Rattle.laws_ranges.proofs.QuietTurns.{turns_after, turns_allowed}
-use Rattle.laws_ranges.proofs.SeenTurns.{quiet_seen, joined_seen, forms_seen, stands_seen}
+use Rattle.laws_ranges.proofs.OneStory.{reads_of, joined_of, quiet_seen_of, joined_seen_of, forms_seen_of, stands_seen_of}
 use Rattle.std.proofs.lemmas.Bool.{and_parts}
 use Rattle.laws_loads.proofs.WaitingIsSound.{none_there}
-use Rattle.laws_ranges.proofs.AppendJob.{GoesBy, append_goes}
+use Rattle.laws_ranges.proofs.AppendJob.{GoesBy, picked_serving, append_goes}
 use Rattle.laws_ranges.proofs.AppendReplies.{reply_goes}
-use Rattle.laws_ranges.proofs.OutGroup.{reply_out, append_out, none_idle, OutAfter}
+use Rattle.laws_ranges.proofs.OutGroup.{sent_holds, reply_out, append_out, none_idle, OutAfter}
 
 -- where none is formed
 pub none_formed : (o : Option OutGroup) → AreReads (if is_some o then [] else map (λ out. actions.Forms kinds.Log (actions.group_of out)) (if_there o))
@@ -80,15 +80,11 @@ actions_at d r body stage =
     else []
 
 -- an append job that has sent its group is of the transactions that are out
-module _ (generation : ℕ → ℕ) (name : StreamName) (w : StreamSystem) (i : ℕ) (x : Stand) (sent : List Sent) (c : ClientState) where
-  out_stands : (j : Job) (out : Option OutGroup) → ServesBy generation name w i x sent c j → OutIs j c.group out → IsSent x.phase → OutStands x out
-  out_stands jobs.Idle out b o s = absurd (let z : turns.Serving (known c) (is_live (last_extent c.extents)) ≡ turns.Sent s.n s.append s.group = sym b ∙ s.is in cc)
-  out_stands (jobs.Sent e q) out b o s = record { group = o.0; is = o.1; spelled = ap group_in b.stands ∙ o.2 }
-  out_stands (jobs.Closing e q) out b o s = absurd (let z : turns.Closing (suc b.index) b.append c.group ≡ turns.Sent s.n s.append s.group = sym b.stands ∙ s.is in cc)
-  out_stands (jobs.Growing last q) out b o s = absurd (let z : turns.Growing (known c) b.append c.group ≡ turns.Sent s.n s.append s.group = sym b.stands ∙ s.is in cc)
-  out_stands (jobs.Checking e q) out b o s = absurd b
-  out_stands (jobs.Shutting e q) out b o s = absurd b
-  out_stands (jobs.Reading e places upto sealed place q) out b o s = absurd b
+out_stands : (generation : ℕ → ℕ) (name : StreamName) (w : StreamSystem) (i : ℕ) (x : Stand) (sent : List Sent) (c : ClientState) (j : Job) (out : Option OutGroup) → ServesBy generation name w i x sent c j →
+    OutIs j c.group out → IsSent x.phase → OutStands x out
+out_stands generation name w i x sent c j out b o s =
+    let g : GroupIs s.group out = sent_holds generation name w i x sent c (λ group. GroupIs group out) (out ≡ None) j b o s in
+    record { group = g.0; is = g.1; spelled = ap group_in s.is ∙ g.2 }
 
 module _ (generation : ℕ → ℕ) (range : ℕ) (w : StreamSystem) (i : ℕ) where
   pub asked_both : (name : StreamName) (x : Stand) (sent : List Sent) (ps qs : List Packet) → AreAsked generation range w i name x sent ps → AreAsked generation range w i name x sent qs →
@@ -119,7 +115,8 @@ module _ (generation : ℕ → ℕ) (range : ℕ) (w : StreamSystem) (i : ℕ) w
         record {
           list = [];
           allowed = tt;
-          seen = λ v m. quiet_seen generation i v m x [] [] done tt tt quiet;
+          here = reads_of kinds.Log done quiet;
+          seen = λ v. quiet_seen_of generation i kinds.Log v x [] done tt quiet;
           purpose = None;
           counts = ⊎_elim {C = (o.count ≡ suc d.count) ⊎ ((o.count ≡ d.count) × (None ≡ None))} (λ e. inl e) (λ e. inr (e, refl)) counts;
           none = λ z. refl;
@@ -160,8 +157,9 @@ module _ (generation : ℕ → ℕ) (range : ℕ) (w : StreamSystem) (i : ℕ) w
           at_idle = record {
             list = went.0.list;
             allowed = went.0.allowed;
-            seen = λ v m. subst (λ ts. AreSeen generation i v m x [] ts (actions.Forms kinds.Log group ∷ [])) (sym went.1)
-                (forms_seen generation i v m x (known r.log) (is_live (last_extent r.log.extents)) group stands);
+            here = (refl, tt);
+            seen = λ v. subst (λ ts. AreSeenOf generation i kinds.Log v x ts (actions.Forms kinds.Log group ∷ [])) (sym went.1)
+                (forms_seen_of generation i kinds.Log v x (known r.log) (is_live (last_extent r.log.extents)) group stands);
             purpose = went.0.purpose;
             counts = inl refl;
             none = λ e. absurd cc;
@@ -204,15 +202,16 @@ module _ (generation : ℕ → ℕ) (range : ℕ) (w : StreamSystem) (i : ℕ) w
   -- a rule after turns that have done this
   join : (x : Stand) (sent : List Sent) (d : ServerContext) (o : RangeOutcome) (before : List (turns.Turn Group)) (packets : List Packet) (shown : List TableNote) → (o.after ≡ None → ⊥) → AreTurns generation i x before →
       ((y : Stand) (more : List Sent) → AreAsked generation range w i (log_of range) y more packets) →
-      (first later : List StreamAction) → ((v : RangeView) (m : Stand) → AreSeen generation i v m x [] before first) →
+      (first later : List StreamAction) → AreOf kinds.Log first → ((v : RangeView) → AreSeenOf generation i kinds.Log v x before first) →
       LogRule generation range w i (after_turns generation i x before) sent d o later → LogRule generation range w i x sent d (after_these packets shown o) (later ++ first)
-  join x sent d o before packets shown there allowed plain first later seen rule =
+  join x sent d o before packets shown there allowed plain first later here seen rule =
       let same : after_turns generation i (after_turns generation i x before) rule.list ≡ after_turns generation i x (rule.list ++ before) = turns_after generation i x before rule.list in
       let more : List Sent = sent_with (request d) rule.purpose sent in
       record {
         list = rule.list ++ before;
         allowed = turns_allowed generation i x before rule.list allowed rule.allowed;
-        seen = λ v m. joined_seen generation i v m x before rule.list first later (seen v m) (rule.seen (view_after_all (generation i) v first) m);
+        here = joined_of kinds.Log later first rule.here here;
+        seen = λ v. joined_seen_of generation i kinds.Log v x before rule.list first later (seen v) (rule.seen (view_after_all (generation i) v first));
         purpose = rule.purpose;
         counts = rule.counts;
         none = λ e. absurd (there e);
@@ -246,7 +245,7 @@ module _ (generation : ℕ → ℕ) (range : ℕ) (w : StreamSystem) (i : ℕ) w
     applies_rule x r c out e offset p b group g only idle =
         subst (λ done. LogRule generation range w i x sent d (applies d (record r { log = c }) out e offset) done) (sym (actions_there (forms d after).after (forms_stays after) (actions.transact_actions after (forms d after) ++ stands_here)))
         (join x sent d (forms d after) g.list (committed d out.first out.transactions) (dones r.load.range r.load.generation out.first out.transactions) (forms_stays after) g.allowed
-        (λ z more. committed_plain (log_of range) z more d out.first out.transactions) stands_here (actions.transact_actions after (forms d after)) seen
+        (λ z more. committed_plain (log_of range) z more d out.first out.transactions) stands_here (actions.transact_actions after (forms d after)) (refl, tt) seen
         (forms_rule listed d y sent fresh after stays))
       where
         stands_here : List StreamAction
@@ -255,10 +254,10 @@ module _ (generation : ℕ → ℕ) (range : ℕ) (w : StreamSystem) (i : ℕ) w
         same : only.sent.group ≡ actions.group_of out
         same = sym (ap group_in only.sent.is) ∙ group
 
-        seen : (v : RangeView) (m : Stand) → AreSeen generation i v m x [] g.list stands_here
-        seen v m =
-            subst (λ ts. AreSeen generation i v m x [] ts stands_here) (sym only.only)
-            (stands_seen generation i v m x only.sent.n only.sent.append only.from only.to (actions.group_of out) e (actions.last_position r.log offset)
+        seen : (v : RangeView) → AreSeenOf generation i kinds.Log v x g.list stands_here
+        seen v =
+            subst (λ ts. AreSeenOf generation i kinds.Log v x ts stands_here) (sym only.only)
+            (stands_seen_of generation i kinds.Log v x only.sent.n only.sent.append only.from only.to (actions.group_of out) e (actions.last_position r.log offset)
             (only.sent.is ∙ ap (λ z. turns.Sent only.sent.n only.sent.append z) same) only.begins (only.ends ∙ ap (λ z. only.from + group_size z) same))
 
         after : RangeState
@@ -283,7 +282,8 @@ module _ (generation : ℕ → ℕ) (range : ℕ) (w : StreamSystem) (i : ℕ) w
         record {
           list = g.list;
           allowed = g.allowed;
-          seen = λ v m. quiet_seen generation i v m x [] g.list [] tt quiet tt;
+          here = tt;
+          seen = λ v. quiet_seen_of generation i kinds.Log v x g.list [] quiet tt;
           purpose = g.purpose;
           counts = inl refl;
           none = λ e. absurd cc;
@@ -306,7 +306,8 @@ module _ (generation : ℕ → ℕ) (range : ℕ) (w : StreamSystem) (i : ℕ) w
         record {
           list = [];
           allowed = tt;
-          seen = λ v m s. s;
+          here = tt;
+          seen = λ v s. s;
           purpose = None;
           counts = inl refl;
           none = λ e. refl;
@@ -322,26 +323,12 @@ module _ (generation : ℕ → ℕ) (range : ℕ) (w : StreamSystem) (i : ℕ) w
     news_rule x r c (Some (news.Sealed e l)) p b stands g out = quiet_rule x r c p b g.0 g.1 out
     news_rule x r c (Some (news.Content e upto)) p b stands g out = quiet_rule x r c p b g.0 g.1 out
 
-    -- the client with the server's pick
-    picked : (x : Stand) (c : ClientState) (j : Job) (pick : _) → IsTold generation (log_of range) w i x sent c → ServesBy generation (log_of range) w i x sent c j →
-        ServesBy generation (log_of range) w i x sent (record c { pick = pick }) j
-    picked x c jobs.Idle pick told b = b
-    picked x c (jobs.Sent e v) pick told b = record { index = b.index; append = b.append; last = record { places = b.last.places; last = b.last.last; index_is = b.last.index_is }; stands = b.stands; for = b.for; fact = b.fact }
-    picked x c (jobs.Closing e v) pick told b = record { index = b.index; append = b.append; last = record { places = b.last.places; last = b.last.last; index_is = b.last.index_is }; stands = b.stands; for = b.for }
-    picked x c (jobs.Growing last v) pick told b = record { append = b.append; all_sealed = b.all_sealed; stands = b.stands; for = b.for; last_is = b.last_is; fact = b.fact }
-    picked x c (jobs.Checking e v) pick told b = absurd b
-    picked x c (jobs.Shutting e v) pick told b = absurd b
-    picked x c (jobs.Reading e places upto sealed place v) pick told b = absurd b
-
-    pub picked_serving : (x : Stand) (c : ClientState) (pick : _) → ServingIs generation (log_of range) w i x sent c → ServingIs generation (log_of range) w i x sent (record c { pick = pick })
-    picked_serving x c pick b = record { told = record { stream = b.told.stream; under = b.told.under; tells = b.told.tells }; job = picked x c c.job pick b.told b.job }
-
     taken_rule : (x : Stand) (r : RangeState) (counted : IsCounted i x) → ServesLog generation range w i x sent r → (body : Body) → Means generation (log_of range) w x.state sent body →
         LogRule generation range w i x sent d (log_taken d r body) (taken_actions d r body (log_taken d r body))
     taken_rule x r counted b body m =
         subst (λ z. LogRule generation range w i x sent d (taken_at d r body z) (actions_at d r body z)) (sym b.stage)
         (news_rule x r o.after o.news o.packet b (out_stands generation (log_of range) w i x sent r.log r.log.job r.out b.client.job b.out)
-        (reply_goes generation (log_of range) w i listed sent (request d) fresh x (picking d r.log) counted (picked_serving x r.log d.pick b.client) body m)
+        (reply_goes generation (log_of range) w i listed sent (request d) fresh x (picking d r.log) counted (picked_serving generation (log_of range) w i x sent r.log d.pick b.client) body m)
         (reply_out r.out (request d) (picking d r.log) b.out body))
       where
         o : Outcome

@@ -146,4 +146,4 @@ module _ (generation : ℕ → ℕ) (range : ℕ) (w v : StreamSystem) (i : ℕ)
 
   -- whatever others do, the range is where it was
   pub follows_on : (r : RangeState) → Follows generation range w i m l r → Follows generation range v i n k r
-  follows_on r b = record { range_is = b.range_is; under = b.under; stage = stage_on r r.stage b.stage }
+  follows_on r b = record { range_is = b.range_is; under = b.under; calm = b.calm; stage = stage_on r r.stage b.stage }

@@ -60,7 +60,7 @@ module _ (generation : ℕ → ℕ) (range : ℕ) (w : StreamSystem) (i : ℕ) (
       go : (body : StreamBody) → answered_number (bodies.Stream body) ≡ Some v → BothMean (bodies.Stream body) → RuleGoes generation range w i m l d (load_told d r (phases.Opening b.q) body)
       go (streams.Opened u lists) number means =
           let e : v ≡ u = cc in
-          opens_both generation range w i both m l d by r f.range_is f.under b u lists (subst (λ z. is_same b.q z ≡ true) e same) means.0 means.1
+          opens_both generation range w i both m l d by r f.range_is f.under f.calm b u lists (subst (λ z. is_same b.q z ≡ true) e same) means.0 means.1
       go body number means = rested
 
   confirming_told : IsConfirmed → IsConfirming generation range w i m l r → (v : ReqNo) → load_awaits r.load.phase v ≡ true → (body : StreamBody) → answered_number (bodies.Stream body) ≡ Some v → BothMean (bodies.Stream body) →

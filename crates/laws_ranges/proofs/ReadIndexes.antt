@@ -34,6 +34,7 @@ module _ (generation : ℕ → ℕ) (range : ℕ) (w : StreamSystem) (i : ℕ) (
       (record {
         range_is = b.range_is;
         under = b.under;
+        calm = b.calm;
         stage = record { phase = opened; metadata = b.metadata; metadata_idle = b.metadata_idle; log = b.log; log_idle = b.log_idle };
       })
       (omega arith) (inl (λ n s z. tt), tt)
@@ -42,7 +43,7 @@ module _ (generation : ℕ → ℕ) (range : ℕ) (w : StreamSystem) (i : ℕ) (
       RuleGoes generation range w i m l d (reads_named d r position named)
   reads_named_both r b opened position None =
       confirms_both generation range w i m l d by (record r { reading = None })
-      (record { range_is = b.range_is; under = b.under; metadata = b.metadata; metadata_idle = b.metadata_idle; log = b.log; log_idle = b.log_idle })
+      (record { range_is = b.range_is; under = b.under; calm = b.calm; metadata = b.metadata; metadata_idle = b.metadata_idle; log = b.log; log_idle = b.log_idle })
   reads_named_both r b opened position (Some index) = asks_index_both r b opened position index (places_of r index.place.extent)
 
   -- the next index is read, or all is read
@@ -53,7 +54,7 @@ module _ (generation : ℕ → ℕ) (range : ℕ) (w : StreamSystem) (i : ℕ) (
       RuleGoes generation range w i m l d (installs d r position named index)
   installs_both r b opened position (Some named) (Some index) =
       reads_index_both (record r { indexes = record { place = named.place; keys = named.keys; index = index } ∷ r.indexes })
-      (record { range_is = b.range_is; under = b.under; metadata = b.metadata; metadata_idle = b.metadata_idle; log = b.log; log_idle = b.log_idle }) opened (suc position)
+      (record { range_is = b.range_is; under = b.under; calm = b.calm; metadata = b.metadata; metadata_idle = b.metadata_idle; log = b.log; log_idle = b.log_idle }) opened (suc position)
   installs_both r b opened position named index = dropped_both generation range w i both m l d by r
 
   -- ---- an answer to the read of an index
@@ -61,7 +62,7 @@ module _ (generation : ℕ → ℕ) (range : ℕ) (w : StreamSystem) (i : ℕ) (
   module _ (r : RangeState) (f : Follows generation range w i m l r) where
     index_read_both : (stage : Stage) → StageIs generation range w i m l r stage → (bytes : List ℕ) → RuleGoes generation range w i m l d (index_read d r stage bytes)
     index_read_both (stages.Indexing position) b bytes =
-        installs_both r (record { range_is = f.range_is; under = f.under; metadata = b.metadata; metadata_idle = b.metadata_idle; log = b.log; log_idle = b.log_idle }) b.phase position
+        installs_both r (record { range_is = f.range_is; under = f.under; calm = f.calm; metadata = b.metadata; metadata_idle = b.metadata_idle; log = b.log; log_idle = b.log_idle }) b.phase position
         (index_named r.said.indexes position) (index_at bytes)
     index_read_both stage b bytes = still_both generation range w i both m l d by r d.count [] f (omega arith) tt
 

@@ -31,7 +31,7 @@ module _ (generation : ℕ → ℕ) (range : ℕ) (w : StreamSystem) (i : ℕ) (
       go : (t : Bool) → RuleGoes generation range w i m l d (if t then log_goes d r (stages.Reading kinds.Log position) (read_of d (picking d r.log) position) else reads_index d r 0)
       go true =
           log_step generation range w i both m l d by (record r { stage = stages.Reading kinds.Log position; log = o.after }) o.packet _ went
-          (record { range_is = b.range_is; under = b.under; stage = record { phase = opened; metadata = b.metadata; metadata_idle = b.metadata_idle; log = went.then } })
+          (record { range_is = b.range_is; under = b.under; calm = b.calm; stage = record { phase = opened; metadata = b.metadata; metadata_idle = b.metadata_idle; log = went.then } })
       go false = reads_index_both generation range w i both m l d by r b opened 0
 
   -- the log is read from a position, or the range is dropped where there is none
@@ -43,7 +43,7 @@ module _ (generation : ℕ → ℕ) (range : ℕ) (w : StreamSystem) (i : ℕ) (
   replays_both r b opened position None = dropped_both generation range w i both m l d by r
   replays_both r b opened position (Some x) =
       reads_log_both (record r { regions = x.0; live = x.1 })
-      (record { range_is = b.range_is; under = b.under; metadata = b.metadata; metadata_idle = b.metadata_idle; log = b.log; log_idle = b.log_idle }) opened (suc position)
+      (record { range_is = b.range_is; under = b.under; calm = b.calm; metadata = b.metadata; metadata_idle = b.metadata_idle; log = b.log; log_idle = b.log_idle }) opened (suc position)
 
   -- groups of the log were read: they are replayed, and the next extent is read
   pub log_read_both : (r : RangeState) → AllRead generation range w i m l d by r → r.load.phase ≡ phases.Opened → (position e : ℕ) (groups : List Group) → RuleGoes generation range w i m l d (log_read d r position e groups)

@@ -29,7 +29,7 @@ use Rattle.model_partition.specs.StreamActions.{StreamAction, Shows, first_start
 use Rattle.laws_stream_machine.specs.Refinement.{Means}
 use Rattle.laws_loads.specs.RangeView.{RangeView}
 use Rattle.laws_loads.specs.StaysLoading.{IsConfirmation}
-use Rattle.laws_ranges.specs.Serves.{Side, AreUnformed, metadata_of, log_of, IsConfirming, Follows, BothListed, IsSentBy}
+use Rattle.laws_ranges.specs.Serves.{HasNoCheckpoint, Side, AreUnformed, metadata_of, log_of, IsConfirming, Follows, BothListed, IsSentBy}
 use Rattle.laws_ranges.specs.Quiet.{AreReads}
 use Rattle.laws_ranges.specs.Seen.{AreSeen, LoadIsRead, RuleSees}
 use Rattle.laws_ranges.proofs.ReadEnds.{ends_alike}
@@ -59,18 +59,21 @@ module _ (d : ServerContext) (r : RangeState) (v : ReqNo) where
   load_reads (bodies.Stream body) t = told_reads r.load.phase body refl t
   load_reads body t = inl tt
 
-  answered_reads : (body : Body) (o : RangeOutcome) → is_serving r.stage ≡ false → AreReads (answered_actions d r v body o) ⊎ IsConfirmation d r v body (answer_rule d r v body)
-  answered_reads body o unserved =
+  answered_reads : (body : Body) (o : RangeOutcome) → is_serving r.stage ≡ false → HasNoCheckpoint r → AreReads (answered_actions d r v body o) ⊎ IsConfirmation d r v body (answer_rule d r v body)
+  answered_reads body o unserved calm =
       both_elim (λ done z. AreReads done ⊎ IsConfirmation d r v body z) (load_awaits r.load.phase v) _ _ _ _ (λ t. load_reads body t)
-      (λ f. inl (if_elim AreReads (awaits r.metadata.job v) _ _ (λ t. loading_reads kinds.Metadata r.metadata r.stage (groups_of body) (reply_rule (picking d r.metadata) (request d) body).news)
+      (λ f. inl (if_elim AreReads (awaits r.metadata.job v) _ _
+      (λ t. if_elim AreReads (is_serving r.stage) _ _ (λ s. absurd (cc (unserved, s)))
+      (λ f. loading_reads kinds.Metadata r.metadata r.stage (groups_of body) (reply_rule (picking d r.metadata) (request d) body).news))
       (λ f. if_elim AreReads (awaits r.log.job v) _ _
       (λ t. if_elim AreReads (is_taken r body) _ _
-      (λ t. if_elim AreReads (is_serving r.stage) _ _ (λ s. absurd (cc (unserved, s))) (λ f. loading_reads kinds.Log r.log r.stage (groups_of body) (reply_rule (picking d r.log) (request d) body).news)) (λ f. tt)) (λ f. tt))))
+      (λ t. if_elim AreReads (is_serving r.stage) _ _ (λ s. absurd (cc (unserved, s))) (λ f. loading_reads kinds.Log r.log r.stage (groups_of body) (reply_rule (picking d r.log) (request d) body).news)) (λ f. tt))
+      (λ f. if_elim AreReads (awaits r.rows.job v) _ _ (λ t. absurd (let z : false ≡ true = subst (λ j. awaits j v ≡ true) calm.0 t in cc)) (λ f. tt)))))
 
   -- an answer that a range waits for
-  pub answer_reads : (body : Body) (o : RangeOutcome) → is_serving r.stage ≡ false → AreReads (answer_actions d r v body o) ⊎ IsConfirmation d r v body (answer_rule d r v body)
-  answer_reads body o unserved =
-      ⊎_elim {C = AreReads (answer_actions d r v body o) ⊎ IsConfirmation d r v body (answer_rule d r v body)} (λ q. inl (kept_reads o.after (answered_actions d r v body o) q)) (λ c. inr c) (answered_reads body o unserved)
+  pub answer_reads : (body : Body) (o : RangeOutcome) → is_serving r.stage ≡ false → HasNoCheckpoint r → AreReads (answer_actions d r v body o) ⊎ IsConfirmation d r v body (answer_rule d r v body)
+  answer_reads body o unserved calm =
+      ⊎_elim {C = AreReads (answer_actions d r v body o) ⊎ IsConfirmation d r v body (answer_rule d r v body)} (λ q. inl (kept_reads o.after (answered_actions d r v body o) q)) (λ c. inr c) (answered_reads body o unserved calm)
 
   -- ---- a confirmation shows
 
@@ -126,7 +129,7 @@ module _ (generation : ℕ → ℕ) (range : ℕ) (w : StreamSystem) (i : ℕ) (
 
       went : ShowsAll generation range w i both m l d by r b (serves d r)
       went =
-          confirmed_all generation range w i both m l d by r b f.range_is f.under c.told awaited
+          confirmed_all generation range w i both m l d by r b f.range_is f.under f.calm c.told awaited
           (subst (λ z. Means generation (metadata_of range) w m.stand.state m.sent z) c.body_is one) (subst (λ z. Means generation (log_of range) w l.stand.state l.sent z) c.body_is two)
 
       Sees : List StreamAction → Type 0

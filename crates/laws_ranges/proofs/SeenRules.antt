@@ -15,6 +15,7 @@ use Rattle.model_partition.specs.Range.{RangeState, RangeOutcome}
 use Rattle.model_partition.specs.Serving.{transact_fault, transacts, transact_rule}
 use Rattle.model_partition.specs.Getting.{get_rule}
 use Rattle.model_partition.specs.PlaceReads.{reads_under}
+use Rattle.model_partition.specs.Checkpoints.{trim_awaits}
 use Rattle.model_partition.specs.Answering.{answered_number, log_reply, index_reply, gets_reply, is_taken, answer_rule, give_up_all}
 use Rattle.model_partition.specs.ServerTurns as turns
 use Rattle.model_partition.specs.StreamActions.{StreamAction, transact_actions, log_actions, answered_actions, answer_actions}
@@ -112,11 +113,23 @@ module _ (generation : ℕ → ℕ) (range : ℕ) (w : StreamSystem) (i : ℕ) (
           no_metadata : awaits r.metadata.job v ≡ false
           no_metadata = ap (λ j. awaits j v) b.metadata_idle
 
+          -- no checkpoint is under way
+          no_rows : awaits r.rows.job v ≡ false
+          no_rows = ap (λ j. awaits j v) f.calm.0
+
+          no_trim : trim_awaits r.control v ≡ false
+          no_trim = ap (λ c. trim_awaits c v) f.calm.1
+
           rule_is : answer_rule d r v body ≡ reply_of
-          rule_is = chosen (load_awaits r.load.phase v) _ _ no_load ∙ chosen (awaits r.metadata.job v) _ _ no_metadata
+          rule_is =
+              chosen (load_awaits r.load.phase v) _ _ no_load ∙ chosen (awaits r.metadata.job v) _ _ no_metadata
+              ∙ ap (λ o. if awaits r.log.job v then log_reply d r body else o)
+              (chosen (awaits r.rows.job v) _ _ no_rows ∙ ap (λ o. if reads_under r.reading v then index_reply d r body else o) (chosen (trim_awaits r.control v) _ _ no_trim))
 
           actions_are : (o : RangeOutcome) → answered_actions d r v body o ≡ rest_of o
-          actions_are o = chosen (load_awaits r.load.phase v) _ _ no_load ∙ chosen (awaits r.metadata.job v) _ _ no_metadata
+          actions_are o =
+              chosen (load_awaits r.load.phase v) _ _ no_load ∙ chosen (awaits r.metadata.job v) _ _ no_metadata
+              ∙ ap (λ done. if awaits r.log.job v then (if is_taken r body then log_actions d r body o else []) else done) (chosen (awaits r.rows.job v) _ _ no_rows)
 
           quiet : (o : RangeOutcome) → GoesQuietly generation range w i m l d o → Sees o (if is_some o.after then [] else [])
           quiet o q = quiet_sees generation range w i view m l d o (if is_some o.after then [] else []) q (kept_reads o.after [] tt)
@@ -140,7 +153,7 @@ module _ (generation : ℕ → ℕ) (range : ℕ) (w : StreamSystem) (i : ℕ) (
           (λ s. ⊎_elim {C = Sees (answer_rule d r v body) (answer_actions d r v body (answer_rule d r v body))}
           (λ quiet. quiet_sees generation range w i view m l d (answer_rule d r v body) (answer_actions d r v body (answer_rule d r v body))
           (stays_quietly generation range w i m l d r (answer_rule d r v body) (answer_both generation range w i both m l d by r f e v body number one two) e s) quiet)
-          confirmed (answer_reads d r v body (answer_rule d r v body) e))
+          confirmed (answer_reads d r v body (answer_rule d r v body) e f.calm))
           confirmed (answer_stays d r v body e))
         where
           confirmed : IsConfirmation d r v body (answer_rule d r v body) → Sees (answer_rule d r v body) (answer_actions d r v body (answer_rule d r v body))

@@ -37,6 +37,7 @@ use Rattle.laws_ranges.specs.Serves.{Side, IsPlain, after_turns, metadata_of, lo
 use Rattle.laws_loads.specs.RangeView.{RangeView}
 use Rattle.laws_ranges.specs.Seen.{LogRule, RuleSees}
 use Rattle.laws_ranges.proofs.MachineSteps.{purposes_on, newest}
+use Rattle.laws_ranges.proofs.SeenTurns.{of_log}
 use Rattle.laws_ranges.proofs.LogRules.{reply_actions, transact_goes, log_reply_goes}
 
 -- ---- numbers
@@ -75,6 +76,17 @@ apart_on m l q (Some p) a fresh = record { here = here; there = there }
 
     here : (r : ReqNo) (z : Purpose) → purpose_of m r ≡ Some z → is_alone z ≡ true → purpose_of (record { request = q; purpose = p } ∷ l) r ≡ None
     here r z e alone = here_by r z e alone (is_same q r) refl
+
+-- ---- what a rule on the log keeps of a range that is served
+pub record KeepsRest (r after : RangeState) : Type 0 where
+  pub load : after.load ≡ r.load
+  pub metadata : after.metadata ≡ r.metadata
+  pub rows : after.rows ≡ r.rows
+  pub said : after.said ≡ r.said
+  pub control : after.control ≡ r.control
+
+pub record Keeps (r : RangeState) (o : Option RangeState) : Type 0 where
+  pub keeps : (after : RangeState) → o ≡ Some after → KeepsRest r after
 
 -- ---- what is asked of one stream says nothing of the other
 
@@ -187,25 +199,22 @@ module _ (generation : ℕ → ℕ) (range : ℕ) (w : StreamSystem) (i : ℕ) (
 
   -- ---- a rule of a range that is served
 
-  -- what a row keeps of a range that is served, but for its log
-  pub record Keeps (r : RangeState) (o : Option RangeState) : Type 0 where
-    pub keeps : (after : RangeState) → o ≡ Some after → (after.load ≡ r.load) × (after.metadata ≡ r.metadata)
-
   served_if : (m l k : Side) (r : RangeState) → Follows generation range w i m l r → IsServing generation range w i m l r → (o : Option RangeState) → Keeps r o → ServesLogIf generation range w i o k.stand k.sent →
       FollowsIf generation range w i o m k
   served_if m l k r f b None keeps served = tt
   served_if m l k r f b (Some after) keeps served =
       let same = keeps.keeps after refl in
       let serving : IsServing generation range w i m k after = record {
-        phase = ap (λ z. z.phase) same.0 ∙ b.phase;
-        metadata = subst (λ c. ServingIs generation (metadata_of range) w i m.stand m.sent c) (sym same.1) b.metadata;
-        metadata_idle = ap (λ z. z.job) same.1 ∙ b.metadata_idle;
+        phase = ap (λ z. z.phase) same.load ∙ b.phase;
+        metadata = subst (λ c. ServingIs generation (metadata_of range) w i m.stand m.sent c) (sym same.metadata) b.metadata;
+        metadata_idle = ap (λ z. z.job) same.metadata ∙ b.metadata_idle;
         log = served.client;
         out = served.out;
       } in
       record {
-        range_is = ap (λ z. z.range) same.0 ∙ f.range_is;
-        under = ap (λ z. z.generation) same.0 ∙ f.under;
+        range_is = ap (λ z. z.range) same.load ∙ f.range_is;
+        under = ap (λ z. z.generation) same.load ∙ f.under;
+        calm = (ap (λ z. z.job) same.rows ∙ f.calm.0, same.control ∙ f.calm.1);
         stage = subst (λ z. StageIs generation range w i m k after z) (sym served.stage) serving;
       }
 
@@ -234,46 +243,55 @@ module _ (generation : ℕ → ℕ) (range : ℕ) (w : StreamSystem) (i : ℕ) (
           asked = asked_of_both m k apart o.packets rule.asked;
         };
         unformed = tt;
-        seen = rule.seen v m.stand;
+        seen = of_log generation i v m.stand l.stand rule.list done rule.here (rule.seen v);
       }
 
-  keeps_some : (r after : RangeState) → after.load ≡ r.load → after.metadata ≡ r.metadata → Keeps r (Some after)
-  keeps_some r after a b = record { keeps = λ z e. (let same : after ≡ z = cc in (subst (λ v. v.load ≡ r.load) same a, subst (λ v. v.metadata ≡ r.metadata) same b)) }
+  all_kept : (r : RangeState) → KeepsRest r r
+  all_kept r = record { load = refl; metadata = refl; rows = refl; said = refl; control = refl }
+
+  keeps_some : (r after : RangeState) → KeepsRest r after → Keeps r (Some after)
+  keeps_some r after k = record { keeps = λ z e. (let same : after ≡ z = cc in subst (λ v. KeepsRest r v) same k) }
 
   keeps_none : (r : RangeState) → Keeps r None
   keeps_none r = record { keeps = λ z e. absurd (cc) }
 
-  forms_keep : (d : ServerContext) (r s : RangeState) → s.load ≡ r.load → s.metadata ≡ r.metadata → Keeps r (forms d s).after
-  forms_keep d r s a b = go (not (is_some s.out) && (nat_lt 0 (group_count d s) && nat_lt (s.next + group_count d s) (2 ^ 64)))
+  forms_keep : (d : ServerContext) (r s : RangeState) → KeepsRest r s → Keeps r (forms d s).after
+  forms_keep d r s k = go (not (is_some s.out) && (nat_lt 0 (group_count d s) && nat_lt (s.next + group_count d s) (2 ^ 64)))
     where
       go : (t : Bool) → Keeps r (if t then appending d s (group_count d s) else goes d s [] []).after
-      go true = keeps_some r _ a b
-      go false = keeps_some r s a b
+      go true = keeps_some r _ (record { load = k.load; metadata = k.metadata; rows = k.rows; said = k.said; control = k.control })
+      go false = keeps_some r s k
 
-  transacts_keep : (d : ServerContext) (r : RangeState) (from : ActorId) (v : ReqNo) (changes : List Change) (fault : Option Refusal) → Keeps r (transacts d r from v changes fault).after
-  transacts_keep d r from v changes (Some refusal) = keeps_some r r refl refl
-  transacts_keep d r from v changes None = forms_keep d r (record r { queue = r.queue ++ record { from = from; request = v; changes = changes } ∷ [] }) refl refl
+  pub transacts_keep : (d : ServerContext) (r : RangeState) (from : ActorId) (v : ReqNo) (changes : List Change) (fault : Option Refusal) → Keeps r (transacts d r from v changes fault).after
+  transacts_keep d r from v changes (Some refusal) = keeps_some r r (all_kept r)
+  transacts_keep d r from v changes None =
+      forms_keep d r (record r { queue = r.queue ++ record { from = from; request = v; changes = changes } ∷ [] })
+      (record { load = refl; metadata = refl; rows = refl; said = refl; control = refl })
 
-  done_keeps : (d : ServerContext) (r s : RangeState) (out : Option OutGroup) (e offset : ℕ) → s.load ≡ r.load → s.metadata ≡ r.metadata → Keeps r (log_done d s out e offset).after
-  done_keeps d r s None e offset a b = keeps_some r s a b
-  done_keeps d r s (Some out) e offset a b =
+  done_keeps : (d : ServerContext) (r s : RangeState) (out : Option OutGroup) (e offset : ℕ) → KeepsRest r s → Keeps r (log_done d s out e offset).after
+  done_keeps d r s None e offset k = keeps_some r s k
+  done_keeps d r s (Some out) e offset k =
       forms_keep d r
       (record s {
         live = put_all s.live (flat_map (λ changes. changes) (kept (record_of out.first out.transactions) e offset));
         position = record { index = (s.log.base + length s.log.extents) - 1; offset = offset + out_size out };
         out = None;
       })
-      a b
+      (record { load = k.load; metadata = k.metadata; rows = k.rows; said = k.said; control = k.control })
+
+  -- but for the client of its log
+  log_only : (r : RangeState) (c : ClientState) → KeepsRest r (record r { log = c })
+  log_only r c = record { load = refl; metadata = refl; rows = refl; said = refl; control = refl }
 
   news_keep : (d : ServerContext) (r : RangeState) (c : ClientState) (told : Option News) (ps : List Packet) → Keeps r (serving_news d (record r { log = c }) told ps).after
-  news_keep d r c None ps = keeps_some r _ refl refl
+  news_keep d r c None ps = keeps_some r _ (log_only r c)
   news_keep d r c (Some news.Fenced) ps = keeps_none r
-  news_keep d r c (Some (news.Appended e offset)) ps = done_keeps d r (record r { log = c }) r.out e offset refl refl
-  news_keep d r c (Some (news.Checked e found)) ps = keeps_some r _ refl refl
-  news_keep d r c (Some (news.Sealed e l)) ps = keeps_some r _ refl refl
-  news_keep d r c (Some (news.Content e upto)) ps = keeps_some r _ refl refl
+  news_keep d r c (Some (news.Appended e offset)) ps = done_keeps d r (record r { log = c }) r.out e offset (log_only r c)
+  news_keep d r c (Some (news.Checked e found)) ps = keeps_some r _ (log_only r c)
+  news_keep d r c (Some (news.Sealed e l)) ps = keeps_some r _ (log_only r c)
+  news_keep d r c (Some (news.Content e upto)) ps = keeps_some r _ (log_only r c)
 
-  reply_keeps : (d : ServerContext) (r : RangeState) (body : Body) → r.stage ≡ stages.Serving → Keeps r (log_reply d r body).after
+  pub reply_keeps : (d : ServerContext) (r : RangeState) (body : Body) → r.stage ≡ stages.Serving → Keeps r (log_reply d r body).after
   reply_keeps d r body stage = go (is_taken r body)
     where
       o : Outcome
@@ -284,7 +302,7 @@ module _ (generation : ℕ → ℕ) (range : ℕ) (w : StreamSystem) (i : ℕ) (
           subst (λ z. Keeps r (if is_serving z then serving_news d (record r { log = o.after }) o.news (option_to_list o.packet)
           else log_news d (record r { log = o.after }) (groups_of body) z o.news (option_to_list o.packet)).after) (sym stage)
           (news_keep d r o.after o.news (option_to_list o.packet))
-      go false = keeps_some r r refl refl
+      go false = keeps_some r r (all_kept r)
 
   -- ---- the rules, as both streams see them
 

@@ -1,3 +1,4 @@
 pub mod Serves
 pub mod Quiet
 pub mod Seen
+pub mod Records

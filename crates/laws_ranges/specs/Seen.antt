@@ -1,5 +1,6 @@
 -- What a rule of a range does with its streams, as servers see it and as the machines of both streams have it: the two are one.
-use Rattle.std.specs.Prelude.{◌≡◌, ◌⊎◌, ℕ, suc, List, [], map, Option, None}
+use Rattle.std.specs.Prelude.{◌≡◌, ◌⊎◌, ℕ, suc, List, [], ◌∷◌, map, Option, None}
+use Rattle.wire.specs.declared.streams.StreamKind.{StreamKind}
 use Rattle.wire.specs.declared.streams.StreamKind.TheVariants as kinds
 use Rattle.replica.specs.Groups.{Group}
 use Rattle.metadata.specs.Fold.{first_metadata}
@@ -9,6 +10,7 @@ use Rattle.model_partition.specs.Range.{RangeState, RangeOutcome, request}
 use Rattle.model_partition.specs.ServerRun.{placed_reads}
 use Rattle.model_partition.specs.ServerTurns as turns
 use Rattle.model_partition.specs.Story.{placed}
+use Rattle.model_partition.specs.StreamActions as actions
 use Rattle.model_partition.specs.StreamActions.{StreamAction}
 use Rattle.laws_stream_machine.specs.Refinement.{Purpose, Sent}
 use Rattle.laws_loads.specs.RangeView.{RangeView, view_after_all}
@@ -21,12 +23,32 @@ BeganAt event (turns.Closing n append group) = event ≡ append
 BeganAt event (turns.Growing n append group) = event ≡ append
 BeganAt event phase = Unit {0}
 
+-- an action on one stream, or a read of any
+abbrev pub IsOf : StreamKind → StreamAction → Type 0
+IsOf kind (actions.Reads k read) = Unit {0}
+IsOf kind (actions.Forms k group) = k ≡ kind
+IsOf kind (actions.Stands k extent at group) = k ≡ kind
+IsOf kind (actions.Shows start log_end metadata_end) = ⊥
+
+abbrev pub AreOf : StreamKind → List StreamAction → Type 0
+AreOf kind [] = Unit {0}
+AreOf kind (action ∷ earlier) = IsOf kind action × AreOf kind earlier
+
 module _ (generation : ℕ → ℕ) (i : ℕ) where
   -- the stories that servers see of a range's metadata and log are those of the machines
   pub record SeesStories (v : RangeView) (m l : Stand) : Type 0 where
     pub metadata : v.story kinds.Metadata ≡ m.state.story
     pub log : v.story kinds.Log ≡ l.state.story
     pub append : BeganAt (v.history.append kinds.Log) l.phase
+
+  -- the story that servers see of one stream is that of its machine, and the append that is out began where they say
+  pub record SeesStory (kind : StreamKind) (v : RangeView) (x : Stand) : Type 0 where
+    pub story : v.story kind ≡ x.state.story
+    pub append : BeganAt (v.history.append kind) x.phase
+
+  -- these actions add to the story of one stream what these turns add
+  abbrev pub AreSeenOf : StreamKind → RangeView → Stand → List (turns.Turn Group) → List StreamAction → Type 0
+  AreSeenOf kind v x list actions = SeesStory kind v x → SeesStory kind (view_after_all (generation i) v actions) (after_turns generation i x list)
 
   -- these actions add to both stories what these turns add
   abbrev pub AreSeen : RangeView → Stand → Stand → List (turns.Turn Group) → List (turns.Turn Group) → List StreamAction → Type 0
@@ -56,7 +78,9 @@ module _ (generation : ℕ → ℕ) (range : ℕ) (w : StreamSystem) (i : ℕ) w
   pub record LogRule (x : Stand) (sent : List Sent) (d : ServerContext) (o : RangeOutcome) (actions : List StreamAction) : Type 0 where
     pub list : List (turns.Turn Group)
     pub allowed : AreTurns generation i x list
-    pub seen : (v : RangeView) (m : Stand) → AreSeen generation i v m x [] list actions
+    -- they are on the log alone
+    pub here : AreOf kinds.Log actions
+    pub seen : (v : RangeView) → AreSeenOf generation i kinds.Log v x list actions
     pub purpose : Option Purpose
     pub counts : (o.count ≡ suc d.count) ⊎ ((o.count ≡ d.count) × (purpose ≡ None))
     -- a range that is dropped makes no turn

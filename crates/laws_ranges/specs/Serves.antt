@@ -254,18 +254,26 @@ pub record Side : Type 0 where
   pub stand : Stand
   pub sent : List Sent
 
+-- a job of a client of a range that is served: this is so of the group of an append job, and this where there is none
+abbrev pub JobIs : (Group → Type 0) → Type 0 → Job → Group → Type 0
+JobIs Holds Rests jobs.Idle group = Rests
+JobIs Holds Rests (jobs.Sent e q) group = Holds group
+JobIs Holds Rests (jobs.Closing e q) group = Holds group
+JobIs Holds Rests (jobs.Growing last q) group = Holds group
+JobIs Holds Rests (jobs.Checking e q) group = ⊥
+JobIs Holds Rests (jobs.Shutting e q) group = ⊥
+JobIs Holds Rests (jobs.Reading e places upto sealed place q) group = ⊥
+
 -- the group of an append job is that of the transactions that are being appended
 abbrev pub GroupIs : Group → Option OutGroup → Type 0
 GroupIs group out = (o : OutGroup) × (out ≡ Some o) × (group ≡ spelling (record_of o.first o.transactions))
 
 abbrev pub OutIs : Job → Group → Option OutGroup → Type 0
-OutIs jobs.Idle group out = out ≡ None
-OutIs (jobs.Sent e q) group out = GroupIs group out
-OutIs (jobs.Closing e q) group out = GroupIs group out
-OutIs (jobs.Growing last q) group out = GroupIs group out
-OutIs (jobs.Checking e q) group out = ⊥
-OutIs (jobs.Shutting e q) group out = ⊥
-OutIs (jobs.Reading e places upto sealed place q) group out = ⊥
+OutIs job group out = JobIs (λ g. GroupIs g out) (out ≡ None) job group
+
+-- no checkpoint is under way, and nothing is out to row data
+abbrev pub HasNoCheckpoint : RangeState → Type 0
+HasNoCheckpoint r = (r.rows.job ≡ jobs.Idle) × (r.control ≡ None)
 
 abbrev pub metadata_of : ℕ → StreamName
 metadata_of range = record { range = range; kind = kinds.Metadata }
@@ -332,6 +340,7 @@ module _ (generation : ℕ → ℕ) (range : ℕ) (w : StreamSystem) (i : ℕ) (
   pub record Follows (r : RangeState) : Type 0 where
     pub range_is : r.load.range ≡ range
     pub under : r.load.generation ≡ generation i
+    pub calm : HasNoCheckpoint r
     pub stage : StageIs r r.stage
 
 -- ---- what a step of a client does
@@ -464,9 +473,9 @@ module _ (generation : ℕ → ℕ) (range : ℕ) (w : StreamSystem) (i : ℕ) w
   AskedOfBoth n k (p ∷ ps) =
       (IsAsked generation (metadata_of range) w n.stand.state n.sent p.body × IsAsked generation (log_of range) w k.stand.state k.sent p.body × IsKnown n.sent k.sent p.body) × AskedOfBoth n k ps
 
-  -- What a rule does: turns of the incarnation in both machines, each allowed, and requests of the server's next numbers; then the
-  -- range, if it is still there, is where the machines have it, and all that is sent is asked.
-  pub record RuleGoes (m l : Side) (d : ServerContext) (o : RangeOutcome) : Type 0 where
+  -- What a rule does: turns of the incarnation in both machines, each allowed, and requests of the server's next numbers; then this
+  -- is so of the range and of where the machines stand, and all that is sent is asked.
+  pub record BothGo (Then : Option RangeState → Side → Side → Type 0) (m l : Side) (d : ServerContext) (o : RangeOutcome) : Type 0 where
     pub metadata_turns : List (turns.Turn Group)
     pub log_turns : List (turns.Turn Group)
     pub metadata_allowed : AreTurns generation i m.stand metadata_turns
@@ -482,5 +491,9 @@ module _ (generation : ℕ → ℕ) (range : ℕ) (w : StreamSystem) (i : ℕ) w
     pub metadata_adds : Adds d m.sent metadata_sent
     pub log_adds : Adds d l.sent log_sent
     pub sent_by : IsSentBy d o.count metadata_sent log_sent
-    pub then : FollowsIf o.after (record { stand = after_turns generation i m.stand metadata_turns; sent = metadata_sent }) (record { stand = after_turns generation i l.stand log_turns; sent = log_sent })
+    pub then : Then o.after (record { stand = after_turns generation i m.stand metadata_turns; sent = metadata_sent }) (record { stand = after_turns generation i l.stand log_turns; sent = log_sent })
     pub asked : AskedOfBoth (record { stand = after_turns generation i m.stand metadata_turns; sent = metadata_sent }) (record { stand = after_turns generation i l.stand log_turns; sent = log_sent }) o.packets
+
+  -- the range, if it is still there, is where the machines have it
+  abbrev pub RuleGoes : Side → Side → ServerContext → RangeOutcome → Type 0
+  RuleGoes m l d o = BothGo (λ after n k. FollowsIf after n k) m l d o

@@ -9,7 +9,7 @@ use Rattle.wire.specs.declared.streams.StreamKind.TheVariants as kinds
 use Rattle.client.specs.Client.{last_extent}
 use Rattle.metadata.specs.declared.record.MetaItem.{MetaItem}
 use Rattle.metadata.specs.declared.record.Region.{Region}
-use Rattle.metadata.specs.Fold.{MetadataState, first_metadata}
+use Rattle.metadata.specs.Fold.{MetadataState, first_metadata, all_keys}
 use Rattle.metadata.specs.Keys.{within}
 use Rattle.commitlog.specs.declared.log_record.LogRecord.{LogRecord}
 use Rattle.commitlog.specs.Replay.{Numbered}
@@ -29,12 +29,15 @@ use Rattle.laws_tables.proofs.Loads.{greater_left}
 use Rattle.laws_tables.specs.Layers.{Layer, empty_layer, over, indexed, layer_line}
 use Rattle.laws_tables.specs.Runs as chains
 use Rattle.laws_tables.specs.Runs.{Run, first_beginning, first_next, start_number, added, greater, said, replayed_by, next_loaded, loaded_layer, IsServing, MayStart}
-use Rattle.laws_server_runs.specs.RangeInvariant.{groups_read, replayed_all, layer_in, ReadsLog, no_index, AllSpelled, IsUnmade, StreamsKept, InOrder}
+use Rattle.laws_loads.specs.MemoryLayers.{layer_in}
+use Rattle.laws_checkpoints.specs.IndexLayers.{layer_at}
+use Rattle.laws_server_runs.specs.RangeInvariant.{groups_read, replayed_all, ReadsLog, IsPlain, AllSpelled, AreCheckpoints, StreamsKept, InOrder}
 use Rattle.laws_loads.specs.RangeView.{RangeView, view_after, log_of, metadata_of}
 use Rattle.laws_server_runs.proofs.Behind.{groups_shown, all_behind, left_is_all, end_behind}
 use Rattle.laws_server_runs.proofs.Folding.{IsFoldOf, groups_folded}
 use Rattle.laws_server_runs.proofs.LoadedLine.{line_read, reads_groups, groups_renamed, first_stand, extents_replayed, the_region}
 use Rattle.laws_server_runs.proofs.OneRegion.{IsOneRegion, AllKeepOneRegion, all_kept, first_one}
+use Rattle.laws_server_runs.proofs.LoadedRecords.{AreOfCheckpoints, shown_of_checkpoints, checkpoints_keep, keys_stay, plain_unmade}
 use Rattle.laws_server_runs.proofs.Order.{unmade_shows_nothing, shown_spelled, shown_behind, made_before}
 use Rattle.laws_server_runs.proofs.Replaying.{AreRead, After}
 
@@ -148,9 +151,9 @@ module _ (texts : ℕ → Bytes) (run : Run) (v : RangeView) (r : RangeState) (h
     layer_is key there = loaded.has.says key there (one.inside key there) ∙ ap (λ l. layer_line l empty_layer key) (sym replayed_is)
 
     -- over its indexes it is the layer of that load, whatever the indexes say
-    pub layers_are : (layer_at : Place → Layer) (key : Bytes) → within r.said.keys key ≡ true →
-        over (layer_in texts r.live) (indexed layer_at r.said.indexes) key ≡ loaded_layer first_beginning layer_at (spelled_groups v r) (shown_records v r) key
-    layers_are layer_at key there = λ i. if is_some (layer_is key there i) then layer_is key there i else indexed layer_at (said_is i).indexes key
+    pub layers_are : (index_layer : Place → Layer) (key : Bytes) → within r.said.keys key ≡ true →
+        over (layer_in texts r.live) (indexed index_layer r.said.indexes) key ≡ loaded_layer first_beginning index_layer (spelled_groups v r) (shown_records v r) key
+    layers_are index_layer key there = λ i. if is_some (layer_is key there i) then layer_is key there i else indexed index_layer (said_is i).indexes key
 
     -- the region without end is the one that the load made
     module _ (region : Region) (found : open_region r.regions ≡ Some region) where
@@ -185,37 +188,50 @@ module _ (texts : ℕ → Bytes) (run : Run) (v : RangeView) (r : RangeState) (h
       omega (arith, same, less)
 
   -- it begins where its metadata says, since no Trim named a base
-  may_start : MayStart no_index first_beginning run r.load.generation (place_number (start_of r)) (line_shown (shown_records v r))
+  may_start : MayStart (layer_at texts) first_beginning run r.load.generation (place_number (start_of r)) (line_shown (shown_records v r))
   may_start =
       let start : ℕ = start_number (said first_beginning (line_shown (shown_records v r))).regions in
       (0, inl (omega arith), ap (λ (m : MetadataState). start_number m.regions) said_is ∙ sym (greater_left start 0 (omega arith)))
 
-  -- ---- no records yet
+  -- ---- records
 
-  unmade_still : IsUnmade texts (metadata_load v r ∷ metadata_of v)
-  unmade_still a g group at =
-      streams.unmade a g group
+  records_still : AreCheckpoints (metadata_load v r ∷ metadata_of v)
+  records_still a g group at =
+      streams.records a g group
       (made_before (metadata_of v) r.load.generation 0 (place_number (metadata_end r)) (placed_reads (v.history.reads kinds.Metadata)) a g group at)
 
-  -- the load shows none
-  pub no_records : shown_records v r ≡ []
-  no_records =
-      ap (map (renamed_placed decoded_record))
-      (unmade_shows_nothing texts (metadata_load v r ∷ metadata_of v) order.metadata unmade_still (length (metadata_of v)) r.load.generation 0 (place_number (metadata_end r))
-      (placed_reads (v.history.reads kinds.Metadata)) (newest Group (metadata_load v r) (metadata_of v)))
+  -- those that the load shows are of plain checkpoints
+  all_plain : AreOfCheckpoints (line_shown (shown_records v r))
+  all_plain =
+      shown_of_checkpoints (metadata_load v r ∷ metadata_of v) order.metadata records_still (length (metadata_of v)) r.load.generation 0 (place_number (metadata_end r))
+      (placed_reads (v.history.reads kinds.Metadata)) (newest Group (metadata_load v r) (metadata_of v))
 
-  said_first : r.said ≡ first_metadata
-  said_first = said_is ∙ ap (λ l. said first_beginning (line_shown l)) no_records
+  -- so they leave one region, and all keys
+  pub records_keep : AllKeepOneRegion first_metadata (line_shown (shown_records v r))
+  records_keep = checkpoints_keep (line_shown (shown_records v r)) first_metadata all_plain
 
-  pub none_keep : AllKeepOneRegion first_metadata (line_shown (shown_records v r))
-  none_keep = subst (λ l. AllKeepOneRegion first_metadata (line_shown l)) (sym no_records) tt
+  keys_are : r.said.keys ≡ all_keys
+  keys_are = ap (λ (m : MetadataState). m.keys) said_is ∙ keys_stay (line_shown (shown_records v r)) first_metadata all_plain
 
-  place_is : place_number (start_of r) ≡ 0
-  place_is = ap (λ (m : MetadataState). place_number (first_start m.regions)) said_first
-
-  -- so the layer is that of all keys
+  -- and the layer is that of all keys
   pub whole_layer : (key : Bytes) → layer_in texts r.live key ≡ layer_line (replayed_by first_beginning (spelled_groups v r) (shown_records v r)) empty_layer key
-  whole_layer key = layer_is none_keep key (ap (λ (m : MetadataState). within m.keys key) said_first ∙ in_all key)
+  whole_layer key = layer_is records_keep key (ap (λ keys. within keys key) keys_are ∙ in_all key)
+
+  -- ---- no records yet
+
+  module _ (plain : IsPlain run) where
+    -- the load shows none
+    pub no_records : shown_records v r ≡ []
+    no_records =
+        ap (map (renamed_placed decoded_record))
+        (unmade_shows_nothing texts (metadata_load v r ∷ metadata_of v) order.metadata
+        (λ a g group at. plain_unmade run plain (metadata_of v) streams.metadata a g group
+        (made_before (metadata_of v) r.load.generation 0 (place_number (metadata_end r)) (placed_reads (v.history.reads kinds.Metadata)) a g group at))
+        (length (metadata_of v)) r.load.generation 0 (place_number (metadata_end r))
+        (placed_reads (v.history.reads kinds.Metadata)) (newest Group (metadata_load v r) (metadata_of v)))
+
+    pub place_is : place_number (start_of r) ≡ 0
+    place_is = ap (λ (m : MetadataState). place_number (first_start m.regions)) (said_is ∙ ap (λ l. said first_beginning (line_shown l)) no_records)
 
   -- servers may load it now
   pub streams_loaded : StreamsKept texts (run_loaded run v r) (view_shown v r)
@@ -224,7 +240,6 @@ module _ (texts : ℕ → Bytes) (run : Run) (v : RangeView) (r : RangeState) (h
     metadata = ap (λ l. renamed_event decoded_record (metadata_load v r) ∷ l) streams.metadata;
     chain = ((first_load, may_start), streams.chain);
     keys = streams.keys;
-    plain = (place_is, no_records, streams.plain);
     spelled = spelled_still;
-    unmade = unmade_still;
+    records = records_still;
   }

@@ -41,23 +41,26 @@ use Rattle.laws_tables.proofs.Range.{newest}
 use Rattle.laws_tables.specs.Layers.{empty_layer, flat, layer_line}
 use Rattle.laws_tables.specs.Runs as chains
 use Rattle.laws_tables.specs.Runs.{Run, first_beginning, greater, confirmed, replayed_by, next_loaded}
-use Rattle.laws_server_runs.specs.RangeInvariant.{layer_in, ReadsLog, Matches, Serves, PhaseIs, StageIs, RangeKept, StreamsKept, InOrder, AreObserved, Rests, Adds, StepKept}
+use Rattle.laws_loads.specs.MemoryLayers.{layer_in}
+use Rattle.laws_checkpoints.specs.IndexLayers.{layer_at}
+use Rattle.laws_server_runs.specs.CheckpointInvariant.{parts_of, HoldsCheckpoint}
+use Rattle.laws_server_runs.specs.RangeInvariant.{IsPlain, ReadsLog, Matches, Serves, PhaseIs, StageIs, RangeKept, StreamsKept, InOrder, AreObserved, Rests, Adds, StepKept}
 use Rattle.laws_loads.specs.RangeView.{RangeView, view_after_all}
-use Rattle.laws_server_runs.proofs.ConfirmedLoad.{start_of, metadata_end, shows, view_shown, spelled_groups, shown_records, run_loaded, next_is, position_is, no_records, none_keep, whole_layer, first_load, streams_loaded}
+use Rattle.laws_server_runs.proofs.ConfirmedLoad.{start_of, metadata_end, shows, view_shown, spelled_groups, shown_records, run_loaded, said_is, next_is, position_is, no_records, place_is, records_keep, whole_layer, first_load, streams_loaded}
 use Rattle.laws_server_runs.proofs.HeldLine.{flat_value}
 use Rattle.laws_server_runs.proofs.Loads.{calm_kept}
 use Rattle.laws_server_runs.proofs.ObservedLoad.{SaysLoad, plain_load, load_observed}
 use Rattle.laws_server_runs.proofs.OneRegion.{AllKeepOneRegion}
 use Rattle.laws_server_runs.proofs.ServedNotes.{same_here}
 
-module _ (texts : ℕ → Bytes) (subject : ℕ) (run : Run) (v : RangeView) (r : RangeState) (kept : RangeKept texts subject run v r) (streams : StreamsKept texts run v) (d : ServerContext) where
+module _ (texts : ℕ → Bytes) (subject : ℕ) (run : Run) (v : RangeView) (r : RangeState) (kept : RangeKept texts subject run v r) (streams : StreamsKept texts run v) (plain : IsPlain run) (d : ServerContext) where
   -- ---- nothing is done
 
   calm : StepKept texts subject run v r [] (answers d r [])
-  calm = calm_kept texts subject run v r (answers d r []) streams refl (kept, refl) (λ s. inl s)
+  calm = calm_kept texts subject run v r (answers d r []) streams refl (kept, refl) (λ s. inl s) (λ none. none)
 
   gone : StepKept texts subject run v r [] (dropped d r)
-  gone = calm_kept texts subject run v r (dropped d r) streams refl tt tt
+  gone = calm_kept texts subject run v r (dropped d r) streams refl tt tt (λ none. tt)
 
   -- ---- the range is served
 
@@ -74,7 +77,7 @@ module _ (texts : ℕ → Bytes) (subject : ℕ) (run : Run) (v : RangeView) (r 
         }
 
     keep : AllKeepOneRegion first_metadata (line_shown (shown_records v r))
-    keep = none_keep texts run v r h streams order
+    keep = records_keep texts run v r h streams order
 
     number_is : region.next ≡ next_loaded first_beginning (spelled_groups v r) (shown_records v r)
     number_is = next_is texts run v r h streams order keep region is
@@ -83,7 +86,7 @@ module _ (texts : ℕ → Bytes) (subject : ℕ) (run : Run) (v : RangeView) (r 
     layer_now = whole_layer texts run v r h streams order
 
     none : shown_records v r ≡ []
-    none = no_records texts run v r h streams order
+    none = no_records texts run v r h streams order plain
 
     abbrev end : ℕ
     end = place_number (read_end r.log (start_of r))
@@ -94,11 +97,9 @@ module _ (texts : ℕ → Bytes) (subject : ℕ) (run : Run) (v : RangeView) (r 
       next = number_is;
       out = refl;
       live = λ stand key. layer_now key;
-      fixed = h.fixed;
-      fixed_layer = refl;
-      noted = refl;
-      record_out = refl;
-      records = ap line_shown none;
+      checkpoint = subst (λ control. HoldsCheckpoint texts (parts_of (view_shown v r) (confirmed first_beginning (place_number (start_of r)) end (spelled_groups v r) (shown_records v r)) served) control)
+          (sym h.none) (record { entries = h.fixed; layer = refl; noted = refl; record_out = refl });
+      said = said_is texts run v r h streams order;
     }
 
     serves_now : Serves texts (run_loaded run v r) (view_shown v r) served
@@ -116,8 +117,8 @@ module _ (texts : ℕ → Bytes) (subject : ℕ) (run : Run) (v : RangeView) (r 
     }
 
     -- the rows of the load are what its layers say
-    rows_say : (rows : List Row) → ((key : Bytes) → stored rows key ≡ table_in texts r.live key) → SaysLoad rows (spelled_groups v r) (shown_records v r)
-    rows_say rows says = plain_load rows (spelled_groups v r) (shown_records v r) none
+    rows_say : (rows : List Row) → ((key : Bytes) → stored rows key ≡ table_in texts r.live key) → SaysLoad (layer_at texts) rows (spelled_groups v r) (shown_records v r)
+    rows_say rows says = plain_load (layer_at texts) rows (spelled_groups v r) (shown_records v r) none
         (λ key. says key ∙ flat_value texts (found r.live key) ∙ ap flat (layer_now key))
 
     seen_now : (before later : List Note) → AreObserved texts subject run before →
@@ -139,6 +140,7 @@ module _ (texts : ℕ → Bytes) (subject : ℕ) (run : Run) (v : RangeView) (r 
       alone = inr (inr (first_load texts run v r h streams order));
       kept = (kept_now, refl);
       streams = streams_loaded texts run v r h streams order;
+      plain = λ rest p. ((place_is texts run v r h streams order plain, none, p), rest);
       longer = ([], refl);
       anew = λ s. inr (first_load texts run v r h streams order);
       seen = seen_now;

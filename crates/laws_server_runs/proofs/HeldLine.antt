@@ -3,6 +3,7 @@ use Rattle.std.proofs.Common.{◌≡◌, ℕ, suc, ◌+◌, ◌==◌, max, Bool,
 use Rattle.std.proofs.lemmas.Bool.Decides.{nat_tests}
 use Rattle.std.proofs.lemmas.List.{length-append}
 use Rattle.memtable.specs.declared.cell.Cell.{Cell}
+use Rattle.memtable.specs.declared.cell.Place.{Place}
 use Rattle.memtable.specs.Entries.{Entries, found}
 use Rattle.memtable.specs.Layers.{found_in, or_else}
 use Rattle.metadata.specs.declared.record.MetaItem.{MetaItem}
@@ -28,7 +29,9 @@ use Rattle.laws_tables.proofs.Layers.{layer_line_is, pick_none}
 use Rattle.laws_tables.proofs.Loads.{greater_left}
 use Rattle.laws_tables.proofs.Points.{replay_added}
 use Rattle.laws_tables.proofs.Range.{newest, older}
-use Rattle.laws_server_runs.specs.RangeInvariant.{no_index, IsPlain, append_of, Matches, Serves, StreamsKept}
+use Rattle.laws_checkpoints.specs.IndexLayers.{layer_at}
+use Rattle.laws_server_runs.specs.CheckpointInvariant.{parts_of, HoldsNone, HoldsCheckpoint}
+use Rattle.laws_server_runs.specs.RangeInvariant.{IsPlain, append_of, Matches, Serves, StreamsKept}
 use Rattle.laws_server_runs.proofs.Replaying.{line_both}
 
 -- ---- loads from the first number on
@@ -164,21 +167,21 @@ module _ (log : Story (Numbered Transaction)) (g h : ℕ) (s : Serving) (old : H
         live = old.live ∙ ap (λ l. layer_line l empty_layer) (sym line_is);
       }
 
-held_line : (run : Run) → IsPlain run → IsChainRun no_index first_beginning run → (g : ℕ) → HoldsLine (chains.log_of run) g (held first_beginning run g)
-held_line [] plain chain g = record { position = refl; next = refl; live = refl }
-held_line (chains.Forms h group ∷ run) plain chain g =
-    forms_line (chains.log_of run) g h (held first_beginning run g) (held_line run plain chain.1 g) group
+held_line : (layer_at : Place → Layer) (run : Run) → IsPlain run → IsChainRun layer_at first_beginning run → (g : ℕ) → HoldsLine (chains.log_of run) g (held first_beginning run g)
+held_line layer_at [] plain chain g = record { position = refl; next = refl; live = refl }
+held_line layer_at (chains.Forms h group ∷ run) plain chain g =
+    forms_line (chains.log_of run) g h (held first_beginning run g) (held_line layer_at run plain chain.1 g) group
     (λ same. subst (λ k. (held first_beginning run k).out ≡ None) (sym same) chain.0.1)
     (λ same. subst (λ k. group.first ≡ (held first_beginning run k).next) (sym same) chain.0.2) (g == h) refl
-held_line (chains.Logged h append from to ∷ run) plain chain g =
+held_line layer_at (chains.Logged h append from to ∷ run) plain chain g =
     let group : Numbered Transaction = chain.0.1 in
     let out : (held first_beginning run h).out ≡ Some (record { append = append; group = group }) = chain.0.2 in
-    logged_line (chains.log_of run) g h (held first_beginning run g) (held_line run plain chain.1 g) append from to group
+    logged_line (chains.log_of run) g h (held first_beginning run g) (held_line layer_at run plain chain.1 g) append from to group
     (out_made first_beginning h run (record { append = append; group = group }) out)
     (λ same. subst (λ k. items_out (held first_beginning run k).out ≡ group.items) (sym same) (ap items_out out)) (g == h) refl
-held_line (chains.Confirms h start end groups metadata_end records ∷ run) plain chain g =
-    confirms_line (chains.log_of run) g h (held first_beginning run g) (held_line run plain.2 chain.1 g) start end groups records plain.0 plain.1 (g == h) refl
-held_line (event ∷ run) plain chain g = absurd plain
+held_line layer_at (chains.Confirms h start end groups metadata_end records ∷ run) plain chain g =
+    confirms_line (chains.log_of run) g h (held first_beginning run g) (held_line layer_at run plain.2 chain.1 g) start end groups records plain.0 plain.1 (g == h) refl
+held_line layer_at (event ∷ run) plain chain g = absurd plain
 
 -- ---- a layer as a table
 
@@ -212,7 +215,7 @@ out_count append None fits = refl
 out_count append (Some out) fits =
     ap (λ x. length (numbered_if x).items) (record_again (record_of out.first out.transactions) fits) ∙ mapped_length (λ t. t.changes) out.transactions
 
-module _ (texts : ℕ → Bytes) (run : Run) (v : RangeView) (r : RangeState) (streams : StreamsKept texts run v) (k : Serves texts run v r) where
+module _ (texts : ℕ → Bytes) (run : Run) (v : RangeView) (r : RangeState) (streams : StreamsKept texts run v) (plain : IsPlain run) (k : Serves texts run v r) (calm : r.control ≡ None) where
   abbrev g : ℕ
   g = r.load.generation
 
@@ -220,7 +223,7 @@ module _ (texts : ℕ → Bytes) (run : Run) (v : RangeView) (r : RangeState) (s
   s = held first_beginning run g
 
   of_line : HoldsLine (chains.log_of run) g s
-  of_line = held_line run streams.plain streams.chain g
+  of_line = held_line (layer_at texts) run plain streams.chain g
 
   none_behind : (cell : Option Cell) → value_of texts (or_else cell None) ≡ value_of texts cell
   none_behind None = refl
@@ -230,12 +233,13 @@ module _ (texts : ℕ → Bytes) (run : Run) (v : RangeView) (r : RangeState) (s
   pub at_line : OutFits r.out → AllStand texts v.answered → IsAtLine texts (log_of v) r
   at_line fits stand =
       let m : Matches texts v s r = k.matches in
+      let none : HoldsNone (parts_of v s r) = subst (HoldsCheckpoint texts (parts_of v s r)) calm m.checkpoint in
       let count : length (items_out s.out) ≡ length (waiting_out r.out) = ap (λ o. length (items_out o)) m.out ∙ out_count (v.history.append _) r.out fits in
       record {
         position = m.position ∙ of_line.position ∙ ap (λ l. end_to l g) streams.log ∙ end_renamed (log_of v) g;
         next = m.next ∙ of_line.next ∙ (λ i. suc (length (line_to (streams.log i) g)) + count i);
         table = λ key.
-            ap (λ (x : Option Entries). value_of texts (or_else (found r.live key) (found_in x key))) m.fixed ∙ none_behind (found r.live key) ∙ flat_value texts (found r.live key)
+            ap (λ (x : Option Entries). value_of texts (or_else (found r.live key) (found_in x key))) none.entries ∙ none_behind (found r.live key) ∙ flat_value texts (found r.live key)
             ∙ ap flat (m.live stand key) ∙ ap (λ (l : Layer). flat (l key)) of_line.live ∙ flat_line (line_to (chains.log_of run) g) key
             ∙ ap (λ l. after_line (line_to l g) empty_table key) streams.log;
       }

@@ -44,13 +44,17 @@ use Rattle.model_partition.specs.Loading.{Group, said_after, confirms, asks_inde
 use Rattle.model_partition.specs.Serving.{group_count, began, appends as appending, forms, transact_fault, transacts, transact_rule, dones, record_of, out_size, applies, log_done}
 use Rattle.model_partition.specs.PlaceReads.{places_of, reads_under}
 use Rattle.model_partition.specs.Getting.{get_fault, gets, get_rule, read_at, are_no_page}
-use Rattle.model_partition.specs.Answering.{load_refused, load_told, load_reply, metadata_reply, serving_news, is_taken, log_taken, log_reply, index_reply, bytes_reply, gets_reply, groups_of, answer_rule, give_up_all}
+use Rattle.model_partition.specs.Answering.{load_refused, load_told, load_reply, metadata_reply, serving_news, is_taken, log_taken, log_reply, index_reply, trim_reply, bytes_reply, gets_reply, groups_of, answer_rule, give_up_all}
 use Rattle.model_partition.specs.Server.{new_range}
-use Rattle.model_partition.specs.StreamActions.{StreamAction, Reads, Forms, group_of, transact_actions, loading_actions, serving_actions, confirmed_actions, load_actions, metadata_actions, log_actions, answer_actions}
+use Rattle.model_partition.specs.StreamActions.{StreamAction, Reads, Forms, group_of, transact_actions, loading_actions, serving_actions, confirmed_actions, load_actions, record_actions, metadata_actions, rows_actions, log_actions, answer_actions}
 use Rattle.model_partition.specs.ServerRun.{PlacedBytes, RangeHistory, bytes_read}
+use Rattle.model_partition.specs.Checkpoints.{rows_reply, record_told, trim_awaits}
+use Rattle.laws_loads.proofs.CheckpointAnswers.{rows_reply_same, record_news_same, trim_reply_same}
 use Rattle.laws_loads.proofs.IndexAnswers.{index_reply_elim}
+use Rattle.laws_loads.specs.StaysLoading.{IsAsBeforeIf, LeavesAsBefore}
 use Rattle.laws_loads.proofs.WaitingIsSound.{taken_served}
 use Rattle.laws_loads.specs.RangeView.{RangeView, view_after_all}
+use Rattle.laws_server_runs.proofs.CheckpointActions.{rows_actions_elim, record_actions_elim}
 use Rattle.laws_server_runs.specs.Places.{IsLaid, NotesWithin, RangeLaid, RangeLaidIf, StepLaid}
 use Rattle.laws_server_runs.proofs.LaidLayers.{laid_front, replayed_laid}
 
@@ -149,7 +153,7 @@ module _ (k : ℕ) (v : RangeView) (r : RangeState) (before : RangeLaid k v.hist
           load = record s.load { phase = phases.Opened };
           metadata = new_client d.server (record { range = s.load.range; kind = kinds.Metadata }) s.load.generation lists.metadata d.pick;
           log = new_client d.server (record { range = s.load.range; kind = kinds.Log }) s.load.generation lists.log d.pick;
-          row_data = lists.row_data;
+          rows = new_client d.server (record { range = s.load.range; kind = kinds.RowData }) s.load.generation lists.row_data d.pick;
           blob_data = lists.blob_data;
           said = first_metadata;
         })
@@ -186,10 +190,55 @@ module _ (k : ℕ) (v : RangeView) (r : RangeState) (before : RangeLaid k v.hist
     metadata_step stages.Confirming is told = rests_with (record r { metadata = c }) (suc d.count) packets (record { range = before.range; confirmed = before.confirmed; layer = before.layer })
     metadata_step stages.Serving is told = rests_with (record r { metadata = c }) (suc d.count) packets (record { range = before.range; confirmed = before.confirmed; layer = before.layer })
 
+  -- ---- a range that is left as it was, by actions that read nothing of the log
+
+  abbrev ReadNothing : List StreamAction → Type 0
+  ReadNothing actions = (view_after_all r.load.generation v actions).history.reads kinds.Log ≡ v.history.reads kinds.Log
+
+  before_laid : (actions : List StreamAction) → ReadNothing actions → (o : Option RangeState) → IsAsBeforeIf r o → RangeLaidIf k (view_after_all r.load.generation v actions).history o
+  before_laid actions reads None b = tt
+  before_laid actions reads (Some s) b = record {
+    range = ap (λ l. l.range) b.load ∙ before.range;
+    confirmed = λ e. ap (λ l. l.phase) b.load ∙ before.confirmed (sym (ap is_serving b.stage) ∙ e);
+    layer = λ e.
+        subst (λ read. IsLaid (bytes_read read) s.live) (sym reads)
+        (subst (λ live. IsLaid (bytes_read (v.history.reads kinds.Log)) live) (sym b.live) (before.layer (sym (ap is_serving b.stage) ∙ e)));
+  }
+
+  same_left : (actions : List StreamAction) → ReadNothing actions → (o : RangeOutcome) → LeavesAsBefore r o → Left actions o
+  same_left actions reads o s =
+      if_elim (λ done. StepLaid k v r.load.generation done o) (is_some o.after) actions [] (λ t. laid actions reads) (λ f. laid [] refl)
+    where
+      laid : (done : List StreamAction) → ReadNothing done → StepLaid k v r.load.generation done o
+      laid done none = record {
+        after = before_laid done none o.after s.after;
+        notes = subst (λ notes. NotesWithin k (view_after_all r.load.generation v done).shown notes) (sym s.quiet) tt;
+      }
+
+  -- an answer to row data's client
+  rows_left : (body : Body) → Left (rows_actions d r body) (rows_reply d r body)
+  rows_left body = same_left (rows_actions d r body) (rows_actions_elim ReadNothing d r refl (λ group. refl) body) (rows_reply d r body) (rows_reply_same d r body)
+
+  -- the answer to the Trim
+  trim_left : (body : Body) → Left [] (trim_reply d r body)
+  trim_left body = same_left [] refl (trim_reply d r body) (trim_reply_same d r body)
+
+  -- an answer to the metadata's client
   metadata_left : (body : Body) → Left (metadata_actions d r body) (metadata_reply d r body)
-  metadata_left body =
-      let o : Outcome = reply_rule (picking d r.metadata) (request d) body in
-      metadata_step (groups_of body) (option_to_list o.packet) o.after r.stage refl o.news
+  metadata_left body = at_stage (is_serving r.stage)
+    where
+      o : Outcome
+      o = reply_rule (picking d r.metadata) (request d) body
+
+      now : RangeState
+      now = record r { metadata = o.after }
+
+      at_stage : (b : Bool) →
+          Left (if b then record_actions r o.news else loading_actions kinds.Metadata r.metadata r.stage (groups_of body) o.news)
+          (if b then record_told d now r.control o.news (option_to_list o.packet) else metadata_news d now (groups_of body) r.stage o.news (option_to_list o.packet))
+      at_stage true =
+          same_left (record_actions r o.news) (record_actions_elim ReadNothing r refl (λ extent at group. refl) o.news) _ (record_news_same d r o.after o.news (option_to_list o.packet))
+      at_stage false = metadata_step (groups_of body) (option_to_list o.packet) o.after r.stage refl o.news
 
   -- ---- the log
 
@@ -409,17 +458,20 @@ module _ (k : ℕ) (v : RangeView) (r : RangeState) (before : RangeLaid k v.hist
     log_left true = taken_left (is_serving r.stage) refl
     log_left false = rests_left
 
-    answered : (w : ReqNo) (a b c e : Bool) →
+    answered : (w : ReqNo) (a b c e f g : Bool) →
         Left
         (if a then load_actions r body else if b then metadata_actions d r body else if c then (if is_taken r body then log_actions d r body
-        (if a then load_reply d r body else if b then metadata_reply d r body else if c then log_reply d r body else if e then index_reply d r body else gets_reply d r w body) else []) else [])
-        (if a then load_reply d r body else if b then metadata_reply d r body else if c then log_reply d r body else if e then index_reply d r body else gets_reply d r w body)
-    answered w true b c e = load_left body
-    answered w false true c e = metadata_left body
-    answered w false false true e = log_left (is_taken r body)
-    answered w false false false true = index_reply_left body
-    answered w false false false false = gets_reply_left w body
+        (if a then load_reply d r body else if b then metadata_reply d r body else if c then log_reply d r body else if e then rows_reply d r body else if f then index_reply d r body else if g then trim_reply d r body else gets_reply d r w body) else [])
+        else if e then rows_actions d r body else [])
+        (if a then load_reply d r body else if b then metadata_reply d r body else if c then log_reply d r body else if e then rows_reply d r body else if f then index_reply d r body else if g then trim_reply d r body else gets_reply d r w body)
+    answered w true b c e f g = load_left body
+    answered w false true c e f g = metadata_left body
+    answered w false false true e f g = log_left (is_taken r body)
+    answered w false false false true f g = rows_left body
+    answered w false false false false true g = index_reply_left body
+    answered w false false false false false true = trim_left body
+    answered w false false false false false false = gets_reply_left w body
 
     -- an answer
     pub answer_laid : (w : ReqNo) → StepLaid k v r.load.generation (answer_actions d r w body (answer_rule d r w body)) (answer_rule d r w body)
-    answer_laid w = answered w (load_awaits r.load.phase w) (awaits r.metadata.job w) (awaits r.log.job w) (reads_under r.reading w)
+    answer_laid w = answered w (load_awaits r.load.phase w) (awaits r.metadata.job w) (awaits r.log.job w) (awaits r.rows.job w) (reads_under r.reading w) (trim_awaits r.control w)

@@ -18,7 +18,7 @@ use Rattle.model_partition.specs.Past.{Bytes}
 use Rattle.model_partition.specs.TableContents.{StandsAt, value_in}
 use Rattle.laws_loads.proofs.Cells.{stands_first, stands_second, size_is, first_blocks, same_key, apart, inserted_same, inserted_other, put_both, kept_value}
 use Rattle.laws_tables.specs.Layers.{Layer, layer_change, layer_transaction, layer_line}
-use Rattle.laws_server_runs.specs.RangeInvariant.{layer_in}
+use Rattle.laws_loads.specs.MemoryLayers.{layer_in}
 
 -- ---- cells of some keys
 

@@ -9,6 +9,18 @@ pub mod Confirms
 pub mod Behind
 pub mod LayerCells
 pub mod Replaying
+mod HeldCheckpoints
+mod LoadedRecords
+mod CheckpointBegins
+mod CheckpointRows
+mod CheckpointRecorded
+mod CheckpointStreams
+mod CheckpointSteps
+mod CheckpointReplies
+mod CheckpointKept
+mod LiveEntries
+mod LoadedRows
+mod ServedLine
 pub mod HeldLine
 pub mod LoadedLine
 pub mod ObservedLoad
@@ -37,3 +49,4 @@ pub mod FirstAlone
 pub mod Folding
 pub mod OneRegion
 pub mod WorkedRanges
+pub mod CheckpointActions

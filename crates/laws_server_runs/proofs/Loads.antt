@@ -35,20 +35,20 @@ use Rattle.model_partition.specs.ServedTables.{AreSeenAs}
 use Rattle.laws_loads.proofs.WaitingStays.{new_sound}
 use Rattle.laws_loads.specs.RangeView.{RangeView}
 use Rattle.laws_tables.specs.Runs.{Run, Serving, first_beginning, held as held_by}
-use Rattle.laws_server_runs.specs.RangeInvariant.{ReadsMetadata, ReadsLog, Matches, StageIs, RangeKept, StreamsKept, AreObserved, Rests, KeptIf, ServesAnew, StepKept}
+use Rattle.laws_server_runs.specs.RangeInvariant.{ReadsMetadata, ReadsLog, HasNoCheckpoint, Matches, StageIs, RangeKept, StreamsKept, AreObserved, Rests, KeptIf, ServesAnew, StepKept}
 
 -- ---- the same range, but for what nothing is kept of
 
-module _ (texts : ℕ → Bytes) (subject : ℕ) (run : Run) (v : RangeView) (r : RangeState) (until : ℕ) (metadata log : ClientState) (row_data blob_data : StreamList) (reading : Option PlaceRead) (gets : List WaitingGet) (held : List (Place × List ℕ))
+module _ (texts : ℕ → Bytes) (subject : ℕ) (run : Run) (v : RangeView) (r : RangeState) (until : ℕ) (metadata log : ClientState) (rows : ClientState) (blob_data : StreamList) (reading : Option PlaceRead) (gets : List WaitingGet) (held : List (Place × List ℕ))
     (metadata_idle : r.metadata.job ≡ jobs.Idle → metadata.job ≡ jobs.Idle) (log_idle : r.log.job ≡ jobs.Idle → log.job ≡ jobs.Idle) where
   abbrev other : RangeState
-  other = record r { until = until; metadata = metadata; log = log; row_data = row_data; blob_data = blob_data; reading = reading; gets = gets; held = held }
+  other = record r { until = until; metadata = metadata; log = log; rows = rows; blob_data = blob_data; reading = reading; gets = gets; held = held }
 
   metadata_same : ReadsMetadata v.history r → ReadsMetadata v.history other
-  metadata_same h = record { said = h.said; log = h.log; live = h.live; fixed = h.fixed; idle = log_idle h.idle }
+  metadata_same h = record { said = h.said; log = h.log; live = h.live; fixed = h.fixed; idle = log_idle h.idle; none = h.none }
 
   log_same : ReadsLog v.history r → ReadsLog v.history other
-  log_same h = record { said = h.said; made = h.made; fixed = h.fixed; idle = metadata_idle h.idle }
+  log_same h = record { said = h.said; made = h.made; fixed = h.fixed; idle = metadata_idle h.idle; none = h.none }
 
   matches_same : (s : Serving) → Matches texts v s r → Matches texts v s other
   matches_same s m = record {
@@ -56,15 +56,12 @@ module _ (texts : ℕ → Bytes) (subject : ℕ) (run : Run) (v : RangeView) (r 
     next = m.next;
     out = m.out;
     live = m.live;
-    fixed = m.fixed;
-    fixed_layer = m.fixed_layer;
-    noted = m.noted;
-    record_out = m.record_out;
-    records = m.records;
+    checkpoint = m.checkpoint;
+    said = m.said;
   }
 
   stage_same : (stage : Stage) → StageIs texts run v r stage → StageIs texts run v other stage
-  stage_same stages.Opening h = record { metadata = h.metadata; log = h.log; live = h.live; fixed = h.fixed }
+  stage_same stages.Opening h = record { metadata = h.metadata; log = h.log; live = h.live; fixed = h.fixed; none = h.none }
   stage_same (stages.Checking kinds.Metadata) h = metadata_same h
   stage_same (stages.Checking kinds.Log) h = log_same h
   stage_same (stages.Checking kinds.RowData) h = h
@@ -83,7 +80,7 @@ module _ (texts : ℕ → Bytes) (subject : ℕ) (run : Run) (v : RangeView) (r 
 
 -- the lease of a range is renewed
 pub renewed_kept : (texts : ℕ → Bytes) (subject : ℕ) (run : Run) (v : RangeView) (r : RangeState) → RangeKept texts subject run v r → (until : ℕ) → RangeKept texts subject run v (record r { until = until })
-renewed_kept texts subject run v r kept until = same_kept texts subject run v r until r.metadata r.log r.row_data r.blob_data r.reading r.gets r.held (λ e. e) (λ e. e) kept
+renewed_kept texts subject run v r kept until = same_kept texts subject run v r until r.metadata r.log r.rows r.blob_data r.reading r.gets r.held (λ e. e) (λ e. e) kept
 
 -- a range whose load begins
 pub new_kept : (texts : ℕ → Bytes) (subject : ℕ) (run : Run) (v : RangeView) (d : ServerContext) → v.history ≡ first_history → (generation until : ℕ) → RangeKept texts subject run v (new_range d subject generation until)
@@ -92,7 +89,7 @@ new_kept texts subject run v d first generation until =
       range = refl;
       phase = (request d, refl);
       sound = new_sound d subject generation until;
-      stage = record { metadata = ap (λ h. h.reads kinds.Metadata) first; log = ap (λ h. h.reads kinds.Log) first; live = refl; fixed = refl };
+      stage = record { metadata = ap (λ h. h.reads kinds.Metadata) first; log = ap (λ h. h.reads kinds.Log) first; live = refl; fixed = refl; none = refl };
     }
 
 -- ---- a step that shows nothing
@@ -104,13 +101,14 @@ silent_seen texts subject run before (note ∷ later) old told = absurd told
 
 -- a step that does nothing with streams and shows nothing
 pub calm_kept : (texts : ℕ → Bytes) (subject : ℕ) (run : Run) (v : RangeView) (r : RangeState) (o : RangeOutcome) → StreamsKept texts run v → o.notes ≡ [] →
-    KeptIf texts subject run v r.load.generation o.after → ServesAnew texts run r o.after → StepKept texts subject run v r [] o
-calm_kept texts subject run v r o streams quiet kept anew = record {
+    KeptIf texts subject run v r.load.generation o.after → ServesAnew texts run r o.after → (r.control ≡ None → HasNoCheckpoint o.after) → StepKept texts subject run v r [] o
+calm_kept texts subject run v r o streams quiet kept anew rest = record {
   next = run;
   goes = Rests;
   alone = inl refl;
   kept = kept;
   streams = streams;
+  plain = λ none p. (p, rest none);
   longer = ([], refl);
   anew = anew;
   seen = λ before later old told. silent_seen texts subject run before later old (subst (λ notes. AreSeenAs texts notes later) quiet told);
@@ -125,7 +123,7 @@ module _ (texts : ℕ → Bytes) (subject : ℕ) (run : Run) (v : RangeView) (r 
   rests_kept until metadata log reading gets held count packets metadata_idle log_idle =
       calm_kept texts subject run v r
       (record { after = Some (record r { until = until; metadata = metadata; log = log; reading = reading; gets = gets; held = held }); count = count; packets = packets; notes = [] })
-      streams refl (same_kept texts subject run v r until metadata log r.row_data r.blob_data reading gets held metadata_idle log_idle kept, refl) (λ serves. inl serves)
+      streams refl (same_kept texts subject run v r until metadata log r.rows r.blob_data reading gets held metadata_idle log_idle kept, refl) (λ serves. inl serves) (λ none. none)
 
   gets_kept : (from : ActorId) (q : ReqNo) (key : List ℕ) (fault : Option Refusal) → StepKept texts subject run v r [] (gets d r from q key fault)
   gets_kept from q key (Some refusal) = rests_kept r.until r.metadata r.log r.reading r.gets r.held _ _ (λ e. e) (λ e. e)
@@ -144,7 +142,7 @@ module _ (texts : ℕ → Bytes) (subject : ℕ) (run : Run) (v : RangeView) (r 
 
   -- a range of an old generation is dropped
   pub dropped_kept : StepKept texts subject run v r [] (dropped d r)
-  dropped_kept = calm_kept texts subject run v r (dropped d r) streams refl tt tt
+  dropped_kept = calm_kept texts subject run v r (dropped d r) streams refl tt tt (λ none. tt)
 
   refused_kept : (body : AppendBody) → StepKept texts subject run v r [] (load_refused d r body)
   refused_kept (appends.Refused n refusals.Stale) = dropped_kept
@@ -162,4 +160,10 @@ module _ (texts : ℕ → Bytes) (subject : ℕ) (run : Run) (v : RangeView) (r 
 
   -- the jobs of the range give up
   pub give_up_kept : StepKept texts subject run v r [] (give_up_all d r)
-  give_up_kept = rests_kept r.until _ _ _ _ r.held _ _ (idle_rests (picking d r.metadata) (request (used d)) d.pick) (idle_rests (picking d r.log) (request d) d.pick)
+  give_up_kept =
+      calm_kept texts subject run v r (give_up_all d r) streams refl (
+        same_kept texts subject run v r r.until _ _ _ r.blob_data _ _ r.held (idle_rests (picking d r.metadata) (request (used d)) d.pick) (idle_rests (picking d r.log) (request d) d.pick)
+            kept,
+        refl,
+      )
+      (λ serves. inl serves) (λ none. none)

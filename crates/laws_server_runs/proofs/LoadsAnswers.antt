@@ -35,12 +35,17 @@ use Rattle.model_partition.specs.Past.{Bytes}
 use Rattle.model_partition.specs.Range.{RangeState, RangeOutcome, request, picking, answers, dropped, is_serving}
 use Rattle.model_partition.specs.Loading.{Group, said_after, says, metadata_news, replayed, replays, reads_log, reads_log_from, log_read, log_news, first_position, reads_metadata}
 use Rattle.model_partition.specs.Answering.{groups_of, metadata_reply, serving_news, is_taken, log_taken, log_reply}
+use Rattle.model_partition.specs.Checkpoints.{record_told}
 use Rattle.model_partition.specs.ServerRun.{one_more_read}
-use Rattle.model_partition.specs.StreamActions.{ExtentRead, StreamAction, Reads, loading_actions, metadata_actions, serving_actions, log_actions}
+use Rattle.model_partition.specs.StreamActions.{ExtentRead, StreamAction, Reads, loading_actions, record_actions, metadata_actions, serving_actions, log_actions}
 use Rattle.laws_loads.specs.RangeView.{RangeView}
 use Rattle.laws_tables.specs.Runs.{Run}
 use Rattle.laws_server_runs.specs.RangeInvariant.{groups_read, ReadsMetadata, ReadsLog, PhaseIs, StageIs, RangeKept, StreamsKept, StepKept}
+use Rattle.laws_loads.proofs.CheckpointAnswers.{record_news_same}
+use Rattle.laws_server_runs.proofs.CheckpointKept.{leaves_kept, record_none}
+use Rattle.laws_server_runs.proofs.CheckpointSteps.{metadata_step as record_step}
 use Rattle.laws_server_runs.proofs.Loads.{rests_kept}
+use Rattle.laws_server_runs.proofs.ServedNotes.{serves_of}
 use Rattle.laws_server_runs.proofs.LoadsSteps.{Left, IsLoading, drops_left, reads_log_left, reads_log_from_left, reads_metadata_left}
 
 -- ---- what an answer makes of a client
@@ -112,7 +117,7 @@ module _ (c : ClientState) (q : ReqNo) where
   reply_takes body = still
 
 -- a job that waits for an answer is not idle
-busy : (job : Job) (w : ReqNo) → awaits job w ≡ true → job ≡ jobs.Idle → ⊥
+pub busy : (job : Job) (w : ReqNo) → awaits job w ≡ true → job ≡ jobs.Idle → ⊥
 busy job w waits idle = let none : awaits jobs.Idle w ≡ true = subst (λ j. awaits j w ≡ true) idle waits in absurd cc
 
 -- ---- what is read
@@ -154,7 +159,7 @@ module _ (texts : ℕ → Bytes) (subject : ℕ) (run : Run) (v : RangeView) (r 
     metadata_next opened s idle position =
         reads_metadata_left texts subject run v r streams d [] v.history refl (record r { metadata = c })
         (record { range = kept.range; generation = refl; opened = opened; sound = kept.sound })
-        (record { said = s.said; log = s.log; live = s.live; fixed = s.fixed; idle = s.idle }) idle position
+        (record { said = s.said; log = s.log; live = s.live; fixed = s.fixed; idle = s.idle; none = s.none }) idle position
 
     metadata_read : r.load.phase ≡ phases.Opened → ReadsMetadata v.history r → c.job ≡ jobs.Idle → (position index extent : ℕ) (x : Option MetadataState) → said_after r.said groups ≡ x →
         MoreRead kinds.Metadata (record { index = index; extent = extent; groups = groups }) (says d (record r { metadata = c }) position x)
@@ -172,6 +177,7 @@ module _ (texts : ℕ → Bytes) (subject : ℕ) (run : Run) (v : RangeView) (r 
           live = s.live;
           fixed = s.fixed;
           idle = s.idle;
+          none = s.none;
         })
         idle (suc position)
 
@@ -199,9 +205,27 @@ module _ (texts : ℕ → Bytes) (subject : ℕ) (run : Run) (v : RangeView) (r 
   -- an answer to the metadata's client
   pub metadata_kept : (w : ReqNo) (body : Body) → awaits r.metadata.job w ≡ true →
       StepKept texts subject run v r (if is_some (metadata_reply d r body).after then metadata_actions d r body else []) (metadata_reply d r body)
-  metadata_kept w body waited =
-      let o : Outcome = reply_rule (picking d r.metadata) (request d) body in
-      metadata_step w waited (groups_of body) (option_to_list o.packet) o.after r.stage kept.phase kept.stage o.news (reply_takes (picking d r.metadata) (request d) body).idle
+  metadata_kept w body waited = at_stage (is_serving r.stage) refl
+    where
+      o : Outcome
+      o = reply_rule (picking d r.metadata) (request d) body
+
+      now : RangeState
+      now = record r { metadata = o.after }
+
+      told : Bool → RangeOutcome
+      told b = if b then record_told d now r.control o.news (option_to_list o.packet) else metadata_news d now (groups_of body) r.stage o.news (option_to_list o.packet)
+
+      -- while the range is served it is an answer to a record
+      at_stage : (b : Bool) → is_serving r.stage ≡ b →
+          StepKept texts subject run v r
+          (if is_some (told b).after then (if b then record_actions r o.news else loading_actions kinds.Metadata r.metadata r.stage (groups_of body) o.news) else []) (told b)
+      at_stage true e =
+          leaves_kept texts subject run v r kept streams e (told true) (record_actions r o.news) (record_news_same d r o.after o.news (option_to_list o.packet))
+          (λ none. record_none d r none r.control none o.news (option_to_list o.packet) o.after)
+          (record_step texts subject run v r (serves_of texts subject run v r e kept).matches (serves_of texts subject run v r e kept).shown streams d o.after o.news (option_to_list o.packet))
+      at_stage false e =
+          metadata_step w waited (groups_of body) (option_to_list o.packet) o.after r.stage kept.phase kept.stage o.news (reply_takes (picking d r.metadata) (request d) body).idle
 
   -- ---- the log
 
@@ -217,7 +241,7 @@ module _ (texts : ℕ → Bytes) (subject : ℕ) (run : Run) (v : RangeView) (r 
     is_loading opened = record { range = kept.range; generation = refl; opened = opened; sound = kept.sound }
 
     log_same : ReadsLog v.history r → ReadsLog v.history now
-    log_same s = record { said = s.said; made = s.made; fixed = s.fixed; idle = s.idle }
+    log_same s = record { said = s.said; made = s.made; fixed = s.fixed; idle = s.idle; none = s.none }
 
     -- the log is read from its first extent on
     log_begins : r.load.phase ≡ phases.Opened → ReadsLog v.history r → (position : Option ℕ) → NoneRead (reads_log_from d now position)
@@ -251,6 +275,7 @@ module _ (texts : ℕ → Bytes) (subject : ℕ) (run : Run) (v : RangeView) (r 
             made = ap (λ y. y >>= λ z. replayed_from r.log.base z) s.made ∙ ap (λ n. replayed_from n (r.regions, r.live)) (sym base) ∙ e;
             fixed = s.fixed;
             idle = s.idle;
+            none = s.none;
           })
           (suc position)
 

@@ -48,21 +48,23 @@ module _ (texts : ℕ → Bytes) (subject : ℕ) (run : Run) (v : RangeView) (r 
         alone = inl refl;
         kept = tt;
         streams = streams;
+        plain = λ none p. (p, tt);
         longer = ([], refl);
         anew = tt;
         seen = λ before later old told. silent_seen texts subject run before later old told;
       }
 
   -- the load goes on
-  pub goes_left : (next : RangeState) (count : ℕ) (packets : List Packet) → RangeKept texts subject run view next → next.load.generation ≡ r.load.generation →
+  pub goes_left : (next : RangeState) (count : ℕ) (packets : List Packet) → RangeKept texts subject run view next → next.load.generation ≡ r.load.generation → next.control ≡ None →
       (is_serving next.stage ≡ true → is_serving r.stage ≡ true) → Left (record { after = Some next; count = count; packets = packets; notes = [] })
-  goes_left next count packets kept generation served =
+  goes_left next count packets kept generation none served =
       record {
         next = run;
         goes = Rests;
         alone = inl refl;
         kept = subst (λ w. KeptIf texts subject run w r.load.generation (Some next)) (sym same) (kept, generation);
         streams = subst (λ w. StreamsKept texts run w) (sym same) (streams_same texts run v view refl refl streams);
+        plain = λ before p. (p, none);
         longer = subst (λ w. IsLonger v.answered w.answered) (sym same) ([], refl);
         anew = λ serves. inl (served serves);
         seen = λ before later old told. silent_seen texts subject run before later old told;
@@ -79,16 +81,16 @@ module _ (texts : ℕ → Bytes) (subject : ℕ) (run : Run) (v : RangeView) (r 
 
   -- a request of the log's client is out
   log_reads : (s : RangeState) → IsLoading s → (c : ClientState) → ReadsLog h s → (position : ℕ) → RangeKept texts subject run view (record s { stage = stages.Reading kinds.Log position; log = c })
-  log_reads s b c reads position = record { range = b.range; phase = b.opened; sound = b.sound; stage = record { said = reads.said; made = reads.made; fixed = reads.fixed; idle = reads.idle } }
+  log_reads s b c reads position = record { range = b.range; phase = b.opened; sound = b.sound; stage = record { said = reads.said; made = reads.made; fixed = reads.fixed; idle = reads.idle; none = reads.none } }
 
   log_checks : (s : RangeState) → IsLoading s → (c : ClientState) → ReadsLog h s → RangeKept texts subject run view (record s { stage = stages.Checking kinds.Log; log = c })
-  log_checks s b c reads = record { range = b.range; phase = b.opened; sound = b.sound; stage = record { said = reads.said; made = reads.made; fixed = reads.fixed; idle = reads.idle } }
+  log_checks s b c reads = record { range = b.range; phase = b.opened; sound = b.sound; stage = record { said = reads.said; made = reads.made; fixed = reads.fixed; idle = reads.idle; none = reads.none } }
 
   confirms_left : (s : RangeState) → IsLoading s → ReadsLog h s → Left (confirms d s)
   confirms_left s b reads =
       goes_left (record s { stage = stages.Confirming; load = record s.load { phase = phases.Confirming (request d) } }) _ _
-      (record { range = b.range; phase = (request d, refl); sound = b.sound; stage = record { said = reads.said; made = reads.made; fixed = reads.fixed; idle = reads.idle } })
-      b.generation (λ z. absurd cc)
+      (record { range = b.range; phase = (request d, refl); sound = b.sound; stage = record { said = reads.said; made = reads.made; fixed = reads.fixed; idle = reads.idle; none = reads.none } })
+      b.generation reads.none (λ z. absurd cc)
 
   -- an index is asked for
   asks_index_left : (s : RangeState) → IsLoading s → ReadsLog h s → (position : ℕ) (index : IndexRange) (places : Option Nodes) → Left (asks_index d s position index places)
@@ -96,13 +98,13 @@ module _ (texts : ℕ → Bytes) (subject : ℕ) (run : Run) (v : RangeView) (r 
   asks_index_left s b reads position index (Some places) =
       let read : PlaceRead = record { request = request d; place = index.place; page = false; replica = First } in
       goes_left (record s { stage = stages.Indexing position; reading = Some read }) _ _
-      (record { range = b.range; phase = b.opened; sound = b.sound; stage = record { said = reads.said; made = reads.made; fixed = reads.fixed; idle = reads.idle } })
-      b.generation (λ z. absurd cc)
+      (record { range = b.range; phase = b.opened; sound = b.sound; stage = record { said = reads.said; made = reads.made; fixed = reads.fixed; idle = reads.idle; none = reads.none } })
+      b.generation reads.none (λ z. absurd cc)
 
   reads_named_left : (s : RangeState) → IsLoading s → ReadsLog h s → (position : ℕ) (named : Option IndexRange) → Left (reads_named d s position named)
   reads_named_left s b reads position None =
       confirms_left (record s { reading = None }) (record { range = b.range; generation = b.generation; opened = b.opened; sound = b.sound })
-      (record { said = reads.said; made = reads.made; fixed = reads.fixed; idle = reads.idle })
+      (record { said = reads.said; made = reads.made; fixed = reads.fixed; idle = reads.idle; none = reads.none })
   reads_named_left s b reads position (Some index) = asks_index_left s b reads position index (places_of s index.place.extent)
 
   reads_index_left : (s : RangeState) → IsLoading s → ReadsLog h s → (position : ℕ) → Left (reads_index d s position)
@@ -113,13 +115,13 @@ module _ (texts : ℕ → Bytes) (subject : ℕ) (run : Run) (v : RangeView) (r 
   installs_left s b reads position (Some named) (Some index) =
       reads_index_left (record s { indexes = record { place = named.place; keys = named.keys; index = index } ∷ s.indexes })
       (record { range = b.range; generation = b.generation; opened = b.opened; sound = b.sound })
-      (record { said = reads.said; made = reads.made; fixed = reads.fixed; idle = reads.idle }) (suc position)
+      (record { said = reads.said; made = reads.made; fixed = reads.fixed; idle = reads.idle; none = reads.none }) (suc position)
   installs_left s b reads position named index = drops_left _ _
 
   pub reads_log_left : (s : RangeState) → IsLoading s → ReadsLog h s → (position : ℕ) → Left (reads_log d s position)
   reads_log_left s b reads position =
       if_elim Left (nat_lt position (length s.log.extents)) _ _
-      (λ t. goes_left _ _ _ (log_reads s b _ reads position) b.generation (λ z. absurd cc))
+      (λ t. goes_left _ _ _ (log_reads s b _ reads position) b.generation reads.none (λ z. absurd cc))
       (λ f. reads_index_left s b reads 0)
 
   pub reads_log_from_left : (s : RangeState) → IsLoading s → ReadsLog h s → (position : Option ℕ) → Left (reads_log_from d s position)
@@ -131,7 +133,7 @@ module _ (texts : ℕ → Bytes) (subject : ℕ) (run : Run) (v : RangeView) (r 
   checks_log_left s b reads (Some x) =
       if_elim Left (is_some x.length) _ _
       (λ t. reads_log_from_left s b reads (first_position s s.regions))
-      (λ f. goes_left _ _ _ (log_checks s b _ reads) b.generation (λ z. absurd cc))
+      (λ f. goes_left _ _ _ (log_checks s b _ reads) b.generation reads.none (λ z. absurd cc))
 
   -- ---- the metadata
 
@@ -139,7 +141,7 @@ module _ (texts : ℕ → Bytes) (subject : ℕ) (run : Run) (v : RangeView) (r 
   begins_log_left s b reads idle =
       if_elim Left (is_some (open_region s.said.regions) && is_some (first_position s s.said.regions)) _ _
       (λ t. checks_log_left (record s { regions = s.said.regions }) (record { range = b.range; generation = b.generation; opened = b.opened; sound = b.sound })
-      (record { said = reads.said; made = made; fixed = reads.fixed; idle = idle }) (last_extent s.log.extents))
+      (record { said = reads.said; made = made; fixed = reads.fixed; idle = idle; none = reads.none }) (last_extent s.log.extents))
       (λ f. drops_left _ _)
     where
       made : replayed_all s.said.keys (h.reads kinds.Log) (s.said.regions, []) ≡ Some (s.said.regions, s.live)
@@ -147,15 +149,15 @@ module _ (texts : ℕ → Bytes) (subject : ℕ) (run : Run) (v : RangeView) (r 
 
   -- a request of the metadata's client is out
   metadata_reads : (s : RangeState) → IsLoading s → (c : ClientState) → ReadsMetadata h s → (position : ℕ) → RangeKept texts subject run view (record s { stage = stages.Reading kinds.Metadata position; metadata = c })
-  metadata_reads s b c reads position = record { range = b.range; phase = b.opened; sound = b.sound; stage = record { said = reads.said; log = reads.log; live = reads.live; fixed = reads.fixed; idle = reads.idle } }
+  metadata_reads s b c reads position = record { range = b.range; phase = b.opened; sound = b.sound; stage = record { said = reads.said; log = reads.log; live = reads.live; fixed = reads.fixed; idle = reads.idle; none = reads.none } }
 
   metadata_checks : (s : RangeState) → IsLoading s → (c : ClientState) → ReadsMetadata h s → RangeKept texts subject run view (record s { stage = stages.Checking kinds.Metadata; metadata = c })
-  metadata_checks s b c reads = record { range = b.range; phase = b.opened; sound = b.sound; stage = record { said = reads.said; log = reads.log; live = reads.live; fixed = reads.fixed; idle = reads.idle } }
+  metadata_checks s b c reads = record { range = b.range; phase = b.opened; sound = b.sound; stage = record { said = reads.said; log = reads.log; live = reads.live; fixed = reads.fixed; idle = reads.idle; none = reads.none } }
 
   pub reads_metadata_left : (s : RangeState) → IsLoading s → ReadsMetadata h s → s.metadata.job ≡ jobs.Idle → (position : ℕ) → Left (reads_metadata d s position)
   reads_metadata_left s b reads idle position =
       if_elim Left (nat_lt position (length s.metadata.extents)) _ _
-      (λ t. goes_left _ _ _ (metadata_reads s b _ reads position) b.generation (λ z. absurd cc))
+      (λ t. goes_left _ _ _ (metadata_reads s b _ reads position) b.generation reads.none (λ z. absurd cc))
       (λ f. begins_log_left s b reads idle)
 
   begins_metadata_left : (s : RangeState) → IsLoading s → ReadsMetadata h s → s.metadata.job ≡ jobs.Idle → (x : Option StreamExtent) → Left (begins_metadata d s x)
@@ -163,7 +165,7 @@ module _ (texts : ℕ → Bytes) (subject : ℕ) (run : Run) (v : RangeView) (r 
   begins_metadata_left s b reads idle (Some x) =
       if_elim Left (is_some x.length) _ _
       (λ t. reads_metadata_left s b reads idle 0)
-      (λ f. goes_left _ _ _ (metadata_checks s b _ reads) b.generation (λ z. absurd cc))
+      (λ f. goes_left _ _ _ (metadata_checks s b _ reads) b.generation reads.none (λ z. absurd cc))
 
   -- the streams are opened, and nothing is read yet
   pub opens_left : IsLoading (record r { load = record r.load { phase = phases.Opened } }) → HasReadNothing h r → (lists : StreamLists) → Left (opens d r lists)
@@ -173,12 +175,12 @@ module _ (texts : ℕ → Bytes) (subject : ℕ) (run : Run) (v : RangeView) (r 
         load = record r.load { phase = phases.Opened };
         metadata = new_client d.server (record { range = r.load.range; kind = kinds.Metadata }) r.load.generation lists.metadata d.pick;
         log = new_client d.server (record { range = r.load.range; kind = kinds.Log }) r.load.generation lists.log d.pick;
-        row_data = lists.row_data;
+        rows = new_client d.server (record { range = r.load.range; kind = kinds.RowData }) r.load.generation lists.row_data d.pick;
         blob_data = lists.blob_data;
         said = first_metadata;
       })
       (record { range = b.range; generation = b.generation; opened = b.opened; sound = b.sound })
-      (record { said = ap (λ read. said_after first_metadata (groups_read read)) nothing.metadata; log = nothing.log; live = nothing.live; fixed = nothing.fixed; idle = refl })
+      (record { said = ap (λ read. said_after first_metadata (groups_read read)) nothing.metadata; log = nothing.log; live = nothing.live; fixed = nothing.fixed; idle = refl; none = nothing.none })
       refl (last_extent lists.metadata.extents)
 
 -- a step without actions

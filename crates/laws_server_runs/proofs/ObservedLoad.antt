@@ -5,36 +5,38 @@ use Rattle.std.proofs.lemmas.Bool.Decides.{nat_tests}
 use Rattle.wire.specs.declared.note.Note.{Note}
 use Rattle.wire.specs.declared.note.Note.TheVariants.{Loaded}
 use Rattle.wire.specs.declared.rows.Row.{Row}
+use Rattle.memtable.specs.declared.cell.Place.{Place}
 use Rattle.metadata.specs.declared.record.MetaItem.{MetaItem}
 use Rattle.commitlog.specs.Replay.{Numbered}
 use Rattle.model_partition.specs.Log.{line_shown, begins_of, dones_at}
 use Rattle.model_partition.specs.Past.{Bytes, Transaction, stored, kept}
 use Rattle.model_partition.specs.Story.{Placed, event_at}
-use Rattle.laws_tables.specs.Layers.{empty_layer, flat, layer_line}
+use Rattle.laws_tables.specs.Layers.{Layer, empty_layer, flat, layer_line}
 use Rattle.laws_tables.specs.Runs as chains
 use Rattle.laws_tables.specs.Runs.{Run, first_beginning, said, replayed_by, next_loaded, loaded_layer, seen, ShowsLayers}
 use Rattle.laws_tables.proofs.Layers.{kept_all, pick_none}
-use Rattle.laws_server_runs.specs.RangeInvariant.{no_index, AreObserved}
+use Rattle.laws_checkpoints.specs.IndexLayers.{layer_at}
+use Rattle.laws_server_runs.specs.RangeInvariant.{AreObserved}
 
 -- what rows a load shows matters only for loads
 abbrev AgreeBelow : ℕ → (ℕ → List Row) → (ℕ → List Row) → Type 0
 AgreeBelow n rows others = (l : ℕ) → l < n → rows l ≡ others l
 
 -- these rows are what the layers of a load say
-abbrev pub SaysLoad : List Row → List (Placed (Numbered Transaction)) → List (Placed (Numbered MetaItem)) → Type 0
-SaysLoad rows groups records =
-    (key : Bytes) → stored rows key ≡ kept (said first_beginning (line_shown records)).keys (λ k. flat (loaded_layer first_beginning no_index groups records k)) key
+abbrev pub SaysLoad : (Place → Layer) → List Row → List (Placed (Numbered Transaction)) → List (Placed (Numbered MetaItem)) → Type 0
+SaysLoad layer_at rows groups records =
+    (key : Bytes) → stored rows key ≡ kept (said first_beginning (line_shown records)).keys (λ k. flat (loaded_layer first_beginning layer_at groups records k)) key
 
 -- where it shows no records, they are the line that is replayed
-pub plain_load : (rows : List Row) (groups : List (Placed (Numbered Transaction))) (records : List (Placed (Numbered MetaItem))) → records ≡ [] →
-    ((key : Bytes) → stored rows key ≡ flat (layer_line (replayed_by first_beginning groups records) empty_layer key)) → SaysLoad rows groups records
-plain_load rows groups records none says key =
+pub plain_load : (layer_at : Place → Layer) (rows : List Row) (groups : List (Placed (Numbered Transaction))) (records : List (Placed (Numbered MetaItem))) → records ≡ [] →
+    ((key : Bytes) → stored rows key ≡ flat (layer_line (replayed_by first_beginning groups records) empty_layer key)) → SaysLoad layer_at rows groups records
+plain_load layer_at rows groups records none says key =
     says key ∙ ap (λ z. flat (layer_line (replayed_by first_beginning groups z) empty_layer key)) none
     ∙ sym (pick_none (layer_line (replayed_by first_beginning groups []) empty_layer key))
-    ∙ sym (kept_all (λ k. flat (loaded_layer first_beginning no_index groups [] k)) key)
-    ∙ ap (λ z. kept (said first_beginning (line_shown z)).keys (λ k. flat (loaded_layer first_beginning no_index groups z k)) key) (sym none)
+    ∙ sym (kept_all (λ k. flat (loaded_layer first_beginning layer_at groups [] k)) key)
+    ∙ ap (λ z. kept (said first_beginning (line_shown z)).keys (λ k. flat (loaded_layer first_beginning layer_at groups z k)) key) (sym none)
 
-module _ (subject : ℕ) (rows others : ℕ → List Row) where
+module _ (layer_at : Place → Layer) (subject : ℕ) (rows others : ℕ → List Row) where
   seen_same : (run : Run) → AgreeBelow (length (chains.log_of run)) rows others → seen first_beginning rows subject run ≡ seen first_beginning others subject run
   seen_same [] agree = refl
   seen_same (chains.Forms g group ∷ run) agree = ap (λ l. l ++ begins_of subject g group.first group.items) (seen_same run (λ l less. agree l (omega (arith, less))))
@@ -47,7 +49,7 @@ module _ (subject : ℕ) (rows others : ℕ → List Row) where
       (λ j. seen_same run (λ l less. agree l (omega (arith, less))) j
       ++ Loaded subject g (agree (length (chains.log_of run)) (omega arith) j) (next_loaded first_beginning groups records) ∷ [])
 
-  layers_same : (run : Run) → AgreeBelow (length (chains.log_of run)) rows others → ShowsLayers no_index first_beginning rows run → ShowsLayers no_index first_beginning others run
+  layers_same : (run : Run) → AgreeBelow (length (chains.log_of run)) rows others → ShowsLayers layer_at first_beginning rows run → ShowsLayers layer_at first_beginning others run
   layers_same [] agree shows = tt
   layers_same (chains.Forms g group ∷ run) agree shows = layers_same run (λ l less. agree l (omega (arith, less))) shows
   layers_same (chains.Logged g append from to ∷ run) agree shows = layers_same run (λ l less. agree l (omega (arith, less))) shows
@@ -64,12 +66,12 @@ rows_with rows n new l = if l == n then new else rows l
 
 -- one load more is observed, where its rows are what its layers say
 pub load_observed : (texts : ℕ → Bytes) (subject : ℕ) (run : Run) (g start end metadata_end : ℕ) (groups : List (Placed (Numbered Transaction))) (records : List (Placed (Numbered MetaItem)))
-    (new : List Row) (before : List Note) → SaysLoad new groups records → AreObserved texts subject run before →
+    (new : List Row) (before : List Note) → SaysLoad (layer_at texts) new groups records → AreObserved texts subject run before →
     AreObserved texts subject (chains.Confirms g start end groups metadata_end records ∷ run) (before ++ Loaded subject g new (next_loaded first_beginning groups records) ∷ [])
 load_observed texts subject run g start end metadata_end groups records new before says (rows, shows, is) = (
   with_new,
-  (λ key. ap (λ z. stored z key) here ∙ says key, layers_same subject rows with_new run below shows),
-  (λ j. (is ∙ seen_same subject rows with_new run below) j ++ Loaded subject g (sym here j) (next_loaded first_beginning groups records) ∷ []),
+  (λ key. ap (λ z. stored z key) here ∙ says key, layers_same (layer_at texts) subject rows with_new run below shows),
+  (λ j. (is ∙ seen_same (layer_at texts) subject rows with_new run below) j ++ Loaded subject g (sym here j) (next_loaded first_beginning groups records) ∷ []),
 )
   where
     n : ℕ

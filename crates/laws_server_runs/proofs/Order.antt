@@ -10,14 +10,14 @@ use Rattle.model_partition.specs.Past.{Bytes}
 use Rattle.model_partition.specs.Story.{Placed, Made, Showed, Story, event_at, Copy, placed, from_place, Ascending, KeepsOrder}
 use Rattle.model_partition.specs.Loading.{Group}
 use Rattle.laws_tables.proofs.Range.{event_cases}
-use Rattle.laws_server_runs.specs.RangeInvariant.{AllSpelled, IsUnmade}
+use Rattle.laws_server_runs.specs.RangeInvariant.{AllSpelled}
 use Rattle.laws_server_runs.proofs.Behind.{groups_shown, AreBehind}
 use Rattle.laws_server_runs.proofs.Replaying.{AreRead}
 
-first_there : {A : Type 0} (x : A) (xs : List A) → Contains (x ∷ xs) x
+pub first_there : {A : Type 0} (x : A) (xs : List A) → Contains (x ∷ xs) x
 first_there {A} x xs = (zero, omega arith, refl)
 
-later_there : {A : Type 0} (y x : A) (xs : List A) → Contains xs x → Contains (y ∷ xs) x
+pub later_there : {A : Type 0} (y x : A) (xs : List A) → Contains xs x → Contains (y ∷ xs) x
 later_there {A} y x xs (k, l, e) = (suc k, omega (arith, l), e)
 
 -- what is read back
@@ -70,7 +70,7 @@ module _ (texts : ℕ → Bytes) (story : Story Group) (k : KeepsOrder story) wh
       subst (AreBehind start) (sym (k.shown l g start end groups at)) (from_place_on start (k.copies l) (k.ascending l) (k.not_empty l))
 
   -- where no append was begun, a load shows nothing
-  pub unmade_shows_nothing : IsUnmade texts story → (l g start end : ℕ) (groups : List (Placed Group)) → event_at story l ≡ Some (Showed g start end groups) → groups ≡ []
+  pub unmade_shows_nothing : ((a g : ℕ) (group : Group) → event_at story a ≡ Some (Made g group) → ⊥) → (l g start end : ℕ) (groups : List (Placed Group)) → event_at story l ≡ Some (Showed g start end groups) → groups ≡ []
   unmade_shows_nothing unmade l g start end groups at = go (k.copies l) refl
     where
       go : (cs : List (Copy Group)) → k.copies l ≡ cs → groups ≡ []

@@ -15,8 +15,10 @@ use Rattle.laws_loads.specs.RangeView.{RangeView, log_of, metadata_of}
 use Rattle.laws_tables.specs.Runs as chains
 use Rattle.laws_tables.specs.Runs.{Event, Run, Serving, first_beginning, held, IsServing}
 use Rattle.laws_tables.proofs.Range.{older}
-use Rattle.laws_server_runs.specs.RangeInvariant.{HasReadNothing, ReadsMetadata, ReadsLog, generation_of, GoesOn, Rests, Adds, IsLonger, append_of, Matches, Serves, StageIs, RangeKept, AllSpelled, IsUnmade, StreamsKept}
+use Rattle.laws_server_runs.specs.CheckpointInvariant.{parts_of, HoldsCheckpoint}
+use Rattle.laws_server_runs.specs.RangeInvariant.{HasReadNothing, ReadsMetadata, ReadsLog, generation_of, GoesOn, Rests, Adds, IsLonger, append_of, Matches, Serves, StageIs, RangeKept, AllSpelled, AreCheckpoints, StreamsKept}
 use Rattle.laws_server_runs.proofs.Fronts.{stand_shorter}
+use Rattle.laws_server_runs.proofs.HeldCheckpoints.{longer_holds}
 
 -- ---- one event more
 
@@ -67,9 +69,8 @@ module _ (texts : ℕ → Bytes) where
     metadata = k.metadata ∙ ap (renamed decoded_record) (sym metadata);
     chain = k.chain;
     keys = k.keys;
-    plain = k.plain;
     spelled = subst (λ (z : Story Group). AllSpelled texts z) (sym log) k.spelled;
-    unmade = subst (λ (z : Story Group). IsUnmade texts z) (sym metadata) k.unmade;
+    records = subst (λ (z : Story Group). AreCheckpoints z) (sym metadata) k.records;
   }
 
 module _ (texts : ℕ → Bytes) (subject : ℕ) where
@@ -82,11 +83,9 @@ module _ (texts : ℕ → Bytes) (subject : ℕ) where
       next = m.next;
       out = m.out ∙ ap (λ (h : RangeHistory). append_of (h.append kinds.Log) u.out) (sym same);
       live = λ all. m.live (stand_shorter texts v.answered v'.answered longer all);
-      fixed = m.fixed;
-      fixed_layer = m.fixed_layer;
-      noted = m.noted;
-      record_out = m.record_out;
-      records = m.records;
+      checkpoint = subst (λ n. HoldsCheckpoint texts (record (parts_of v' s u) { append = n }) u.control) (ap (λ (h : RangeHistory). h.append kinds.Metadata) (sym same))
+          (longer_holds texts (parts_of v s u) v'.answered longer u.control m.checkpoint);
+      said = m.said;
     }
 
     still_serves : (u.load.generation ≡ g → ⊥) → Serves texts run v u → Serves texts later v' u

@@ -27,7 +27,7 @@ use Rattle.model_partition.specs.TableContents.{StandsAt, value_in}
 use Rattle.laws_loads.proofs.Cells.{Behind, behind, stands_first, stands_second, joined_both, size_is}
 use Rattle.laws_tables.specs.Layers.{Layer, empty_layer, layer_transaction, layer_line}
 use Rattle.laws_tables.specs.Runs.{added}
-use Rattle.laws_server_runs.specs.RangeInvariant.{layer_in}
+use Rattle.laws_loads.specs.MemoryLayers.{layer_in}
 use Rattle.laws_server_runs.proofs.Behind.{groups_shown, all_behind, before_place}
 use Rattle.laws_server_runs.proofs.LayerCells.{found_let_in, all_transactions}
 

@@ -26,7 +26,8 @@ use Rattle.laws_tables.proofs.Range.{event_cases}
 use Rattle.laws_loads.specs.RangeView.{RangeView, view_after, log_of}
 use Rattle.laws_tables.specs.Runs as chains
 use Rattle.laws_tables.specs.Runs.{Run, Serving, first_beginning, held, formed as formed_held, MayInChain}
-use Rattle.laws_server_runs.specs.RangeInvariant.{no_index, append_of, Matches, Serves, RangeKept, StreamsKept, AreObserved, Rests, Adds, StepKept}
+use Rattle.laws_checkpoints.specs.IndexLayers.{layer_at}
+use Rattle.laws_server_runs.specs.RangeInvariant.{append_of, Matches, Serves, RangeKept, StreamsKept, AreObserved, Rests, Adds, StepKept}
 use Rattle.laws_server_runs.proofs.Loads.{calm_kept}
 use Rattle.laws_server_runs.proofs.Others.{serving_on}
 use Rattle.laws_server_runs.proofs.ServedNotes.{same_here, begun_seen, observed_formed, kept_served}
@@ -62,7 +63,7 @@ module _ (texts : ℕ → Bytes) (subject : ℕ) where
     abbrev old_held : Serving
     old_held = held first_beginning run r.load.generation
 
-    may_form : MayInChain no_index first_beginning run (chains.Forms r.load.generation group)
+    may_form : MayInChain (layer_at texts) first_beginning run (chains.Forms r.load.generation group)
     may_form = (
       k.shown,
       k.matches.out ∙ ap (append_of (v.history.append kinds.Log)) is.none,
@@ -75,7 +76,6 @@ module _ (texts : ℕ → Bytes) (subject : ℕ) where
       metadata = streams.metadata;
       chain = (may_form, streams.chain);
       keys = streams.keys;
-      plain = streams.plain;
       spelled = λ a g group at.
           ⊎_elim {C = (x : LogRecord) × (group ≡ spelling x) × (record_at group ≡ Some x)}
           (λ new.
@@ -84,7 +84,7 @@ module _ (texts : ℕ → Bytes) (subject : ℕ) where
           subst (λ (z : Group). (x : LogRecord) × (z ≡ spelling x) × (record_at z ≡ Some x)) same (record_of r.next (take n r.queue), refl, read_again))
           (λ old. streams.spelled a g group old)
           (event_cases Group made (log_of v) a (Made g group) at);
-      unmade = streams.unmade;
+      records = streams.records;
     }
 
     -- the stories are of one length
@@ -97,11 +97,8 @@ module _ (texts : ℕ → Bytes) (subject : ℕ) where
       next = sym (ap next_after spells ∙ ap (λ m. r.next + m) is.size);
       out = ap (λ m. Some (record { append = m; group = group })) (sym (same_length streams));
       live = k.matches.live;
-      fixed = k.matches.fixed;
-      fixed_layer = k.matches.fixed_layer;
-      noted = k.matches.noted;
-      record_out = k.matches.record_out;
-      records = k.matches.records;
+      checkpoint = k.matches.checkpoint;
+      said = k.matches.said;
     }
 
     formed_serves : StreamsKept texts run v → Serves texts formed_run formed_view formed_range
@@ -134,6 +131,7 @@ module _ (texts : ℕ → Bytes) (subject : ℕ) where
           refl,
         );
         streams = formed_streams run v r k n is c streams;
+        plain = λ none p. (p, none);
         longer = ([], refl);
         anew = λ s. inl serving;
         seen = formed_seen run v r k n is c kept.range;
@@ -146,4 +144,4 @@ module _ (texts : ℕ → Bytes) (subject : ℕ) where
       if_elim (λ (o : RangeOutcome). StepKept texts subject run v r (formed o.after) o) (not (is_some r.out) && (nat_lt 0 (group_count d r) && nat_lt (r.next + group_count d r) (2 ^ 64))) _ _
       (λ t. appends_kept run v r d kept streams serving k (group_count d r) (is_next d r kept.sound t))
       (λ f. subst (λ (x : Option OutGroup). StepKept texts subject run v r (map (λ out. Forms kinds.Log (group_of out)) (if_there x)) (goes d r [] [])) (sym none)
-      (calm_kept texts subject run v r (goes d r [] []) streams refl (kept, refl) (λ s. inl serving)))
+      (calm_kept texts subject run v r (goes d r [] []) streams refl (kept, refl) (λ s. inl serving) (λ none. none)))

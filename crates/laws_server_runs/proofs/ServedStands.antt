@@ -29,7 +29,10 @@ use Rattle.laws_loads.specs.RangeView.{RangeView, view_after, log_of}
 use Rattle.laws_tables.specs.Layers.{layer_line}
 use Rattle.laws_tables.specs.Runs as chains
 use Rattle.laws_tables.specs.Runs.{Run, Serving, first_beginning, held, items_out, logged, MayInChain}
-use Rattle.laws_server_runs.specs.RangeInvariant.{append_of, layer_in, Matches, Serves, RangeKept, StreamsKept, AreObserved, Rests, Adds, StepKept}
+use Rattle.laws_loads.specs.MemoryLayers.{layer_in}
+use Rattle.laws_server_runs.specs.CheckpointInvariant.{parts_of}
+use Rattle.laws_server_runs.specs.RangeInvariant.{append_of, Matches, Serves, RangeKept, StreamsKept, AreObserved, Rests, Adds, StepKept}
+use Rattle.laws_server_runs.proofs.HeldCheckpoints.{longer_holds}
 use Rattle.laws_server_runs.proofs.HeldLine.{out_made}
 use Rattle.laws_server_runs.proofs.LayerCells.{all_transactions}
 use Rattle.laws_server_runs.proofs.Others.{serving_on}
@@ -110,11 +113,8 @@ module _ (texts : ℕ → Bytes) (subject : ℕ) (run : Run) (v : RangeView) (r 
       next = k.matches.next;
       out = refl;
       live = live_is;
-      fixed = k.matches.fixed;
-      fixed_layer = k.matches.fixed_layer;
-      noted = k.matches.noted;
-      record_out = k.matches.record_out;
-      records = k.matches.records;
+      checkpoint = longer_holds texts (parts_of v old_held r) stood_view.answered (record { extent = extent; offset = at.offset; bytes = joined (group_of out) } ∷ [], refl) r.control k.matches.checkpoint;
+      said = k.matches.said;
     }
 
     -- what was made is as before
@@ -135,9 +135,8 @@ module _ (texts : ℕ → Bytes) (subject : ℕ) (run : Run) (v : RangeView) (r 
       metadata = streams.metadata;
       chain = ((k.shown, group, out_is), streams.chain);
       keys = streams.keys;
-      plain = streams.plain;
       spelled = λ a g other there. streams.spelled a g other (made_before a g other there);
-      unmade = streams.unmade;
+      records = streams.records;
     }
 
     stood_seen : r.load.range ≡ subject → (before later : List Note) → AreObserved texts subject run before →
@@ -160,6 +159,7 @@ module _ (texts : ℕ → Bytes) (subject : ℕ) (run : Run) (v : RangeView) (r 
       alone = inr (inl serving);
       kept = (kept_served texts subject run stood_run v stood_view r stood_range before serving refl refl sound stood_serves, refl);
       streams = stood_streams streams;
+      plain = λ none p. (p, none);
       longer = (record { extent = extent; offset = at.offset; bytes = joined (group_of out) } ∷ [], refl);
       anew = λ s. inl serving;
       seen = stood_seen before.range;

@@ -13,7 +13,8 @@ use Rattle.model_partition.specs.ServedTables.{AreFirst, AreSeenAs, AllStand, St
 use Rattle.laws_loads.proofs.Renaming.{renamed_keeps}
 use Rattle.laws_tables.proofs.Ends.{renamed_ends_rise}
 use Rattle.laws_tables.proofs.Final.{tables_of_first_range_replay}
-use Rattle.laws_server_runs.specs.RangeInvariant.{no_index, InOrder, AreObserved, RangeKept}
+use Rattle.laws_checkpoints.specs.IndexLayers.{layer_at}
+use Rattle.laws_server_runs.specs.RangeInvariant.{InOrder, AreObserved, RangeKept}
 use Rattle.laws_server_runs.specs.RunInvariant.{view_at, RunKept}
 use Rattle.laws_server_runs.specs.Turns.{outcome_of}
 use Rattle.laws_server_runs.proofs.Actions.{Longer, event_longer}
@@ -25,7 +26,7 @@ use Rattle.laws_server_runs.proofs.LaidRuns.{bare, all_laid}
 use Rattle.laws_server_runs.proofs.Others.{streams_same}
 use Rattle.laws_server_runs.proofs.RunSteps.{IsAny, any_assigned, event_step}
 use Rattle.laws_server_runs.proofs.ServedNotes.{serves_of}
-use Rattle.laws_server_runs.proofs.Steps.{kept_at}
+use Rattle.laws_server_runs.proofs.Steps.{kept_at, calm_at}
 
 module _ (texts : ℕ → Bytes) (subject : ℕ) where
   -- what is premised of a run was so before its last event
@@ -46,7 +47,9 @@ module _ (texts : ℕ → Bytes) (subject : ℕ) where
     run = [];
     ranges = λ s cell st at up r held. absurd (let z : None ≡ Some r = sym (ap (λ l. range_of l subject) (bare batch servers s cell st at up)) ∙ held in cc);
     own = λ s t r u one two e. absurd (none s r one);
-    streams = record { log = refl; metadata = refl; chain = tt; keys = tt; plain = tt; spelled = λ a g group e. absurd cc; unmade = λ a g group e. absurd cc };
+    streams = record { log = refl; metadata = refl; chain = tt; keys = tt; spelled = λ a g group e. absurd cc; records = λ a g group e. absurd cc };
+    plain = tt;
+    calm = λ s cell st at up r held. absurd (let z : None ≡ Some r = sym (ap (λ l. range_of l subject) (bare batch servers s cell st at up)) ∙ held in cc);
     seen = nothing_seen;
   }
     where
@@ -73,7 +76,7 @@ module _ (texts : ℕ → Bytes) (batch servers : ℕ) where
       let x : ServerRun = run_of batch servers events in
       let k : RunKept texts first_range x = all_kept texts first_range batch servers events order in
       let o : AreObserved texts first_range k.run (only first_range (table_notes h)) = k.seen (table_notes h) seen in
-      tables_of_first_range_replay no_index o.0 k.run h k.streams.chain k.streams.keys o.1
+      tables_of_first_range_replay (layer_at texts) o.0 k.run h k.streams.chain k.streams.keys o.1
       (subst (λ z. KeepsOrder z) (sym k.streams.log) (renamed_keeps decoded (x.story (log_name first_range)) order.log))
       (subst (λ z. EndsRise z) (sym k.streams.log) (renamed_ends_rise decoded (x.story (log_name first_range)) order.ends))
       (subst (λ z. KeepsOrder z) (sym k.streams.metadata) (renamed_keeps decoded_record (x.story (metadata_name first_range)) order.metadata))
@@ -86,5 +89,5 @@ module _ (texts : ℕ → Bytes) (batch servers : ℕ) where
       let k : RunKept texts range (run_of batch servers events) = all_kept texts range batch servers events order in
       let h : RangeKept texts range k.run (view_at range (run_of batch servers events) s) r = kept_at texts range (run_of batch servers events) k s r at in
       at_line texts k.run (view_at range (run_of batch servers events) s) r
-      (streams_same texts k.run (view_at range (run_of batch servers events) 0) (view_at range (run_of batch servers events) s) refl refl k.streams)
-      (serves_of texts range k.run (view_at range (run_of batch servers events) s) r at.serves h) h.sound.out_fits stand
+      (streams_same texts k.run (view_at range (run_of batch servers events) 0) (view_at range (run_of batch servers events) s) refl refl k.streams) k.plain
+      (serves_of texts range k.run (view_at range (run_of batch servers events) s) r at.serves h) (calm_at texts range (run_of batch servers events) k s r at) h.sound.out_fits stand

@@ -18,6 +18,7 @@ use Rattle.wire.specs.declared.note.Note.{Note}
 use Rattle.wire.specs.declared.note.Note.TheVariants.{Began, Done, Loaded}
 use Rattle.wire.specs.declared.streams.StreamExtent.{StreamExtent}
 use Rattle.wire.specs.declared.streams.StreamList.{StreamList}
+use Rattle.wire.specs.declared.streams.StreamKind.TheVariants as kinds
 use Rattle.wire.specs.declared.streams.StreamLists.{StreamLists}
 use Rattle.wire.specs.declared.streams.StreamName.{StreamName}
 use Rattle.client.specs.declared.job.Job.TheVariants.{Idle}
@@ -143,7 +144,7 @@ served =
       stage = stages.Serving;
       metadata = client (metadata_name first_range) [] None;
       log = client (log_name first_range) (extent ∷ []) (Some 24);
-      row_data = nothing;
+      rows = client (record { range = 1; kind = kinds.RowData }) [] None;
       blob_data = nothing;
       said = first_metadata;
       regions = record { start = record { index = 0; offset = 0 }; end = None; next = 2; keys = all_keys } ∷ [];
@@ -151,6 +152,7 @@ served =
       fixed = None;
       indexes = [];
       reading = None;
+      control = None;
       next = 2;
       position = record { index = 0; offset = 24 };
       queue = [];

@@ -1,3 +1,4 @@
+pub mod CheckpointInvariant
 pub mod RangeInvariant
 pub mod RunInvariant
 pub mod Places

@@ -1,16 +1,19 @@
 -- What is kept of a range at a server: while it loads, what it made of what it read; while it is served, that it holds what a run of
 -- its servers says that its generation holds.
-use Rattle.std.specs.Prelude.{◌≡◌, ◌⊎◌, ℕ, true, List, [], ◌∷◌, ◌++◌, Option, Some, None, option_map}
+use Rattle.std.specs.Prelude.{◌≡◌, ◌⊎◌, ℕ, true, false, List, [], ◌∷◌, ◌++◌, Option, Some, None, option_map}
 use Rattle.blocks.specs.Format.{◌>>=◌}
 use Rattle.wire.specs.declared.actor.ReqNo.{ReqNo}
 use Rattle.wire.specs.declared.note.Note.{Note}
 use Rattle.wire.specs.declared.rows.Row.{Row}
 use Rattle.wire.specs.declared.streams.StreamKind.TheVariants as kinds
+use Rattle.streams.specs.declared.table.Position.{Position}
 use Rattle.memtable.specs.declared.cell.Place.{Place}
-use Rattle.memtable.specs.Entries.{Entries, found}
+use Rattle.memtable.specs.Entries.{Entries}
 use Rattle.metadata.specs.declared.record.KeyRange.{KeyRange}
 use Rattle.metadata.specs.declared.record.Region.{Region}
+use Rattle.metadata.specs.declared.record.MetaItem.TheVariants.{Checkpoint}
 use Rattle.metadata.specs.Fold.{first_metadata}
+use Rattle.metadata.specs.Record.{IsPosition}
 use Rattle.commitlog.specs.declared.log_record.LogRecord.{LogRecord}
 use Rattle.commitlog.specs.Reading.{record_at}
 use Rattle.commitlog.specs.Record.{spelling}
@@ -27,13 +30,14 @@ use Rattle.model_partition.specs.Renaming.{renamed, decoded, decoded_record}
 use Rattle.model_partition.specs.StreamActions.{ExtentRead, StreamAction, group_of}
 use Rattle.model_partition.specs.ServerRun.{RangeHistory, place_number}
 use Rattle.model_partition.specs.ServedTables.{AllStand, AreSeenAs, LoadsOnce}
-use Rattle.model_partition.specs.TableContents.{value_in}
 use Rattle.laws_loads.specs.Sound.{IsSound}
+use Rattle.laws_loads.specs.MemoryLayers.{layer_in}
 use Rattle.laws_loads.specs.RangeView.{RangeView, view_after_all, log_of, metadata_of}
-use Rattle.laws_tables.specs.Layers.{Layer, empty_layer}
 use Rattle.laws_tables.specs.Runs as chains
-use Rattle.laws_tables.specs.Runs.{Event, Run, Serving, first_beginning, held, seen, IsServing, IsChainRun, ShowsLayers, KeepsKeys}
+use Rattle.laws_tables.specs.Runs.{Event, Run, Serving, first_beginning, record_group, said, held, seen, IsServing, IsChainRun, ShowsLayers, KeepsKeys}
 use Rattle.laws_tables.specs.Through.{OutAppend}
+use Rattle.laws_checkpoints.specs.IndexLayers.{layer_at}
+use Rattle.laws_server_runs.specs.CheckpointInvariant.{parts_of, HoldsCheckpoint}
 
 -- ---- what a load makes of what it reads
 
@@ -47,12 +51,18 @@ abbrev pub replayed_all : KeyRange → List ExtentRead → List Region × Entrie
 replayed_all keys [] z = Some z
 replayed_all keys (x ∷ older) z = replayed_all keys older z >>= λ y. replayed keys x.extent (record { index = x.index; offset = 0 }) y x.groups
 
+-- no checkpoint is under way, or the range is dropped
+abbrev pub HasNoCheckpoint : Option RangeState → Type 0
+HasNoCheckpoint None = Unit {0}
+HasNoCheckpoint (Some r) = r.control ≡ None
+
 -- nothing is read yet
 pub record HasReadNothing (h : RangeHistory) (r : RangeState) : Type 0 where
   pub metadata : h.reads kinds.Metadata ≡ []
   pub log : h.reads kinds.Log ≡ []
   pub live : r.live ≡ []
   pub fixed : r.fixed ≡ None
+  pub none : r.control ≡ None
 
 -- the metadata is being read
 pub record ReadsMetadata (h : RangeHistory) (r : RangeState) : Type 0 where
@@ -61,6 +71,7 @@ pub record ReadsMetadata (h : RangeHistory) (r : RangeState) : Type 0 where
   pub live : r.live ≡ []
   pub fixed : r.fixed ≡ None
   pub idle : r.log.job ≡ jobs.Idle
+  pub none : r.control ≡ None
 
 -- all of the metadata is read, and the log is being read, or the indexes after it
 pub record ReadsLog (h : RangeHistory) (r : RangeState) : Type 0 where
@@ -68,12 +79,9 @@ pub record ReadsLog (h : RangeHistory) (r : RangeState) : Type 0 where
   pub made : replayed_all r.said.keys (h.reads kinds.Log) (r.said.regions, []) ≡ Some (r.regions, r.live)
   pub fixed : r.fixed ≡ None
   pub idle : r.metadata.job ≡ jobs.Idle
+  pub none : r.control ≡ None
 
 -- ---- the run of a range
-
--- no record names an index yet
-abbrev pub no_index : Place → Layer
-no_index place = empty_layer
 
 -- no checkpoint, no split and no Trim: a load shows the log from its first place on, and no records
 abbrev pub IsPlain : Run → Type 0
@@ -93,6 +101,19 @@ generation_of (chains.Recorded g append from to) = g
 generation_of (chains.Trims g place) = g
 generation_of (chains.Confirms g start end groups metadata_end records) = g
 
+-- the group of a plain checkpoint's record, at a position
+pub record IsCheckpointRecord (group : Group) : Type 0 where
+  pub number : ℕ
+  pub index : Place
+  pub position : Position
+  pub next : ℕ
+  pub spells : decoded_record group ≡ record_group number (Checkpoint false index position next)
+  pub fits : IsPosition position
+
+-- each group that was formed is one
+abbrev pub AreCheckpoints : Story Group → Type 0
+AreCheckpoints story = (a g : ℕ) (group : Group) → event_at story a ≡ Some (Made g group) → IsCheckpointRecord group
+
 -- a run goes on with events of this generation alone
 pub data GoesOn (g : ℕ) (run : Run) : Run → Type 0 where
   Rests : GoesOn g run run
@@ -109,22 +130,15 @@ abbrev pub append_of : ℕ → Option OutGroup → Option (OutAppend Transaction
 append_of event out = option_map (λ o. record { append = event; group = decoded (group_of o) }) out
 
 module _ (texts : ℕ → Bytes) where
-  -- the layer of a memory table: what its cells say
-  abbrev pub layer_in : Entries → Layer
-  layer_in entries key = option_map (value_in texts) (found entries key)
-
   -- what a range holds is what its run says that its generation holds
   pub record Matches (v : RangeView) (s : Serving) (r : RangeState) : Type 0 where
     pub position : place_number r.position ≡ s.position
     pub next : r.next ≡ s.next
     pub out : s.out ≡ append_of (v.history.append kinds.Log) r.out
-    pub live : AllStand texts v.answered → (key : Bytes) → layer_in r.live key ≡ s.live key
-    -- no checkpoint is under way, and none was made
-    pub fixed : r.fixed ≡ None
-    pub fixed_layer : s.fixed ≡ empty_layer
-    pub noted : s.noted ≡ None
-    pub record_out : s.record_out ≡ None
-    pub records : s.records ≡ []
+    pub live : AllStand texts v.answered → (key : Bytes) → layer_in texts r.live key ≡ s.live key
+    pub checkpoint : HoldsCheckpoint texts (parts_of v s r) r.control
+    -- the metadata says what its records say
+    pub said : r.said ≡ said first_beginning s.records
 
   pub record Serves (run : Run) (v : RangeView) (r : RangeState) : Type 0 where
     pub shown : IsServing run r.load.generation
@@ -167,23 +181,18 @@ module _ (texts : ℕ → Bytes) where
   abbrev pub AllSpelled : Story Group → Type 0
   AllSpelled story = (a g : ℕ) (group : Group) → event_at story a ≡ Some (Made g group) → (r : LogRecord) × (group ≡ spelling r) × (record_at group ≡ Some r)
 
-  -- no append was begun
-  abbrev pub IsUnmade : Story Group → Type 0
-  IsUnmade story = (a g : ℕ) (group : Group) → event_at story a ≡ Some (Made g group) → ⊥
-
   -- these observations are those of a run, whose loads show what their layers say
   abbrev pub AreObserved : ℕ → Run → List Note → Type 0
-  AreObserved subject run notes = (rows : ℕ → List Row) × ShowsLayers no_index first_beginning rows run × (notes ≡ seen first_beginning rows subject run)
+  AreObserved subject run notes = (rows : ℕ → List Row) × ShowsLayers (layer_at texts) first_beginning rows run × (notes ≡ seen first_beginning rows subject run)
 
   -- What is kept of the streams of a range: their stories are those of a run of its servers, who do what they may.
   pub record StreamsKept (run : Run) (v : RangeView) : Type 0 where
     pub log : chains.log_of run ≡ renamed decoded (log_of v)
     pub metadata : chains.meta_of run ≡ renamed decoded_record (metadata_of v)
-    pub chain : IsChainRun no_index first_beginning run
+    pub chain : IsChainRun (layer_at texts) first_beginning run
     pub keys : KeepsKeys run
-    pub plain : IsPlain run
     pub spelled : AllSpelled (log_of v)
-    pub unmade : IsUnmade (metadata_of v)
+    pub records : AreCheckpoints (metadata_of v)
 
   -- what is premised of them
   pub record InOrder (v : RangeView) : Type 0 where
@@ -216,6 +225,8 @@ module _ (texts : ℕ → Bytes) where
     pub alone : (next ≡ run) ⊎ IsAlone run r
     pub kept : KeptIf subject next (view_after_all r.load.generation v actions) r.load.generation o.after
     pub streams : StreamsKept next (view_after_all r.load.generation v actions)
+    -- where no checkpoint was under way, none is then, and the run has none more
+    pub plain : r.control ≡ None → IsPlain run → IsPlain next × HasNoCheckpoint o.after
     pub longer : IsLonger v.answered (view_after_all r.load.generation v actions).answered
     pub anew : ServesAnew run r o.after
     pub seen : (before later : List Note) → AreObserved subject run before → AreSeenAs texts o.notes later → AreObserved subject next (before ++ later)

@@ -27,6 +27,7 @@ use Rattle.client.specs.Client.{ClientState, Outcome, append_rule, check_rule, r
 use Rattle.client.specs.Load.{again, load_awaits}
 use Rattle.memtable.specs.declared.cell.Place.{Place}
 use Rattle.commitlog.specs.Record.{spelling}
+use Rattle.metadata.specs.Record.{spelling as metadata_spelling}
 use Rattle.commitlog.specs.Places.{kept}
 use Rattle.memtable.specs.Entries.{Entries, put_all}
 use Rattle.checkpoint_format.specs.declared.index.Index.{Index}
@@ -49,7 +50,11 @@ use Rattle.model_partition.specs.Serving.{record_of, group_count, began, appends
 use Rattle.model_partition.specs.PlaceReads.{is_place, place_of, places_of, reads_under, moved_on, asks_again}
 use Rattle.model_partition.specs.Loading.{Group, said_after, replayed, read_by, read_of, asks_index, index_named, reads_named, reads_index, installs, index_read, index_bytes, reads_log, first_position, reads_log_from, checks_log, begins_log, reads_metadata, begins_metadata, opens, says, metadata_news, replays, log_read, log_news, open_region, serves_from, serves, shown_table, are_counted}
 use Rattle.model_partition.specs.Getting.{Lookup, Is, Needs, Tried, asks_place, answered, try, try_all, get_fault, gets, get_rule, are_no_page, bytes_rule, came, gives_up_read, gives_up_get, look, read_at, standing, without}
-use Rattle.model_partition.specs.Answering.{load_refused, load_told, load_reply, metadata_reply, serving_news, is_taken, log_taken, log_reply, index_told, index_reply, bytes_reply, gets_reply, answer_rule, gives_up_job, gives_up_reading, give_up_all, groups_of}
+use Rattle.model_partition.specs.CheckpointStates.{CheckpointState}
+use Rattle.model_partition.specs.declared.checkpoint_job.CheckpointPhase.{CheckpointPhase}
+use Rattle.model_partition.specs.declared.checkpoint_job.CheckpointPhase.TheVariants as checkpoints
+use Rattle.model_partition.specs.Checkpoints.{new_job, rows_go, writes_pages, checkpoint_rule, pages_stand, checkpoint_record, has_record_number, may_record, index_place, records, index_stands, rows_stand, rows_told, rows_may_stand, rows_reply, record_stands, record_told, trim_awaits, trim_told, trim_reply_in, phase_again, trim_again}
+use Rattle.model_partition.specs.Answering.{load_refused, load_told, load_reply, metadata_reply, serving_news, is_taken, log_taken, log_reply, index_told, index_reply, trim_reply, bytes_reply, gets_reply, answer_rule, gives_up_job, gives_up_reading, give_up_all, groups_of}
 use Rattle.model_partition.specs.Servers.{ArePlain, ShowsLoad}
 use Rattle.laws_servers.specs.Sending.{AllFromServers}
 use Rattle.laws_servers.proofs.ClientPackets.{all_both, all_map, all_flat, listed, Calls, given_calls, append_rule_calls, check_rule_calls, read_sealed_calls, read_checked_calls, reply_calls, give_up_calls, again_calls}
@@ -232,7 +237,7 @@ opens_tidy d r lists =
       load = record r.load { phase = phases.Opened };
       metadata = new_client d.server (record { range = r.load.range; kind = kinds.Metadata }) r.load.generation lists.metadata d.pick;
       log = new_client d.server (record { range = r.load.range; kind = kinds.Log }) r.load.generation lists.log d.pick;
-      row_data = lists.row_data;
+      rows = new_client d.server (record { range = r.load.range; kind = kinds.RowData }) r.load.generation lists.row_data d.pick;
       blob_data = lists.blob_data;
       said = first_metadata;
     })
@@ -292,6 +297,73 @@ abbrev pub table_with : RangeState → Body → Option ShownTable
 table_with r (bodies.Stream body) = table_by r body
 table_with r body = None
 
+-- ---- checkpoints
+
+rows_go_tidy : (d : ServerContext) (r : RangeState) (next : CheckpointState × Option Group) → IsTidy (rows_go d r next)
+rows_go_tidy d r (job, None) = (tt, tt)
+rows_go_tidy d r (job, Some group) =
+    let o = append_rule (picking d r.rows) (request d) group in
+    (listed (given (picking d r.rows) o).packet (given_calls (picking d r.rows) o (append_rule_calls (picking d r.rows) (request d) group)), tt)
+
+writes_pages_tidy : (d : ServerContext) (r : RangeState) (job : CheckpointState) → IsTidy (writes_pages d r job)
+writes_pages_tidy d r job = rows_go_tidy d r _
+
+pub checkpoint_tidy : (d : ServerContext) (r : RangeState) → IsTidy (checkpoint_rule d r)
+checkpoint_tidy d r = writes_pages_tidy d (record r { live = []; fixed = Some r.live }) (new_job r)
+
+records_tidy : (d : ServerContext) (r : RangeState) (job : CheckpointState) (index : Place) → IsTidy (records d r job index)
+records_tidy d r job index =
+    let c : ClientState = picking d r.metadata in
+    let o = append_rule c (request d) (metadata_spelling (checkpoint_record r job index) ∷ []) in
+    (listed (given c o).packet (given_calls c o (append_rule_calls c (request d) (metadata_spelling (checkpoint_record r job index) ∷ []))), tt)
+
+index_stands_tidy : (d : ServerContext) (r : RangeState) (job : CheckpointState) (e offset : ℕ) → IsTidy (index_stands d r job e offset)
+index_stands_tidy d r job e offset =
+    if_elim IsTidy (may_record r job) _ _ (λ t. records_tidy d r job (index_place job e offset)) (λ f. (tt, tt))
+
+rows_stand_tidy : (d : ServerContext) (r : RangeState) (job : CheckpointState) (phase : CheckpointPhase) (e offset : ℕ) → IsTidy (rows_stand d r job phase e offset)
+rows_stand_tidy d r job checkpoints.Pages e offset = writes_pages_tidy d r (pages_stand job e offset)
+rows_stand_tidy d r job checkpoints.Index e offset = index_stands_tidy d r job e offset
+rows_stand_tidy d r job phase e offset = (tt, tt)
+
+rows_told_tidy : (d : ServerContext) (r : RangeState) (job : Option CheckpointState) (told : Option News) (packets : List Packet) → AllFromServers packets → IsTidy (rows_told d r job told packets)
+rows_told_tidy d r job (Some news.Fenced) packets h = dropped_tidy d r
+rows_told_tidy d r (Some job) (Some (news.Appended e offset)) packets h = rows_stand_tidy d r job job.phase e offset
+rows_told_tidy d r job told packets h = (h, tt)
+
+rows_reply_tidy : (d : ServerContext) (r : RangeState) (body : Body) → IsTidy (rows_reply d r body)
+rows_reply_tidy d r body =
+    let o : Outcome = reply_rule (picking d r.rows) (request d) body in
+    if_elim IsTidy (rows_may_stand r.control body) _ _
+    (λ t. rows_told_tidy d (record r { rows = o.after }) r.control o.news (option_to_list o.packet) (listed o.packet (reply_calls (picking d r.rows) (request d) body)))
+    (λ f. (tt, tt))
+
+-- a Trim is what a server may ask of the manager
+record_stands_tidy : (d : ServerContext) (r : RangeState) (job : CheckpointState) (phase : CheckpointPhase) → IsTidy (record_stands d r job phase)
+record_stands_tidy d r job (checkpoints.Record index) = if_elim IsTidy (has_record_number r) _ _ (λ t. (((d.server, refl, inl refl), tt), tt)) (λ f. (tt, tt))
+record_stands_tidy d r job phase = (tt, tt)
+
+record_told_tidy : (d : ServerContext) (r : RangeState) (job : Option CheckpointState) (told : Option News) (packets : List Packet) → AllFromServers packets → IsTidy (record_told d r job told packets)
+record_told_tidy d r job (Some news.Fenced) packets h = dropped_tidy d r
+record_told_tidy d r (Some job) (Some (news.Appended e offset)) packets h = record_stands_tidy d r job job.phase
+record_told_tidy d r job told packets h = (h, tt)
+
+trim_told_tidy : (d : ServerContext) (r : RangeState) (phase : CheckpointPhase) (body : StreamBody) → IsTidy (trim_told d r phase body)
+trim_told_tidy d r (checkpoints.Trim before to_blob q) (streams.Trimmed w) = (tt, tt)
+trim_told_tidy d r phase body = (tt, tt)
+
+trim_reply_in_tidy : (d : ServerContext) (r : RangeState) (job : Option CheckpointState) (body : StreamBody) → IsTidy (trim_reply_in d r job body)
+trim_reply_in_tidy d r None body = (tt, tt)
+trim_reply_in_tidy d r (Some job) body = trim_told_tidy d r job.phase body
+
+phase_again_all : (d : ServerContext) (r : RangeState) (phase : CheckpointPhase) → AllFromServers (phase_again d r phase)
+phase_again_all d r (checkpoints.Trim before to_blob q) = ((d.server, refl, inl refl), tt)
+phase_again_all d r phase = tt
+
+trim_again_all : (d : ServerContext) (r : RangeState) (job : Option CheckpointState) → AllFromServers (trim_again d r job)
+trim_again_all d r None = tt
+trim_again_all d r (Some job) = phase_again_all d r job.phase
+
 -- ---- answers
 
 load_refused_tidy : (d : ServerContext) (r : RangeState) (body : AppendBody) → IsTidy (load_refused d r body)
@@ -326,8 +398,11 @@ load_reply_shows d r body = (tt, inl tt)
 metadata_reply_tidy : (d : ServerContext) (r : RangeState) (body : Body) → IsTidy (metadata_reply d r body)
 metadata_reply_tidy d r body =
     let o : Outcome = reply_rule (picking d r.metadata) (request d) body in
-    metadata_news_tidy d (record r { metadata = o.after }) (groups_of body) r.stage o.news (option_to_list o.packet)
-    (listed o.packet (reply_calls (picking d r.metadata) (request d) body))
+    let now : RangeState = record r { metadata = o.after } in
+    let all : AllFromServers (option_to_list o.packet) = listed o.packet (reply_calls (picking d r.metadata) (request d) body) in
+    if_elim IsTidy (is_serving r.stage) _ _
+    (λ t. record_told_tidy d now r.control o.news (option_to_list o.packet) all)
+    (λ f. metadata_news_tidy d now (groups_of body) r.stage o.news (option_to_list o.packet) all)
 
 serving_news_tidy : (d : ServerContext) (r : RangeState) (told : Option News) (packets : List Packet) → AllFromServers packets → IsTidy (serving_news d r told packets)
 serving_news_tidy d r (Some news.Fenced) packets h = dropped_tidy d r
@@ -368,6 +443,11 @@ index_reply_tidy d r (bodies.Read body) = index_told_tidy d r body
 index_reply_tidy d r (bodies.Append body) = load_refused_tidy d r body
 index_reply_tidy d r body = (tt, tt)
 
+trim_reply_tidy : (d : ServerContext) (r : RangeState) (body : Body) → IsTidy (trim_reply d r body)
+trim_reply_tidy d r (bodies.Stream body) = trim_reply_in_tidy d r r.control body
+trim_reply_tidy d r (bodies.Append body) = load_refused_tidy d r body
+trim_reply_tidy d r body = (tt, tt)
+
 bytes_reply_tidy : (d : ServerContext) (r : RangeState) (w : ReqNo) (body : ReadBody) → IsTidy (bytes_reply d r w body)
 bytes_reply_tidy d r w (reads.Bytes v e offset bytes) = bytes_tidy d r w (place_of e offset bytes) bytes
 bytes_reply_tidy d r w body = (tt, tt)
@@ -386,9 +466,13 @@ answer_by loading d r w body loads =
     (λ t. tidy_shows loading (metadata_reply d r body) (metadata_reply_tidy d r body))
     (λ g. if_elim (ShowsFrom loading) (awaits r.log.job w) _ _
     (λ t. tidy_shows loading (log_reply d r body) (log_reply_tidy d r body))
-    (λ h. if_elim (ShowsFrom loading) (reads_under r.reading w) _ _
+    (λ h. if_elim (ShowsFrom loading) (awaits r.rows.job w) _ _
+    (λ t. tidy_shows loading (rows_reply d r body) (rows_reply_tidy d r body))
+    (λ i. if_elim (ShowsFrom loading) (reads_under r.reading w) _ _
     (λ t. tidy_shows loading (index_reply d r body) (index_reply_tidy d r body))
-    (λ k. tidy_shows loading (gets_reply d r w body) (gets_reply_tidy d r w body)))))
+    (λ j. if_elim (ShowsFrom loading) (trim_awaits r.control w) _ _
+    (λ t. tidy_shows loading (trim_reply d r body) (trim_reply_tidy d r body))
+    (λ k. tidy_shows loading (gets_reply d r w body) (gets_reply_tidy d r w body)))))))
 
 pub answer_shows : (d : ServerContext) (r : RangeState) (w : ReqNo) (body : Body) → ShowsFrom (table_with r body) (answer_rule d r w body)
 answer_shows d r w body = answer_by (table_with r body) d r w body (load_reply_shows d r body)
@@ -413,11 +497,14 @@ gives_up_reading_all d r (Some read) = asks_again_all d (moved_on read) (places_
 pub give_up_tidy : (d : ServerContext) (r : RangeState) → IsTidy (give_up_all d r)
 give_up_tidy d r =
     let l : Outcome = gives_up_job d r.log in
-    let m : Outcome = gives_up_job (used d) r.metadata in (
+    let m : Outcome = gives_up_job (used d) r.metadata in
+    let w : Outcome = gives_up_job (used (used d)) r.rows in (
       all_both (option_to_list (again r.load r.load.phase)) _ (listed (again r.load r.load.phase) (again_calls r.load r.load.phase))
           (all_both (option_to_list l.packet) _ (listed l.packet (give_up_calls (picking d r.log) (request d) d.pick))
           (all_both (option_to_list m.packet) _ (listed m.packet (give_up_calls (picking d r.metadata) (request (used d)) d.pick))
+          (all_both (option_to_list w.packet) _ (listed w.packet (give_up_calls (picking d r.rows) (request (used (used d))) d.pick))
           (all_both (gives_up_reading d r r.reading) _ (gives_up_reading_all d r r.reading)
-          (all_flat (λ (g : WaitingGet). (gives_up_get d r g).1) (λ g. gives_up_read_all d r g (slice_get g.reads (length g.reads - 1))) r.gets)))),
+          (all_both (trim_again d r r.control) _ (trim_again_all d r r.control)
+          (all_flat (λ (g : WaitingGet). (gives_up_get d r g).1) (λ g. gives_up_read_all d r g (slice_get g.reads (length g.reads - 1))) r.gets)))))),
       tt,
     )

@@ -1,5 +1,5 @@
 -- What a step of a server sends it may send, and what it shows is plain, but for the table that it loads.
-use Rattle.std.proofs.Common.{◌≡◌, ℕ, ◌==◌, List, [], Option, Some, None, refl, sym, ap, ◌∙◌, inl, inr, subst}
+use Rattle.std.proofs.Common.{◌≡◌, ℕ, ◌==◌, List, [], Option, Some, None, is_some, refl, sym, ap, ◌∙◌, inl, inr, subst}
 use Rattle.std.proofs.lemmas.Option.{same_Some}
 use Rattle.block_types.specs.declared.record.Nodes.{Nodes}
 use Rattle.wire.specs.declared.actor.ActorId.{ActorId}
@@ -21,11 +21,11 @@ use Rattle.model_partition.specs.declared.server_context.ServerContext.{ServerCo
 use Rattle.model_partition.specs.declared.shown_table.ShownTable.{ShownTable}
 use Rattle.model_partition.specs.Range.{RangeState}
 use Rattle.model_partition.specs.Answering.{answered_number, is_answerer, answer_rule, give_up_all}
-use Rattle.model_partition.specs.Server.{ServerState, ServerOutcome, range_of, awaiting, users_of, is_newer, assign_rule, renew_rule, told_by_map, map_rule, transacts_in, gets_in, table_rule, answer_in, answer_of, numbered_rule, taken_rule, has_numbers, server_rule, gives_up, picked}
+use Rattle.model_partition.specs.Server.{ServerState, ServerOutcome, range_of, awaiting, users_of, is_newer, assign_rule, renew_rule, told_by_map, map_rule, transacts_in, gets_in, table_rule, answer_in, answer_of, numbered_rule, taken_rule, has_numbers, server_rule, gives_up, picked, checkpoint_refusal, checkpoints_in, server_checkpoint}
 use Rattle.model_partition.specs.Servers.{ArePlain, ShowsLoad, ServerCell, ServersOutcome, range_table, table_at, loads, cell_loads, server_loads, cell_takes, cell_given_up, cell_gives_up, cell_stops, cell_starts, at_server, server_takes, server_gives_up, server_stops, server_starts}
 use Rattle.laws_servers.specs.Sending.{MaySendAll, AllFromServers}
 use Rattle.laws_servers.proofs.ClientPackets.{all_both, may_send_all}
-use Rattle.laws_servers.proofs.RangeSteps.{ShowsFrom, table_with, refused_all, transact_tidy, get_tidy, answer_shows, give_up_tidy}
+use Rattle.laws_servers.proofs.RangeSteps.{ShowsFrom, table_with, refused_all, transact_tidy, get_tidy, checkpoint_tidy, answer_shows, give_up_tidy}
 
 -- what it sends is from a server, and it shows no loaded table
 abbrev pub AreTidy : ServerOutcome → Type 0
@@ -125,6 +125,16 @@ taken_shows s p body is = answered_shows s p body is
 
 pub server_shows : (s : ServerState) (p : Packet) → Shows (loads s p.body) (server_rule s p p.body)
 server_shows s p = if_elim (Shows (loads s p.body)) (has_numbers s.context) _ _ (λ t. taken_shows s p p.body refl) (λ f. (tt, inl tt))
+
+-- ---- a checkpoint
+
+checkpoints_tidy : (s : ServerState) (range : ℕ) (known : Option RangeState) → AreTidy (checkpoints_in s range known)
+checkpoints_tidy s range None = (tt, tt)
+checkpoints_tidy s range (Some r) = if_elim AreTidy (has_numbers s.context) _ _ (λ t. checkpoint_tidy s.context r) (λ f. (tt, tt))
+
+pub server_checkpoint_tidy : (s : ServerState) (range : ℕ) → AreTidy (server_checkpoint s range)
+server_checkpoint_tidy s range =
+    if_elim AreTidy (is_some (checkpoint_refusal s range)) _ _ (λ t. (tt, tt)) (λ f. checkpoints_tidy s range (range_of s.ranges range))
 
 -- ---- servers over their starts and stops
 

@@ -1,16 +1,25 @@
 -- One layer: keys and cells, in the order of the keys.
 use Rattle.std.specs.Prelude.{ℕ, List, [], ◌∷◌, Option, Some, None, is_some, if◌then◌else◌}
-use Rattle.std.specs.List.{sum_by}
+use Rattle.std.specs.List.{sum_by, AllByRecursion}
 use Rattle.std.specs.Ordering.{nat_cmp}
 use Rattle.std.specs.Cmp.Lexicographic.{slice_cmp}
 use Rattle.std.specs.declared.cmp.Ordering.{Ordering}
 use Rattle.std.specs.Map.{lookup, remove_entry}
 use Rattle.std.specs.BTreeMap.{insert_entry, is_at}
 use Rattle.memtable.specs.declared.cell.Cell.{Cell}
-use Rattle.memtable.specs.Cell.{entry_size}
+use Rattle.memtable.specs.Cell.{entry_size, IsEntry}
 
 abbrev pub Entries : Type 0
 Entries = List (List ℕ × Cell)
+
+-- a key and a cell that a row may have
+abbrev pub IsFit : List ℕ × Cell → Type 0
+IsFit e = IsEntry e.0 e.1
+
+-- the same of entries that may be there
+abbrev pub AllFit : Option Entries → Type 0
+AllFit None = Unit {0}
+AllFit (Some entries) = AllByRecursion IsFit entries
 
 -- keys by their bytes, a shorter one first
 abbrev pub key_cmp : List ℕ → List ℕ → Ordering

@@ -2,7 +2,6 @@
 ghost use Rattle.std.specs.Prelude.{◌≡◌, ◌+◌, ◌<◌, ◌^◌, ℕ, List, [], IfOk, OnOk, OnErr};
 ghost use Rattle.std.specs.Option.{option_copied};
 ghost use Rattle.std.specs.List.{AllByRecursion};
-ghost use Rattle.memtable.specs.Cell.{IsEntry};
 ghost use Rattle.memtable.specs.Entries as specs;
 
 use crate::cell::Cell;
@@ -30,13 +29,15 @@ impl Drop for CellMap {
 
 impl Model for CellMap {
     ghost use Rattle.std.specs.Prelude.{◌≡◌};
+    ghost use Rattle.std.specs.List.{AllByRecursion};
     ghost use Rattle.memtable.specs.Entries as specs;
 
     ghost Value = { specs.Entries };
 
     ghost view = { λ m. m.entries.entries };
 
-    ghost invariant = { λ m. m.size ≡ specs.entries_size m.entries.entries };
+    // Its size is known, and each entry is one that a row may have.
+    ghost invariant = { λ m. (m.size ≡ specs.entries_size m.entries.entries) × AllByRecursion specs.IsFit m.entries.entries };
 }
 
 impl CellMap {
@@ -53,7 +54,7 @@ impl CellMap {
     /// Takes all changes, from left to right, so that a later one of a key replaces an earlier. Where memory runs out (22)
     /// nothing has changed.
     pub fn put_all(&mut self, alloc: Global, changes: Vec<(Bytes, Cell)>) -> Result<(), AllocError>
-        requires { AllByRecursion (λ c. IsEntry c.0 c.1) changes.items }
+        requires { AllByRecursion specs.IsFit changes.items }
         ensures entries { OnOk result (self.new ≡ specs.put_all self.old changes.items) }
 
         // So of each key it has the last change.
@@ -71,7 +72,7 @@ impl CellMap {
         beside: u64,
         changes: Vec<(Bytes, Cell)>,
     ) -> Result<(), AllocError>
-        requires fits { AllByRecursion (λ c. IsEntry c.0 c.1) changes.items }
+        requires fits { AllByRecursion specs.IsFit changes.items }
         requires together { specs.entries_size self.old + beside < 2 ^ 64 }
         ensures entries { OnOk result (self.new ≡ specs.put_all self.old changes.items) }
         ensures found { OnOk result ((key : List ℕ) → specs.found self.new key ≡ specs.latest key changes.items (specs.found self.old key)) }
@@ -92,7 +93,8 @@ impl CellMap {
 
     /// Its entries, for a walk through them in the order of their keys.
     pub fn entries(&self) -> &BTreeMap<Bytes, Cell>
-        ensures { result.now.entries ≡ self.now }
+        ensures value { result.now.entries ≡ self.now }
+        ensures each { AllByRecursion specs.IsFit result.now.entries }
     {
         &self.entries
     }

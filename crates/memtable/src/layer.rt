@@ -90,7 +90,7 @@ pub(crate) fn put_all(
     size: u64,
     changes: Vec<(Bytes, Cell)>,
 ) -> Result<u64, AllocError>
-    requires fits { AllByRecursion (λ c. IsEntry c.0 c.1) changes.items }
+    requires fits { AllByRecursion specs.IsFit changes.items }
     requires size { specs.entries_size layer.old.entries ≤ size }
     ensures entries { OnOk result (layer.new.entries ≡ specs.put_all layer.old.entries changes.items) }
     ensures found { OnOk result ((q : List ℕ) → specs.found layer.new.entries q

@@ -2,8 +2,7 @@
 ghost use Rattle.std.specs.Prelude.{◌≡◌, ℕ, List, [], Some, None, true, false, is_some, not, option_map, OnOk, OnErr};
 ghost use Rattle.std.specs.Option.{option_copied};
 ghost use Rattle.std.specs.List.{AllByRecursion};
-ghost use Rattle.memtable.specs.Cell.{IsEntry};
-ghost use Rattle.memtable.specs.Entries.{found, latest, put_all};
+ghost use Rattle.memtable.specs.Entries.{IsFit, found, latest, put_all};
 
 use crate::cell::Cell;
 use crate::cell_map::CellMap;
@@ -55,7 +54,7 @@ impl MemTable {
     /// Takes all changes into the live layer, from left to right, so that a later one of a key replaces an earlier.
     /// Where memory runs out (22) nothing has changed.
     pub fn apply(&mut self, alloc: Global, changes: Vec<(Bytes, Cell)>) -> Result<(), AllocError>
-        requires { AllByRecursion (λ c. IsEntry c.0 c.1) changes.items }
+        requires { AllByRecursion IsFit changes.items }
         ensures entries { OnOk result (self.new.live ≡ put_all self.old.live changes.items) }
 
         // So of each key it has the last change.
@@ -105,7 +104,8 @@ impl MemTable {
 
     /// The live layer, for a walk through its entries in the order of their keys.
     pub fn live(&self) -> &BTreeMap<Bytes, Cell>
-        ensures { result.now.entries ≡ self.now.live }
+        ensures value { result.now.entries ≡ self.now.live }
+        ensures each { AllByRecursion IsFit result.now.entries }
     {
         self.live.entries()
     }

@@ -35,6 +35,7 @@ use Rattle.model_partition.specs.Loading.{Group, are_counted, opens, serves, met
 use Rattle.model_partition.specs.Serving.{log_done, out_size}
 use Rattle.model_partition.specs.PlaceReads.{place_of, places_of, reads_under, moved_on, asks_again}
 use Rattle.model_partition.specs.Getting.{bytes_rule, gives_up_get}
+use Rattle.model_partition.specs.Checkpoints.{record_told, rows_reply, trim_awaits, trim_reply_in, trim_again}
 
 -- ---- whose answer it is
 
@@ -45,7 +46,9 @@ get_awaits g w = list_any (λ read. is_same read.request w) g.reads
 abbrev pub range_awaits : RangeState → ReqNo → Bool
 range_awaits r w =
     load_awaits r.load.phase w
-    || (awaits r.metadata.job w || (awaits r.log.job w || (reads_under r.reading w || list_any (λ g. get_awaits g w) r.gets)))
+    || (awaits r.metadata.job w
+    || (awaits r.log.job w
+    || (awaits r.rows.job w || (reads_under r.reading w || (trim_awaits r.control w || list_any (λ g. get_awaits g w) r.gets)))))
 
 abbrev pub append_number : AppendBody → Option ReqNo
 append_number (appends.Appended w e offset) = Some w
@@ -149,7 +152,9 @@ load_reply d r body = answers d r []
 abbrev pub metadata_reply : ServerContext → RangeState → Body → RangeOutcome
 metadata_reply d r body =
     let o : Outcome = reply_rule (picking d r.metadata) (request d) body in
-    metadata_news d (record r { metadata = o.after }) (groups_of body) r.stage o.news (option_to_list o.packet)
+    let now : RangeState = record r { metadata = o.after } in
+    if is_serving r.stage then record_told d now r.control o.news (option_to_list o.packet)
+    else metadata_news d now (groups_of body) r.stage o.news (option_to_list o.packet)
 
 -- news of the log's client while the range is served
 abbrev pub serving_news : ServerContext → RangeState → Option News → List Packet → RangeOutcome
@@ -191,6 +196,12 @@ index_reply d r (bodies.Read body) = index_told d r body
 index_reply d r (bodies.Append body) = load_refused d r body
 index_reply d r body = answers d r []
 
+-- the answer to a Trim, or a refusal of it
+abbrev pub trim_reply : ServerContext → RangeState → Body → RangeOutcome
+trim_reply d r (bodies.Stream body) = trim_reply_in d r r.control body
+trim_reply d r (bodies.Append body) = load_refused d r body
+trim_reply d r body = answers d r []
+
 abbrev pub bytes_reply : ServerContext → RangeState → ReqNo → ReadBody → RangeOutcome
 bytes_reply d r w (reads.Bytes v e offset bytes) = bytes_rule d r w (place_of e offset bytes) bytes
 bytes_reply d r w body = answers d r []
@@ -208,7 +219,9 @@ answer_rule d r w body =
     if load_awaits r.load.phase w then load_reply d r body
     else if awaits r.metadata.job w then metadata_reply d r body
     else if awaits r.log.job w then log_reply d r body
+    else if awaits r.rows.job w then rows_reply d r body
     else if reads_under r.reading w then index_reply d r body
+    else if trim_awaits r.control w then trim_reply d r body
     else gets_reply d r w body
 
 -- ---- giving up
@@ -222,16 +235,19 @@ abbrev pub gives_up_reading : ServerContext → RangeState → Option PlaceRead 
 gives_up_reading d r None = []
 gives_up_reading d r (Some read) = asks_again d (moved_on read) (places_of r read.place.extent)
 
--- The load, the log's job, the metadata's job, the read of an index and the Gets give up, in this order. A client's job takes the
--- next number.
+-- The load, the jobs of the log, of the metadata and of row data, the read of an index, the Trim and the Gets give up, in this
+-- order. A client's job takes the next number.
 abbrev pub give_up_all : ServerContext → RangeState → RangeOutcome
 give_up_all d r =
     let l : Outcome = gives_up_job d r.log in
     let m : Outcome = gives_up_job (used d) r.metadata in
+    let w : Outcome = gives_up_job (used (used d)) r.rows in
     record {
-      after = Some (record r { metadata = m.after; log = l.after; reading = option_map moved_on r.reading; gets = map (λ g. (gives_up_get d r g).0) r.gets });
-      count = (used (used d)).count;
+      after = Some (record r { metadata = m.after; log = l.after; rows = w.after; reading = option_map moved_on r.reading; gets = map (λ g. (gives_up_get d r g).0) r.gets });
+      count = (used (used (used d))).count;
       packets = option_to_list (again r.load r.load.phase)
-          ++ (option_to_list l.packet ++ (option_to_list m.packet ++ (gives_up_reading d r r.reading ++ flat_map (λ g. (gives_up_get d r g).1) r.gets)));
+          ++ (option_to_list l.packet
+          ++ (option_to_list m.packet
+          ++ (option_to_list w.packet ++ (gives_up_reading d r r.reading ++ (trim_again d r r.control ++ flat_map (λ g. (gives_up_get d r g).1) r.gets)))));
       notes = [];
     }

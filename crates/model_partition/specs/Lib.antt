@@ -2,6 +2,8 @@ pub mod StreamMachine
 pub mod Lines
 pub mod Answering
 pub mod Getting
+pub mod CheckpointStates
+pub mod Checkpoints
 pub mod PlaceReads
 pub mod Loading
 pub mod Log

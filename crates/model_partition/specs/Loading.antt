@@ -32,7 +32,6 @@ use Rattle.metadata.specs.Keys.{within}
 use Rattle.memtable.specs.Entries.{Entries as Layer, put_all}
 use Rattle.checkpoint_format.specs.declared.index.Index.{Index}
 use Rattle.checkpoint_format.specs.Index.{index_at}
-use Rattle.checkpoint.specs.declared.installed_index.InstalledIndex.{InstalledIndex}
 use Rattle.model_partition.specs.declared.waiting.PlaceRead.{PlaceRead}
 use Rattle.model_partition.specs.declared.server_context.ServerContext.{ServerContext}
 use Rattle.model_partition.specs.Range.{RangeState, RangeOutcome, request, answers, goes, dropped, given, picking, later}
@@ -176,7 +175,7 @@ opens d r lists =
       load = record r.load { phase = phases.Opened };
       metadata = new_client d.server (record { range = r.load.range; kind = kinds.Metadata }) r.load.generation lists.metadata d.pick;
       log = new_client d.server (record { range = r.load.range; kind = kinds.Log }) r.load.generation lists.log d.pick;
-      row_data = lists.row_data;
+      rows = new_client d.server (record { range = r.load.range; kind = kinds.RowData }) r.load.generation lists.row_data d.pick;
       blob_data = lists.blob_data;
       said = first_metadata;
     })

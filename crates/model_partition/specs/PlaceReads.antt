@@ -27,7 +27,7 @@ places_in (x ∷ xs) e = if x.extent == e then Some x.places else places_in xs e
 
 -- the replicas of an extent that values, pages and indexes stand in
 abbrev pub places_of : RangeState → ℕ → Option Nodes
-places_of r e = places_in (r.log.extents ++ (r.blob_data.extents ++ r.row_data.extents)) e
+places_of r e = places_in (r.log.extents ++ (r.blob_data.extents ++ r.rows.extents)) e
 
 abbrev pub reads_place : ServerContext → Nodes → PlaceRead → Packet
 reads_place d places read =

@@ -20,6 +20,7 @@ use Rattle.checkpoint.specs.declared.installed_index.InstalledIndex.{InstalledIn
 use Rattle.client.specs.declared.fault.ClientFault.{ClientFault}
 use Rattle.client.specs.Client.{ClientState, Outcome, waits}
 use Rattle.client.specs.Load.{LoadState}
+use Rattle.model_partition.specs.CheckpointStates.{CheckpointState}
 use Rattle.model_partition.specs.declared.server_context.ServerContext.{ServerContext}
 use Rattle.model_partition.specs.declared.stage.Stage.{Stage}
 use Rattle.model_partition.specs.declared.stage.Stage.TheVariants.{Serving}
@@ -33,18 +34,18 @@ pub record OutGroup : Type 0 where
   pub first : ℕ
   pub transactions : List WaitingTransaction
 
--- A range at a server: the end of its lease; the opening and the confirmation of its streams; its stage; its metadata and
--- its log, as clients know them, and its other two streams; what its metadata says; the regions of the log, each with the
--- number that is to be applied next; the two layers of its memory table; the indexes below it that were read, the newest
--- first, and the index that is being read; the number of the next transaction; the end of what was appended to the log; the
--- transactions that wait, and those that are being appended; the Gets that wait, and what was read for them.
+-- A range at a server: the end of its lease; the opening and the confirmation of its streams; its stage; its metadata, its log
+-- and its row data, as clients know them, and its blob stream; what its metadata says; the regions of the log, each with the
+-- number that is to be applied next; the two layers of its memory table; the indexes below it, the newest first, and the index
+-- that is being read; the checkpoint that is under way; the number of the next transaction; the end of what was appended to the
+-- log; the transactions that wait, and those that are being appended; the Gets that wait, and what was read for them.
 pub record RangeState : Type 0 where
   pub until : ℕ
   pub load : LoadState
   pub stage : Stage
   pub metadata : ClientState
   pub log : ClientState
-  pub row_data : StreamList
+  pub rows : ClientState
   pub blob_data : StreamList
   pub said : MetadataState
   pub regions : List Region
@@ -52,6 +53,7 @@ pub record RangeState : Type 0 where
   pub fixed : Option Entries
   pub indexes : List InstalledIndex
   pub reading : Option PlaceRead
+  pub control : Option CheckpointState
   pub next : ℕ
   pub position : Position
   pub queue : List WaitingTransaction

@@ -14,7 +14,7 @@ put x r =
       stage = x.stage;
       metadata = x.metadata;
       log = x.log;
-      row_data = x.row_data;
+      rows = x.rows;
       blob_data = x.blob_data;
       said = x.said;
       regions = x.regions.items;
@@ -22,6 +22,7 @@ put x r =
       fixed = x.table.fixed;
       indexes = x.indexes;
       reading = x.reading;
+      control = x.control;
     }
 
 -- what comes of a range whose load went so far

@@ -1,5 +1,5 @@
 -- The table of a server: what it does with a packet, with a moment, and with being told to give up.
-use Rattle.std.specs.Prelude.{ℕ, ◌+◌, ◌^◌, max, Bool, true, ◌==◌, nat_lt, List, [], ◌∷◌, ◌++◌, Option, Some, None, if◌then◌else◌}
+use Rattle.std.specs.Prelude.{ℕ, ◌+◌, ◌^◌, max, Bool, true, ◌==◌, nat_lt, List, [], ◌∷◌, ◌++◌, Option, Some, None, is_some, if◌then◌else◌}
 use Rattle.std.specs.Map.{lookup, remove_entry, set_value}
 use Rattle.std.specs.BTreeMap.{is_at, insert_entry}
 use Rattle.std.specs.Ordering.{nat_cmp}
@@ -15,6 +15,7 @@ use Rattle.wire.specs.declared.body.TableBody.{TableBody}
 use Rattle.wire.specs.declared.body.TableBody.TheVariants as tables
 use Rattle.wire.specs.declared.packet.Packet.{Packet}
 use Rattle.wire.specs.declared.transaction.Change.{Change}
+use Rattle.wire.specs.declared.refusal.Refusal.{Refusal}
 use Rattle.wire.specs.declared.refusal.Refusal.TheVariants as refusals
 use Rattle.wire.specs.declared.streams.StreamKind.TheVariants as kinds
 use Rattle.client.specs.Client.{new_client}
@@ -26,6 +27,7 @@ use Rattle.model_partition.specs.declared.server_context.ServerContext.{ServerCo
 use Rattle.model_partition.specs.Range.{RangeState, RangeOutcome, request, used, refuses, refused_users}
 use Rattle.model_partition.specs.Serving.{transact_rule}
 use Rattle.model_partition.specs.Getting.{get_rule}
+use Rattle.model_partition.specs.Checkpoints.{checkpoint_fault, checkpoint_rule}
 use Rattle.model_partition.specs.Answering.{range_awaits, answered_number, is_answerer, answer_rule, give_up_all}
 
 -- a server, and its ranges in the order of their numbers
@@ -81,7 +83,7 @@ new_range d range generation until =
       stage = Opening;
       metadata = new_client d.server (record { range = range; kind = kinds.Metadata }) generation (record { base = 0; extents = [] }) d.pick;
       log = new_client d.server (record { range = range; kind = kinds.Log }) generation (record { base = 0; extents = [] }) d.pick;
-      row_data = record { base = 0; extents = [] };
+      rows = new_client d.server (record { range = range; kind = kinds.RowData }) generation (record { base = 0; extents = [] }) d.pick;
       blob_data = record { base = 0; extents = [] };
       said = first_metadata;
       regions = [];
@@ -89,6 +91,7 @@ new_range d range generation until =
       fixed = None;
       indexes = [];
       reading = None;
+      control = None;
       next = 1;
       position = record { index = 0; offset = 0 };
       queue = [];
@@ -195,6 +198,22 @@ picked s pick = record s { context = record s.context { pick = if has_numbers s.
 -- the nodes for new extents are replaced, and the jobs of a range give up; none where the range is unknown (30)
 abbrev pub give_up_rule : ServerState → ℕ → Nodes → Option ServerOutcome
 give_up_rule s range pick = gives_up (picked s pick) range (range_of s.ranges range)
+
+-- why a checkpoint of a range is refused: this server does not hold it (30), or it cannot begin one
+abbrev pub checkpoint_refused : Option RangeState → Option Refusal
+checkpoint_refused None = Some refusals.NotOwner
+checkpoint_refused (Some r) = checkpoint_fault r
+
+abbrev pub checkpoint_refusal : ServerState → ℕ → Option Refusal
+checkpoint_refusal s range = checkpoint_refused (range_of s.ranges range)
+
+abbrev pub checkpoints_in : ServerState → ℕ → Option RangeState → ServerOutcome
+checkpoints_in s range None = rests s
+checkpoints_in s range (Some r) = if has_numbers s.context then stepped s range (checkpoint_rule s.context r) else rests s
+
+-- a checkpoint of a range begins; without numbers for the requests of a step none does
+abbrev pub server_checkpoint : ServerState → ℕ → ServerOutcome
+server_checkpoint s range = if is_some (checkpoint_refusal s range) then rests s else checkpoints_in s range (range_of s.ranges range)
 
 -- a start: no range, and the last moment
 abbrev pub started : ℕ → ℕ → ℕ → Nodes → ℕ → ServerState

@@ -10,19 +10,25 @@ use Rattle.wire.specs.declared.streams.StreamKind.{StreamKind}
 use Rattle.wire.specs.declared.streams.StreamKind.TheVariants as kinds
 use Rattle.streams.specs.declared.table.Position.{Position}
 use Rattle.metadata.specs.declared.record.Region.{Region}
+use Rattle.memtable.specs.declared.cell.Place.{Place}
 use Rattle.commitlog.specs.Record.{spelling}
+use Rattle.metadata.specs.Record.{spelling as metadata_spelling}
 use Rattle.client.specs.declared.job.News.{News}
 use Rattle.client.specs.declared.job.News.TheVariants as news
 use Rattle.client.specs.declared.load.LoadPhase.{LoadPhase}
 use Rattle.client.specs.declared.load.LoadPhase.TheVariants as phases
 use Rattle.client.specs.Client.{ClientState, awaits, last_extent, reply_rule}
 use Rattle.client.specs.Load.{load_awaits}
+use Rattle.model_partition.specs.CheckpointStates.{CheckpointState}
+use Rattle.model_partition.specs.declared.checkpoint_job.CheckpointPhase.{CheckpointPhase}
+use Rattle.model_partition.specs.declared.checkpoint_job.CheckpointPhase.TheVariants as checkpoints
 use Rattle.model_partition.specs.declared.server_context.ServerContext.{ServerContext}
 use Rattle.model_partition.specs.declared.stage.Stage.{Stage}
 use Rattle.model_partition.specs.declared.stage.Stage.TheVariants as stages
 use Rattle.model_partition.specs.Range.{OutGroup, RangeState, RangeOutcome, request, picking, if_there, is_serving}
 use Rattle.model_partition.specs.Loading.{Group, log_end}
 use Rattle.model_partition.specs.Serving.{record_of}
+use Rattle.model_partition.specs.Checkpoints.{checkpoint_record, may_record, index_place, rows_may_stand}
 use Rattle.model_partition.specs.Answering.{groups_of, is_taken}
 
 -- an extent that a load has read: its index in the stream, and the groups that were found there
@@ -97,8 +103,46 @@ load_actions r body = []
 
 -- ---- answers
 
+-- the group of a checkpoint's record
+abbrev pub record_group : RangeState → CheckpointState → Place → Group
+record_group r job index = metadata_spelling (checkpoint_record r job index) ∷ []
+
+abbrev pub record_stood_in : RangeState → CheckpointState → CheckpointPhase → ℕ → ℕ → List StreamAction
+record_stood_in r job (checkpoints.Record index) extent offset = Stands kinds.Metadata extent (last_position r.metadata offset) (record_group r job index) ∷ []
+record_stood_in r job phase extent offset = []
+
+abbrev pub record_stood : RangeState → Option CheckpointState → ℕ → ℕ → List StreamAction
+record_stood r None extent offset = []
+record_stood r (Some job) extent offset = record_stood_in r job job.phase extent offset
+
+-- what news of the metadata's client leads to while the range is served
+abbrev pub record_actions : RangeState → Option News → List StreamAction
+record_actions r (Some (news.Appended extent offset)) = record_stood r r.control extent offset
+record_actions r told = []
+
 abbrev pub metadata_actions : ServerContext → RangeState → Body → List StreamAction
-metadata_actions d r body = loading_actions kinds.Metadata r.metadata r.stage (groups_of body) (reply_rule (picking d r.metadata) (request d) body).news
+metadata_actions d r body =
+    if is_serving r.stage then record_actions r (reply_rule (picking d r.metadata) (request d) body).news
+    else loading_actions kinds.Metadata r.metadata r.stage (groups_of body) (reply_rule (picking d r.metadata) (request d) body).news
+
+-- where an index stands, the append of the record begins
+abbrev pub index_stood_in : RangeState → CheckpointState → CheckpointPhase → ℕ → ℕ → List StreamAction
+index_stood_in r job checkpoints.Index extent offset =
+    if may_record r job then Forms kinds.Metadata (record_group r job (index_place job extent offset)) ∷ [] else []
+index_stood_in r job phase extent offset = []
+
+abbrev pub index_stood : RangeState → Option CheckpointState → ℕ → ℕ → List StreamAction
+index_stood r None extent offset = []
+index_stood r (Some job) extent offset = index_stood_in r job job.phase extent offset
+
+-- what news of the client of row data leads to
+abbrev pub rows_told_actions : RangeState → Option News → List StreamAction
+rows_told_actions r (Some (news.Appended extent offset)) = index_stood r r.control extent offset
+rows_told_actions r told = []
+
+abbrev pub rows_actions : ServerContext → RangeState → Body → List StreamAction
+rows_actions d r body =
+    if rows_may_stand r.control body then rows_told_actions r (reply_rule (picking d r.rows) (request d) body).news else []
 
 abbrev pub log_actions : ServerContext → RangeState → Body → RangeOutcome → List StreamAction
 log_actions d r body o =
@@ -111,6 +155,7 @@ answered_actions d r w body o =
     if load_awaits r.load.phase w then load_actions r body
     else if awaits r.metadata.job w then metadata_actions d r body
     else if awaits r.log.job w then (if is_taken r body then log_actions d r body o else [])
+    else if awaits r.rows.job w then rows_actions d r body
     else []
 
 -- a range that is dropped does nothing

@@ -1,12 +1,12 @@
 //! What the users of a table are promised, what its servers and the partition map do, and what whole runs are, as definitions.
 //!
-//! This crate has no code but the plain values that states are made of, the number of a server's next request, and the packets of
-//! reads; it touches nothing. Its definitions stand in specs/:
+//! This crate has no code but the plain values that states are made of, the number of a server's next request, the packets of
+//! reads, and what a client makes of an answer; it touches nothing. Its definitions stand in specs/:
 //! - Past: what a table that is loaded again must be, said of observations alone (`Replays`).
 //! - Story and Log: what the users of one stream see of it, the order that it keeps, and what servers may do to the log of a
 //!   range.
 //! - StreamMachine and ServerTurns: one stream as its manager, the primaries of its extents and its servers make it.
-//! - Range, PlaceReads, Loading, Serving, Getting, Answering and Server: the table of a server, as functions of its state.
+//! - Range, PlaceReads, Loading, Serving, Getting, Checkpoints, Answering and Server: the table of a server, as functions of its state.
 //! - Servers: the servers of a run, and what a loaded table shows.
 //! - Map: the partition map, its ranges in the order of their keys, and its rules: which range has which keys, which server holds
 //!   it until when, and what the map does with each call and packet.
@@ -20,6 +20,8 @@
 //! map's; the crates of servers and of the map prove that their calls are them, and `world` that its runs are these.
 #![tactic(auto)]
 
+mod checkpoint_job;
+mod client_answers;
 mod map_record;
 mod place_reads;
 mod progress;
@@ -32,6 +34,8 @@ mod stage;
 mod table_note;
 mod waiting;
 
+pub use checkpoint_job::{CheckpointJob, CheckpointPhase};
+pub use client_answers::take_answer;
 pub use map_record::MapRecord;
 pub use place_reads::{is_same, moved_on, places_of, reads_place};
 pub use progress::{Progress, Service};

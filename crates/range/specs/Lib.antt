@@ -1,1 +1,2 @@
 pub mod ServerStep
+pub mod Faults

@@ -1,5 +1,5 @@
 -- What a server's call leaves, as its code says it.
-use Rattle.std.specs.Prelude.{◌≡◌, ◌≤◌, Bool, true, false, List, length, is_some}
+use Rattle.std.specs.Prelude.{◌≤◌, Bool, true, false, List, length, is_some}
 use Rattle.wire.specs.declared.body.Body.{Body}
 use Rattle.wire.specs.declared.body.Body.TheVariants as bodies
 use Rattle.wire.specs.declared.body.MapBody.{MapBody}

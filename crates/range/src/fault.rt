@@ -1,11 +1,14 @@
-//! Why a server does not give up.
-ghost use Rattle.std.specs.Prelude.{◌≡◌};
+//! Why a server does nothing with a range.
+ghost use Rattle.std.specs.Prelude.{◌≡◌, ◌⊎◌, Some};
+ghost use Rattle.range.specs.Faults.{refusal_of};
 ghost use Rattle.range.specs.declared.fault.RangeFault.TheVariants as faults;
+ghost use Rattle.wire.specs.declared.refusal.Refusal.TheVariants as refusals;
 
 use std::alloc::AllocError;
 use thiserror::Error;
+use wire::Refusal;
 
-/// Why a server does not give up on the jobs of a range. Nothing has changed then.
+/// Why a server does not give up on the jobs of a range, or begins no checkpoint of it. Nothing has changed then.
 #[derive(Clone, Copy, Debug, PartialEq, Eq, Error)]
 pub enum RangeFault {
     /// 22: no memory was left.
@@ -14,6 +17,12 @@ pub enum RangeFault {
     /// 30: the server does not hold the range.
     #[error("the server does not hold the range")]
     NotOwner,
+    /// 38: the range is not served yet.
+    #[error("the range is loaded")]
+    Loading,
+    /// 35: a checkpoint of the range is under way.
+    #[error("a checkpoint of the range is under way")]
+    Busy,
 }
 
 impl From<AllocError> for RangeFault {
@@ -21,5 +30,30 @@ impl From<AllocError> for RangeFault {
 
     fn from(_: AllocError) -> Self {
         RangeFault::Memory
+    }
+}
+
+impl RangeFault {
+    /// The refusal that is told. None is told for want of memory.
+    pub fn refusal(&self) -> Option<Refusal>
+        ensures { result ≡ refusal_of self.now }
+    {
+        match self {
+            RangeFault::Memory => None,
+            RangeFault::NotOwner => Some(Refusal::NotOwner),
+            RangeFault::Loading => Some(Refusal::Loading),
+            RangeFault::Busy => Some(Refusal::Busy),
+        }
+    }
+
+    /// Why no checkpoint begins.
+    pub(crate) fn of_checkpoint(refusal: Refusal) -> RangeFault
+        requires { (refusal ≡ refusals.Loading) ⊎ (refusal ≡ refusals.Busy) }
+        ensures { refusal_of result ≡ Some refusal }
+    {
+        match refusal {
+            Refusal::Loading => RangeFault::Loading,
+            _ => RangeFault::Busy,
+        }
     }
 }

@@ -6,11 +6,13 @@
 //! - `handle` is the rule of a packet: an answer goes to the range that waits for its number, what a user asks to the range that
 //!   it names, or it is refused (30); what the map tells assigns a range or renews its lease.
 //! - `give_up` has the jobs of a range give up on what they wait for.
+//! - `checkpoint` begins a checkpoint of a range that is served and has none under way, or says why it does not; the checkpoint
+//!   goes on by the answers that `handle` takes.
 //! - `loading` is the table that a confirmation is about to show.
 //! - A step sends and shows at most 2,048 each.
 //!
-//! Where memory runs out (22) nothing has changed. It comes only of an assignment, of what a user asks, of an answer and of giving up
-//! on a range that is held; no clause says more of when it comes.
+//! Where memory runs out (22) nothing has changed. It comes only of an assignment, of what a user asks, of an answer, and of giving up
+//! or a checkpoint of a range that is held; no clause says more of when it comes.
 #![tactic(auto)]
 
 mod answers;

@@ -1,13 +1,13 @@
 //! A partition server.
-ghost use Rattle.std.specs.Prelude.{◌≡◌, ◌<◌, ◌≤◌, ◌+◌, ◌^◌, ◌++◌, [], ◌∷◌, Some, None, Err, true, length, option_map, is_some, IfOk, OnErr};
-ghost use Rattle.model_partition.specs.Server.{map_rule, new_range, server_rule, table_rule, numbered_rule, has_numbers, moment_rule, give_up_rule, started, users_of, assign_rule, renew_rule, range_of, transacts_in, gets_in, answer_of, awaiting};
+ghost use Rattle.std.specs.Prelude.{◌≡◌, ◌<◌, ◌≤◌, ◌+◌, ◌^◌, ◌++◌, [], ◌∷◌, Some, true, length, option_map, is_some, IfOk, OnErr};
+ghost use Rattle.model_partition.specs.Server.{map_rule, new_range, server_rule, table_rule, numbered_rule, has_numbers, moment_rule, give_up_rule, started, users_of, assign_rule, renew_rule, range_of, transacts_in, gets_in, answer_of, awaiting, checkpoint_refusal, server_checkpoint};
 ghost use Rattle.model_partition.specs.Answering as answering;
-ghost use Rattle.model_partition.specs.Servers.{loads, table_of_view};
+ghost use Rattle.model_partition.specs.Servers.{give_up_fault, loads, table_of_view};
 ghost use Rattle.client.specs.Load.{open_packet};
 ghost use Rattle.model_partition.specs.Range.{refuses, request};
 ghost use Rattle.wire.specs.declared.refusal.Refusal.TheVariants.{NotOwner};
 ghost use Rattle.range.specs.ServerStep.{IsShort, outcome, needs_memory, told_needs_memory, asked_needs_memory};
-ghost use Rattle.range.specs.declared.fault.RangeFault.TheVariants as faults;
+ghost use Rattle.range.specs.Faults.{refusal_in};
 
 use crate::answers::{answered_number, is_answerer};
 use crate::fault::RangeFault;
@@ -382,8 +382,7 @@ impl RangeServer {
         pick: &Nodes,
     ) -> Result<Sent, RangeFault>
         ensures ok { IfOk result (λ t. give_up_rule self.old range pick.now ≡ Some (outcome t self.new)) }
-        ensures unknown { result ≡ Err faults.NotOwner → give_up_rule self.old range pick.now ≡ None }
-        ensures refused { give_up_rule self.old range pick.now ≡ None → result ≡ Err faults.NotOwner }
+        ensures refused { refusal_in result ≡ give_up_fault range pick.now (Some self.old) }
         ensures err { OnErr result (self.new ≡ self.old) }
         ensures short { IfOk result IsShort }
     {
@@ -405,6 +404,31 @@ impl RangeServer {
                     Err(_full) => Err(RangeFault::Memory),
                 }
             }
+        }
+    }
+
+    /// A checkpoint of a range begins: what its memory table has is written as pages, and goes on by the answers to them.
+    /// 22: no memory. 30: the server does not hold the range. 38: the range is not served yet. 35: a checkpoint of it is under way.
+    /// After a refusal nothing has changed. A server with no numbers left for its requests does nothing.
+    #[tactic(auto, using(crate::proofs::Entries::removed_after, crate::proofs::Entries::set_same, crate::proofs::Checkpoints::loading_or_busy))]
+    pub fn checkpoint(&mut self, alloc: Global, range: RangeId) -> Result<Sent, RangeFault>
+        ensures ok { IfOk result (λ t. server_checkpoint self.old range ≡ outcome t self.new) }
+        ensures refused { refusal_in result ≡ checkpoint_refusal self.old range }
+        ensures err { OnErr result (self.new ≡ self.old) }
+        ensures short { IfOk result IsShort }
+    {
+        let Some(state) = self.ranges.get_mut(&range.0) else {
+            return Err(RangeFault::NotOwner);
+        };
+        if let Some(refusal) = state.checkpoint_fault() {
+            return Err(RangeFault::of_checkpoint(refusal));
+        }
+        if !has_numbers(&self.context) {
+            return Ok(Sent::nothing(alloc));
+        }
+        match state.checkpoint(alloc, &self.context) {
+            Ok(taken) => Ok(settle(&mut self.ranges, &mut self.context, range.0, taken)),
+            Err(_full) => Err(RangeFault::Memory),
         }
     }
 

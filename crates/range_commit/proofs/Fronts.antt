@@ -8,7 +8,6 @@ use Rattle.std.proofs.lemmas.List.{length-take-le, take-append-drop, take_at, dr
 use Rattle.std.proofs.lemmas.List.Sums.{sum_by-cons}
 use Rattle.block_types.specs.Limits.{IsBlock, group_size}
 use Rattle.memtable.specs.declared.cell.Cell.{Cell}
-use Rattle.commitlog.specs.declared.log_record.LogRecord.{LogRecord}
 use Rattle.commitlog.specs.Record.{transaction_values, spelling, IsTransaction, Fits}
 use Rattle.commitlog.specs.Places.{kept_transactions}
 use Rattle.commitlog.specs.Sizes.{text_size}

@@ -5,6 +5,7 @@ ghost use Rattle.memtable.specs.Cell.{IsEntry};
 ghost use Rattle.commitlog.specs.Record.{spelling, IsTransaction};
 ghost use Rattle.range_commit.specs.Queue.{is_formed, changes_out, committed_out, dones_out, size_out, AreTransactions, IsNextGroup};
 ghost use Rattle.model_partition.specs.declared.waiting.WaitingTransaction.{WaitingTransaction as Waiting};
+ghost use Rattle.model_partition.specs.Checkpoints.{number_to_apply};
 ghost use Rattle.model_partition.specs.Range.{refuses, waiting_out};
 ghost use Rattle.model_partition.specs.Serving.{began, grown, record_of};
 ghost use Rattle.wire.specs.declared.refusal.Refusal.TheVariants as refusals;
@@ -83,6 +84,13 @@ impl Queue {
         ensures positive { 0 < result }
     {
         self.next
+    }
+
+    /// The number of the first transaction of the group that is out, or of the next one where none is.
+    pub fn number_to_apply(&self) -> u64
+        ensures { result ≡ number_to_apply self.now.out self.now.next }
+    {
+        self.next - self.out_count as u64
     }
 
     /// How many wait, those that are out counted; at most 1,024.

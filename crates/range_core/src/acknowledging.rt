@@ -1,7 +1,7 @@
 //! Answers to the client of the log while the range is served.
 ghost use Rattle.std.specs.Prelude.{◌≡◌, ℕ, ◌<◌, ◌≤◌, ◌+◌, ◌-◌, ◌^◌, ◌++◌, ◌&&◌, true, false, length, vec_len, vec_capacity, None, is_some, option_to_list, IfOk, IfSome, IfNone, OnOk, OnErr};
 ghost use Rattle.memtable.specs.Entries.{put_all};
-ghost use Rattle.client.specs.Client.{needs_memory, reply_rule};
+ghost use Rattle.client.specs.Client.{needs_memory};
 ghost use Rattle.model_partition.specs.Range.{is_serving, picking, request};
 ghost use Rattle.model_partition.specs.Loading.{are_counted};
 ghost use Rattle.model_partition.specs.Answering.{is_taken, log_taken, may_stand};
@@ -13,8 +13,8 @@ ghost use Rattle.range_core.specs.Steps.{outcome, IsShort};
 use crate::forming::{Begun, next_group};
 use crate::range_step::{RangeStep, append_reserved, push_some};
 use crate::state::RangeState;
-use client::{Job, Reaction, StreamClient};
-use model_partition::{ServerContext, TableNote, next_request};
+use client::{Job, StreamClient};
+use model_partition::{ServerContext, TableNote, take_answer};
 use range_commit::MAX_WAITING;
 use std::alloc::{AllocError, Global};
 use streams::Position;
@@ -50,29 +50,6 @@ fn joined(told: Told, begun: Begun, count: u64) -> RangeStep
         count,
         packets,
         notes,
-    }
-}
-
-/// What the log's client makes of an answer; a new extent is asked for at the context's nodes from now on. Where memory runs out (22)
-/// nothing has changed.
-fn take_answer(
-    log: &mut StreamClient,
-    alloc: Global,
-    context: &ServerContext,
-    packet: &Packet,
-) -> Result<Reaction, AllocError>
-    ensures ok { IfOk result (λ x. reply_rule (picking context.now log.old) (request context.now) packet.now.body ≡ record { after = log.new; packet = x.packet; news = x.news }) }
-    ensures err { OnErr result (log.new ≡ log.old) }
-    ensures needed { OnErr result (needs_memory packet.now.body ≡ true) }
-{
-    let pick = log.pick;
-    log.pick = context.pick;
-    match log.on_reply(alloc, &next_request(context), packet) {
-        Ok(reaction) => Ok(reaction),
-        Err(full) => {
-            log.pick = pick;
-            Err(full)
-        }
     }
 }
 

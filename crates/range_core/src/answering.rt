@@ -1,7 +1,7 @@
 //! Answers that a range waits for.
 ghost use Rattle.std.specs.Prelude.{◌≡◌, ◌<◌, ◌≤◌, ◌+◌, ◌^◌, [], Some, true, false, length, vec_len, vec_capacity, IfOk, OnErr};
 ghost use Rattle.model_partition.specs.Range.{is_serving, refused_users};
-ghost use Rattle.model_partition.specs.Answering.{answer_rule, answered_number, log_reply, range_awaits};
+ghost use Rattle.model_partition.specs.Answering.{answer_rule, answered_number, log_reply, metadata_reply, range_awaits};
 ghost use Rattle.range_load.specs.Awaited.{is_awaited};
 ghost use Rattle.model_partition.specs.RangeSteps as steps;
 ghost use Rattle.range_core.specs.Replies.{IsAwaited};
@@ -12,21 +12,22 @@ ghost use Rattle.range_core.specs.declared.answering.Waiter.TheVariants as waite
 use crate::range_step::{RangeStep, push_some};
 use crate::state::RangeState;
 use model_partition::{Progress, RangeContent, ServerContext, Service, TableNote};
+use range_checkpoint::{record_reply, rows_reply, trim_awaits, trim_reply};
 use range_commit::Queue;
 use range_load::{index_reply, load_reply, log_load_reply, metadata_reply, reads_under};
 use std::alloc::{AllocError, Global};
 use wire::{Packet, ReqNo};
 
-/// What a step of a load may need of memory: the farewell to those who wait, and room for a packet and an observation.
+/// What a step of a load or of a checkpoint may need of memory: the farewell to those who wait, and room for a packet and an observation.
 #[derive(Drop)]
-struct Prepared {
+pub(crate) struct Prepared {
     farewell: Vec<Packet>,
     packets: Vec<Packet>,
     notes: Vec<TableNote>,
 }
 
-/// Room for what a step of a load leaves, beside the farewell.
-fn make_room(alloc: Global, farewell: Vec<Packet>) -> Result<Prepared, AllocError>
+/// Room for what such a step leaves, beside the farewell.
+pub(crate) fn make_room(alloc: Global, farewell: Vec<Packet>) -> Result<Prepared, AllocError>
     ensures farewell { IfOk result (λ p. p.farewell.items ≡ farewell.items) }
     ensures packets { IfOk result (λ p. (p.packets.items ≡ []) × (vec_len p.packets < vec_capacity p.packets)) }
     ensures notes { IfOk result (λ p. (p.notes.items ≡ []) × (vec_len p.notes < vec_capacity p.notes)) }
@@ -38,20 +39,26 @@ fn make_room(alloc: Global, farewell: Vec<Packet>) -> Result<Prepared, AllocErro
     })
 }
 
-/// Whose answer moves a load on.
+/// Whose answer moves a load or a checkpoint on.
 #[derive(Drop)]
 pub enum Waiter {
     /// The load itself: its streams are opened, or its generation is confirmed.
     Load,
-    /// The metadata's client.
+    /// The metadata's client, which is the load's until the range is served.
     Metadata,
+    /// The metadata's client once the range is served: it appends the record of a checkpoint.
+    Record,
     /// The log's client, which is the load's until the range is served.
     Log,
+    /// The client of row data, which appends the pages and the index of a checkpoint.
+    Rows,
     /// The read of an index.
     Index,
+    /// The Trim that ends a checkpoint.
+    Trim,
 }
 
-/// What an answer to this one leaves of what is loaded.
+/// What an answer to this one leaves of what is loaded, and of the checkpoint that is under way.
 fn progress_of(
     content: &mut RangeContent,
     alloc: Global,
@@ -60,21 +67,26 @@ fn progress_of(
     packet: &Packet,
 ) -> Result<Progress, AllocError>
     requires load { waiter ≡ waiters.Load → is_awaited content.old.load.phase packet.now.body ≡ true }
+    requires metadata { waiter ≡ waiters.Metadata → is_serving content.old.stage ≡ false }
     requires log { waiter ≡ waiters.Log → is_serving content.old.stage ≡ false }
+    requires record { waiter ≡ waiters.Record → is_serving content.old.stage ≡ true }
     ensures ok { IfOk result (λ p. steps.RangePerforms context.now (λ r. waiter_rule waiter context.now r packet.now.body) content.old content.new p) }
     ensures err { OnErr result (content.new ≡ content.old) }
 {
     match waiter {
         Waiter::Load => load_reply(content, alloc, context, packet),
         Waiter::Metadata => metadata_reply(content, alloc, context, packet),
+        Waiter::Record => record_reply(content, alloc, context, packet),
         Waiter::Log => log_load_reply(content, alloc, context, packet),
+        Waiter::Rows => rows_reply(content, alloc, context, packet),
         Waiter::Index => index_reply(content, alloc, context, packet),
+        Waiter::Trim => trim_reply(content, context, packet),
     }
 }
 
 impl RangeState {
-    /// What a step of the load leaves of the range.
-    fn settle(
+    /// What a step of the load or of a checkpoint leaves of the range.
+    pub(crate) fn settle(
         &mut self,
         alloc: Global,
         context: &ServerContext,
@@ -125,9 +137,9 @@ impl RangeState {
 
     /// The load goes on by the answer to this one: the streams are opened, the metadata is read, then the log, then the indexes,
     /// the generation is confirmed, and the range is served from then on, with the number of the next transaction and the log's
-    /// position. The range is dropped where its generation is an old one (3), what was read is damaged (21), or an index stands in
-    /// an extent that is in none of its streams, and those who wait are told so (30). Where memory runs out (22) nothing has
-    /// changed.
+    /// position. Or a checkpoint goes on: a group of pages stands, then the index, then the record, and the log is trimmed. The
+    /// range is dropped where its generation is an old one (3), what was read is damaged (21), or an index stands in an extent that
+    /// is in none of its streams, and those who wait are told so (30). Where memory runs out (22) nothing has changed.
     pub fn load(
         &mut self,
         alloc: Global,
@@ -137,7 +149,9 @@ impl RangeState {
     ) -> Result<RangeStep, AllocError>
         requires numbers { context.now.count + 1024 < 2 ^ 64 }
         requires load { waiter ≡ waiters.Load → is_awaited self.old.load.phase packet.now.body ≡ true }
+        requires metadata { waiter ≡ waiters.Metadata → is_serving self.old.stage ≡ false }
         requires loading { waiter ≡ waiters.Log → is_serving self.old.stage ≡ false }
+        requires record { waiter ≡ waiters.Record → is_serving self.old.stage ≡ true }
         ensures ok { IfOk result (λ t. waiter_rule waiter context.now self.old packet.now.body ≡ outcome t self.new) }
         ensures err { OnErr result (self.new ≡ self.old) }
         ensures short { IfOk result IsShort }
@@ -148,6 +162,23 @@ impl RangeState {
             Ok(progress) => Ok(self.settle(alloc, context, progress, prepared)),
             Err(full) => Err(full),
         }
+    }
+
+    fn metadata_reply(
+        &mut self,
+        alloc: Global,
+        context: &ServerContext,
+        packet: &Packet,
+    ) -> Result<RangeStep, AllocError>
+        requires numbers { context.now.count + 1024 < 2 ^ 64 }
+        ensures ok { IfOk result (λ t. metadata_reply context.now self.old packet.now.body ≡ outcome t self.new) }
+        ensures err { OnErr result (self.new ≡ self.old) }
+        ensures short { IfOk result IsShort }
+    {
+        if self.is_serving() {
+            return self.load(alloc, context, Waiter::Record, packet);
+        }
+        self.load(alloc, context, Waiter::Metadata, packet)
     }
 
     fn log_reply(
@@ -178,13 +209,15 @@ impl RangeState {
         self.content.load.awaits(request)
             || self.content.metadata.awaits(request)
             || self.content.log.awaits(request)
+            || self.content.rows.awaits(request)
             || reads_under(&self.content.reading, request)
+            || trim_awaits(&self.content.control, request)
             || self.lookups.awaits(request)
     }
 
-    /// The answer of this number, a packet: what the load, the metadata's client, the log's client, the read of an index or the
-    /// Gets do with it, whichever waits for it first. That it bears the number is the caller's condition. For want of memory (22)
-    /// nothing has changed.
+    /// The answer of this number, a packet: what the load, the client of the metadata, of the log or of row data, the read of an
+    /// index, the Trim or the Gets do with it, whichever waits for it first. That it bears the number is the caller's condition.
+    /// For want of memory (22) nothing has changed.
     #[tactic(auto, using(crate::proofs::LogAnswers::awaited, crate::proofs::LogAnswers::load_awaited))]
     pub fn answer(
         &mut self,
@@ -203,13 +236,19 @@ impl RangeState {
             return self.load(alloc, context, Waiter::Load, packet);
         }
         if self.content.metadata.awaits(request) {
-            return self.load(alloc, context, Waiter::Metadata, packet);
+            return self.metadata_reply(alloc, context, packet);
         }
         if self.content.log.awaits(request) {
             return self.log_reply(alloc, context, packet);
         }
+        if self.content.rows.awaits(request) {
+            return self.load(alloc, context, Waiter::Rows, packet);
+        }
         if reads_under(&self.content.reading, request) {
             return self.load(alloc, context, Waiter::Index, packet);
+        }
+        if trim_awaits(&self.content.control, request) {
+            return self.load(alloc, context, Waiter::Trim, packet);
         }
         self.gets_reply(alloc, context, request, &packet.body)
     }

@@ -67,7 +67,7 @@ impl RangeState {
             table: &content.table,
             log: known_extents(&content.log),
             blob: extents_of(&content.blob_data),
-            rows: extents_of(&content.row_data),
+            rows: known_extents(&content.rows),
             indexes: indexes_of(content),
         };
         match self.lookups.get(alloc, &asking, from, *request, key) {
@@ -131,7 +131,7 @@ impl RangeState {
                     table: &content.table,
                     log: known_extents(&content.log),
                     blob: extents_of(&content.blob_data),
-                    rows: extents_of(&content.row_data),
+                    rows: known_extents(&content.rows),
                     indexes: indexes_of(content),
                 };
                 match self

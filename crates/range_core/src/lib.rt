@@ -11,6 +11,7 @@
 
 mod acknowledging;
 mod answering;
+mod checkpoints;
 mod forming;
 mod getting;
 mod giving_up;

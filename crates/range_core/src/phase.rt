@@ -5,6 +5,8 @@
 pub enum Phase {
     /// Its streams are opened and read, and its generation is confirmed. Transactions and Gets are refused (38).
     Loading,
-    /// Transactions and Gets are taken.
+    /// Transactions and Gets are taken, and a checkpoint may begin.
     Serving,
+    /// Transactions and Gets are taken, and a checkpoint is under way.
+    Checkpointing,
 }

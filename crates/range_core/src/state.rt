@@ -57,7 +57,7 @@ impl Model for RangeState {
       stage = r.content.stage;
       metadata = r.content.metadata;
       log = r.content.log;
-      row_data = r.content.row_data;
+      rows = r.content.rows;
       blob_data = r.content.blob_data;
       said = r.content.said;
       regions = r.content.regions.items;
@@ -65,6 +65,7 @@ impl Model for RangeState {
       fixed = r.content.table.fixed;
       indexes = r.content.indexes;
       reading = r.content.reading;
+      control = r.content.control;
       next = r.queue.next;
       position = r.position;
       queue = r.queue.queue;
@@ -139,10 +140,13 @@ impl RangeState {
 
     /// How far it is.
     pub fn phase(&self) -> Phase
-        ensures { result ≡ phase_of self.now.stage }
+        ensures { result ≡ phase_of self.now.stage self.now.control }
     {
         match self.content.stage {
-            Stage::Serving => Phase::Serving,
+            Stage::Serving => match &self.content.control {
+                None => Phase::Serving,
+                Some(_) => Phase::Checkpointing,
+            },
             _ => Phase::Loading,
         }
     }

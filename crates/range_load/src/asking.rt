@@ -1,12 +1,11 @@
 //! Requests of a load, each under the server's next number.
-ghost use Rattle.std.specs.Prelude.{◌≡◌, Some, None, IfOk, OnErr};
-ghost use Rattle.client.specs.Client.{check_rule, content_of, content_told, reply_rule};
-ghost use Rattle.model_partition.specs.Range.{request, given, picking};
+ghost use Rattle.std.specs.Prelude.{◌≡◌, Some, None};
+ghost use Rattle.client.specs.Client.{check_rule};
+ghost use Rattle.model_partition.specs.Range.{request, given};
 ghost use Rattle.model_partition.specs.Loading.{read_by, read_of};
 
-use client::{Reaction, StreamClient};
+use client::StreamClient;
 use model_partition::{ServerContext, next_request};
-use std::alloc::{AllocError, Global};
 use wire::{Packet, StreamExtent};
 
 /// The check of the last extent's length.
@@ -16,29 +15,6 @@ pub(crate) fn check_last(client: &mut StreamClient, context: &ServerContext) -> 
     match client.check_length(&next_request(context)) {
         Ok(packet) => Some(packet),
         Err(_fault) => None,
-    }
-}
-
-/// What a stream's client makes of an answer; a new extent is asked for at the context's nodes from now on. Where memory
-/// runs out (22) nothing has changed.
-pub(crate) fn take_answer(
-    client: &mut StreamClient,
-    alloc: Global,
-    context: &ServerContext,
-    packet: &Packet,
-) -> Result<Reaction, AllocError>
-    ensures ok { IfOk result (λ x. reply_rule (picking context.now client.old) (request context.now) packet.now.body ≡ record { after = client.new; packet = x.packet; news = x.news }) }
-    ensures content { IfOk result (λ x. content_told x.news ≡ content_of client.old.job packet.now.body) }
-    ensures err { OnErr result (client.new ≡ client.old) }
-{
-    let pick = client.pick;
-    client.pick = context.pick;
-    match client.on_reply(alloc, &next_request(context), packet) {
-        Ok(reaction) => Ok(reaction),
-        Err(full) => {
-            client.pick = pick;
-            Err(full)
-        }
     }
 }
 

@@ -30,12 +30,12 @@ pub(crate) fn index_named(indexes: &[IndexRange], position: u64) -> Option<&Inde
 
 /// The replicas of an extent that the load was told of.
 pub(crate) fn places_known(content: &RangeContent, extent: ExtentId) -> Option<Nodes>
-    ensures { result ≡ reads.places_in (content.now.log.extents ++ (content.now.blob_data.extents ++ content.now.row_data.extents)) extent }
+    ensures { result ≡ reads.places_in (content.now.log.extents ++ (content.now.blob_data.extents ++ content.now.rows.extents)) extent }
 {
     places_of(
         &content.log.extents,
         &content.blob_data.extents.items,
-        &content.row_data.extents.items,
+        &content.rows.extents,
         extent,
     )
 }

@@ -6,6 +6,8 @@
 //! - `load_reply`, `metadata_reply`, `log_load_reply` and `index_reply` are the rules of those names, whatever else is known of
 //!   the range: what is sent, what is known then, whether the range is dropped, and what is shown once it is served. An answer to
 //!   another request than the load's own changes nothing by `load_reply`; `reads_under` says which number `index_reply` is for.
+//! - `metadata_reply` and `log_load_reply` are of a range that is not served yet: the answers after that are those of the crates
+//!   above.
 //! - A range is served by the answer to what `RangeLoad::confirm` sent. Its streams are read only while the load has them opened,
 //!   which the type keeps.
 //! - `give_up` sends again what is not answered, or has an extent sealed that does not answer.

@@ -11,13 +11,12 @@ ghost use Rattle.model_partition.specs.declared.progress.Progress.TheVariants as
 ghost use Rattle.model_partition.specs.RangeSteps.{RangePerforms};
 
 use crate::answering::groups_of;
-use crate::asking::take_answer;
 use crate::log_reading::{reads_log, reads_log_behind, reads_log_from_start};
 use crate::turning::{Turn, sent, turn_of};
 use block_types::{BlockFault, Group};
 use client::{News, StreamClient};
 use metadata::{KeyRange, Metadata};
-use model_partition::{Progress, RangeContent, ServerContext, Stage};
+use model_partition::{Progress, RangeContent, ServerContext, Stage, take_answer};
 use range_replay::replayed;
 use std::alloc::{AllocError, Global};
 use wire::{ExtentId, Packet};

@@ -1,23 +1,22 @@
 //! The answers to the metadata's client.
-ghost use Rattle.std.specs.Prelude.{◌≡◌, [], ℕ, List, Some, None, true, IfOk, OnErr, option_to_list};
+ghost use Rattle.std.specs.Prelude.{◌≡◌, [], ℕ, List, Some, None, true, false, IfOk, OnErr, option_to_list};
 ghost use Rattle.client.specs.declared.job.Job.TheVariants as jobs;
 ghost use Rattle.client.specs.declared.job.News.TheVariants as news;
 ghost use Rattle.client.specs.Client.{content_of, content_told};
 ghost use Rattle.client.specs.Load.{is_open};
-ghost use Rattle.model_partition.specs.Range.{picking};
+ghost use Rattle.model_partition.specs.Range.{picking, is_serving};
 ghost use Rattle.model_partition.specs.Loading as rows;
 ghost use Rattle.model_partition.specs.Answering as answers;
 ghost use Rattle.model_partition.specs.declared.progress.Progress.TheVariants as progress;
 ghost use Rattle.model_partition.specs.RangeSteps.{RangePerforms};
 
 use crate::answering::groups_of;
-use crate::asking::take_answer;
 use crate::metadata_reading::{reads_metadata, reads_metadata_behind};
 use crate::turning::{Turn, sent, turn_of};
 use block_types::{BlockFault, Group};
 use client::News;
 use metadata::{Region, copied_regions};
-use model_partition::{Progress, RangeContent, ServerContext, Stage};
+use model_partition::{Progress, RangeContent, ServerContext, Stage, take_answer};
 use range_replay::folded;
 use std::alloc::{AllocError, Global};
 use wire::Packet;
@@ -54,7 +53,8 @@ fn metadata_told(
     context: &ServerContext,
     packet: &Packet,
 ) -> Result<Progress, AllocError>
-    requires { content_of content.old.metadata.job packet.now.body ≡ None }
+    requires loading { is_serving content.old.stage ≡ false }
+    requires other { content_of content.old.metadata.job packet.now.body ≡ None }
     ensures ok { IfOk result (λ p. RangePerforms context.now (λ r. answers.metadata_reply context.now r packet.now.body) content.old content.new p) }
     ensures err { OnErr result (content.new ≡ content.old) }
 {
@@ -130,15 +130,16 @@ fn metadata_passed(content: &mut RangeContent, alloc: Global, context: &ServerCo
     Progress::Goes(None)
 }
 
-/// The answer to the job of the metadata's client: its last extent is checked, then all extents are read in order, and then
-/// the log. The range is dropped where its generation is old, or what is read is damaged. Where memory runs out (22) nothing
-/// has changed.
+/// The answer to the job of the metadata's client while the range is loaded: its last extent is checked, then all extents are
+/// read in order, and then the log. The range is dropped where its generation is old, or what is read is damaged. Where memory
+/// runs out (22) nothing has changed.
 pub fn metadata_reply(
     content: &mut RangeContent,
     alloc: Global,
     context: &ServerContext,
     packet: &Packet,
 ) -> Result<Progress, AllocError>
+    requires { is_serving content.old.stage ≡ false }
     ensures ok { IfOk result (λ p. RangePerforms context.now (λ r. answers.metadata_reply context.now r packet.now.body) content.old content.new p) }
     ensures err { OnErr result (content.new ≡ content.old) }
 {

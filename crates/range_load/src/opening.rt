@@ -44,25 +44,32 @@ fn client_of(
     )
 }
 
-/// The clients of the metadata and of the log, with nothing out.
+/// The clients of the metadata, of the log and of the row data.
+#[derive(Drop)]
+struct Clients {
+    metadata: StreamClient,
+    log: StreamClient,
+    rows: StreamClient,
+}
+
+/// These clients, with nothing out.
 fn clients_of(
     alloc: Global,
     context: &ServerContext,
     load: &RangeLoad,
     metadata: &StreamList,
     log: &StreamList,
-) -> Result<(StreamClient, StreamClient), AllocError>
-    ensures metadata { IfOk result (λ both. both.0 ≡ new_client context.now.server (record { range = load.now.range; kind = kinds.Metadata }) load.now.generation metadata.now context.now.pick) }
-    ensures log { IfOk result (λ both. both.1 ≡ new_client context.now.server (record { range = load.now.range; kind = kinds.Log }) load.now.generation log.now context.now.pick) }
+    rows: &StreamList,
+) -> Result<Clients, AllocError>
+    ensures metadata { IfOk result (λ clients. clients.metadata ≡ new_client context.now.server (record { range = load.now.range; kind = kinds.Metadata }) load.now.generation metadata.now context.now.pick) }
+    ensures log { IfOk result (λ clients. clients.log ≡ new_client context.now.server (record { range = load.now.range; kind = kinds.Log }) load.now.generation log.now context.now.pick) }
+    ensures rows { IfOk result (λ clients. clients.rows ≡ new_client context.now.server (record { range = load.now.range; kind = kinds.RowData }) load.now.generation rows.now context.now.pick) }
 {
-    let first = client_of(alloc, context, StreamKind::Metadata, load, metadata)?;
-    match client_of(alloc, context, StreamKind::Log, load, log) {
-        Ok(second) => Ok((first, second)),
-        Err(full) => {
-            drop(first);
-            Err(full)
-        }
-    }
+    Ok(Clients {
+        metadata: client_of(alloc, context, StreamKind::Metadata, load, metadata)?,
+        log: client_of(alloc, context, StreamKind::Log, load, log)?,
+        rows: client_of(alloc, context, StreamKind::RowData, load, rows)?,
+    })
 }
 
 /// The same of streams that are not opened yet.
@@ -70,29 +77,15 @@ fn first_clients(
     alloc: Global,
     context: &ServerContext,
     load: &RangeLoad,
-) -> Result<(StreamClient, StreamClient), AllocError>
-    ensures metadata { IfOk result (λ both. both.0 ≡ new_client context.now.server (record { range = load.now.range; kind = kinds.Metadata }) load.now.generation (record { base = 0; extents = [] }) context.now.pick) }
-    ensures log { IfOk result (λ both. both.1 ≡ new_client context.now.server (record { range = load.now.range; kind = kinds.Log }) load.now.generation (record { base = 0; extents = [] }) context.now.pick) }
+) -> Result<Clients, AllocError>
+    ensures metadata { IfOk result (λ clients. clients.metadata ≡ new_client context.now.server (record { range = load.now.range; kind = kinds.Metadata }) load.now.generation (record { base = 0; extents = [] }) context.now.pick) }
+    ensures log { IfOk result (λ clients. clients.log ≡ new_client context.now.server (record { range = load.now.range; kind = kinds.Log }) load.now.generation (record { base = 0; extents = [] }) context.now.pick) }
+    ensures rows { IfOk result (λ clients. clients.rows ≡ new_client context.now.server (record { range = load.now.range; kind = kinds.RowData }) load.now.generation (record { base = 0; extents = [] }) context.now.pick) }
 {
     let none = no_list(alloc);
-    let clients = clients_of(alloc, context, load, &none, &none);
+    let clients = clients_of(alloc, context, load, &none, &none, &none);
     drop(none);
     clients
-}
-
-/// Copies of the streams of the data.
-fn data_of(alloc: Global, lists: &StreamLists) -> Result<(StreamList, StreamList), AllocError>
-    ensures rows { IfOk result (λ both. both.0 ≡ lists.now.row_data) }
-    ensures blobs { IfOk result (λ both. both.1 ≡ lists.now.blob_data) }
-{
-    let rows = copied_list(alloc, &lists.row_data)?;
-    match copied_list(alloc, &lists.blob_data) {
-        Ok(blobs) => Ok((rows, blobs)),
-        Err(full) => {
-            drop(rows);
-            Err(full)
-        }
-    }
 }
 
 /// What is known before any metadata is read, and a copy of its regions.
@@ -120,18 +113,19 @@ fn begun(
 {
     let said = Metadata::first(alloc)?;
     match first_clients(alloc, context, &load) {
-        Ok((metadata, log)) => Ok(RangeContent {
+        Ok(clients) => Ok(RangeContent {
             load,
             stage: Stage::Opening,
-            metadata,
-            log,
-            row_data: no_list(alloc),
+            metadata: clients.metadata,
+            log: clients.log,
+            rows: clients.rows,
             blob_data: no_list(alloc),
             said,
             regions: Vec::new(alloc),
             table: MemTable::new(alloc),
             indexes: InstalledIndexes::of(Vec::new(alloc)),
             reading: None,
+            control: None,
         }),
         Err(full) => {
             drop(said);
@@ -178,9 +172,16 @@ pub(crate) fn opens(
     ensures ok { IfOk result (λ p. RangePerforms context.now (λ r. rows.opens context.now r lists.now) content.old content.new p) }
     ensures err { OnErr result (content.new ≡ content.old) }
 {
-    let clients = clients_of(alloc, context, &content.load, &lists.metadata, &lists.log)?;
-    match data_of(alloc, lists) {
-        Ok(streams) => opens_with(content, alloc, context, packet, clients, streams),
+    let clients = clients_of(
+        alloc,
+        context,
+        &content.load,
+        &lists.metadata,
+        &lists.log,
+        &lists.row_data,
+    )?;
+    match copied_list(alloc, &lists.blob_data) {
+        Ok(blobs) => opens_with(content, alloc, context, packet, clients, blobs),
         Err(full) => {
             drop(clients);
             Err(full)
@@ -188,37 +189,39 @@ pub(crate) fn opens(
     }
 }
 
-/// The same with these clients of the metadata and the log, and these streams of the data.
+/// The same with these clients, and this stream of the blobs.
 fn opens_with(
     content: &mut RangeContent,
     alloc: Global,
     context: &ServerContext,
     packet: &Packet,
-    clients: (StreamClient, StreamClient),
-    streams: (StreamList, StreamList),
+    clients: Clients,
+    blobs: StreamList,
 ) -> Result<Progress, AllocError>
     requires { reply_phase packet.now.body content.old.load.phase ≡ phases.Opened }
     ensures ok { IfOk result (λ p. RangePerforms context.now (λ r. rows.begins_metadata context.now (record r {
       load = record r.load { phase = phases.Opened };
-      metadata = clients.0;
-      log = clients.1;
-      row_data = streams.0;
-      blob_data = streams.1;
+      metadata = clients.metadata;
+      log = clients.log;
+      rows = clients.rows;
+      blob_data = blobs;
       said = first_metadata;
-    }) (last_extent clients.0.extents)) content.old content.new p) }
+    }) (last_extent clients.metadata.extents)) content.old content.new p) }
     ensures err { OnErr result (content.new ≡ content.old) }
 {
     match first_said(alloc) {
         Ok((said, regions)) => {
             content.load.on_reply(packet);
-            (content.metadata, content.log) = clients;
-            (content.row_data, content.blob_data) = streams;
+            content.metadata = clients.metadata;
+            content.log = clients.log;
+            content.rows = clients.rows;
+            content.blob_data = blobs;
             content.said = said;
             Ok(begins_metadata(content, context, regions))
         }
         Err(full) => {
             drop(clients);
-            drop(streams);
+            drop(blobs);
             Err(full)
         }
     }

@@ -30,7 +30,7 @@ is_seen r a held s = λ i.
       indexes = s.indexes i;
       log = record r.log { extents = s.log i };
       blob_data = record r.blob_data { extents = s.blob i };
-      row_data = record r.row_data { extents = s.rows i };
+      rows = record r.rows { extents = s.rows i };
       held = held;
     }
 

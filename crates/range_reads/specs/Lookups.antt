@@ -20,7 +20,7 @@ pub record Sees (r : RangeState) (a : Asking) : Type 0 where
   pub indexes : a.indexes.now ≡ r.indexes
   pub log : a.log.now ≡ r.log.extents
   pub blob : a.blob.now ≡ r.blob_data.extents
-  pub rows : a.rows.now ≡ r.row_data.extents
+  pub rows : a.rows.now ≡ r.rows.extents
 
 -- these are the range's Gets
 pub record IsOf (r : RangeState) (s : LookupsState) : Type 0 where
@@ -37,7 +37,7 @@ seen a held r =
       indexes = a.indexes.now;
       log = record r.log { extents = a.log.now };
       blob_data = record r.blob_data { extents = a.blob.now };
-      row_data = record r.row_data { extents = a.rows.now };
+      rows = record r.rows { extents = a.rows.now };
       held = held;
     }
 

@@ -53,6 +53,8 @@
 #![tactic(auto)]
 
 #[cfg(test)]
+mod checkpoint_runs;
+#[cfg(test)]
 mod clients;
 #[cfg(test)]
 mod failover;

@@ -3,7 +3,7 @@ ghost use Rattle.std.specs.Prelude.{IfOk, OnOk};
 ghost use Rattle.std.specs.List.{AllByRecursion};
 ghost use Rattle.memtable.specs.Limits.{IsKey};
 ghost use Rattle.checkpoint_format.specs.Index.{IsIndex};
-ghost use Rattle.checkpoint.specs.Pages.{IsFit};
+ghost use Rattle.memtable.specs.Entries.{IsFit};
 
 use bytes::Bytes;
 use checkpoint::{

@@ -10,6 +10,8 @@ mod asking;
 #[cfg(test)]
 mod cases;
 #[cfg(test)]
+mod checkpoints;
+#[cfg(test)]
 mod gets;
 #[cfg(test)]
 mod groups;

@@ -172,6 +172,22 @@ fn begun(alloc: Global) -> Result<RangeContent, Fail> {
     Ok(content)
 }
 
+/// An empty range that is served, under the generation 2; the server's next request has the number 3.
+pub(crate) fn served(alloc: Global) -> Result<RangeContent, Fail> {
+    let mut content = begun(alloc)?;
+    answered(&mut content, alloc, &Load, 1, 2, &Answer::Empty, &Confirm)?;
+    answered(
+        &mut content,
+        alloc,
+        &Load,
+        2,
+        3,
+        &Answer::Confirmed,
+        &Serves(1, 0),
+    )?;
+    Ok(content)
+}
+
 /// What comes of an answer for a part, if its range is not served yet or the part is the load.
 fn reply(
     content: &mut RangeContent,
@@ -182,7 +198,12 @@ fn reply(
 ) -> Result<Option<Progress>, AllocError> {
     let progress = match part {
         Part::Load => load_reply(content, alloc, context, packet)?,
-        Part::Metadata => metadata_reply(content, alloc, context, packet)?,
+        Part::Metadata => {
+            if content.stage == Stage::Serving {
+                return Ok(None);
+            }
+            metadata_reply(content, alloc, context, packet)?
+        }
         Part::Log => {
             if content.stage == Stage::Serving {
                 return Ok(None);

@@ -43,7 +43,10 @@ pub(crate) enum Step {
     Awaits(u64),
     /// So many are refused.
     Refuses(usize),
+    /// A checkpoint begins, or why none does.
+    Checkpoints(Option<Refusal>),
     IsLoading,
+    IsCheckpointing,
     /// It is served, has nothing in it, and tells what it was assigned as.
     IsEmpty,
 }
@@ -173,6 +176,20 @@ const CASES: &[Case<Step>] = &[
         ],
     ),
     (
+        "a checkpoint begins where none is under way, and is asked for again",
+        &[
+            &[Step::Checkpoints(Some(Refusal::Loading))],
+            SERVED,
+            &[
+                Step::Checkpoints(None),
+                Step::IsCheckpointing,
+                Step::Checkpoints(Some(Refusal::Busy)),
+                Step::Awaits(9),
+                Step::GivesUp(1),
+            ],
+        ],
+    ),
+    (
         "a group that is not answered is asked for again",
         &[
             SERVED,
@@ -284,6 +301,16 @@ fn loads(
     Ok(!taken?.dropped)
 }
 
+/// Why no checkpoint begins, if none does.
+fn checkpointed(state: &mut RangeState, alloc: Global) -> Result<Option<Refusal>, Fail> {
+    if let Some(refusal) = state.checkpoint_fault() {
+        return Ok(Some(refusal));
+    }
+    let taken = state.checkpoint(alloc, &context(9, 1))?;
+    drop(taken);
+    Ok(None)
+}
+
 fn begun_count(state: &mut RangeState, alloc: Global) -> Result<usize, Fail> {
     Ok(state.form(alloc, &context(9, 1))?.notes.len())
 }
@@ -349,7 +376,9 @@ impl Tested for RangeState {
             Step::EndsAt(index, offset) => Ok(ends_at(self, *index, *offset)),
             Step::Awaits(count) => Ok(self.awaits(&number(*count))),
             Step::Refuses(count) => Ok(refusal_count(self, alloc)? == *count),
+            Step::Checkpoints(refusal) => Ok(checkpointed(self, alloc)? == *refusal),
             Step::IsLoading => Ok(self.phase() == Phase::Loading),
+            Step::IsCheckpointing => Ok(self.phase() == Phase::Checkpointing),
             Step::IsEmpty => Ok(is_empty(self)),
         }
     }

@@ -6,10 +6,10 @@ ghost use Rattle.world_steps.specs.ActorStep.{IsFew, table_step};
 
 use block_types::Nodes;
 use model_partition::TableView;
-use range::{RangeFault, RangeServer, Sent};
+use range::{RangeServer, Sent};
 use std::alloc::{AllocError, Global};
 use std::marker::Model;
-use wire::{Body, Packet, RangeId, Refusal, ServerNo};
+use wire::{Body, Packet, RangeId, ServerNo};
 use world_steps::ActorStep;
 
 /// The nodes that a server's new extents are made on, until a give-up names others.
@@ -118,8 +118,10 @@ impl ServerActor {
             None => Ok(ActorStep::silent(alloc)),
             Some(server) => match server.give_up(alloc, range, pick) {
                 Ok(sent) => Ok(performed(alloc, sent)),
-                Err(RangeFault::NotOwner) => Ok(ActorStep::refused(alloc, Refusal::NotOwner)),
-                Err(RangeFault::Memory) => Err(AllocError),
+                Err(fault) => match fault.refusal() {
+                    None => Err(AllocError),
+                    Some(refusal) => Ok(ActorStep::refused(alloc, refusal)),
+                },
             },
         }
     }

@@ -1,7 +1,7 @@
 use Rattle.std.proofs.Common.{subst, sym}
 use Rattle.std.specs.List.{AllByRecursion}
 use Rattle.memtable.specs.Entries.{Entries}
-use Rattle.checkpoint.specs.Pages.{IsFit}
+use Rattle.memtable.specs.Entries.{IsFit}
 use Rattle.checkpoint.proofs.Merging.{fits_combined}
 use Rattle.checkpoint.proofs.combination.combine.Goals as goal
 

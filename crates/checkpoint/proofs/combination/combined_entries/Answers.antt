@@ -25,8 +25,8 @@ returns c =
     filter_from_retain_pairs _ (λ f. Unit {0}) (λ e. not (is_deleted e.1)) (λ g k v b w g' i t. (search rules, search rules, tt)) _ c.match-newer.all.entries c.retain.new.self.entries tt c.retain.ensures.filtered in
     elim c.match-newer.branch [
       | in-Some+in_ok-put_copies-in-Some w ↦
-          kept ∙ combined_over c.args.merged.now c.args.newer w.in-Some.newer c.match-newer.all c.in_ok-all.all w.put_copies.new.all w.in-Some.is w.all-is w.in_ok-put_copies-in-Some.ensures (c.in_ok-all.ensures ∙ c.entries.ensures)
+          kept ∙ combined_over c.args.merged.now c.args.newer w.in-Some.newer c.match-newer.all c.in_ok-all.all w.put_copies.new.all w.in-Some.is w.all-is w.in_ok-put_copies-in-Some.ensures (c.in_ok-all.ensures ∙ c.entries.ensures.value)
       | in-None w ↦
-          kept ∙ ap (λ (m : Layer). without_deleted m.entries) w.all-is ∙ ap without_deleted (c.in_ok-all.ensures ∙ c.entries.ensures)
+          kept ∙ ap (λ (m : Layer). without_deleted m.entries) w.all-is ∙ ap without_deleted (c.in_ok-all.ensures ∙ c.entries.ensures.value)
           ∙ ap (λ (o : Option (Bor Layer)). combined c.args.merged.now (option_map (λ (l : Bor Layer). l.now.entries) o)) (sym w.in-None.is)
     ]

@@ -1,8 +1,7 @@
 use Rattle.std.proofs.Common.{◌≡◌, ◌+◌, ℕ, List}
 use Rattle.std.specs.List.{AllByRecursion}
 use Rattle.std.specs.Vec.Iter.{into_iter_items}
-use Rattle.memtable.specs.Cell.{IsEntry}
-use Rattle.memtable.specs.Entries.{found, latest, put_all, entries_size, all_taken_back}
+use Rattle.memtable.specs.Entries.{IsFit, found, latest, put_all, entries_size, all_taken_back}
 use Rattle.memtable.proofs.layer.put_all.Given as goal
 
 abbrev pub invariant-loop-key : goal.invariant-loop-key
@@ -11,5 +10,5 @@ invariant-loop-key l = record {
   found : (q : List ℕ) → latest q (into_iter_items l.key-iterator) (found l.layer.entries q) ≡ latest q l.fn.changes.items (found l.fn.layer.entries q);
   size : l.grown + entries_size l.fn.layer.entries ≡ l.size + entries_size l.layer.entries;
   undos : all_taken_back l.undos.items l.layer.entries ≡ l.fn.layer.entries;
-  fits : AllByRecursion (λ c. IsEntry c.0 c.1) (into_iter_items l.key-iterator);
+  fits : AllByRecursion IsFit (into_iter_items l.key-iterator);
 }

@@ -1,4 +1,4 @@
-use Rattle.checkpoint.proofs.Merging.{fits_put}
+use Rattle.memtable.proofs.Entries.{fits_put}
 use Rattle.tests_records.proofs.checkpoints.put_page.Goals as goal
 
 pub returns : goal.returns

@@ -1,5 +1,4 @@
-use Rattle.std.proofs.Common.{◌≡◌, List, take, ap, ◌∙◌}
-use Rattle.model_partition.specs.declared.waiting.WaitingTransaction.{WaitingTransaction}
+use Rattle.std.proofs.Common.{take, ap, ◌∙◌}
 use Rattle.range_commit.specs.Queue.{QueueState, changes_out}
 use Rattle.range_commit.proofs.Fronts.{out_sized, out_kept}
 use Rattle.range_commit.proofs.queue.Queue.changes.Goals as goal

@@ -13,8 +13,8 @@ use Rattle.range_core.proofs.state.RangeState.log_goes.Goals as goal
 pub returns-clause-ok : goal.returns-clause-ok
 returns-clause-ok c =
     let before : RangeState = the_view c.self.inside in
-    let after : RangeState = record before { log = c.take_answer.new.log } in
-    let o : Outcome = record { after = c.take_answer.new.log; packet = c.in_ok-reaction.reaction.packet; news = c.in_ok-reaction.reaction.news } in
+    let after : RangeState = record before { log = c.take_answer.new.client } in
+    let o : Outcome = record { after = c.take_answer.new.client; packet = c.in_ok-reaction.reaction.packet; news = c.in_ok-reaction.reaction.news } in
     let serving = subst (λ (r : RangeState). is_serving r.stage ≡ true) (sym c.self.view_is) c.requires.serving in
     let quiet = subst (λ (r : RangeState). (is_some r.out && is_end_of r.log.job c.args.packet.now.body) ≡ false) (sym c.self.view_is) c.requires.quiet in
     let packets = c.push_some.ensures.items ∙ ap (λ (l : List Packet). l ++ option_to_list c.in_ok-reaction.reaction.packet) c.in_ok-packets.ensures.items in

@@ -1,0 +1,131 @@
+-- A checkpoint begins at a range that is served: what it notes, and what is appended to row data first.
+use Rattle.std.proofs.Common.{◌≡◌, ℕ, [], ◌∷◌, Option, Some, None, refl, subst}
+use Rattle.std.specs.List.{AllByRecursion}
+use Rattle.wire.specs.declared.streams.StreamKind.TheVariants as kinds
+use Rattle.client.specs.Client.{ClientState}
+use Rattle.memtable.specs.Entries.{Entries, IsFit}
+use Rattle.metadata.specs.Record.{IsNext, IsPosition}
+use Rattle.checkpoint_format.specs.Page.{IsPageEntry}
+use Rattle.checkpoint.specs.Contents.{AreEntries}
+use Rattle.checkpoint.specs.PageGroups.{next_group}
+use Rattle.checkpoint.proofs.Orders.{sorted_from_ascending}
+use Rattle.checkpoint.proofs.PageGroups.{pages_begin}
+use Rattle.model_partition.specs.declared.checkpoint_job.CheckpointPhase.{CheckpointPhase}
+use Rattle.model_partition.specs.declared.checkpoint_job.CheckpointPhase.TheVariants as checkpoints
+use Rattle.model_partition.specs.declared.server_context.ServerContext.{ServerContext}
+use Rattle.model_partition.specs.CheckpointStates.{CheckpointState}
+use Rattle.model_partition.specs.Checkpoints.{number_to_apply, new_job, with_phase, index_if_fit, next_append, rows_go, writes_pages, checkpoint_rule}
+use Rattle.model_partition.specs.Loading.{Group}
+use Rattle.model_partition.specs.Past.{Bytes}
+use Rattle.model_partition.specs.Range.{RangeState}
+use Rattle.model_partition.specs.ServedTables.{AllStand}
+use Rattle.model_partition.specs.ServerRun.{place_number}
+use Rattle.laws_loads.specs.MemoryLayers.{layer_in}
+use Rattle.laws_loads.specs.RangeView.{RangeView}
+use Rattle.laws_loads.specs.Sound.{OutFits}
+use Rattle.laws_tables.specs.Runs as chains
+use Rattle.laws_tables.specs.Runs.{Run, Serving, first_beginning, held, noting, said, IsServing, MayInChain}
+use Rattle.laws_checkpoints.specs.IndexLayers.{layer_at}
+use Rattle.laws_checkpoints.proofs.CheckpointRecords.{job_notes}
+use Rattle.laws_checkpoints.proofs.WrittenPages.{writing_begins}
+use Rattle.laws_server_runs.specs.CheckpointInvariant.{CheckpointParts, parts_of, HoldsNone, HasNoted, HoldsPhase, HoldsCheckpoint}
+use Rattle.laws_server_runs.specs.RangeInvariant.{HasNoCheckpoint, append_of, Matches}
+
+module _ (texts : ℕ → Bytes) where
+  -- what a range holds is what its run says, but for its checkpoint
+  pub record MatchesBeside (v : RangeView) (s : Serving) (r : RangeState) : Type 0 where
+    pub position : place_number r.position ≡ s.position
+    pub next : r.next ≡ s.next
+    pub out : s.out ≡ append_of (v.history.append kinds.Log) r.out
+    pub live : AllStand texts v.answered → (key : Bytes) → layer_in texts r.live key ≡ s.live key
+    pub said : r.said ≡ said first_beginning s.records
+
+  pub beside : (v : RangeView) (s : Serving) (r : RangeState) → Matches texts v s r → MatchesBeside v s r
+  beside v s r m = record { position = m.position; next = m.next; out = m.out; live = m.live; said = m.said }
+
+  -- a range that is dropped holds nothing
+  abbrev pub MatchesIf : RangeView → Serving → Option RangeState → Type 0
+  MatchesIf v s None = Unit {0}
+  MatchesIf v s (Some r) = Matches texts v s r
+
+  -- the checkpoint waits for something else
+  pub noted_phase : (c : CheckpointParts) (job : CheckpointState) (phase : CheckpointPhase) → HasNoted texts c job → HasNoted texts c (with_phase job phase)
+  noted_phase c job phase h = record {
+    fixed = h.fixed;
+    entries = h.entries;
+    are_entries = h.are_entries;
+    layer = h.layer;
+    noted = h.noted;
+    pages = h.pages;
+    position = h.position;
+    number = h.number;
+  }
+
+  -- ---- what is appended to row data
+
+  module _ (v : RangeView) (s : Serving) (r : RangeState) (m : MatchesBeside v s r) (d : ServerContext) where
+    -- whatever becomes of the client of row data
+    pub with_control : (c : ClientState) (job : CheckpointState) → HoldsPhase texts (parts_of v s r) job job.phase → Matches texts v s (record r { rows = c; control = Some job })
+    with_control c job h = record { position = m.position; next = m.next; out = m.out; live = m.live; checkpoint = h; said = m.said }
+
+    go : (job : CheckpointState) → HoldsPhase texts (parts_of v s r) job job.phase → (group : Option Group) → MatchesIf v s (rows_go d r (job, group)).after
+    go job h None = with_control r.rows job h
+    go job h (Some group) = with_control _ job h
+
+    -- the next pages are appended, and behind the last ones the index
+    pub writes_on : (job : CheckpointState) → HasNoted texts (parts_of v s r) job → s.record_out ≡ None → MatchesIf v s (writes_pages d r job).after
+    writes_on job h none = by (next_group job.pages) refl
+      where
+        by : (group : Option Group) → next_group job.pages ≡ group → MatchesIf v s (rows_go d r (next_append job group)).after
+        by (Some group) e = go (with_phase job checkpoints.Pages) (noted_phase (parts_of v s r) job checkpoints.Pages h, none) (Some group)
+        by None e = go (with_phase job checkpoints.Index) (noted_phase (parts_of v s r) job checkpoints.Index h, none, e) (index_if_fit job.pages.index)
+
+  -- a checkpoint is under way then
+  goes_controlled : (d : ServerContext) (r : RangeState) (x : CheckpointState × Option Group) → HasNoCheckpoint (rows_go d r x).after → ⊥
+  goes_controlled d r (job, None) none = absurd cc
+  goes_controlled d r (job, Some group) none = absurd cc
+
+  pub begins_controlled : (d : ServerContext) (r : RangeState) → HasNoCheckpoint (checkpoint_rule d r).after → ⊥
+  begins_controlled d r none = goes_controlled d (record r { live = []; fixed = Some r.live }) (next_append (new_job r) (next_group (new_job r).pages)) none
+
+  -- ---- it begins
+
+  each_fit : (entries : Entries) → AllByRecursion IsPageEntry entries → AllByRecursion IsFit entries
+  each_fit [] each = tt
+  each_fit (entry ∷ entries) each = (each.0.0, each_fit entries each.1)
+
+  -- The range has no checkpoint, its live layer can be written in pages, and its position and its next number in a record.
+  module _ (v : RangeView) (s : Serving) (r : RangeState) (m : Matches texts v s r) (none : r.control ≡ None) (are : AreEntries r.live) (at : IsPosition r.position) (number : IsNext (number_to_apply r.out r.next))
+      (fits : OutFits r.out) where
+    nothing : HoldsNone (parts_of v s r)
+    nothing = subst (HoldsCheckpoint texts (parts_of v s r)) none m.checkpoint
+
+    abbrev fixed_range : RangeState
+    fixed_range = record r { live = []; fixed = Some r.live }
+
+    noted_now : HasNoted texts (parts_of v (noting s) fixed_range) (new_job r)
+    noted_now = record {
+      fixed = r.live;
+      entries = refl;
+      are_entries = are;
+      layer = m.live;
+      noted = job_notes (v.history.append kinds.Log) r s m.position m.next m.out fits;
+      pages = λ all. writing_begins texts r.live (pages_begin r.live (each_fit r.live are.each) (sorted_from_ascending r.live are.ascending));
+      position = at;
+      number = number;
+    }
+
+    beside_now : MatchesBeside v (noting s) fixed_range
+    beside_now = record { position = m.position; next = m.next; out = m.out; live = λ all key. refl; said = m.said }
+
+    -- what is fixed and noted is what the run says then
+    pub checkpoint_begins : (d : ServerContext) → MatchesIf v (noting s) (checkpoint_rule d r).after
+    checkpoint_begins d = writes_on v (noting s) fixed_range beside_now d (new_job r) noted_now nothing.record_out
+
+  -- and it may note it
+  pub may_note : (run : Run) (v : RangeView) (r : RangeState) → IsServing run r.load.generation → Matches texts v (held first_beginning run r.load.generation) r → r.control ≡ None →
+      MayInChain (layer_at texts) first_beginning run (chains.Notes r.load.generation)
+  may_note run v r serving m none =
+      let h : HoldsNone (parts_of v (held first_beginning run r.load.generation) r) =
+      subst (HoldsCheckpoint texts (parts_of v (held first_beginning run r.load.generation) r)) none m.checkpoint in
+      (serving, h.noted, h.record_out)

@@ -1,0 +1,106 @@
+-- The record of a checkpoint comes to stand: the metadata says it, the fixed layer goes, and the log may be trimmed.
+use Rattle.std.proofs.Common.{◌≡◌, ℕ, ◌+◌, ◌≤◌, [], ◌∷◌, ◌++◌, Bool, Option, Some, None, refl, sym, ap, ◌∙◌, subst}
+use Rattle.block_types.specs.Limits.{group_size}
+use Rattle.wire.specs.declared.actor.ReqNo.{ReqNo}
+use Rattle.wire.specs.declared.body.AppendBody.{AppendBody}
+use Rattle.wire.specs.declared.body.AppendBody.TheVariants as appends
+use Rattle.wire.specs.declared.body.Body.{Body}
+use Rattle.wire.specs.declared.body.Body.TheVariants as bodies
+use Rattle.wire.specs.declared.body.StreamBody.{StreamBody}
+use Rattle.wire.specs.declared.body.StreamBody.TheVariants as streams
+use Rattle.wire.specs.declared.refusal.Refusal.TheVariants as refusals
+use Rattle.wire.specs.declared.streams.StreamKind.TheVariants as kinds
+use Rattle.memtable.specs.declared.cell.Place.{Place}
+use Rattle.metadata.specs.Fold.{taken}
+use Rattle.client.specs.Client.{ClientState}
+use Rattle.model_partition.specs.declared.checkpoint_job.CheckpointPhase.{CheckpointPhase}
+use Rattle.model_partition.specs.declared.checkpoint_job.CheckpointPhase.TheVariants as checkpoints
+use Rattle.model_partition.specs.declared.server_context.ServerContext.{ServerContext}
+use Rattle.model_partition.specs.Answering.{load_refused, trim_reply}
+use Rattle.model_partition.specs.CheckpointStates.{CheckpointState}
+use Rattle.model_partition.specs.Checkpoints.{recorded, trim_index, trim_told, trim_reply_in}
+use Rattle.model_partition.specs.Past.{Bytes}
+use Rattle.model_partition.specs.Range.{RangeState}
+use Rattle.model_partition.specs.ServerRun.{place_number}
+use Rattle.model_partition.specs.StreamActions.{Stands, last_position, record_group}
+use Rattle.laws_loads.specs.RangeView.{RangeView, view_after}
+use Rattle.laws_tables.specs.Runs as chains
+use Rattle.laws_tables.specs.Runs.{Event, Run, Serving, first_beginning, held, items_out, said, start_number, IsServing, MayInChain}
+use Rattle.laws_checkpoints.specs.IndexLayers.{layer_at}
+use Rattle.laws_checkpoints.proofs.CheckpointRecords.{said_with, may_trim}
+use Rattle.laws_server_runs.specs.CheckpointInvariant.{item_of, parts_of, HasRecordOut, HoldsPhase, HoldsCheckpoint}
+use Rattle.laws_server_runs.specs.RangeInvariant.{Matches}
+use Rattle.laws_server_runs.proofs.CheckpointBegins.{MatchesIf}
+use Rattle.laws_server_runs.proofs.Others.{serving_on}
+use Rattle.laws_server_runs.proofs.ServedNotes.{same_here}
+
+module _ (texts : ℕ → Bytes) where
+  -- what the run of a range has where its record stands at an offset: the answer, and a Trim of what stands before the checkpoint's position
+  abbrev pub answer_event : RangeView → RangeState → CheckpointState → Place → ℕ → Event
+  answer_event v r job index offset =
+      chains.Recorded r.load.generation (v.history.append kinds.Metadata) (place_number (last_position r.metadata offset))
+      (place_number (last_position r.metadata offset) + group_size (record_group r job index))
+
+  abbrev pub trim_event : RangeState → CheckpointState → Event
+  trim_event r job = chains.Trims r.load.generation (place_number (record { index = trim_index r.log job.position; offset = 0 }))
+
+  module _ (v : RangeView) (s : Serving) (r : RangeState) (m : Matches texts v s r) (job : CheckpointState) (index : Place) (h : HasRecordOut texts (parts_of v s r) job index) where
+    -- what the record adds
+    records_now : s.records ++ items_out s.record_out ≡ s.records ++ item_of job index ∷ []
+    records_now = ap (λ o. s.records ++ items_out o) h.out
+
+    -- ---- what may happen
+
+    module _ (run : Run) (same : held first_beginning run r.load.generation ≡ s) (serving : IsServing run r.load.generation) (offset : ℕ) where
+      -- the record is answered
+      pub may_answer : MayInChain (layer_at texts) first_beginning run (answer_event v r job index offset)
+      may_answer = (serving, chains.record_group r.said.next (item_of job index), ap (λ z. z.record_out) same ∙ h.out)
+
+      -- and then the log is trimmed
+      pub may_trim_log : MayInChain (layer_at texts) first_beginning (answer_event v r job index offset ∷ run) (trim_event r job)
+      may_trim_log = (serving_on (answer_event v r job index offset) run r.load.generation serving, subst (λ records. place ≤ start_number (said first_beginning records).regions) (sym is) (may_trim first_beginning s.records r job index))
+        where
+          place : ℕ
+          place = place_number (record { index = trim_index r.log job.position; offset = 0 })
+
+          is : (held first_beginning (answer_event v r job index offset ∷ run) r.load.generation).records ≡ s.records ++ item_of job index ∷ []
+          is = ap (λ (z : Serving). z.records) (same_here r.load.generation _ _) ∙ ap (λ (z : Serving). z.records ++ items_out z.record_out) same ∙ records_now
+
+    -- ---- what is held then
+
+    abbrev pub now_taken : ClientState → CheckpointState → RangeState
+    now_taken c next = record (recorded (record r { metadata = c }) job index) { control = Some next }
+
+    pub recorded_match : (e offset : ℕ) (c : ClientState) (next : CheckpointState) → (before : ℕ) (to_blob : Bool) (q : ReqNo) → next.phase ≡ checkpoints.Trim before to_blob q →
+        Matches texts (view_after r.load.generation v (Stands kinds.Metadata e (last_position r.metadata offset) (record_group r job index))) (chains.recorded s) (now_taken c next)
+    recorded_match e offset c next before to_blob q waits = record {
+      position = m.position;
+      next = m.next;
+      out = m.out;
+      live = λ all. m.live all.1;
+      checkpoint = subst
+          (λ phase. HoldsPhase texts (parts_of (view_after r.load.generation v (Stands kinds.Metadata e (last_position r.metadata offset) (record_group r job index))) (chains.recorded s) (now_taken c next)) next phase)
+          (sym waits) (record { entries = refl; layer = refl; noted = refl; record_out = refl });
+      said = ap (λ z. taken z (item_of job index)) m.said ∙ sym (said_with first_beginning s.records (item_of job index)) ∙ ap (said first_beginning) (sym records_now);
+    }
+
+  -- ---- the Trim
+
+  module _ (v : RangeView) (s : Serving) (r : RangeState) (m : Matches texts v s r) (d : ServerContext) where
+    trim_told_match : (job : CheckpointState) (phase : CheckpointPhase) → HoldsPhase texts (parts_of v s r) job phase → (body : StreamBody) → MatchesIf texts v s (trim_told d r phase body).after
+    trim_told_match job (checkpoints.Trim before to_blob q) h (streams.Trimmed w) = record { position = m.position; next = m.next; out = m.out; live = m.live; checkpoint = h; said = m.said }
+    trim_told_match job phase h body = m
+
+    trim_match : (control : Option CheckpointState) → HoldsCheckpoint texts (parts_of v s r) control → (body : StreamBody) → MatchesIf texts v s (trim_reply_in d r control body).after
+    trim_match None h body = m
+    trim_match (Some job) h body = trim_told_match job job.phase h body
+
+    refused_match : (body : AppendBody) → MatchesIf texts v s (load_refused d r body).after
+    refused_match (appends.Refused w refusals.Stale) = tt
+    refused_match body = m
+
+    -- the answer to it, whatever is under way
+    pub trim_reply_match : (body : Body) → MatchesIf texts v s (trim_reply d r body).after
+    trim_reply_match (bodies.Stream body) = trim_match r.control m.checkpoint body
+    trim_reply_match (bodies.Append body) = refused_match body
+    trim_reply_match body = m

@@ -1,0 +1,158 @@
+-- What is appended to row data for a checkpoint comes to stand: its pages, and then its index, whose record may be written then.
+use Rattle.std.proofs.Common.{◌≡◌, ℕ, suc, ◌+◌, ◌<◌, ◌≤◌, ◌^◌, true, nat_lt, length, Option, Some, None, sym, ap, subst, inl, arith}
+use Rattle.std.specs.Prelude.{◌⊎◌}
+use Rattle.std.proofs.lemmas.Bool.{ltb-true, leb-true}
+use Rattle.wire.specs.declared.streams.StreamKind.TheVariants as kinds
+use Rattle.memtable.specs.declared.cell.Place.{Place}
+use Rattle.metadata.specs.Record.{IsNext, IsPlace}
+use Rattle.replica.specs.Groups.{joined}
+use Rattle.client.specs.declared.job.News.{News}
+use Rattle.client.specs.declared.job.News.TheVariants as news
+use Rattle.client.specs.Client.{ClientState}
+use Rattle.checkpoint_format.specs.Index.{index_group, index_size}
+use Rattle.checkpoint.specs.PageGroups.{page_group, next_pages, may_stand_at}
+use Rattle.model_partition.specs.declared.checkpoint_job.CheckpointPhase.{CheckpointPhase}
+use Rattle.model_partition.specs.declared.checkpoint_job.CheckpointPhase.TheVariants as checkpoints
+use Rattle.model_partition.specs.declared.server_context.ServerContext.{ServerContext}
+use Rattle.model_partition.specs.CheckpointStates.{CheckpointState}
+use Rattle.model_partition.specs.Checkpoints.{may_record, index_place, with_phase, pages_stand, writes_pages}
+use Rattle.model_partition.specs.Past.{Bytes}
+use Rattle.model_partition.specs.Range.{RangeState}
+use Rattle.model_partition.specs.Renaming.{decoded_record}
+use Rattle.model_partition.specs.ServedTables.{AllStand}
+use Rattle.model_partition.specs.StreamActions.{Forms, record_group}
+use Rattle.model_partition.specs.TableContents.{StandsAt}
+use Rattle.laws_loads.specs.RangeView.{RangeView, view_after, metadata_of}
+use Rattle.laws_tables.specs.Runs as chains
+use Rattle.laws_tables.specs.Runs.{Run, Serving, first_beginning, held, recording, said, IsServing, MayInChain}
+use Rattle.laws_checkpoints.specs.IndexLayers.{layer_at}
+use Rattle.laws_checkpoints.proofs.CheckpointRecords.{may_parts, said_number, record_spelled, index_written, index_filed, index_may}
+use Rattle.laws_checkpoints.proofs.WrittenPages.{writing_goes}
+use Rattle.laws_server_runs.specs.CheckpointInvariant.{item_of, parts_of, HasNoted, HoldsPhase}
+use Rattle.laws_server_runs.specs.RangeInvariant.{Matches}
+use Rattle.laws_server_runs.proofs.CheckpointBegins.{MatchesIf, beside, writes_on}
+
+-- ---- numbers
+
+pub below : (offset size : ℕ) → nat_lt (offset + size) (2 ^ 32) ≡ true → offset < 2 ^ 32
+below offset size room = let less : offset + size < 2 ^ 32 = ltb-true (offset + size) (2 ^ 32) room in omega (arith, less)
+
+module _ (texts : ℕ → Bytes) where
+  -- ---- the group that is appended
+
+  -- it stands at an offset of an extent, by what the checkpoint waits for
+  abbrev pub GroupStands : CheckpointState → CheckpointPhase → ℕ → ℕ → Type 0
+  GroupStands job checkpoints.Pages e offset = StandsAt (texts e) offset (joined (page_group (next_pages job.pages)))
+  GroupStands job checkpoints.Index e offset = StandsAt (texts e) offset (joined (index_group job.pages.index))
+  GroupStands job (checkpoints.Record index) e offset = Unit {0}
+  GroupStands job (checkpoints.Trim before to_blob q) e offset = Unit {0}
+
+  -- the offset is one where it may stand, and the extent's number one of 64 bits
+  pub record StandsRightly (v : RangeView) (job : CheckpointState) (e offset : ℕ) : Type 0 where
+    pub known : e < 2 ^ 64
+    pub may : may_stand_at job.pages offset ≡ true
+    pub all : AllStand texts v.answered
+    pub stands : GroupStands job job.phase e offset
+
+  abbrev pub StandsRightlyIf : RangeView → Option CheckpointState → Option News → Type 0
+  StandsRightlyIf v (Some job) (Some (news.Appended e offset)) = StandsRightly v job e offset
+  StandsRightlyIf v job told = Unit {0}
+
+  module _ (v : RangeView) (s : Serving) (r : RangeState) (m : Matches texts v s r) (d : ServerContext) (job : CheckpointState) where
+    -- ---- pages
+
+    -- one more group of them stands
+    pub pages_go : HoldsPhase texts (parts_of v s r) job checkpoints.Pages → (e offset : ℕ) → e < 2 ^ 64 → may_stand_at job.pages offset ≡ true →
+        (AllStand texts v.answered → GroupStands job checkpoints.Pages e offset) → MatchesIf texts v s (writes_pages d r (pages_stand job e offset)).after
+    pages_go h e offset known may stands = writes_on texts v s r (beside texts v s r m) d (pages_stand job e offset) more h.1
+      where
+        more : HasNoted texts (parts_of v s r) (pages_stand job e offset)
+        more = record {
+          fixed = h.0.fixed;
+          entries = h.0.entries;
+          are_entries = h.0.are_entries;
+          layer = h.0.layer;
+          noted = h.0.noted;
+          pages = λ all. writing_goes texts h.0.fixed job.pages (h.0.pages all) e offset known may (stands all);
+          position = h.0.position;
+          number = h.0.number;
+        }
+
+    -- ---- the index
+
+    module _ (h : HoldsPhase texts (parts_of v s r) job checkpoints.Index) (e offset : ℕ) (known : e < 2 ^ 64) (room : offset < 2 ^ 32) (stands : AllStand texts v.answered → GroupStands job checkpoints.Index e offset)
+        (may : may_record r job ≡ true) where
+      abbrev place : Place
+      place = index_place job e offset
+
+      abbrev pub formed_view : RangeView
+      formed_view = view_after r.load.generation v (Forms kinds.Metadata (record_group r job place))
+
+      -- the record has the number behind those that were taken
+      number_is : r.said.next ≡ suc (length s.records)
+      number_is =
+          let counted : (said first_beginning s.records).next ≡ 1 + length s.records = said_number first_beginning s.records in
+          let says : r.said.next ≡ (said first_beginning s.records).next = ap (λ m. m.next) m.said in
+          omega (arith, counted, says)
+
+      number_fits : IsNext r.said.next
+      number_fits = (omega (arith, number_is), fits)
+        where
+          less : suc r.said.next < 2 ^ 64
+          less = ltb-true (suc r.said.next) (2 ^ 64) (may_parts r job may).1
+
+          fits : r.said.next < 2 ^ 64
+          fits = omega (arith, less)
+
+      place_fits : IsPlace place
+      place_fits = (known, room, fits)
+        where
+          small : index_size job.pages.index ≤ 4194304
+          small = leb-true (index_size job.pages.index) 4194304 (may_parts r job may).0
+
+          fits : index_size job.pages.index < 2 ^ 32
+          fits = omega (arith, small)
+
+      -- the group that is appended to the metadata spells it
+      pub group_spells : decoded_record (record_group r job place) ≡ chains.record_group r.said.next (item_of job place)
+      group_spells = record_spelled r job place number_fits place_fits h.0.position h.0.number
+
+      -- it may be appended
+      pub may_append : (run : Run) → held first_beginning run r.load.generation ≡ s → IsServing run r.load.generation → AllStand texts v.answered →
+          MayInChain (layer_at texts) first_beginning run (chains.Records r.load.generation r.said.next (item_of job place))
+      may_append run same serving all = subst
+          (λ z. IsServing run r.load.generation × (z.record_out ≡ None) × (r.said.next ≡ suc (length z.records))
+          × (chains.MayCheckpoint (layer_at texts) first_beginning z (item_of job place) ⊎ chains.MaySplit (layer_at texts) first_beginning z (item_of job place)))
+          (sym same) (
+            serving,
+            h.1,
+            number_is,
+            inl (index_may texts r job h.0.fixed (h.0.pages all) h.2 h.0.are_entries may e offset (stands all) first_beginning s (h.0.layer all) h.0.noted),
+          )
+
+      -- its append is out
+      pub records_match : (n : ℕ) → n ≡ length (metadata_of v) → (c : ClientState) →
+          Matches texts formed_view (recording n (chains.record_group r.said.next (item_of job place)) s) (record r { metadata = c; control = Some (with_phase job (checkpoints.Record place)) })
+      records_match n same c = record {
+        position = m.position;
+        next = m.next;
+        out = m.out;
+        live = m.live;
+        checkpoint = record {
+          noted = record {
+            fixed = h.0.fixed;
+            entries = h.0.entries;
+            are_entries = h.0.are_entries;
+            layer = h.0.layer;
+            noted = h.0.noted;
+            pages = h.0.pages;
+            position = h.0.position;
+            number = h.0.number;
+          };
+          out = ap (λ k. Some (record { append = k; group = chains.record_group r.said.next (item_of job place) })) same;
+          written = λ all. index_written texts r job h.0.fixed (h.0.pages all) h.2 h.0.are_entries may e offset (stands all);
+          filed = λ all. index_filed texts r job h.0.fixed (h.0.pages all) h.2 h.0.are_entries may e offset (stands all);
+          numbered = (may_parts r job may).1;
+        };
+        said = m.said;
+      }

@@ -1,0 +1,92 @@
+-- What is held of the checkpoint of a range that is served, by what it waits for: what the run of the range has noted, what stands of its
+-- pages and of its index, and its record that is out.
+use Rattle.std.specs.Prelude.{◌≡◌, ℕ, suc, ◌^◌, true, false, nat_lt, List, Option, Some, None}
+use Rattle.wire.specs.declared.streams.StreamKind.TheVariants as kinds
+use Rattle.memtable.specs.declared.cell.Place.{Place}
+use Rattle.memtable.specs.Entries.{Entries}
+use Rattle.metadata.specs.declared.record.MetaItem.{MetaItem}
+use Rattle.metadata.specs.declared.record.MetaItem.TheVariants.{Checkpoint}
+use Rattle.metadata.specs.Record.{IsNext, IsPosition}
+use Rattle.checkpoint_format.specs.Page.{pages_of}
+use Rattle.checkpoint.specs.Contents.{AreEntries}
+use Rattle.checkpoint.specs.Pages.{AreFiled}
+use Rattle.checkpoint.specs.PageGroups.{next_group}
+use Rattle.model_partition.specs.declared.checkpoint_job.CheckpointPhase.{CheckpointPhase}
+use Rattle.model_partition.specs.declared.checkpoint_job.CheckpointPhase.TheVariants as checkpoints
+use Rattle.model_partition.specs.CheckpointStates.{CheckpointState}
+use Rattle.model_partition.specs.Past.{Bytes}
+use Rattle.model_partition.specs.Range.{RangeState}
+use Rattle.model_partition.specs.ServedTables.{AllStand}
+use Rattle.model_partition.specs.ServerRun.{PlacedBytes, place_number}
+use Rattle.laws_loads.specs.MemoryLayers.{layer_in}
+use Rattle.laws_loads.specs.RangeView.{RangeView}
+use Rattle.laws_tables.specs.Layers.{Layer, empty_layer}
+use Rattle.laws_tables.specs.Runs.{NotedPosition, Serving, record_group}
+use Rattle.laws_tables.specs.Through.{OutAppend}
+use Rattle.laws_checkpoints.specs.IndexLayers.{IsWritten}
+use Rattle.laws_checkpoints.specs.WritingPages.{WritesPages}
+
+-- What tells of a checkpoint: the range's fixed entries and the number of its next record; of its run the fixed layer, what is noted and
+-- the record that is out; the event with which the last append to the metadata began; and the bytes that appends were answered for.
+pub record CheckpointParts : Type 0 where
+  pub entries : Option Entries
+  pub number : ℕ
+  pub layer : Layer
+  pub noted : Option NotedPosition
+  pub record_out : Option (OutAppend MetaItem)
+  pub append : ℕ
+  pub answered : List PlacedBytes
+
+abbrev pub parts_of : RangeView → Serving → RangeState → CheckpointParts
+parts_of v s r =
+    record {
+      entries = r.fixed;
+      number = r.said.next;
+      layer = s.fixed;
+      noted = s.noted;
+      record_out = s.record_out;
+      append = v.history.append kinds.Metadata;
+      answered = v.answered;
+    }
+
+-- there is no fixed layer, and nothing is noted
+pub record HoldsNone (c : CheckpointParts) : Type 0 where
+  pub entries : c.entries ≡ None
+  pub layer : c.layer ≡ empty_layer
+  pub noted : c.noted ≡ None
+  pub record_out : c.record_out ≡ None
+
+-- the item of a plain checkpoint's record
+abbrev pub item_of : CheckpointState → Place → MetaItem
+item_of job index = Checkpoint false index job.position job.next
+
+module _ (texts : ℕ → Bytes) where
+  -- its position and its next number are noted, and its pages are written of the fixed layer
+  pub record HasNoted (c : CheckpointParts) (job : CheckpointState) : Type 0 where
+    pub fixed : Entries
+    pub entries : c.entries ≡ Some fixed
+    pub are_entries : AreEntries fixed
+    pub layer : AllStand texts c.answered → (key : Bytes) → layer_in texts fixed key ≡ c.layer key
+    pub noted : c.noted ≡ Some (record { place = place_number job.position; next = job.next })
+    pub pages : AllStand texts c.answered → WritesPages texts fixed job.pages
+    pub position : IsPosition job.position
+    pub number : IsNext job.next
+
+  -- its index stands, and its record is out
+  pub record HasRecordOut (c : CheckpointParts) (job : CheckpointState) (index : Place) : Type 0 where
+    pub noted : HasNoted c job
+    pub out : c.record_out ≡ Some (record { append = c.append; group = record_group c.number (item_of job index) })
+    pub written : AllStand texts c.answered → IsWritten texts job.pages.index noted.fixed index
+    pub filed : AllStand texts c.answered → AreFiled job.pages.index.pages (pages_of noted.fixed)
+    pub numbered : nat_lt (suc c.number) (2 ^ 64) ≡ true
+
+  abbrev pub HoldsPhase : CheckpointParts → CheckpointState → CheckpointPhase → Type 0
+  HoldsPhase c job checkpoints.Pages = HasNoted c job × (c.record_out ≡ None)
+  HoldsPhase c job checkpoints.Index = HasNoted c job × (c.record_out ≡ None) × (next_group job.pages ≡ None)
+  HoldsPhase c job (checkpoints.Record index) = HasRecordOut c job index
+  HoldsPhase c job (checkpoints.Trim before to_blob q) = HoldsNone c
+
+  -- where none is under way, as where the Trim is out
+  abbrev pub HoldsCheckpoint : CheckpointParts → Option CheckpointState → Type 0
+  HoldsCheckpoint c None = HoldsNone c
+  HoldsCheckpoint c (Some job) = HoldsPhase c job job.phase

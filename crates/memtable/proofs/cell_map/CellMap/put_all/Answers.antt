@@ -1,0 +1,12 @@
+use Rattle.std.proofs.Common.{arith, sym, subst}
+use Rattle.std.specs.List.{AllByRecursion}
+use Rattle.memtable.specs.Entries.{IsFit}
+use Rattle.memtable.proofs.Entries.{fits_put}
+use Rattle.memtable.proofs.cell_map.CellMap.put_all.Goals as goal
+
+-- the size that was answered is that of the entries, and what fits goes into what fits
+pub invariant_of-self-2 : goal.invariant_of-self-2
+invariant_of-self-2 c = (
+  omega (arith, c.in_ok-self-inside.ensures.size, c.self.invariant.0),
+  subst (AllByRecursion IsFit) (sym c.in_ok-self-inside.ensures.entries) (fits_put _ _ c.self.invariant.1 c.requires),
+)

@@ -1,0 +1,3 @@
+pub mod Steps
+pub mod Records
+pub mod Trims

@@ -1,0 +1,178 @@
+//! The answers to the metadata's client of a range that is served.
+ghost use Rattle.std.specs.Prelude.{◌≡◌, ◌+◌, ◌<◌, ◌^◌, true, false, Some, None, IfOk, IfSome, OnErr};
+ghost use Rattle.client.specs.Client.{needs_memory};
+ghost use Rattle.model_partition.specs.declared.checkpoint_job.CheckpointPhase.TheVariants as phases;
+ghost use Rattle.checkpoint.specs.Lookup.{HasIndex};
+ghost use Rattle.model_partition.specs.Answering as answers;
+ghost use Rattle.model_partition.specs.Range.{is_serving};
+ghost use Rattle.model_partition.specs.RangeSteps.{RangePerforms};
+ghost use Rattle.range_checkpoint.specs.Steps as specs;
+ghost use Rattle.range_checkpoint.specs.Records as records;
+
+use crate::appended::{appended, told};
+use crate::trim::trims;
+use checkpoint::{Index, InstalledIndex};
+use memtable::Place;
+use metadata::{MetaItem, MetaRecord, Metadata, copied_keys};
+use model_partition::{
+    CheckpointJob, CheckpointPhase, Progress, RangeContent, ServerContext, take_answer,
+};
+use std::alloc::{AllocError, Global};
+use streams::Position;
+use wire::{ExtentId, Packet};
+
+/// What a checkpoint's record that stands leaves: what the metadata says then, the index that counts from now on, and the
+/// position and the number that the checkpoint noted.
+#[derive(Drop)]
+pub(crate) struct Recorded {
+    pub(crate) said: Metadata,
+    pub(crate) installed: InstalledIndex,
+    pub(crate) position: Position,
+    pub(crate) next: u64,
+}
+
+/// The same of a job whose index stands at a place.
+fn recorded_at(
+    job: &CheckpointJob,
+    said: &Metadata,
+    alloc: Global,
+    place: Place,
+) -> Result<Recorded, AllocError>
+    requires phase { job.now.phase ≡ phases.Record place }
+    requires number { said.now.next + 1 < 2 ^ 64 }
+    ensures value { IfOk result (λ x. x ≡ records.recorded_at said.now job.now place) }
+    ensures range { IfOk result (λ x. HasIndex x.installed) }
+{
+    let mut after = said.copy(alloc)?;
+    let record = MetaRecord {
+        number: said.next,
+        item: MetaItem::Checkpoint {
+            combine: false,
+            index: place,
+            position: job.position,
+            next: job.next,
+        },
+    };
+    if after.fold(alloc, record).is_err() {
+        return Err(AllocError);
+    }
+    let index = job.pages.index();
+    Ok(Recorded {
+        said: after,
+        installed: InstalledIndex {
+            place,
+            keys: copied_keys(&said.keys)?,
+            index: Index {
+                pages: index.pages.copy(alloc)?,
+                has_place: index.has_place,
+            },
+        },
+        position: job.position,
+        next: job.next,
+    })
+}
+
+/// The same of the checkpoint that is under way, if its record is out and its number leaves one.
+fn record_left(
+    control: &Option<CheckpointJob>,
+    said: &Metadata,
+    alloc: Global,
+) -> Result<Option<Recorded>, AllocError>
+    ensures value { IfOk result (λ x. x ≡ records.recorded_of said.now control.now) }
+    ensures range { IfOk result (λ x. IfSome x (λ y. HasIndex y.installed)) }
+{
+    let Some(job) = control else {
+        return Ok(None);
+    };
+    match job.phase {
+        CheckpointPhase::Record { index } => {
+            if said.next < u64::MAX {
+                Ok(Some(recorded_at(job, said, alloc, index)?))
+            } else {
+                Ok(None)
+            }
+        }
+        _ => Ok(None),
+    }
+}
+
+/// The answer to the append of a record is taken, which takes no memory.
+fn take_appended(
+    content: &mut RangeContent,
+    alloc: Global,
+    context: &ServerContext,
+    packet: &Packet,
+)
+    requires { needs_memory packet.now.body ≡ false }
+    ensures { content.new ≡ record content.old { metadata = (records.metadata_reaction context.now content.old.metadata packet.now.body).after } }
+{
+    let Ok(reaction) = take_answer(&mut content.metadata, alloc, context, packet) else {
+        unreachable!()
+    };
+    drop(reaction);
+}
+
+/// The record stands, where one is out: its index counts from now on, the fixed layer goes, and the log is to be trimmed.
+fn record_stands(
+    content: &mut RangeContent,
+    alloc: Global,
+    context: &ServerContext,
+    packet: &Packet,
+    at: (ExtentId, u32),
+) -> Result<Progress, AllocError>
+    requires serving { is_serving content.old.stage ≡ true }
+    requires appended { specs.appended content.old.metadata packet.now.body ≡ Some at }
+    ensures ok { IfOk result (λ p. RangePerforms context.now (λ r. answers.metadata_reply context.now r packet.now.body) content.old content.new p) }
+    ensures err { OnErr result (content.new ≡ content.old) }
+{
+    let Some(recorded) = record_left(&content.control, &content.said, alloc)? else {
+        take_appended(content, alloc, context, packet);
+        return Ok(Progress::Goes(None));
+    };
+    let Recorded {
+        said,
+        installed,
+        position,
+        next,
+    } = recorded;
+    content.indexes.install(installed)?;
+    content.said = said;
+    content.table.drop_layer();
+    take_appended(content, alloc, context, packet);
+    Ok(trims(content, alloc, context, &position, next))
+}
+
+/// Another answer.
+fn record_told(
+    content: &mut RangeContent,
+    alloc: Global,
+    context: &ServerContext,
+    packet: &Packet,
+) -> Result<Progress, AllocError>
+    requires serving { is_serving content.old.stage ≡ true }
+    requires other { specs.appended content.old.metadata packet.now.body ≡ None }
+    ensures ok { IfOk result (λ p. RangePerforms context.now (λ r. answers.metadata_reply context.now r packet.now.body) content.old content.new p) }
+    ensures err { OnErr result (content.new ≡ content.old) }
+{
+    let reaction = take_answer(&mut content.metadata, alloc, context, packet)?;
+    Ok(told(reaction))
+}
+
+/// The answer to what is out to the metadata of a range that is served: once a checkpoint's record stands, its index counts, the
+/// layer that it wrote down goes, and the log is trimmed up to the position that it noted. The range is dropped where its
+/// generation is old (3). Where memory runs out (22) nothing has changed.
+pub fn record_reply(
+    content: &mut RangeContent,
+    alloc: Global,
+    context: &ServerContext,
+    packet: &Packet,
+) -> Result<Progress, AllocError>
+    requires { is_serving content.old.stage ≡ true }
+    ensures ok { IfOk result (λ p. RangePerforms context.now (λ r. answers.metadata_reply context.now r packet.now.body) content.old content.new p) }
+    ensures err { OnErr result (content.new ≡ content.old) }
+{
+    match appended(&content.metadata, &packet.body) {
+        Some(at) => record_stands(content, alloc, context, packet, at),
+        None => record_told(content, alloc, context, packet),
+    }
+}

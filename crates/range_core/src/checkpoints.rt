@@ -1,0 +1,43 @@
+//! A checkpoint of the range begins.
+ghost use Rattle.std.specs.Prelude.{◌≡◌, ◌<◌, ◌+◌, ◌^◌, None, IfOk, OnErr};
+ghost use Rattle.model_partition.specs.Checkpoints.{checkpoint_fault, checkpoint_rule};
+ghost use Rattle.range_core.specs.Steps.{outcome, IsShort};
+
+use crate::answering::make_room;
+use crate::range_step::RangeStep;
+use crate::state::RangeState;
+use model_partition::ServerContext;
+use std::alloc::{AllocError, Global};
+use wire::Refusal;
+
+impl RangeState {
+    /// Why no checkpoint can begin: 38 until the range is served, 35 while one is under way; or none.
+    pub fn checkpoint_fault(&self) -> Option<Refusal>
+        ensures { result ≡ checkpoint_fault self.now }
+    {
+        range_checkpoint::checkpoint_fault(&self.content)
+    }
+
+    /// A checkpoint begins: the live layer of the memory table is fixed, what comes later goes into a new one, and its first pages
+    /// are appended to row data. It notes where the log is to be read from after it, and the number that is then to be applied
+    /// next: the first of the group that is out. Where memory runs out (22) nothing has changed.
+    pub fn checkpoint(
+        &mut self,
+        alloc: Global,
+        context: &ServerContext,
+    ) -> Result<RangeStep, AllocError>
+        requires numbers { context.now.count + 1024 < 2 ^ 64 }
+        requires may { checkpoint_fault self.old ≡ None }
+        ensures ok { IfOk result (λ t. checkpoint_rule context.now self.old ≡ outcome t self.new) }
+        ensures err { OnErr result (self.new ≡ self.old) }
+        ensures short { IfOk result IsShort }
+    {
+        let farewell = self.refusals(alloc, context)?;
+        let prepared = make_room(alloc, farewell)?;
+        let next = self.queue.number_to_apply();
+        match range_checkpoint::begin(&mut self.content, alloc, context, self.position, next) {
+            Ok(progress) => Ok(self.settle(alloc, context, progress, prepared)),
+            Err(full) => Err(full),
+        }
+    }
+}
