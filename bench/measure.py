@@ -109,6 +109,21 @@ def large_values(count):
     return [ran.seconds, ran.peak / (count * scripts.LARGE_VALUE), load]
 
 
+def checkpoints(count):
+    """The seconds of a first checkpoint, of a second one after as many writes, of a load after it, and of a read of each key."""
+    ran = [best([STAMPCTL], lambda: scripts.checkpoints(count, parts)) for parts in range(1, 6)]
+    did(ran[4], b"value", count)
+    loads = best([STAMPCTL], lambda: scripts.checkpoints(count, 4, scripts.RESTARTS))
+    assert loads.out.splitlines()[-1] == f"loaded 1 {scripts.RESTARTS + 1} {2 * count + 1} {count}".encode(), loads.out[-80:]
+    return [ran[1].seconds - ran[0].seconds, ran[3].seconds - ran[2].seconds,
+            (loads.seconds - ran[3].seconds) / scripts.RESTARTS, ran[4].seconds - ran[3].seconds]
+
+
+def loads_behind(since):
+    """The seconds of a load of one table of 20,000 keys, after whose checkpoint so many puts came."""
+    return [repeats(lambda loads: scripts.loads_behind(20_000, since, loads))[0]]
+
+
 TIME = ("time", "s", 2.3)
 APPEND_FIGURES = [TIME, ("deliveries a second", "", None), ("peak over payload", "", None)]
 # What is measured, N, and of each figure its name, its unit, and the most that the ratio of 2N to N may be, where it has one.
@@ -142,6 +157,10 @@ SIZES = [
      [TIME, ("transactions a second", "", None), ("peak over values", "", None), ("time of a load", "s", 2.3)]),
     ("transactions of one put of 5,000 bytes, kept by its place", 1_000, large_values,
      [TIME, ("peak over values", "", None), ("time of a load", "s", 2.3)]),
+    ("keys of 100 bytes, a checkpoint, as many writes, and a second one", 20_000, checkpoints,
+     [("time of the first checkpoint", "s", 2.3), ("time of the second", "s", 2.3), ("time of a load", "s", 2.3),
+      ("time of a Get of each key, in order", "s", 2.3)]),
+    ("puts after a checkpoint of 20,000 keys, and then a load", 10_000, loads_behind, [("time of a load", "s", 2.3)]),
 ]
 
 # A run of many less one of few, for what one request takes; so many things are brought back, so often.

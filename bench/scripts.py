@@ -100,3 +100,28 @@ def transactions(count, value="100*x", each=TRANSACTIONS_PER_SETTLE, loads=0):
 def large_values(count, loads):
     """As above, with values that are kept by their places."""
     return transactions(count, f"{LARGE_VALUE}*x", loads=loads)
+
+
+def puts(count, of):
+    """Transactions of one put of 100 bytes, on keys that come again after so many."""
+    return settled(lambda number: [f"user 1 tx 1 1 +k{number % of:06}=100*x"], count, TRANSACTIONS_PER_SETTLE)
+
+
+def checkpoints(keys, parts, loads=0):
+    """One range with so many keys, in parts, of which the first so many are made: each key is put; a checkpoint; each key is
+    put again; a second checkpoint; each key is read in order. Then it is loaded again, so many times."""
+    yield from (f"setup 3 1 {TARGET} 64", "moment 1", "assign 1 1 1000000", "settle")
+    checkpoint = ["checkpoint 1 1 plain", "settle"]
+    reads = (line for number in range(keys) for line in (f"user 1 get 1 1 k{number:06}", "settle"))
+    for part in [puts(keys, keys), checkpoint, puts(keys, keys), checkpoint, reads][:parts]:
+        yield from part
+    yield from ["stop s1 0 drop", "restart s1", "assign 1 1 1000000", "settle"] * loads
+
+
+def loads_behind(keys, since, loads):
+    """One range with so many keys and a checkpoint of them, after which so many puts come; then it is loaded, so many times."""
+    yield from (f"setup 3 1 {TARGET} 64", "moment 1", "assign 1 1 1000000", "settle")
+    yield from puts(keys, keys)
+    yield from ("checkpoint 1 1 plain", "settle")
+    yield from puts(since, keys)
+    yield from ["stop s1 0 drop", "restart s1", "assign 1 1 1000000", "settle"] * loads

@@ -12,20 +12,24 @@ ghost use Rattle.model_partition.specs.Range.{RangeState};
 ghost use Rattle.model_partition.specs.ServedTables.{IsAtLine, ServesAt};
 ghost use Rattle.model_partition.specs.ServerRun.{log_name};
 ghost use Rattle.model_partition.specs.TableContents.{AllTellRightly};
-ghost use Rattle.model_partition.specs.Servers.{ArePlain, ServerCell, ShowsLoad, server_gives_up, server_loads, server_takes};
+ghost use Rattle.model_partition.specs.Servers.{ArePlain, ServerCell, ShowsLoad, server_checkpoints, server_gives_up, server_loads, server_takes};
+ghost use Rattle.model_partition.specs.Story.{KeepsOrder};
 ghost use Rattle.model_partition.specs.Cluster.{Cluster, first_cluster, cluster_after, cluster_after_all};
 ghost use Rattle.laws_clusters.specs.Orders.{ComesOfStreams};
 ghost use Rattle.laws_clusters.specs.ServerEvents.{servers_of_run};
 ghost use Rattle.laws_servers.specs.Sending.{ByMoves, MaySendAll};
 
 /// A server sends nothing but what servers may ask of nodes and of the manager, and what no node takes. Of loaded tables it
-/// shows at most one, of the table that the range has when the answer comes that confirms its generation.
+/// shows at most one, of the table that the range has when the answer comes that confirms its generation; where it gives up, or
+/// begins a checkpoint, none.
 pub fn servers_take_steps()
     ensures sent { (servers : List ServerCell) (s : ℕ) (p : Packet) → MaySendAll (server_takes servers s p).packets }
     ensures shown { (servers : List ServerCell) (s : ℕ) (p : Packet) →
         ShowsLoad (server_loads (entry_at servers s) p.body) (server_takes servers s p).notes }
     ensures sent_again { (servers : List ServerCell) (s range : ℕ) (pick : Nodes) → MaySendAll (server_gives_up servers s range pick).packets }
     ensures shown_again { (servers : List ServerCell) (s range : ℕ) (pick : Nodes) → ArePlain (server_gives_up servers s range pick).notes }
+    ensures sent_by_checkpoints { (servers : List ServerCell) (s range : ℕ) → MaySendAll (server_checkpoints servers s range).packets }
+    ensures shown_of_checkpoints { (servers : List ServerCell) (s range : ℕ) → ArePlain (server_checkpoints servers s range).notes }
 {}
 
 /// Whatever servers and the map do, each event is some moves of the stream layer.
@@ -33,19 +37,22 @@ pub fn runs_are_moves()
     ensures { (c : Cluster) (event : Event) → ByMoves c.stream_layer (cluster_after c event).stream_layer }
 {}
 
-/// Whatever is asked, delivered, lost or repeated, whoever stops, comes back or gives up, and whoever is assigned the range: what is
-/// observed is honest. All that is shown of an extent agrees, what is acknowledged is kept where it was acknowledged, and each
-/// table that is shown is that of a line of transactions that has every one that was acknowledged under a lower generation, in
-/// order, each once (`honest`). The servers are those that what comes to them makes, and the streams that they see keep their
-/// order (`ordered`), so that the laws of servers over any streams are laws of runs: the tables of a range that is served are the
-/// table of the line that ends at its log position, over any texts that have all that was observed of extents (`served`).
+/// Whatever is asked, delivered, lost or repeated, whoever stops, comes back, gives up or makes checkpoints, and whoever is assigned
+/// the range, what is observed is honest. All that is shown of an extent agrees, what is acknowledged is kept where it was
+/// acknowledged, and each table that is shown is that of a line of transactions that has every one that was acknowledged under a
+/// lower generation, in order, each once (`honest`). The servers are those that what comes to them makes, and the streams that they
+/// see keep their order (`ordered`), so that the laws of servers over any streams are laws of runs: the tables of a range that is
+/// served, its indexes among them, are the table of the line that ends at its log position, over any texts that have all that was
+/// observed of extents (`served`).
 pub fn runs_are_honest()
     ensures honest { (nodes servers target batch : ℕ) (events : List Event) →
         Honest (cluster_after_all (first_cluster nodes servers target batch) events).stream_layer.notes }
     ensures ordered { (nodes servers target batch : ℕ) (events : List Event) →
         ComesOfStreams (cluster_after_all (first_cluster nodes servers target batch) events) (servers_of_run nodes servers target batch events) }
-    ensures served { (nodes servers target batch : ℕ) (events : List Event) (texts : ℕ → Bytes) (s range : ℕ) (r : RangeState) →
+    ensures served { (nodes servers target batch : ℕ) (events : List Event) →
+        (texts : ℕ → Bytes) (s range : ℕ) (r : RangeState) →
         AllTellRightly texts (cluster_after_all (first_cluster nodes servers target batch) events).stream_layer.notes →
         ServesAt (servers_of_run nodes servers target batch events) s range r →
-        IsAtLine texts ((servers_of_run nodes servers target batch events).story (log_name range)) r }
+        (order : KeepsOrder ((servers_of_run nodes servers target batch events).story (log_name range))) →
+        IsAtLine texts ((servers_of_run nodes servers target batch events).story (log_name range)) order.copies r }
 {}

@@ -9,7 +9,7 @@ ghost use Rattle.commitlog.specs.Replay.{Numbered as Group};
 ghost use Rattle.model_partition.specs.StreamMachine.{after, Extended, In, IsRun, MachineStep};
 ghost use Rattle.model_partition.specs.Past.{Bytes, Transaction, Replays, table_notes, first_range};
 ghost use Rattle.model_partition.specs.Range.{RangeState};
-ghost use Rattle.model_partition.specs.ServedTables.{AllStand, AreFirst, AreSeenAs, IsAtLine, ServesAt, StreamsInOrder};
+ghost use Rattle.model_partition.specs.ServedTables.{AreFirst, AreSeenAs, IsAtLine, ServesAt, StreamsInOrder};
 ghost use Rattle.model_partition.specs.ServerRun.{ServerEvent, log_name, run_of};
 ghost use Rattle.model_partition.specs.Story.{KeepsOrder, EndsRise};
 ghost use Rattle.model_partition.specs.ServerTurns.{after_all, AreMoves, Growing, Move};
@@ -33,18 +33,24 @@ pub fn tables_replay()
         → table_notes h ≡ seen first_beginning rows first_range run → Replays h }
 {}
 
-/// Whatever comes to servers, from whomever and however often, wherever they stop, start or give up: if what they see of the
-/// metadata and the log of a range keeps its order, no generation is confirmed twice, loads of that log end in the order of their
-/// generations, and what was shown of it keeps its bytes, then what they load replays, where the map assigns the first range
-/// alone (`law`). If what was answered keeps its bytes too, the tables of any range that is served are at any moment the table of
-/// the line that ends at its log position, whatever other ranges its server holds (`steps`). Nothing is said of who answers
-/// them: any streams, of any number of any machines, are allowed that keep their order.
+/// Whatever comes to servers, from whomever and however often, wherever they stop, start, give up or make checkpoints: if what they see
+/// of the metadata and the log of a range keeps its order, no generation is confirmed twice, loads of that log end in the order of
+/// their generations, and what loads were shown and appends were answered for keeps its bytes, then what they load replays, where the
+/// map assigns the first range alone (`law`). The tables of any range that is served, its indexes among them, are at any moment the
+/// table of the line that ends at its log position, whatever other ranges its server holds (`steps`), and whichever copies of the log
+/// each load is taken for (`served`). Nothing is said of who answers them: any streams, of any number of any machines, are allowed that
+/// keep their order.
 pub fn servers_replay()
     ensures law { (batch servers : ℕ) (texts : ℕ → Bytes) (events : List ServerEvent) (notes : List Note) → AreFirst events →
-        StreamsInOrder texts first_range (run_of batch servers events) → AreSeenAs texts (run_of batch servers events).notes (table_notes notes) → Replays notes }
+        StreamsInOrder texts first_range (run_of batch servers events) →
+        AreSeenAs texts (run_of batch servers events).notes (table_notes notes) → Replays notes }
     ensures steps { (batch servers : ℕ) (texts : ℕ → Bytes) (events : List ServerEvent) (s range : ℕ) (r : RangeState) →
-        StreamsInOrder texts range (run_of batch servers events) → AllStand texts ((run_of batch servers events).answered range) →
-        ServesAt (run_of batch servers events) s range r → IsAtLine texts ((run_of batch servers events).story (log_name range)) r }
+        (p : StreamsInOrder texts range (run_of batch servers events)) →
+        ServesAt (run_of batch servers events) s range r → IsAtLine texts ((run_of batch servers events).story (log_name range)) p.log.copies r }
+    ensures served { (batch servers : ℕ) (texts : ℕ → Bytes) (events : List ServerEvent) (s range : ℕ) (r : RangeState) →
+        StreamsInOrder texts range (run_of batch servers events) →
+        ServesAt (run_of batch servers events) s range r → (log : KeepsOrder ((run_of batch servers events).story (log_name range))) →
+        IsAtLine texts ((run_of batch servers events).story (log_name range)) log.copies r }
 {}
 
 /// What the loads of one stream show keeps its order: for servers that do whatever what they know allows (`law`), and for

@@ -24,14 +24,15 @@ use Rattle.model_partition.specs.PlaceReads.{is_place}
 use Rattle.model_partition.specs.TableContents.{value_in}
 use Rattle.laws_tables.specs.Layers.{over, flat, indexed}
 use Rattle.laws_tables.proofs.Layers.{pick}
-use Rattle.laws_checkpoints.specs.IndexLayers.{bytes_in, indexed_entries, index_entries, layer_at, content_of, contents_of, IsWritten, AreWritten}
+use Rattle.laws_checkpoints.specs.IndexLayers.{indexed_entries, index_entries, layer_at, content_of, contents_of, IsWritten, AreWritten}
+use Rattle.model_partition.specs.IndexContents.{bytes_in}
 use Rattle.laws_checkpoints.specs.ShownTables.{IsInstalled, AreInstalled, IsSearchable, AreSearchable, AreWrittenByKey, HoldsBytes, IsIndexAnswer, IsAnswer, LookupSaysLayers, LookSaysLayers, GetSaysLayers}
 use Rattle.laws_checkpoints.proofs.Checkpoints.{known_of, known_first, contents_say}
 use Rattle.laws_checkpoints.proofs.WrittenIndexes.{index_read, pages_say, pages_from}
 
 -- ---- places
 
-same_place : (a b : Place) → is_place a b ≡ true → a ≡ b
+pub same_place : (a b : Place) → is_place a b ≡ true → a ≡ b
 same_place a b e =
     let extents = and_true (a.extent == b.extent) ((a.offset == b.offset) && (a.length == b.length)) e in
     let others = and_true (a.offset == b.offset) (a.length == b.length) extents.1 in

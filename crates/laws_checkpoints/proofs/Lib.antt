@@ -3,6 +3,7 @@ pub mod Checkpoints
 pub mod ObservedPages
 pub mod Worked
 pub mod ShownRows
+pub mod TableLayers
 pub mod HeldPages
 pub mod WrittenPages
 pub mod CheckpointRecords

@@ -9,7 +9,8 @@ use Rattle.model_partition.specs.Past.{Bytes}
 use Rattle.model_partition.specs.Servers.{shown_in, first_shown, or_later}
 use Rattle.model_partition.specs.TableContents.{AllTellRightly}
 use Rattle.laws_loads.proofs.Rows.{shown_rightly}
-use Rattle.laws_checkpoints.specs.IndexLayers.{bytes_in, PagesStand}
+use Rattle.laws_checkpoints.specs.IndexLayers.{PagesStand}
+use Rattle.model_partition.specs.IndexContents.{bytes_in}
 use Rattle.laws_checkpoints.proofs.WrittenIndexes.{pages_from}
 
 module _ (texts : ℕ → Bytes) where

@@ -27,7 +27,8 @@ use Rattle.laws_loads.proofs.Rows.{Later, Ordered, ordered_put, IsCovered, first
 use Rattle.laws_tables.specs.Layers.{flat, indexed}
 use Rattle.laws_tables.proofs.Layers.{pick, pick_none}
 use Rattle.laws_loads.specs.MemoryLayers.{layer_in}
-use Rattle.laws_checkpoints.specs.IndexLayers.{bytes_in, page_in, pages_in, indexed_entries, index_entries, layer_at, content_of, contents_of, AreWritten}
+use Rattle.laws_checkpoints.specs.IndexLayers.{indexed_entries, index_entries, layer_at, content_of, contents_of, AreWritten}
+use Rattle.model_partition.specs.IndexContents.{bytes_in, page_in, pages_in}
 use Rattle.laws_checkpoints.specs.ShownTables.{IsSeen, ArePagesSeen, AreSeen, AreValuesSeen, IsInstalled, AreInstalled, AreAscending, RowsSayLayers, RowsSayMemory, RowsShowLayers}
 use Rattle.laws_checkpoints.proofs.Checkpoints.{known_of, known_first, merged_says}
 use Rattle.laws_checkpoints.proofs.ObservedPages.{first_seen}
@@ -75,7 +76,7 @@ none_outside keys (x ∷ older) key outside =
     ∙ not_kept keys x.keys key x.entries (found (merged keys older) key) outside
     ∙ none_outside keys older key outside
 
-ordered_merged : (keys : KeyRange) (contents : List IndexContent) → Ordered (merged keys contents)
+pub ordered_merged : (keys : KeyRange) (contents : List IndexContent) → Ordered (merged keys contents)
 ordered_merged keys [] = tt
 ordered_merged keys (x ∷ older) = ordered_put (merged keys older) (kept_within x.keys keys x.entries) (ordered_merged keys older)
 
@@ -135,7 +136,7 @@ module _ (texts : ℕ → Bytes) where
 
   -- ---- the memory table over the indexes
 
-  value_known : (cell : Option Cell) → value_of texts cell ≡ flat (known_of texts cell)
+  pub value_known : (cell : Option Cell) → value_of texts cell ≡ flat (known_of texts cell)
   value_known None = refl
   value_known (Some cell) = refl
 

@@ -30,7 +30,8 @@ use Rattle.laws_tables.specs.Layers.{Layer, empty_layer, over, flat, indexed}
 use Rattle.laws_tables.specs.Runs.{Beginning, Serving, nothing_held, Covers}
 use Rattle.laws_tables.proofs.Layers.{in_all}
 use Rattle.laws_loads.specs.MemoryLayers.{layer_in}
-use Rattle.laws_checkpoints.specs.IndexLayers.{bytes_in, index_entries, layer_at, contents_of, IsWritten}
+use Rattle.laws_checkpoints.specs.IndexLayers.{index_entries, layer_at, contents_of, IsWritten}
+use Rattle.model_partition.specs.IndexContents.{bytes_in}
 use Rattle.laws_checkpoints.specs.ShownTables.{AreInstalled, AreSearchable, AreValuesSeen, HoldsBytes, IsAnswer}
 use Rattle.laws_checkpoints.proofs.Checkpoints.{plain_covers, combined_covers}
 use Rattle.laws_checkpoints.proofs.HeldPages.{installed_searchable, look_says_layers}

@@ -23,7 +23,8 @@ use Rattle.model_partition.specs.TableContents.{StandsAt}
 use Rattle.laws_loads.proofs.Cells.{taken_there}
 use Rattle.laws_loads.specs.MemoryLayers.{layer_in}
 use Rattle.model_partition.specs.Servers.{entries_if}
-use Rattle.laws_checkpoints.specs.IndexLayers.{bytes_in, page_in, pages_in, indexed_entries, index_entries, layer_at, contents_of, PageStands, PagesStand, IsWritten, AreWritten}
+use Rattle.laws_checkpoints.specs.IndexLayers.{indexed_entries, index_entries, layer_at, contents_of, PageStands, PagesStand, IsWritten, AreWritten}
+use Rattle.model_partition.specs.IndexContents.{bytes_in, page_in, pages_in}
 
 -- ---- the blocks of an index
 

@@ -10,33 +10,20 @@ use Rattle.checkpoint_format.specs.Index.{index_at, index_text, IsIndex, HasPlac
 use Rattle.checkpoint.specs.Pages.{IndexContent}
 use Rattle.checkpoint.specs.Contents.{AreEntries}
 use Rattle.model_partition.specs.Past.{Bytes}
-use Rattle.model_partition.specs.Servers.{entries_if}
+use Rattle.model_partition.specs.IndexContents.{bytes_in, pages_in}
 use Rattle.model_partition.specs.TableContents.{StandsAt}
 use Rattle.laws_tables.specs.Layers.{Layer}
 use Rattle.laws_loads.specs.MemoryLayers.{layer_in}
 
 module _ (texts : ℕ → Bytes) where
-  -- the bytes of a place
-  abbrev pub bytes_in : Place → Bytes
-  bytes_in place = take place.length (drop place.offset (texts place.extent))
-
-  -- the entries of the page at a place
-  abbrev pub page_in : Place → Entries
-  page_in place = entries_if (entries_at (bytes_in place))
-
-  -- the entries of pages, one page behind the other
-  abbrev pub pages_in : List PageAt → Entries
-  pages_in [] = []
-  pages_in (p ∷ pages) = page_in p.place ++ pages_in pages
-
   -- no entries where bytes spell no index
   abbrev pub indexed_entries : Option Index → Entries
   indexed_entries None = []
-  indexed_entries (Some index) = pages_in index.pages
+  indexed_entries (Some index) = pages_in texts index.pages
 
   -- the entries of the index whose text is at a place
   abbrev pub index_entries : Place → Entries
-  index_entries place = indexed_entries (index_at (bytes_in place))
+  index_entries place = indexed_entries (index_at (bytes_in texts place))
 
   -- what that index says of each key
   abbrev pub layer_at : Place → Layer

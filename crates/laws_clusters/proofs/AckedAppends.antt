@@ -1,5 +1,5 @@
 -- A group that stands where a server is told that it was appended was acknowledged there.
-use Rattle.std.proofs.Common.{◌≡◌, ℕ, List, [], true, Option, Some, Contains, refl, sym, ap, ◌∙◌, subst}
+use Rattle.std.proofs.Common.{◌≡◌, ℕ, List, [], true, false, Option, Some, Contains, refl, sym, ap, ◌∙◌, subst}
 use Rattle.wire.specs.declared.actor.ActorId.{ActorId}
 use Rattle.wire.specs.declared.actor.ActorId.TheVariants.{Server}
 use Rattle.wire.specs.declared.actor.ReqNo.{ReqNo}
@@ -19,14 +19,17 @@ use Rattle.client.specs.Requests.{is_same}
 use Rattle.model_streams.specs.Outcome.{packet}
 use Rattle.model_streams.specs.StreamSystem.{StreamSystem, Move}
 use Rattle.model_partition.specs.declared.server_context.ServerContext.{ServerContext}
-use Rattle.model_partition.specs.Range.{OutGroup, request, picking}
+use Rattle.model_partition.specs.Range.{OutGroup, RangeState, request, picking}
+use Rattle.memtable.specs.declared.cell.Place.{Place}
+use Rattle.model_partition.specs.CheckpointStates.{CheckpointState}
+use Rattle.model_partition.specs.declared.checkpoint_job.CheckpointPhase.TheVariants as checkpoints
 use Rattle.model_partition.specs.ServerTurns.{Whole}
-use Rattle.model_partition.specs.StreamActions.{group_of}
+use Rattle.model_partition.specs.StreamActions.{group_of, record_group}
 use Rattle.laws_streams.proofs.ContentAnswers.{content_answered}
 use Rattle.laws_stream_machine.specs.Refinement.{Sent, Appends, purpose_of, IsAt, Means, MeansBy}
 use Rattle.laws_stream_machine.proofs.LowerLayer.{Below, system}
 use Rattle.laws_stream_machine.proofs.ServerRequests.{same_request}
-use Rattle.laws_ranges.specs.Serves.{IsTold, SentIs, ServesBy, GroupIs, OutIs}
+use Rattle.laws_ranges.specs.Serves.{IsTold, SentIs, ServesBy, JobIs, GroupIs, OutIs, IsRecord, RecordIs, is_recording_in}
 use Rattle.laws_ranges.proofs.ClientAsks.{at_last}
 use Rattle.laws_ranges.proofs.ClientReplies.{ByJob, reply_takes}
 use Rattle.laws_ranges.proofs.TurnsAsMoves.{stand_of}
@@ -63,10 +66,6 @@ module _ (P : ℕ → ℕ → Type 0) where
 
     pub appended_tells : Tells (reply_rule c q body)
     appended_tells = reply_takes q Tells c body (λ a b told. absurd cc) (λ v t a b told. absurd cc) (by_job c.job refl)
-
--- a client without a job is told of none
-pub idle_tells : (c : ClientState) (q : ReqNo) (body : Body) → c.job ≡ jobs.Idle → (e offset : ℕ) → (reply_rule c q body).news ≡ Some (news.Appended e offset) → ⊥
-idle_tells c q body idle = appended_tells (λ e offset. ⊥) c q body (λ e r v n offset at same is. absurd (let z : jobs.Idle ≡ jobs.Sent e r = sym idle ∙ at in cc))
 
 -- ---- one stream
 
@@ -119,3 +118,26 @@ module _ (generation : ℕ → ℕ) (name : StreamName) (nodes target : ℕ) (mo
 
     pub out_acked : (e offset : ℕ) → (reply_rule (picking d c) (request d) body).news ≡ Some (news.Appended e offset) → Stands e offset
     out_acked = appended_tells Stands (picking d c) (request d) body sent_stands
+
+  -- ---- the record of a checkpoint
+
+  module _ (r : RangeState) (told : IsTold generation name w i (stand_of generation whole i) sent r.metadata) (serves : ServesBy generation name w i (stand_of generation whole i) sent r.metadata r.metadata.job)
+      (record_is : RecordIs r) (d : ServerContext) (from : ActorId) (server : ℕ) (body : Body) (there : Contains w.post (packet from (Server server) body))
+      (means : Means generation name w whole.state sent body) where
+    -- the record that is out is acknowledged where it stands
+    abbrev Records : ℕ → ℕ → Type 0
+    Records e offset = (job : CheckpointState) → r.control ≡ Some job → (index : Place) → job.phase ≡ checkpoints.Record index → Contains w.notes (Acked e offset (record_group r job index))
+
+    sent_records : (e : ℕ) (q v : ReqNo) (n offset : ℕ) → r.metadata.job ≡ jobs.Sent e q → is_same q v ≡ true → body ≡ bodies.Append (appends.Appended v n offset) → Records e offset
+    sent_records e q v n offset at same is job under_way index recording =
+        let sent_is : SentIs generation name w i (stand_of generation whole i) sent r.metadata e q = subst (λ j. ServesBy generation name w i (stand_of generation whole i) sent r.metadata j) at serves in
+        let known : IsRecord r r.metadata.group = subst (λ j. JobIs (IsRecord r) (is_recording_in r.control ≡ false) j r.metadata.group) at record_is in
+        let both : Some known.0 ≡ Some job = sym known.2 ∙ under_way in
+        let one : known.0 ≡ job = cc in
+        let phases : checkpoints.Record known.1 ≡ checkpoints.Record index = sym known.3 ∙ ap (λ (z : CheckpointState). z.phase) one ∙ recording in
+        let two : known.1 ≡ index = cc in
+        subst (λ z. Contains w.notes (Acked e offset z)) (known.4 ∙ ap (λ z. record_group r z known.1) one ∙ ap (record_group r job) two)
+        (acked r.metadata told e q sent_is v n offset same from server (subst (λ b. Contains w.post (packet from (Server server) b)) is there) (subst (λ b. Means generation name w whole.state sent b) is means))
+
+    pub record_acked : (e offset : ℕ) → (reply_rule (picking d r.metadata) (request d) body).news ≡ Some (news.Appended e offset) → Records e offset
+    record_acked = appended_tells Records (picking d r.metadata) (request d) body sent_records

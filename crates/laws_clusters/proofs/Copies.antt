@@ -11,13 +11,15 @@ use Rattle.laws_tables.proofs.Members.{in_left, in_right}
 use Rattle.laws_tables.proofs.Turns.{all_good}
 use Rattle.laws_stream_machine.proofs.ServerRequests.{turn_upper}
 use Rattle.laws_stream_machine.proofs.NodeAnswers.{in_shut}
-use Rattle.laws_ranges.proofs.TurnsAsMoves.{moves_of}
-use Rattle.laws_ranges.specs.Serves.{IsUnformed, AreUnformed}
-use Rattle.laws_log_reads.specs.Reads.{IsEmpty}
-use Rattle.laws_clusters.specs.Unformed.{AreUnformedMoves}
+use Rattle.laws_log_reads.specs.Reads.{SaysCheckpoint, HasCheckpoints}
+use Rattle.laws_clusters.proofs.LayerSteps.{layer_same}
 
 abbrev pub IsMade : Story Group → Copy Group → Type 0
 IsMade story c = (g : ℕ) × (event_at story c.append ≡ Some (Made g c.group))
+
+-- each group that was formed says a checkpoint
+abbrev pub AllSay : Story Group → Type 0
+AllSay story = (n g : ℕ) (group : Group) → event_at story n ≡ Some (Made g group) → SaysCheckpoint group
 
 abbrev pub AllMade : Story Group → List (Copy Group) → Type 0
 AllMade story cs = (c : Copy Group) → In c cs → IsMade story c
@@ -126,104 +128,26 @@ module _ (generation : ℕ → ℕ) where
   made_longer : (old new : Story Group) → Longer old new → (cs : List (Copy Group)) → AllMade old cs → AllMade new cs
   made_longer old new more cs made c there = let k = made c there in (k.0, more c.append (Made k.0 c.group) k.1)
 
-  pub layer_same : (s : MachineState Group) (x : MachineStep Group) → is_layer Group generation x ≡ true → (next Group generation s x).story ≡ s.story
-  layer_same s (TakesOpen i) t = refl
-  layer_same s (TakesExtend i n) t = refl
-  layer_same s (TakesConfirm i read end) t = refl
-  layer_same s (TakesCheck i v) t = refl
-  layer_same s (AnswersCheck i v) t = refl
-  layer_same s (AnswersLate i e x) t = refl
-  layer_same s (TakesAppend i append group to v) t = refl
-  layer_same s (Keeps c rest v) t = refl
-  layer_same s (AnswersAppend i append from to group) t = refl
-  layer_same s (Seals v) t = refl
-  layer_same s (Opens i) t = absurd cc
-  layer_same s (Checks i e) t = absurd cc
-  layer_same s (ReadsSealed i n) t = absurd cc
-  layer_same s (ReadsChecked i e stood end) t = absurd cc
-  layer_same s (Begins i group) t = absurd cc
-  layer_same s (Appends i e append group) t = absurd cc
-  layer_same s (Extends i n) t = absurd cc
-  layer_same s (TakesConfirmed i start end read) t = absurd cc
-  layer_same s (TakesAppended i append from to) t = absurd cc
-
   -- what checks have found, in each run
   pub checked_made : (moves : List (Move Group generation)) → AreMoves Group generation moves → CheckedMade (after_all Group generation moves).state
   checked_made [] ok i e stood end there = absurd there
   checked_made (Below x ∷ earlier) ok i e stood end there =
       let s : MachineState Group = (after_all Group generation earlier).state in
-      subst (λ z. AllMade z stood) (sym (layer_same s x ok.0.0))
-      (subst (λ z. AllMade z stood) (layer_same s x ok.0.0) (below_made s x ok.0.0 ok.0.1 (stands earlier ok.1) (checked_made earlier ok.1) i e stood end there))
+      subst (λ z. AllMade z stood) (sym (layer_same generation s x ok.0.0))
+      (subst (λ z. AllMade z stood) (layer_same generation s x ok.0.0) (below_made s x ok.0.0 ok.0.1 (stands earlier ok.1) (checked_made earlier ok.1) i e stood end there))
   checked_made (Above j t ∷ earlier) ok i e stood end there =
       let w : Whole Group generation = after_all Group generation earlier in
       let u = turn_upper generation w.state j (w.phase j) t in
       made_longer w.state.story (moved Group generation w (Above j t)).state.story (turn_longer w.state j (w.phase j) t ok.0) stood
       (checked_made earlier ok.1 i e stood end (u.checked i e stood end there))
 
-  -- ---- where no group is formed
+  -- ---- the metadata
 
-  abbrev NoneMade : Story Group → Type 0
-  NoneMade story = (n g : ℕ) (group : Group) → event_at story n ≡ Some (Made g group) → ⊥
-
-  none_more : (e : StreamEvent Group) (story : Story Group) → ((g : ℕ) (group : Group) → e ≡ Made g group → ⊥) → NoneMade story → NoneMade (e ∷ story)
-  none_more e story other none n g group at = go (n == length story) at
-    where
-      go : (b : Bool) → (if b then Some e else event_at story n) ≡ Some (Made g group) → ⊥
-      go true t = let same : e ≡ Made g group = cc in other g group same
-      go false t = none n g group t
-
-  none_turn : (s : MachineState Group) (i : ℕ) (p : Phase Group) (t : Turn Group) → IsTurn Group generation s i p t → IsUnformed t → NoneMade s.story → NoneMade (all_next Group generation s (does Group generation s i p t)).story
-  none_turn s i Idle Assigned may un none = none
-  none_turn s i Opening (AllSealed m) may un none = none
-  none_turn s i Opening (LastOpen e) may un none = none
-  none_turn s i (Checking e) (Found stood end) may un none = none
-  none_turn s i (Checking e) Fails may un none = none
-  none_turn s i (Sealing e) IsShut may un none = none
-  none_turn s i (Confirming m live) (ConfirmedIs start end read) may un none = none_more _ s.story (λ g group is. cc) none
-  none_turn s i (Serving m live) (Forms group) may un none = absurd un
-  none_turn s i (Sent m append group) (AppendedAt from to) may un none = none_more _ s.story (λ g group is. cc) none
-  none_turn s i (Sent m append group) Fails may un none = none
-  none_turn s i (Closing m append group) IsShut may un none = none
-  none_turn s i (Growing m append group) (ExtendedTo e) may un none = none
-  none_turn s i p t may un none = absurd may
-
-  none_made : (moves : List (Move Group generation)) → AreMoves Group generation moves → AreUnformedMoves generation moves → NoneMade (after_all Group generation moves).state.story
-  none_made [] ok un = λ n g group at. cc
-  none_made (Below x ∷ earlier) ok un =
-      let s : MachineState Group = (after_all Group generation earlier).state in
-      subst NoneMade (sym (layer_same s x ok.0.0)) (none_made earlier ok.1 un)
-  none_made (Above j t ∷ earlier) ok un =
-      let w : Whole Group generation = after_all Group generation earlier in
-      none_turn w.state j (w.phase j) t ok.0 un.0 (none_made earlier ok.1 un.1)
-
-  empty_of : (story : Story Group) → NoneMade story → (cs : List (Copy Group)) → AllMade story cs → cs ≡ []
-  empty_of story none [] made = refl
-  empty_of story none (c ∷ cs) made = let k = made c (inl refl) in absurd (none c.append k.0 c.group k.1)
-
-  -- nothing stands there, and no check finds anything
-  shut_empty : (moves : List (Move Group generation)) → AreMoves Group generation moves → AreUnformedMoves generation moves → (e : ℕ) (y : SealedExtent Group) →
-      shut_at e (after_all Group generation moves).state.core.shut ≡ Some y → y.copies ≡ []
-  shut_empty moves ok un e y is =
-      let s : MachineState Group = (after_all Group generation moves).state in
-      empty_of s.story (none_made moves ok un) y.copies (shut_made s (stands moves ok) e y is)
-
-  checked_empty : (moves : List (Move Group generation)) → AreMoves Group generation moves → AreUnformedMoves generation moves → (i e : ℕ) (stood : List (Copy Group)) (end : ℕ) →
-      In (Found_there i e stood end) (after_all Group generation moves).state.facts → stood ≡ []
-  checked_empty moves ok un i e stood end there =
-      empty_of (after_all Group generation moves).state.story (none_made moves ok un) stood (checked_made moves ok i e stood end there)
-
-  -- turns of an incarnation
-  pub unformed_moves : (i : ℕ) (ts : List (Turn Group)) (earlier : List (Move Group generation)) → AreUnformed ts → AreUnformedMoves generation earlier → AreUnformedMoves generation (moves_of generation i ts ++ earlier)
-  unformed_moves i [] earlier un old = old
-  unformed_moves i (t ∷ ts) earlier un old = (un.0, unformed_moves i ts earlier un.1 old)
-
-  pub unformed_below : (steps : List (MachineStep Group)) (earlier : List (Move Group generation)) → AreUnformedMoves generation earlier → AreUnformedMoves generation (map Below steps ++ earlier)
-  unformed_below [] earlier un = un
-  unformed_below (x ∷ steps) earlier un = unformed_below steps earlier un
-
-  -- nothing stands where no group is formed
-  pub metadata_empty : (moves : List (Move Group generation)) → AreMoves Group generation moves → AreUnformedMoves generation moves → (i : ℕ) → IsEmpty i (after_all Group generation moves).state
-  metadata_empty moves ok un i = record {
-    sealed = λ index y is. shut_empty moves ok un index y is;
-    stood = λ index end copies there. checked_empty moves ok un i index copies end there;
+  -- where each group that is formed says a checkpoint, so does all that stands
+  pub has_checkpoints : (moves : List (Move Group generation)) → AreMoves Group generation moves → AllSay (after_all Group generation moves).state.story → (i : ℕ) → HasCheckpoints i (after_all Group generation moves).state
+  has_checkpoints moves ok all i = record {
+    sealed = λ index y is c there.
+        (let k = shut_made (after_all Group generation moves).state (stands moves ok) index y is c there in
+        all c.append k.0 c.group k.1);
+    stood = λ index end copies fact c there. (let k = checked_made moves ok i index copies end fact c there in all c.append k.0 c.group k.1);
   }

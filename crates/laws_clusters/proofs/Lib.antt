@@ -1,12 +1,17 @@
 pub mod StreamMachines
+pub mod ClientJobs
+pub mod RowRules
+pub mod RowPurposes
+pub mod LayerSteps
+pub mod CheckpointRecords
 pub mod Copies
 pub mod Generations
 pub mod LoadedOnce
 pub mod ShownBytes
-pub mod BareTables
 pub mod ObservedBytes
 pub mod AckedAppends
 pub mod RangeActions
+pub mod RowAnswers
 pub mod RangeSteps
 pub mod StreamEvents
 pub mod OtherRanges
@@ -19,6 +24,8 @@ pub mod RangeRules
 pub mod MapSteps
 pub mod Senders
 pub mod Invariant
+pub mod RowSteps
+pub mod StreamOrders
 pub mod ServerRules
 pub mod ServerPackets
 pub mod Theorem

@@ -9,7 +9,7 @@ use Rattle.model_partition.specs.ServerTurns.{Phase, Idle, Opening, Checking, Se
 use Rattle.laws_tables.proofs.Range.{event_cases}
 use Rattle.laws_tables.proofs.Extents.{Inv, followed}
 use Rattle.laws_tables.proofs.Turns.{stays, all_good}
-use Rattle.laws_clusters.proofs.Copies.{layer_same}
+use Rattle.laws_clusters.proofs.LayerSteps.{layer_same}
 
 module _ (generation : ℕ → ℕ) where
   -- ---- where incarnations stand

@@ -1,24 +1,31 @@
 -- What servers saw of extents was observed, and so each loaded table is seen as what its entries say.
-use Rattle.std.proofs.Common.{◌≡◌, ℕ, zero, suc, ◌+◌, ◌-◌, ◌≤◌, List, [], ◌∷◌, ◌++◌, length, take, drop, Bool, true, false, ◌&&◌, ◌==◌, nat_le, Some, None, Contains, refl, sym, ap, ◌∙◌, subst, inl, inr, arith, if◌then◌else◌, append_assoc, append-nil}
+use Rattle.std.proofs.Common.{◌≡◌, ℕ, zero, suc, ◌+◌, ◌-◌, ◌≤◌, List, [], ◌∷◌, ◌++◌, length, map, take, drop, Bool, true, false, ◌&&◌, ◌==◌, nat_le, Some, None, Contains, refl, sym, ap, ◌∙◌, subst, inl, inr, arith, if◌then◌else◌, append_assoc, append-nil}
 use Rattle.std.proofs.lemmas.Bool.Decides.{nat_tests}
 use Rattle.std.proofs.lemmas.List.Elements.{Contains-append_left}
 use Rattle.wire.specs.declared.note.Note.{Note}
 use Rattle.wire.specs.declared.note.Note.TheVariants.{Acked, Content, Seen}
 use Rattle.memtable.specs.declared.cell.Cell.TheVariants.{Deleted, Inline, Placed}
 use Rattle.memtable.specs.declared.cell.Place.{Place}
-use Rattle.memtable.specs.Entries.{Entries}
+use Rattle.memtable.specs.Entries.{Entries, put_all}
 use Rattle.replica.specs.Groups.{Group, joined, text}
 use Rattle.model_partition.specs.declared.table_note.TableNote.{TableNote}
 use Rattle.model_partition.specs.declared.table_note.TableNote.TheVariants as tables
 use Rattle.model_partition.specs.Past.{Bytes, stored, table_notes}
-use Rattle.model_partition.specs.Servers.{told, noted, rows_in, rows_of, part, shown_in}
-use Rattle.model_partition.specs.ServerRun.{PlacedBytes}
+use Rattle.model_partition.specs.Servers.{told, noted, rows_in, rows_of, entries_shown_in, page_shown, index_shown, part, shown_in}
+use Rattle.model_partition.specs.declared.shown_table.ShownTable.{ShownTable}
+use Rattle.model_partition.specs.IndexContents.{page_in, pages_in, index_in, entries_in}
+use Rattle.checkpoint.specs.declared.installed_index.InstalledIndex.{InstalledIndex}
+use Rattle.checkpoint.specs.Pages.{IndexContent, kept_within, merged}
+use Rattle.checkpoint_format.specs.declared.index.PageAt.{PageAt}
+use Rattle.metadata.specs.declared.record.KeyRange.{KeyRange}
+use Rattle.std.specs.List.{flat_map}
+use Rattle.std.proofs.lemmas.List.Concat.{flat_map-cons}
+use Rattle.model_partition.specs.StreamActions.{PlacedBytes}
 use Rattle.model_partition.specs.ServedTables.{AllStand, IsSeenAs, AreSeenAs}
-use Rattle.model_partition.specs.TableContents.{StandsAt, TellsRightly, AllTellRightly}
-use Rattle.laws_loads.proofs.Rows.{IsCovered, first_rightly, AreShown, rows_say}
+use Rattle.model_partition.specs.TableContents.{StandsAt, TellsRightly, AllTellRightly, table_in}
+use Rattle.laws_loads.proofs.Rows.{Ordered, ordered_put, IsCovered, first_rightly, AreShown, rows_say}
 use Rattle.laws_tables.proofs.Others.{others-append}
-use Rattle.laws_server_runs.specs.Places.{IsWithin, AreWithin, TablesWithin}
-use Rattle.laws_clusters.proofs.BareTables.{AreBare, bare_shown}
+use Rattle.laws_server_runs.specs.Places.{IsWithin, AreWithin, PagesWithin, IndexesWithin, TableLaid, TablesWithin}
 use Rattle.laws_clusters.proofs.ShownBytes.{all_tell}
 
 -- ---- bytes that were observed
@@ -49,13 +56,6 @@ observed_on notes more keeps (p ∷ placed) are = (observed_one notes more keeps
 pub observed_both : (notes : List Note) (xs ys : List PlacedBytes) → AreObserved notes xs → AreObserved notes ys → AreObserved notes (xs ++ ys)
 observed_both notes [] ys a b = b
 observed_both notes (x ∷ xs) ys a b = (a.0, observed_both notes xs ys a.1 b)
-
--- what is so of all loaded tables is so of the later ones
-pub tables_behind : (placed : ℕ → List PlacedBytes) (before shown : List TableNote) → TablesWithin placed (before ++ shown) → TablesWithin placed shown
-tables_behind placed [] shown laid = laid
-tables_behind placed (tables.Began range generation number changes ∷ before) shown laid = tables_behind placed before shown laid
-tables_behind placed (tables.Done range generation number ∷ before) shown laid = tables_behind placed before shown laid
-tables_behind placed (tables.Loaded range generation table next ∷ before) shown laid = tables_behind placed before shown laid.1
 
 -- ---- a place that observed bytes cover
 
@@ -154,27 +154,55 @@ module _ (texts : ℕ → Bytes) where
   seen_more (s ∷ shown) [] n note are is = absurd are
   seen_more (s ∷ shown) (x ∷ notes) n note are is = (are.0, seen_more shown notes n note are.1 is)
 
-  seen_now : (seen : List Note) (placed : ℕ → List PlacedBytes) (n : TableNote) → AllTellRightly texts seen → ((range : ℕ) → AreObserved seen (placed range)) → TablesWithin placed (n ∷ []) → AreBare (n ∷ []) → IsSeenAs texts n (told seen n)
-  seen_now seen placed (tables.Began range generation number changes) all are laid bare = refl
-  seen_now seen placed (tables.Done range generation number) all are laid bare = refl
-  seen_now seen placed (tables.Loaded range generation table next) all are laid bare = (
-    rows_of seen table,
-    refl,
-    λ key. ap (λ es. stored (rows_in seen es) key) (bare_shown seen table bare.0 laid.0.0)
-        ∙ rows_say texts seen table.live laid.0.0 (are_shown seen (placed range) table.live all (are range) laid.0.1) key,
-  )
+  -- ---- loaded tables
+
+  -- a page that observed bytes cover is shown as it stands
+  page_seen : (notes : List Note) (placed : List PlacedBytes) (p : PageAt) → AllTellRightly texts notes → AreObserved notes placed → IsWithin placed p.place → page_shown notes p ≡ page_in texts p.place
+  page_seen notes placed p all are inside = ap entries_shown_in (first_rightly texts notes p.place all (covered notes placed p.place are inside))
+
+  pages_seen : (notes : List Note) (placed : List PlacedBytes) (pages : List PageAt) → AllTellRightly texts notes → AreObserved notes placed → PagesWithin placed pages → flat_map (page_shown notes) pages ≡ pages_in texts pages
+  pages_seen notes placed [] all are inside = refl
+  pages_seen notes placed (p ∷ pages) all are inside =
+      flat_map-cons (page_shown notes) p pages
+      ∙ ap (λ l. l ++ flat_map (page_shown notes) pages) (page_seen notes placed p all are inside.0)
+      ∙ ap (λ l. page_in texts p.place ++ l) (pages_seen notes placed pages all are inside.1)
+
+  indexes_seen : (notes : List Note) (placed : List PlacedBytes) (xs : List InstalledIndex) → AllTellRightly texts notes → AreObserved notes placed → IndexesWithin placed xs → map (index_shown notes) xs ≡ map (index_in texts) xs
+  indexes_seen notes placed [] all are inside = refl
+  indexes_seen notes placed (x ∷ xs) all are inside =
+      ap (λ (es : Entries). record { keys = x.keys; entries = es } ∷ map (index_shown notes) xs) (pages_seen notes placed x.index.pages all are inside.0)
+      ∙ ap (λ (cs : List IndexContent). index_in texts x ∷ cs) (indexes_seen notes placed xs all are inside.1)
+
+  ordered_merged : (keys : KeyRange) (contents : List IndexContent) → Ordered (merged keys contents)
+  ordered_merged keys [] = tt
+  ordered_merged keys (x ∷ older) = ordered_put (merged keys older) (kept_within x.keys keys x.entries) (ordered_merged keys older)
+
+  -- its rows are the table of the memory table over its indexes
+  table_seen : (notes : List Note) (placed : List PlacedBytes) (table : ShownTable) → AllTellRightly texts notes → AreObserved notes placed → TableLaid texts placed table → (key : Bytes) →
+      stored (rows_of notes table) key ≡ table_in texts (entries_in texts table) key
+  table_seen notes placed table all are laid key =
+      ap (λ (cs : List IndexContent). stored (rows_in notes (put_all (merged table.keys cs) table.live)) key) (indexes_seen notes placed table.indexes all are laid.pages)
+      ∙ rows_say texts notes (entries_in texts table) (ordered_put (merged table.keys (map (index_in texts) table.indexes)) table.live (ordered_merged table.keys (map (index_in texts) table.indexes)))
+      (are_shown notes placed (entries_in texts table) all are laid.entries) key
+
+  -- what is so of all loaded tables is so of the later ones
+  pub tables_behind : (placed : ℕ → List PlacedBytes) (before shown : List TableNote) → TablesWithin texts placed (before ++ shown) → TablesWithin texts placed shown
+  tables_behind placed [] shown laid = laid
+  tables_behind placed (tables.Began range generation number changes ∷ before) shown laid = tables_behind placed before shown laid
+  tables_behind placed (tables.Done range generation number ∷ before) shown laid = tables_behind placed before shown laid
+  tables_behind placed (tables.Loaded range generation table next ∷ before) shown laid = tables_behind placed before shown laid.1
+
+  seen_now : (seen : List Note) (placed : ℕ → List PlacedBytes) (n : TableNote) → AllTellRightly texts seen → ((range : ℕ) → AreObserved seen (placed range)) → TablesWithin texts placed (n ∷ []) → IsSeenAs texts n (told seen n)
+  seen_now seen placed (tables.Began range generation number changes) all are laid = refl
+  seen_now seen placed (tables.Done range generation number) all are laid = refl
+  seen_now seen placed (tables.Loaded range generation table next) all are laid = (rows_of seen table, refl, table_seen seen (placed range) table all (are range) laid.0)
 
   table_told : (seen : List Note) (n : TableNote) → table_notes (seen ++ told seen n ∷ []) ≡ table_notes seen ++ told seen n ∷ []
   table_told seen (tables.Began range generation number changes) = others-append seen _
   table_told seen (tables.Done range generation number) = others-append seen _
   table_told seen (tables.Loaded range generation table next) = others-append seen _
 
-  bare_first : (n : TableNote) (shown : List TableNote) → AreBare (n ∷ shown) → AreBare (n ∷ []) × AreBare shown
-  bare_first (tables.Began range generation number changes) shown bare = (tt, bare)
-  bare_first (tables.Done range generation number) shown bare = (tt, bare)
-  bare_first (tables.Loaded range generation table next) shown bare = ((bare.0, tt), bare.1)
-
-  tables_first : (placed : ℕ → List PlacedBytes) (n : TableNote) (shown : List TableNote) → TablesWithin placed (n ∷ shown) → TablesWithin placed (n ∷ []) × TablesWithin placed shown
+  tables_first : (placed : ℕ → List PlacedBytes) (n : TableNote) (shown : List TableNote) → TablesWithin texts placed (n ∷ shown) → TablesWithin texts placed (n ∷ []) × TablesWithin texts placed shown
   tables_first placed (tables.Began range generation number changes) shown laid = (tt, laid)
   tables_first placed (tables.Done range generation number) shown laid = (tt, laid)
   tables_first placed (tables.Loaded range generation table next) shown laid = ((laid.0, tt), laid.1)
@@ -182,17 +210,15 @@ module _ (texts : ℕ → Bytes) where
   kept_first : (seen : List Note) (note : Note) → Keeps seen (seen ++ note ∷ [])
   kept_first seen note x there = Contains-append_left seen (note ∷ []) x there
 
-  -- what servers show is seen, behind what was seen before, where their loaded tables have no index and point at bytes that were
-  -- observed
-  pub seen_all : (before shown : List TableNote) (seen : List Note) (placed : ℕ → List PlacedBytes) → AllTellRightly texts (noted seen shown) → ((range : ℕ) → AreObserved seen (placed range)) → TablesWithin placed shown →
-      AreBare shown → AreSeenAs texts before (table_notes seen) → AreSeenAs texts (before ++ shown) (table_notes (noted seen shown))
-  seen_all before [] seen placed all are laid bare old = subst (λ l. AreSeenAs texts l (table_notes seen)) (sym (append-nil before)) old
-  seen_all before (n ∷ shown) seen placed all are laid bare old =
+  -- what servers show is seen, behind what was seen before, where their loaded tables point at bytes that were observed
+  pub seen_all : (before shown : List TableNote) (seen : List Note) (placed : ℕ → List PlacedBytes) → AllTellRightly texts (noted seen shown) → ((range : ℕ) → AreObserved seen (placed range)) → TablesWithin texts placed shown →
+      AreSeenAs texts before (table_notes seen) → AreSeenAs texts (before ++ shown) (table_notes (noted seen shown))
+  seen_all before [] seen placed all are laid old = subst (λ l. AreSeenAs texts l (table_notes seen)) (sym (append-nil before)) old
+  seen_all before (n ∷ shown) seen placed all are laid old =
       let note : Note = told seen n in
       let right : AllTellRightly texts seen = before_tells seen (n ∷ shown) all in
       let parts = tables_first placed n shown laid in
-      let bares = bare_first n shown bare in
       let one : AreSeenAs texts (before ++ n ∷ []) (table_notes (seen ++ note ∷ [])) =
-      subst (λ l. AreSeenAs texts (before ++ n ∷ []) l) (sym (table_told seen n)) (seen_more before (table_notes seen) n note old (seen_now seen placed n right are parts.0 bares.0)) in
+      subst (λ l. AreSeenAs texts (before ++ n ∷ []) l) (sym (table_told seen n)) (seen_more before (table_notes seen) n note old (seen_now seen placed n right are parts.0)) in
       subst (λ l. AreSeenAs texts l (table_notes (noted seen (n ∷ shown)))) (append_assoc before (n ∷ []) shown)
-      (seen_all (before ++ n ∷ []) shown (seen ++ note ∷ []) placed all (λ range. observed_on seen (seen ++ note ∷ []) (kept_first seen note) (placed range) (are range)) parts.1 bares.1 one)
+      (seen_all (before ++ n ∷ []) shown (seen ++ note ∷ []) placed all (λ range. observed_on seen (seen ++ note ∷ []) (kept_first seen note) (placed range) (are range)) parts.1 one)

@@ -37,13 +37,16 @@ use Rattle.std.proofs.lemmas.Bool.{cases_eq}
 use Rattle.laws_ranges.specs.Serves.{metadata_of, log_of}
 use Rattle.laws_ranges.proofs.BothStreams.{follows_same}
 use Rattle.laws_log_reads.proofs.UntouchedReads.{same_left}
+use Rattle.client.specs.Client.{ClientState, awaits}
+use Rattle.laws_clusters.proofs.ClientJobs.{AsksBy}
+use Rattle.laws_clusters.proofs.Copies.{AllSay}
 use Rattle.laws_clusters.proofs.ObservedBytes.{AreObserved}
 use Rattle.laws_clusters.proofs.StreamMachines.{Further, all_told}
 use Rattle.laws_clusters.proofs.OtherRanges.{onward_same, holds_on, held_on}
 use Rattle.laws_clusters.proofs.OneRange.{IsWord, AreFirst, word_told, word_plain, word_unasked}
 use Rattle.laws_loads.proofs.Entries.{entry_set, entry_other, entry_unmapped}
 use Rattle.laws_clusters.proofs.RequestNumbers.{PastAt, IsPast, AreNumbersPast, past_on, past_step, past_stops, past_starts, past_moment}
-use Rattle.laws_clusters.proofs.Invariant.{Machines, AreBeside, here, m_side, l_side, Holds, IsHeld, Runs, Standing}
+use Rattle.laws_clusters.proofs.Invariant.{Machines, HeldAt, RowsOut, AllRowsOut, AreBeside, here, m_side, l_side, Holds, IsHeld, Runs, Standing}
 
 -- ---- servers that run as before
 
@@ -149,14 +152,13 @@ module _ (generation : ℕ → ℕ) (nodes target : ℕ) where
           read = same_left range (here generation nodes target moves) i (after_all Group generation x.m).state (after_all Group generation x.l).state h r (record r { until = same.until })
               (record {
                 said = refl;
-                fixed = refl;
-                indexes = refl;
                 regions = refl;
                 metadata = record { base = refl; extents = refl; checked = refl };
                 log = record { base = refl; extents = refl; checked = refl };
                 metadata_by = λ position a. a;
                 log_by = λ position a. a;
               }) refl b.read;
+          record_append = b.record_append;
           append = b.append;
         })
 
@@ -201,6 +203,7 @@ module _ (generation : ℕ → ℕ) (nodes target : ℕ) where
     distinct = x.distinct;
     past = λ range q has. past q (x.past range q has);
     numbers = λ server to body there q number. past q (x.numbers server to body (subst (λ (v : StreamSystem). Contains v.post (packet (Server server) to body)) same there) q number);
+    rows = all_rows;
     from_map = λ to body there. x.from_map to body (subst (λ (v : StreamSystem). Contains v.post (packet Map to body)) same there);
     first_range = first;
     incarnation = x.incarnation;
@@ -215,6 +218,7 @@ module _ (generation : ℕ → ℕ) (nodes target : ℕ) where
       log_is = λ range. still.story (stream_named range kinds.Log) ∙ x.stories.log_is range;
       others = λ name other. still.story name ∙ x.stories.others name other;
     };
+    says = λ range. subst (λ story. AllSay story) (sym (still.story (stream_named range kinds.Metadata))) (x.says range);
     observed = λ range. subst (λ ns. AreObserved ns (z.shown range)) (sym notes_same) (subst (λ ps. AreObserved c.stream_layer.notes ps) (sym (still.shown range)) (x.observed range));
     acked = λ range. subst (λ ns. AreObserved ns (z.answered range)) (sym notes_same) (subst (λ ps. AreObserved c.stream_layer.notes ps) (sym (still.answered range)) (x.acked range));
     told = λ texts all.
@@ -222,6 +226,32 @@ module _ (generation : ℕ → ℕ) (nodes target : ℕ) where
         (subst (λ ns. AreSeenAs texts y.notes (table_notes ns)) (sym notes_same) (x.told texts (subst (λ ns. AllTellRightly texts ns) notes_same all)));
   }
     where
+      -- each range was held before, with the same row data
+      held_before : (s range : ℕ) (k : RangeState) → HeldAt d.servers s range k → (r : RangeState) × HeldAt c.servers s range r × IsSameRange r k
+      held_before s range k h = go (runs s h.cell h.state h.there h.up)
+        where
+          go : RunsAs c.servers s h.cell h.state → (r : RangeState) × HeldAt c.servers s range r × IsSameRange r k
+          go (Ran old was at up server session lasts ranges) =
+              let before = x.servers s old was at up in
+              let was_held = ranges.ranges before.ascending range k h.found in
+              (was_held.0, record { cell = old; state = was; there = at; up = up; found = was_held.1 }, was_held.2)
+          go (Begun server session none) = absurd (let e : None ≡ Some k = sym (ap (λ l. range_of l range) none) ∙ h.found in cc)
+
+      all_rows : AllRowsOut generation d.servers x.machines d.stream_layer.post
+      all_rows s range k h q waits =
+          let was = held_before s range k h in
+          let rows_same : k.rows ≡ was.0.rows = ap (λ (z : RangeState). z.rows) was.2.is in
+          let old : RowsOut generation c.servers x.machines c.stream_layer.post s range was.0 q = x.rows s range was.0 was.1 q (ap (λ (z : ClientState). awaits z.job q) (sym rows_same) ∙ waits) in
+          record {
+            past = past q old.past;
+            none = old.none;
+            asked = λ server to body at number.
+                subst (λ z. AsksBy z body) (sym rows_same) (old.asked server to body (subst (λ (v : StreamSystem). Contains v.post (packet (Server server) to body)) same at) number);
+            alone = λ t n other there other_waits.
+                (let before = held_before t n other there in
+                old.alone t n before.0 before.1 (ap (λ (z : RangeState). awaits z.rows.job q) (sym before.2.is) ∙ other_waits));
+          }
+
       notes_same : d.stream_layer.notes ≡ c.stream_layer.notes
       notes_same = ap (λ (w : StreamSystem). w.notes) same
 
@@ -389,7 +419,6 @@ module _ (generation : ℕ → ℕ) (nodes target : ℕ) where
         record {
           m_are = old.m_are;
           l_are = old.l_are;
-          unformed = old.unformed;
           apart = old.apart;
           metadata = λ counted. told.below (metadata_of range) m (x.machines range).m_sent (plain (metadata_of range) m.state (x.machines range).m_sent, tt) (old.metadata counted);
           log = λ counted. told.below (log_of range) l (x.machines range).l_sent (plain (log_of range) l.state (x.machines range).l_sent, tt) (old.log counted);
@@ -407,6 +436,19 @@ module _ (generation : ℕ → ℕ) (nodes target : ℕ) where
       | inr now ↦ (let same : p ≡ packet Map other body = only_one (packet Map other body) now in subst (λ (z : Packet). IsWord z.body) same (word (ap (λ (z : Packet). z.from) same)))
     ]
 
+    still_rows : AllRowsOut generation c.servers x.machines (c.stream_layer.post ++ p ∷ [])
+    still_rows s range r h q waits =
+        let old : RowsOut generation c.servers x.machines c.stream_layer.post s range r q = x.rows s range r h q waits in
+        record {
+          past = old.past;
+          none = old.none;
+          asked = λ server to body at number. elim (Contains-append_cases c.stream_layer.post (p ∷ []) (packet (Server server) to body) at) [
+            | inl earlier ↦ old.asked server to body earlier number
+            | inr now ↦ absurd (unasked q (ap (λ (z : Packet). asked_number z.body) (only_one (packet (Server server) to body) now) ∙ number))
+          ];
+          alone = old.alone;
+        }
+
     still_stands : (s : ℕ) (cell : ServerCell) (st : ServerState) → entry_at c.servers s ≡ Some cell → cell.state ≡ Some st → Runs generation nodes target later x.machines (y.history s) (x.incarnation s) s cell st
     still_stands s cell st at up =
         let before : Runs generation nodes target x.moves x.machines (y.history s) (x.incarnation s) s cell st = x.servers s cell st at up in
@@ -418,7 +460,7 @@ module _ (generation : ℕ → ℕ) (nodes target : ℕ) where
               held_on generation nodes target range x.moves later (x.machines range) (x.machines range) (y.history s range) (y.history s range) refl (x.incarnation s range) (x.incarnation s range) refl r
               (λ j mine h.
               holds_on generation nodes target range x.moves later (x.machines range) (x.machines range) (onward_same generation nodes target range x.moves later (x.machines range) same_catalog same_notes) j (refl, refl)
-              (y.history s range) r h) (before.held range r found);
+              (y.history s range) r (λ q waits. (x.rows s range r (record { cell = cell; state = st; there = at; up = up; found = found }) q waits).none range) h) (before.held range r found);
         }
 
     -- one is sent
@@ -431,6 +473,7 @@ module _ (generation : ℕ → ℕ) (nodes target : ℕ) where
       distinct = x.distinct;
       past = x.past;
       numbers = still_numbers;
+      rows = still_rows;
       from_map = still_from_map;
       first_range = x.first_range;
       incarnation = x.incarnation;
@@ -441,6 +484,7 @@ module _ (generation : ℕ → ℕ) (nodes target : ℕ) where
       cells = x.cells;
       servers = still_stands;
       stories = x.stories;
+      says = x.says;
       observed = x.observed;
       acked = x.acked;
       told = x.told;

@@ -1,11 +1,14 @@
 -- What a range does at a server leaves all other ranges where they stood, and itself where its rule says.
-use Rattle.std.proofs.Common.{◌≡◌, ℕ, ◌≤◌, List, [], ◌∷◌, ◌++◌, length, Option, Some, Contains, refl, sym, ◌∙◌, subst, arith}
+use Rattle.std.proofs.Common.{◌≡◌, ℕ, ◌≤◌, true, List, [], ◌∷◌, ◌++◌, length, Option, Some, Contains, refl, sym, ◌∙◌, subst, arith}
 use Rattle.std.proofs.lemmas.List.Elements.{Contains-append_left}
+use Rattle.wire.specs.declared.actor.ReqNo.{ReqNo}
 use Rattle.wire.specs.declared.note.Note.{Note}
 use Rattle.wire.specs.declared.streams.StreamKind.TheVariants as kinds
 use Rattle.wire.specs.declared.streams.StreamName.{StreamName}
 use Rattle.replica.specs.Groups.{Group}
 use Rattle.streams.specs.Streams.{stream_of}
+use Rattle.client.specs.Client.{awaits}
+use Rattle.laws_clusters.proofs.RowPurposes.{rows_aside}
 use Rattle.model_streams.specs.Manager.{Catalog}
 use Rattle.model_streams.specs.StreamSystem.{StreamSystem, Move}
 use Rattle.model_partition.specs.declared.server_context.ServerContext.{ServerContext}
@@ -17,13 +20,13 @@ use Rattle.model_partition.specs.ServerTurns.{after_all}
 use Rattle.model_partition.specs.StreamMachine as extents
 use Rattle.laws_stream_machine.specs.Refinement.{Sent, extents_of}
 use Rattle.laws_ranges.specs.Seen.{BeganAt}
-use Rattle.laws_ranges.specs.Serves.{Side, metadata_of, log_of, Wider, Follows, FollowsIf, RuleGoes}
+use Rattle.laws_ranges.specs.Serves.{Side, metadata_of, log_of, rows_of, Wider, Follows, FollowsIf, RuleGoes}
 use Rattle.laws_ranges.proofs.MoreKnown.{follows_on}
 use Rattle.laws_ranges.proofs.TurnsAsMoves.{stand_of}
 use Rattle.laws_log_reads.specs.Reads.{HasRead, HasReadIf}
 use Rattle.laws_log_reads.proofs.MachineSteps.{both_wider, left_turned}
 use Rattle.laws_log_reads.proofs.MoreKnown.{has_read_on}
-use Rattle.laws_clusters.proofs.Invariant.{Machines, here, m_side, l_side, Holds, IsHeld}
+use Rattle.laws_clusters.proofs.Invariant.{Machines, HasNone, here, m_side, l_side, Holds, IsHeld}
 use Rattle.laws_clusters.proofs.RangeSteps.{IsSteady, IsOnward, m_after, l_after, machines_after, m_side_is, l_side_is, same_at}
 
 -- observations stay
@@ -48,21 +51,23 @@ module _ (generation : ℕ → ℕ) (nodes target : ℕ) where
   onward_same range moves later x same notes = record {
     metadata = wider_same (metadata_of range) (here generation nodes target moves) (here generation nodes target later) (after_all Group generation x.m).state x.m_sent same;
     log = wider_same (log_of range) (here generation nodes target moves) (here generation nodes target later) (after_all Group generation x.l).state x.l_sent same;
+    rows = same_at generation nodes target (here generation nodes target later) (here generation nodes target moves) (rows_of range) same;
     notes = notes;
   }
 
   module _ (range : ℕ) (moves later : List Move) (x z : Machines generation) where
     -- what stays of a range whose incarnation stands where it stood
     pub holds_on : IsOnward generation nodes target range moves later x z → (j : ℕ) → IsSteady generation x z j → (h : RangeHistory) (r : RangeState) →
-        Holds generation nodes target moves range x h j r → Holds generation nodes target later range z h j r
-    holds_on on j steady h r b =
+        ((q : ReqNo) → awaits r.rows.job q ≡ true → HasNone generation z q) → Holds generation nodes target moves range x h j r → Holds generation nodes target later range z h j r
+    holds_on on j steady h r aside b =
         let w : StreamSystem = here generation nodes target moves in
         let v : StreamSystem = here generation nodes target later in
         record {
-          follows = follows_on generation range w v j (m_side generation x j) (m_side generation z j) (l_side generation x j) (l_side generation z j) on.metadata steady.0 on.log steady.1 r b.follows;
+          follows = follows_on generation range w v j (m_side generation x j) (m_side generation z j) (l_side generation x j) (l_side generation z j) on.metadata steady.0 on.log steady.1 on.rows r aside b.follows;
           read = has_read_on range w v j (after_all Group generation x.m).state (after_all Group generation z.m).state (after_all Group generation x.l).state (after_all Group generation z.l).state
               (both_wider range w v (after_all Group generation x.m).state (after_all Group generation z.m).state (after_all Group generation x.l).state (after_all Group generation z.l).state
               x.m_sent z.m_sent x.l_sent z.l_sent on.metadata on.log on.notes) h r b.read;
+          record_append = subst (λ p. BeganAt (h.append kinds.Metadata) p) (sym steady.0) b.record_append;
           append = subst (λ p. BeganAt (h.append kinds.Log) p) (sym steady.1) b.append;
         }
 
@@ -82,7 +87,8 @@ module _ (generation : ℕ → ℕ) (nodes target : ℕ) where
       (g : RuleGoes generation range (here generation nodes target moves) i (m_side generation x i) (l_side generation x i) d o) (later : List Move)
       (same_catalog : (here generation nodes target later).catalog ≡ (here generation nodes target moves).catalog)
       (all_notes : (note : Note) → Contains (here generation nodes target moves).notes note → Contains (here generation nodes target later).notes note)
-      (h : RangeHistory) (append : BeganAt (h.append kinds.Log) (l_after generation nodes target moves range x i d o g).stand.phase) where
+      (h : RangeHistory) (record_append : BeganAt (h.append kinds.Metadata) (m_after generation nodes target moves range x i d o g).stand.phase)
+      (append : BeganAt (h.append kinds.Log) (l_after generation nodes target moves range x i d o g).stand.phase) where
     abbrev w : StreamSystem
     w = here generation nodes target moves
 
@@ -98,7 +104,8 @@ module _ (generation : ℕ → ℕ) (nodes target : ℕ) where
         let a : Side = m_after generation nodes target moves range x i d o g in
         let b : Side = l_after generation nodes target moves range x i d o g in
         let follows : Follows generation range v i a b r =
-        follows_on generation range w v i a a b b (wider_same (metadata_of range) w v a.stand.state a.sent same_catalog) refl (wider_same (log_of range) w v b.stand.state b.sent same_catalog) refl r f in
+        follows_on generation range w v i a a b b (wider_same (metadata_of range) w v a.stand.state a.sent same_catalog) refl (wider_same (log_of range) w v b.stand.state b.sent same_catalog) refl
+        (same_at generation nodes target v w (rows_of range) same_catalog) r (rows_aside range w a.sent b.sent r.rows.job f.rows.job) f in
         let turned : HasRead range w i a.stand.state b.stand.state h r =
         left_turned generation range w i (stand_of generation (after_all Group generation x.m) i) (stand_of generation (after_all Group generation x.l) i) g.metadata_turns g.log_turns h (Some r) read in
         let now : HasRead range v i a.stand.state b.stand.state h r =
@@ -110,6 +117,7 @@ module _ (generation : ℕ → ℕ) (nodes target : ℕ) where
               (subst (λ (z : Side). Follows generation range v i a z r) (sym (l_side_is generation nodes target moves range x i d o g)) follows);
           read = subst (λ (z : Side). HasRead range v i z.stand.state (after_all Group generation after.l).state h r) (sym (m_side_is generation nodes target moves range x i d o g))
               (subst (λ (z : Side). HasRead range v i a.stand.state z.stand.state h r) (sym (l_side_is generation nodes target moves range x i d o g)) now);
+          record_append = subst (λ (z : Side). BeganAt (h.append kinds.Metadata) z.stand.phase) (sym (m_side_is generation nodes target moves range x i d o g)) record_append;
           append = subst (λ (z : Side). BeganAt (h.append kinds.Log) z.stand.phase) (sym (l_side_is generation nodes target moves range x i d o g)) append;
         }
 

@@ -1,12 +1,14 @@
 -- What the actions of a range leave of the stories of all streams, and of what servers see of extents.
-use Rattle.std.proofs.Common.{◌≡◌, ◌⊎◌, ℕ, List, [], ◌∷◌, ◌++◌, map, Bool, true, false, ◌==◌, ◌&&◌, Option, Some, None, is_some, Contains, refl, ap, ◌∙◌, inl, inr, eqb-true, if◌then◌else◌}
+use Rattle.std.proofs.Common.{◌≡◌, ◌⊎◌, ⊎_elim, ℕ, length, subst, List, [], ◌∷◌, ◌++◌, map, nat_lt, ◌^◌, Bool, true, false, ◌==◌, ◌&&◌, Option, Some, None, is_some, Contains, refl, ap, ◌∙◌, inl, inr, eqb-true, if◌then◌else◌}
 use Rattle.wire.specs.declared.actor.ReqNo.{ReqNo}
 use Rattle.wire.specs.declared.body.Body.{Body}
 use Rattle.wire.specs.declared.body.Body.TheVariants as bodies
+use Rattle.wire.specs.declared.body.ReadBody.{ReadBody}
+use Rattle.wire.specs.declared.body.ReadBody.TheVariants as answers
 use Rattle.wire.specs.declared.body.StreamBody.{StreamBody}
 use Rattle.wire.specs.declared.body.StreamBody.TheVariants as streams
 use Rattle.wire.specs.declared.note.Note.{Note}
-use Rattle.wire.specs.declared.note.Note.TheVariants.{Acked}
+use Rattle.wire.specs.declared.note.Note.TheVariants.{Acked, Seen}
 use Rattle.wire.specs.declared.streams.StreamKind.{StreamKind}
 use Rattle.wire.specs.declared.streams.StreamKind.TheVariants as kinds
 use Rattle.wire.specs.declared.streams.StreamName.{StreamName}
@@ -28,16 +30,28 @@ use Rattle.model_partition.specs.Answering.{groups_of, is_taken}
 use Rattle.model_partition.specs.CheckpointStates.{CheckpointState}
 use Rattle.model_partition.specs.declared.checkpoint_job.CheckpointPhase.{CheckpointPhase}
 use Rattle.model_partition.specs.declared.checkpoint_job.CheckpointPhase.TheVariants as checkpoints
-use Rattle.model_partition.specs.Checkpoints.{may_record, rows_may_stand}
+use Rattle.model_partition.specs.Checkpoints.{may_record, has_record_number, index_place, rows_may_stand}
+use Rattle.model_partition.specs.PlaceReads.{reads_under}
+use Rattle.checkpoint_format.specs.Index.{fits_a_group}
 use Rattle.model_partition.specs.Range.{OutGroup, RangeState, RangeOutcome, request, picking, if_there, is_serving}
-use Rattle.model_partition.specs.ServerRun.{PlacedBytes, RangeHistory, ServerRun, place_number, placed_reads, placed_behind, with_event, is_kind, is_stream, stream_named, bytes_read, after_action, after_actions}
-use Rattle.model_partition.specs.Story.{Story, StreamEvent, Showed}
-use Rattle.model_partition.specs.StreamActions.{ExtentRead, StreamAction, Reads, Forms, Stands, Shows, group_of, formed, transact_actions, last_position, stood, serving_actions, loading_actions, confirmed_actions, load_actions, record_group, record_stood_in, record_stood, record_actions, metadata_actions, index_stood_in, index_stood, rows_told_actions, rows_actions, answer_actions}
-use Rattle.laws_loads.specs.RangeView.{RangeView, view_after_all}
-use Rattle.laws_log_reads.specs.Reads.{IsShown, AllShown}
+use Rattle.model_partition.specs.ServerRun.{RangeHistory, ServerRun, place_number, placed_reads, placed_behind, with_event, is_kind, is_stream, stream_named, bytes_read, after_action, after_actions}
+use Rattle.model_partition.specs.Story.{Story, StreamEvent, Made, Showed, event_at}
+use Rattle.model_partition.specs.StreamActions.{ExtentRead, StreamAction, Reads, Forms, Stands, Shows, Finds, Stores, group_of, formed, transact_actions, last_position, stood, serving_actions, loading_actions, confirmed_actions, load_actions, record_group, record_stood_in, record_stood, record_actions, metadata_actions, index_stood_in, index_stood, rows_told_actions, rows_actions, index_told_actions, index_actions, answer_actions, PlacedBytes}
+use Rattle.laws_loads.specs.RangeView.{RangeView, view_after, view_after_all}
+use Rattle.laws_log_reads.specs.Reads.{SaysCheckpoint, IsShown, AllShown}
+use Rattle.laws_clusters.proofs.CheckpointRecords.{record_says}
+use Rattle.laws_clusters.proofs.Copies.{AllSay}
 use Rattle.laws_clusters.proofs.ObservedBytes.{IsObserved, AsContent, AsSeen, AsAcked, AreObserved, observed_both}
 use Rattle.laws_clusters.proofs.Invariant.{IsOther}
 use Rattle.model_streams.specs.StreamSystem.{StreamSystem}
+
+and_first : (a b : Bool) → (a && b) ≡ true → a ≡ true
+and_first true b e = refl
+and_first false b e = absurd cc
+
+and_second : (a b : Bool) → (a && b) ≡ true → b ≡ true
+and_second true b e = e
+and_second false b e = absurd cc
 
 -- ---- streams of other names
 
@@ -64,8 +78,12 @@ none_there stories a b event other = go (is_stream a b) refl
 abbrev pub IsEither : StreamKind → Type 0
 IsEither kind = (kind ≡ kinds.Metadata) ⊎ (kind ≡ kinds.Log)
 
+-- what is formed of the metadata says a checkpoint
+abbrev pub IsFormed : StreamKind → Group → Type 0
+IsFormed kind group = ((kind ≡ kinds.Metadata) × SaysCheckpoint group) ⊎ (kind ≡ kinds.Log)
+
 abbrev pub IsOnEither : StreamAction → Type 0
-IsOnEither (Forms kind group) = IsEither kind
+IsOnEither (Forms kind group) = IsFormed kind group
 IsOnEither (Stands kind extent at group) = IsEither kind
 IsOnEither action = Unit {0}
 
@@ -126,7 +144,11 @@ metadata_on d r body =
     if_elim AreOnEither (is_serving r.stage) _ _ (λ t. record_on r told) (λ f. loading_on kinds.Metadata r.metadata r.stage (groups_of body) told)
 
 index_in_on : (r : RangeState) (job : CheckpointState) (phase : CheckpointPhase) (extent offset : ℕ) → AreOnEither (index_stood_in r job phase extent offset)
-index_in_on r job checkpoints.Index extent offset = if_elim AreOnEither (may_record r job) _ _ (λ t. (inl refl, tt)) (λ f. tt)
+index_in_on r job checkpoints.Index extent offset =
+    if_elim AreOnEither (may_record r job) _ _ (λ t. (inl (refl, record_says r job (index_place job extent offset) (numbered t)), tt)) (λ f. tt)
+  where
+    numbered : may_record r job ≡ true → has_record_number r ≡ true
+    numbered t = and_first (has_record_number r) _ (and_second (fits_a_group job.pages.index) _ t)
 index_in_on r job phase extent offset = tt
 
 index_stood_on : (r : RangeState) (job : Option CheckpointState) (extent offset : ℕ) → AreOnEither (index_stood r job extent offset)
@@ -134,11 +156,21 @@ index_stood_on r None extent offset = tt
 index_stood_on r (Some job) extent offset = index_in_on r job job.phase extent offset
 
 rows_told_on : (r : RangeState) (told : Option News) → AreOnEither (rows_told_actions r told)
-rows_told_on r (Some (news.Appended extent offset)) = index_stood_on r r.control extent offset
+rows_told_on r (Some (news.Appended extent offset)) =
+    on_both (if nat_lt extent (2 ^ 64) then index_stood r r.control extent offset else []) _
+    (if_elim AreOnEither (nat_lt extent (2 ^ 64)) _ _ (λ t. index_stood_on r r.control extent offset) (λ f. tt)) (tt, tt)
 rows_told_on r told = tt
 
 rows_on : (d : ServerContext) (r : RangeState) (body : Body) → AreOnEither (rows_actions d r body)
 rows_on d r body = if_elim AreOnEither (rows_may_stand r.control body) _ _ (λ t. rows_told_on r (reply_rule (picking d r.rows) (request d) body).news) (λ f. tt)
+
+index_told_on : (body : ReadBody) → AreOnEither (index_told_actions body)
+index_told_on (answers.Bytes w e offset bytes) = (tt, tt)
+index_told_on body = tt
+
+index_on : (body : Body) → AreOnEither (index_actions body)
+index_on (bodies.Read body) = index_told_on body
+index_on body = tt
 
 pub answer_on : (d : ServerContext) (r : RangeState) (w : ReqNo) (body : Body) (o : RangeOutcome) → AreOnEither (answer_actions d r w body o)
 answer_on d r w body o =
@@ -150,7 +182,8 @@ answer_on d r w body o =
     (λ g. if_elim AreOnEither (is_serving r.stage) _ _ (λ h. serving_on r (reply_rule (picking d r.log) (request d) body).news o)
     (λ h. loading_on kinds.Log r.log r.stage (groups_of body) (reply_rule (picking d r.log) (request d) body).news))
     (λ g. tt))
-    (λ f. if_elim AreOnEither (awaits r.rows.job w) _ _ (λ g. rows_on d r body) (λ g. tt)))))
+    (λ f. if_elim AreOnEither (awaits r.rows.job w) _ _ (λ g. rows_on d r body)
+    (λ g. if_elim AreOnEither (reads_under r.reading w) _ _ (λ h. index_on body) (λ h. tt))))))
     (λ a. tt)
 
 -- such actions add nothing to the story of a stream that is not of the range
@@ -161,7 +194,7 @@ module _ (server range generation : ℕ) where
 
   action_aside : (x : ServerRun) (action : StreamAction) → IsOnEither action → (name : StreamName) → IsOther range name → (after_action server range generation x action).story name ≡ x.story name
   action_aside x (Reads kind read) on name other = refl
-  action_aside x (Forms kind group) on name other = none_there x.story name (stream_named range kind) _ (aside_of name other kind on)
+  action_aside x (Forms kind group) on name other = none_there x.story name (stream_named range kind) _ (aside_of name other kind (⊎_elim {C = IsEither kind} (λ one. inl one.0) (λ two. inr two) on))
   action_aside x (Stands kind extent at group) on name other = none_there x.story name (stream_named range kind) _ (aside_of name other kind on)
   action_aside x (Shows start log_end metadata_end) on name other =
       let h : RangeHistory = x.history server range in
@@ -169,10 +202,46 @@ module _ (server range generation : ℕ) where
       let log : StreamEvent Group = Showed generation (place_number start) (place_number log_end) (placed_behind (place_number start) (placed_reads (h.reads kinds.Log))) in
       none_there (with_event x.story (stream_named range kinds.Metadata) metadata) name (stream_named range kinds.Log) log other.1
       ∙ none_there x.story name (stream_named range kinds.Metadata) metadata other.0
+  action_aside x (Finds found) on name other = refl
+  action_aside x (Stores stored) on name other = refl
 
   pub actions_aside : (x : ServerRun) (actions : List StreamAction) → AreOnEither actions → (name : StreamName) → IsOther range name → (after_actions server range generation x actions).story name ≡ x.story name
   actions_aside x [] on name other = refl
   actions_aside x (action ∷ earlier) on name other = action_aside (after_actions server range generation x earlier) action on.0 name other ∙ actions_aside x earlier on.1 name other
+
+-- ---- what is formed of the metadata
+
+-- one more event, which forms nothing or what says a checkpoint
+say_more : (e : StreamEvent Group) (story : Story Group) → ((g : ℕ) (group : Group) → e ≡ Made g group → SaysCheckpoint group) → AllSay story → AllSay (e ∷ story)
+say_more e story says all n g group at = go (n == length story) at
+  where
+    go : (b : Bool) → (if b then Some e else event_at story n) ≡ Some (Made g group) → SaysCheckpoint group
+    go true t = let same : e ≡ Made g group = cc in says g group same
+    go false t = all n g group t
+
+module _ (generation : ℕ) where
+  abbrev Says : RangeView → Type 0
+  Says v = AllSay (v.story kinds.Metadata)
+
+  action_says : (v : RangeView) (action : StreamAction) → IsOnEither action → Says v → Says (view_after generation v action)
+  action_says v (Reads kind read) on all = all
+  action_says v (Forms kinds.Metadata group) (inl on) all = say_more (Made generation group) (v.story kinds.Metadata) (λ g other same. (let one : group ≡ other = cc in subst SaysCheckpoint one on.1)) all
+  action_says v (Forms kinds.Metadata group) (inr on) all = absurd cc
+  action_says v (Forms kinds.Log group) on all = all
+  action_says v (Forms kinds.RowData group) on all = all
+  action_says v (Forms kinds.BlobData group) on all = all
+  action_says v (Stands kinds.Metadata extent at group) on all = say_more _ (v.story kinds.Metadata) (λ g other same. absurd cc) all
+  action_says v (Stands kinds.Log extent at group) on all = all
+  action_says v (Stands kinds.RowData extent at group) on all = all
+  action_says v (Stands kinds.BlobData extent at group) on all = all
+  action_says v (Shows start log_end metadata_end) on all = say_more _ (v.story kinds.Metadata) (λ g other same. absurd cc) all
+  action_says v (Finds found) on all = all
+  action_says v (Stores stored) on all = all
+
+  -- what is formed says checkpoints
+  pub actions_say : (v : RangeView) (actions : List StreamAction) → AreOnEither actions → Says v → Says (view_after_all generation v actions)
+  actions_say v [] on all = all
+  actions_say v (action ∷ earlier) on all = action_says (view_after_all generation v earlier) action on.0 (actions_say v earlier on.1 all)
 
 -- ---- what servers see of extents
 
@@ -189,6 +258,11 @@ reads_seen w (x ∷ older) shown = (one x shown.0, reads_seen w older shown.1)
 pub record SeesBytes (notes : List Note) (shown answered : List PlacedBytes) : Type 0 where
   pub shown_there : AreObserved notes shown
   pub answered_there : AreObserved notes answered
+
+-- bytes that come with an answer were observed
+abbrev pub BytesSeen : List Note → Body → Type 0
+BytesSeen notes (bodies.Read (answers.Bytes w e offset bytes)) = (n : ℕ) × Contains notes (Seen e n offset bytes)
+BytesSeen notes body = Unit {0}
 
 module _ (generation : ℕ) (notes : List Note) (v : RangeView) (old : SeesBytes notes v.shown v.answered) where
   abbrev pub Observed : List StreamAction → Type 0
@@ -262,20 +336,38 @@ module _ (generation : ℕ) (notes : List Note) (v : RangeView) (old : SeesBytes
         let told : Option News = (reply_rule (picking d r.metadata) (request d) body).news in
         if_elim Observed (is_serving r.stage) _ _ (λ t. record_seen told (acked t)) (λ f. loading_seen kinds.Metadata r.metadata r.stage (groups_of body) told)
 
-    index_in_seen : (job : CheckpointState) (phase : CheckpointPhase) (extent offset : ℕ) → Observed (index_stood_in r job phase extent offset)
-    index_in_seen job checkpoints.Index extent offset = if_elim Observed (may_record r job) _ _ (λ t. old) (λ f. old)
-    index_in_seen job phase extent offset = old
+    -- a group that stands in row data was acknowledged where it stands
+    abbrev pub RowsAcked : Option News → Type 0
+    RowsAcked told = (extent offset : ℕ) → told ≡ Some (news.Appended extent offset) → Contains notes (Acked extent offset r.rows.group)
 
-    index_stood_seen : (job : Option CheckpointState) (extent offset : ℕ) → Observed (index_stood r job extent offset)
-    index_stood_seen None extent offset = old
-    index_stood_seen (Some job) extent offset = index_in_seen job job.phase extent offset
+    rows_told_seen : (told : Option News) → RowsAcked told → Observed (rows_told_actions r told)
+    rows_told_seen (Some (news.Appended extent offset)) acked =
+        if_elim (λ (actions : List StreamAction). Observed (actions ++ Stores (record { extent = extent; offset = offset; bytes = joined r.rows.group }) ∷ [])) (nat_lt extent (2 ^ 64)) _ _ (λ t. by_job r.control) (λ f. more)
+      where
+        more : SeesBytes notes v.shown (record { extent = extent; offset = offset; bytes = joined r.rows.group } ∷ v.answered)
+        more = record { shown_there = old.shown_there; answered_there = (AsAcked r.rows.group (acked extent offset refl) refl, old.answered_there) }
 
-    rows_told_seen : (told : Option News) → Observed (rows_told_actions r told)
-    rows_told_seen (Some (news.Appended extent offset)) = index_stood_seen r.control extent offset
-    rows_told_seen told = old
+        by_phase : (job : CheckpointState) (phase : CheckpointPhase) → Observed (index_stood_in r job phase extent offset ++ Stores (record { extent = extent; offset = offset; bytes = joined r.rows.group }) ∷ [])
+        by_phase job checkpoints.Index = if_elim (λ (actions : List StreamAction). Observed (actions ++ Stores (record { extent = extent; offset = offset; bytes = joined r.rows.group }) ∷ [])) (may_record r job) _ _ (λ t. more) (λ f. more)
+        by_phase job phase = more
 
-    rows_seen : (d : ServerContext) (body : Body) → Observed (rows_actions d r body)
-    rows_seen d body = if_elim Observed (rows_may_stand r.control body) _ _ (λ t. rows_told_seen (reply_rule (picking d r.rows) (request d) body).news) (λ f. old)
+        by_job : (job : Option CheckpointState) → Observed (index_stood r job extent offset ++ Stores (record { extent = extent; offset = offset; bytes = joined r.rows.group }) ∷ [])
+        by_job None = more
+        by_job (Some job) = by_phase job job.phase
+    rows_told_seen told acked = old
+
+    rows_seen : (d : ServerContext) (body : Body) → RowsAcked (reply_rule (picking d r.rows) (request d) body).news → Observed (rows_actions d r body)
+    rows_seen d body acked = if_elim Observed (rows_may_stand r.control body) _ _ (λ t. rows_told_seen (reply_rule (picking d r.rows) (request d) body).news acked) (λ f. old)
+
+    -- ---- indexes
+
+    index_told_seen : (body : ReadBody) → BytesSeen notes (bodies.Read body) → Observed (index_told_actions body)
+    index_told_seen (answers.Bytes w e offset bytes) seen = record { shown_there = (AsSeen seen.0 seen.1, old.shown_there); answered_there = old.answered_there }
+    index_told_seen body seen = old
+
+    index_seen : (body : Body) → BytesSeen notes body → Observed (index_actions body)
+    index_seen (bodies.Read body) seen = index_told_seen body seen
+    index_seen body seen = old
 
     -- ---- answers
 
@@ -290,8 +382,9 @@ module _ (generation : ℕ) (notes : List Note) (v : RangeView) (old : SeesBytes
       load_seen body = old
 
       pub answer_seen : (d : ServerContext) (w : ReqNo) (body : Body) (o : RangeOutcome) → (is_serving r.stage ≡ true → OutAcked (reply_rule (picking d r.log) (request d) body).news) →
-          (is_serving r.stage ≡ true → RecordAcked (reply_rule (picking d r.metadata) (request d) body).news) → Observed (answer_actions d r w body o)
-      answer_seen d w body o acked recorded =
+          (is_serving r.stage ≡ true → RecordAcked (reply_rule (picking d r.metadata) (request d) body).news) → RowsAcked (reply_rule (picking d r.rows) (request d) body).news → BytesSeen notes body →
+          Observed (answer_actions d r w body o)
+      answer_seen d w body o acked recorded stored found =
           if_elim Observed (is_some o.after) _ _
           (λ a. if_elim Observed (load_awaits r.load.phase w) _ _ (λ b. load_seen body)
           (λ b. if_elim Observed (awaits r.metadata.job w) _ _ (λ e. metadata_seen d body recorded)
@@ -300,5 +393,6 @@ module _ (generation : ℕ) (notes : List Note) (v : RangeView) (old : SeesBytes
           (λ g. if_elim Observed (is_serving r.stage) _ _ (λ h. serving_seen (reply_rule (picking d r.log) (request d) body).news (acked h) o)
           (λ h. loading_seen kinds.Log r.log r.stage (groups_of body) (reply_rule (picking d r.log) (request d) body).news))
           (λ g. old))
-          (λ f. if_elim Observed (awaits r.rows.job w) _ _ (λ g. rows_seen d body) (λ g. old)))))
+          (λ f. if_elim Observed (awaits r.rows.job w) _ _ (λ g. rows_seen d body stored)
+          (λ g. if_elim Observed (reads_under r.reading w) _ _ (λ h. index_seen body found) (λ h. old))))))
           (λ a. old)

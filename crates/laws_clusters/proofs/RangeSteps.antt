@@ -15,13 +15,12 @@ use Rattle.model_partition.specs.Range.{RangeOutcome}
 use Rattle.model_partition.specs.ServerTurns.{Turn, Whole, after_all}
 use Rattle.model_partition.specs.ServerTurns as machine
 use Rattle.laws_stream_machine.specs.Refinement.{Purpose, Sent, purpose_of, IsAt, IsAsked, extents_of}
-use Rattle.laws_ranges.specs.Serves.{Stand, Side, after_turns, metadata_of, log_of, Wider, AreUnformed, AskedOfBoth, RuleGoes}
+use Rattle.laws_ranges.specs.Serves.{Stand, Side, after_turns, metadata_of, log_of, rows_of, Wider, AskedOfBoth, RuleGoes}
 use Rattle.laws_ranges.proofs.TurnsAsMoves.{stand_of, moves_of, stands_after, others_stand, are_moves}
 use Rattle.laws_ranges.proofs.MachineSteps.{wider_turns}
 use Rattle.laws_stream_machine.proofs.LowerLayer.{Below}
 use Rattle.laws_stream_machine.proofs.ServerRequests.{Unused}
 use Rattle.laws_clusters.proofs.StreamMachines.{AllAskedOf, Further, below_turns, below_adds}
-use Rattle.laws_clusters.proofs.Copies.{unformed_moves}
 use Rattle.laws_clusters.proofs.Invariant.{Machines, here, m_side, l_side, AreBeside}
 
 -- an incarnation stands where it stood
@@ -34,6 +33,7 @@ module _ (generation : ℕ → ℕ) (nodes target : ℕ) where
   pub record IsOnward (range : ℕ) (moves later : List Move) (x z : Machines generation) : Type 0 where
     pub metadata : Wider (metadata_of range) (here generation nodes target moves) (here generation nodes target later) (after_all Group generation x.m).state (after_all Group generation z.m).state x.m_sent z.m_sent
     pub log : Wider (log_of range) (here generation nodes target moves) (here generation nodes target later) (after_all Group generation x.l).state (after_all Group generation z.l).state x.l_sent z.l_sent
+    pub rows : (index e : ℕ) → IsAt (here generation nodes target moves) (rows_of range) index e → IsAt (here generation nodes target later) (rows_of range) index e
     pub notes : (note : Note) → Contains (here generation nodes target moves).notes note → Contains (here generation nodes target later).notes note
 
   -- the same catalog has the same lists
@@ -88,21 +88,22 @@ module _ (generation : ℕ → ℕ) (nodes target : ℕ) where
     goes_onward later same notes = record {
       metadata = wider_on (metadata_of range) (here generation nodes target later) w same x.m i g.metadata_turns x.m_sent g.metadata_sent g.metadata_keeps;
       log = wider_on (log_of range) (here generation nodes target later) w same x.l i g.log_turns x.l_sent g.log_sent g.log_keeps;
+      rows = same_at (here generation nodes target later) w (rows_of range) same;
       notes = notes;
     }
 
-    asked_of_metadata : (ps : List Packet) → AskedOfBoth generation range w i m_after l_after ps → AllAskedOf generation nodes target (metadata_of range) w (after_all Group generation machines_after.m) g.metadata_sent ps
+    asked_of_metadata : (ps : List Packet) → AskedOfBoth generation range w i o.after m_after l_after ps → AllAskedOf generation nodes target (metadata_of range) w (after_all Group generation machines_after.m) g.metadata_sent ps
     asked_of_metadata [] a = tt
     asked_of_metadata (p ∷ ps) a = (subst (λ (s : Stand). IsAsked generation (metadata_of range) w s.state g.metadata_sent p.body) (sym (stands_after generation i g.metadata_turns x.m)) a.0.0, asked_of_metadata ps a.1)
 
-    asked_of_log : (ps : List Packet) → AskedOfBoth generation range w i m_after l_after ps → AllAskedOf generation nodes target (log_of range) w (after_all Group generation machines_after.l) g.log_sent ps
+    asked_of_log : (ps : List Packet) → AskedOfBoth generation range w i o.after m_after l_after ps → AllAskedOf generation nodes target (log_of range) w (after_all Group generation machines_after.l) g.log_sent ps
     asked_of_log [] a = tt
     asked_of_log (p ∷ ps) a = (subst (λ (s : Stand). IsAsked generation (log_of range) w s.state g.log_sent p.body) (sym (stands_after generation i g.log_turns x.l)) a.0.1, asked_of_log ps a.1)
 
     -- the machines after it are the streams, where these packets were sent
-    pub goes_on : AreBeside generation nodes target moves range x → ((k : ℕ) → d.count ≤ k → Unused w (requests.Server d.server d.session k)) → AreUnformed g.metadata_turns →
-        (ps : List Packet) (v : StreamSystem) → AskedOfBoth generation range w i m_after l_after ps → (told : Further generation nodes target moves v ps) → AreBeside generation nodes target (moves ++ told.after) range machines_after
-    goes_on z unused unformed ps v asked told =
+    pub goes_on : AreBeside generation nodes target moves range x → ((k : ℕ) → d.count ≤ k → Unused w (requests.Server d.server d.session k)) →
+        (ps : List Packet) (v : StreamSystem) → AskedOfBoth generation range w i o.after m_after l_after ps → (told : Further generation nodes target moves v ps) → AreBeside generation nodes target (moves ++ told.after) range machines_after
+    goes_on z unused ps v asked told =
         let a = g.metadata_adds in
         let b = g.log_adds in
         let q : ReqNo = requests.Server d.server d.session a.number in
@@ -110,7 +111,6 @@ module _ (generation : ℕ → ℕ) (nodes target : ℕ) where
         record {
           m_are = are_moves generation i g.metadata_turns x.m z.m_are g.metadata_allowed;
           l_are = are_moves generation i g.log_turns x.l z.l_are g.log_allowed;
-          unformed = unformed_moves generation i g.metadata_turns x.m unformed z.unformed;
           apart = g.sent_by.apart;
           metadata = λ counted.
               told.below (metadata_of range) (after_all Group generation machines_after.m) g.metadata_sent (asked_of_metadata ps asked)

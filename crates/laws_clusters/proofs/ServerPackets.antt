@@ -1,5 +1,5 @@
 -- A cluster stands on whatever a server takes, and where it is told to give up.
-use Rattle.std.proofs.Common.{◌≡◌, ℕ, ◌-◌, ◌≤◌, Bool, true, false, List, [], ◌∷◌, ◌++◌, Option, Some, None, Contains, slice_set, refl, sym, ap, ◌∙◌, subst, inl, arith, if◌then◌else◌, ◌==◌, ◌&&◌}
+use Rattle.std.proofs.Common.{◌≡◌, ◌⊎◌, ℕ, ◌-◌, ◌≤◌, Bool, true, false, List, [], ◌∷◌, ◌++◌, Option, Some, None, Contains, slice_set, is_some, refl, sym, ap, ◌∙◌, subst, inl, inr, arith, if◌then◌else◌, ◌==◌, ◌&&◌}
 use Rattle.std.specs.BTreeMap.{insert_entry}
 use Rattle.std.specs.Ordering.{nat_cmp}
 use Rattle.block_types.specs.declared.record.Nodes.{Nodes}
@@ -25,17 +25,21 @@ use Rattle.model_streams.specs.Outcome.{packet}
 use Rattle.model_streams.specs.StreamSystem.{StreamSystem, sent_more}
 use Rattle.model_partition.specs.ServerTurns.{after_all}
 use Rattle.model_partition.specs.Answering.{answered_number, is_answerer, answer_rule, give_up_all}
-use Rattle.model_partition.specs.Servers.{ServerCell, ServersOutcome, cell_takes, cell_rests, cell_performs, cell_gives_up, cell_given_up, at_server, server_takes, server_gives_up}
+use Rattle.model_partition.specs.Servers.{ServerCell, ServersOutcome, cell_takes, cell_rests, cell_performs, cell_gives_up, cell_given_up, cell_checkpoints, at_server, server_takes, server_gives_up, server_checkpoints}
+use Rattle.model_partition.specs.Checkpoints.{checkpoint_fault, checkpoint_rule}
+use Rattle.wire.specs.declared.refusal.Refusal.{Refusal}
+use Rattle.wire.specs.declared.actor.ReqNo.TheVariants as requests
+use Rattle.client.specs.Client.{awaits}
 use Rattle.model_partition.specs.Cluster.{Cluster, servers_perform}
 use Rattle.model_partition.specs.Getting.{get_rule}
 use Rattle.model_partition.specs.Range.{RangeState, RangeOutcome, request, used, refuses, waiting_out}
-use Rattle.model_partition.specs.Server.{ServerState, ServerOutcome, range_of, awaiting, rests, sends_one, stepped, new_range, users_of, is_newer, assign_rule, told_by_map, map_rule, transacts_in, gets_in, table_rule, answer_in, answer_of, numbered_rule, taken_rule, has_numbers, server_rule, gives_up, picked, give_up_rule}
-use Rattle.model_partition.specs.ServerRun.{ServerRun, RangeEffect, Begins, Does, Rests, Takes, GivesUp, first_history, with_effect, with_outcome, after_event, told_effect, map_effect, transact_effect, table_effect, answer_effect, awaited_effect, numbered_effect, packet_effect, server_effect, cell_effect}
+use Rattle.model_partition.specs.Server.{ServerState, ServerOutcome, range_of, awaiting, rests, sends_one, stepped, new_range, users_of, is_newer, assign_rule, told_by_map, map_rule, transacts_in, gets_in, table_rule, answer_in, answer_of, numbered_rule, taken_rule, has_numbers, server_rule, gives_up, picked, give_up_rule, checkpoint_refused, checkpoints_in, server_checkpoint}
+use Rattle.model_partition.specs.ServerRun.{ServerRun, RangeEffect, Begins, Does, Rests, Takes, GivesUp, Checkpoints, first_history, with_effect, with_outcome, after_event, told_effect, map_effect, transact_effect, table_effect, answer_effect, awaited_effect, numbered_effect, packet_effect, server_effect, cell_effect}
 use Rattle.model_partition.specs.Serving.{transact_rule}
 use Rattle.model_partition.specs.StreamActions.{StreamAction, transact_actions, answer_actions}
-use Rattle.laws_stream_machine.specs.Refinement.{Sent}
+use Rattle.laws_stream_machine.specs.Refinement.{Sent, asked_number}
 use Rattle.laws_ranges.specs.Seen.{BeganAt}
-use Rattle.laws_ranges.specs.Serves.{Stand, Side, log_of, IsSentBy, AreAsked}
+use Rattle.laws_ranges.specs.Serves.{Stand, Side, log_of, IsPastRows, FollowsIf, IsSentBy, AreAsked}
 use Rattle.laws_ranges.proofs.ServedRules.{asked_of_both}
 use Rattle.laws_ranges.proofs.LogRules.{refused_plain}
 use Rattle.laws_ranges.proofs.BothStreamsAtOnce.{taken}
@@ -44,19 +48,23 @@ use Rattle.laws_server_runs.specs.RunInvariant.{view_at}
 use Rattle.laws_servers.specs.Sending.{AllFromServers}
 use Rattle.laws_servers.proofs.ClientPackets.{all_both, may_send_all}
 use Rattle.laws_servers.proofs.ServerSteps.{users_all}
-use Rattle.laws_servers.proofs.RangeSteps.{transact_tidy, get_tidy, answer_shows, give_up_tidy}
+use Rattle.laws_servers.proofs.RangeSteps.{transact_tidy, get_tidy, checkpoint_tidy, answer_shows, give_up_tidy}
 use Rattle.laws_clusters.proofs.RangeSteps as going
 use Rattle.laws_loads.proofs.Entries.{entry_set, set_twice}
 use Rattle.laws_server_runs.proofs.Actions.{same_test}
 use Rattle.laws_server_runs.proofs.RangeLists.{inserted_here, inserted_other, ascending_inserted, left_here, left_other, ascending_left}
 use Rattle.laws_clusters.proofs.OtherEvents.{told_nothing, refuses_stands, renew_stands, rule_done, run_done, rests_quiet, quiet_stands, picks_stand, still_runs, StandsAfter, nobody_stands, cell_stands}
-use Rattle.laws_server_runs.specs.Places.{TablesWithin}
-use Rattle.laws_clusters.proofs.RangeRules.{Done, both, transact_done, get_done, give_up_done, answer_done, assigned_done}
+use Rattle.laws_clusters.proofs.RangeRules.{Done, both, transact_done, get_done, give_up_done, checkpoint_done, answer_done, assigned_done}
 use Rattle.laws_clusters.proofs.RangeActions.{SeesBytes}
 use Rattle.laws_clusters.proofs.Senders.{none_from_map}
 use Rattle.laws_clusters.proofs.OneRange.{IsWord, IsMapWord, word_counted}
-use Rattle.laws_clusters.proofs.Invariant.{Machines, here, m_side, l_side, Holds, IsHeld, Runs, Standing}
+use Rattle.laws_clusters.proofs.Invariant.{HeldAt, RowsOut, Machines, here, m_side, l_side, Holds, IsHeld, Runs, Standing}
 use Rattle.laws_clusters.proofs.ServerRules as steps
+use Rattle.laws_clusters.proofs.ServerRules.{IsLaid}
+use Rattle.laws_clusters.proofs.ClientJobs.{AsksBy, ReadsNothing}
+use Rattle.laws_clusters.proofs.RowPurposes.{rows_unread}
+use Rattle.laws_clusters.proofs.RowRules.{RowsFrom, LeavesRows, RowsIf, in_both, users_in, transact_leaves, get_leaves, checkpoint_leaves, answer_leaves, give_up_leaves}
+use Rattle.laws_clusters.proofs.RowSteps.{WasOut, IsNew}
 
 -- ---- one range
 
@@ -74,7 +82,7 @@ module _ (generation : ℕ → ℕ) (plenty : (g n : ℕ) → (i : ℕ) × (n �
 
     -- a rule of the server, which does this with streams, leaves a cluster that stands
     abbrev Good : RangeEffect → ServerOutcome → Type 0
-    Good effect o = TablesWithin (run_done c y s cell effect o).shown (run_done c y s cell effect o).notes → Standing generation nodes target (rule_done c s cell o) (run_done c y s cell effect o)
+    Good effect o = IsLaid (run_done c y s cell effect o) → Standing generation nodes target (rule_done c s cell o) (run_done c y s cell effect o)
 
     run : Runs generation nodes target x.moves x.machines (y.history s) (x.incarnation s) s cell st
     run = steps.run_of generation nodes target c y x s cell st at is
@@ -109,12 +117,12 @@ module _ (generation : ℕ → ℕ) (plenty : (g n : ℕ) → (i : ℕ) × (n �
       same_run = record { history = λ t j apart. refl; story = λ name. refl; shown = λ j. refl; answered = λ j. refl; notes = refl }
 
       -- what a rule of the range leaves
-      done_good : (i : ℕ) → ((t j : ℕ) → x.incarnation t j ≡ Some i → (t ≡ s) × (j ≡ range)) → BeganAt ((y.history s range).append kinds.Log) ((after_all Group generation z.l).phase i) → (o : RangeOutcome) (actions : List StreamAction) →
-          Done generation nodes target c y x range counted i st.context (view_at range y s) o actions → AllFromServers o.packets →
+      done_good : (i : ℕ) → ((t j : ℕ) → x.incarnation t j ≡ Some i → (t ≡ s) × (j ≡ range)) → BeganAt ((y.history s range).append kinds.Metadata) ((after_all Group generation z.m).phase i) → BeganAt ((y.history s range).append kinds.Log) ((after_all Group generation z.l).phase i) → (o : RangeOutcome) (actions : List StreamAction) →
+          Done generation nodes target c y x range counted i st.context (view_at range y s) o actions → AllFromServers o.packets → steps.RowsAfter st range o o.packets →
           (after : ServerState) → after.context ≡ record st.context { count = o.count } → steps.AreLeft st.ranges after.ranges range o.after →
           Good (Does range (generation i) actions) (record { after = after; packets = o.packets; notes = o.notes })
-      done_good i alone began o actions k senders after context_is shape =
-          steps.stepped generation nodes target c y x s cell st at is range counted i alone y same_run began o actions k o.packets (may_send_all o.packets senders) k.rule.goes.asked (none_from_map o.packets senders) after
+      done_good i alone record_began began o actions k senders rows after context_is shape =
+          steps.stepped generation nodes target c y x s cell st at is range counted i alone y same_run record_began began o actions k o.packets (may_send_all o.packets senders) rows k.rule.goes.asked (none_from_map o.packets senders) after
           context_is shape
 
       -- ---- it is taken
@@ -123,6 +131,9 @@ module _ (generation : ℕ → ℕ) (plenty : (g n : ℕ) → (i : ℕ) × (n �
       fresh_alone i free t j mine = absurd (let less = x.below t j i mine in omega (arith, less, free))
 
       -- an incarnation that has done nothing has begun no append
+      fresh_recorded : (i event : ℕ) → x.bound ≤ i → BeganAt event ((after_all Group generation z.m).phase i)
+      fresh_recorded i event free = subst (λ p. BeganAt event p) (sym (x.idle i free range).0) tt
+
       fresh_began : (i event : ℕ) → x.bound ≤ i → BeganAt event ((after_all Group generation z.l).phase i)
       fresh_began i event free = subst (λ p. BeganAt event p) (sym (x.idle i free range).1) tt
 
@@ -157,11 +168,17 @@ module _ (generation : ℕ → ℕ) (plenty : (g n : ℕ) → (i : ℕ) × (n �
         taken_good =
             let a : Side = going.m_after generation nodes target x.moves range z i st.context o k.rule.goes in
             let b : Side = going.l_after generation nodes target x.moves range z i st.context o k.rule.goes in
+            let opened : Packet = open_packet st.context.server range (generation i) (request st.context) in
+            let rows : steps.RowsAfter st range o (users_of st.context known ++ o.packets) =
+            (λ n is_next. (
+              λ q waits. absurd (let next_is : Some next ≡ Some n = is_next in let same : next ≡ n = cc in let none : false ≡ true = ap (λ (u : RangeState). awaits u.rows.job q) same ∙ waits in cc),
+              in_both n (users_of st.context known) (opened ∷ []) (users_in st.context n known) (inl tt, tt),
+            )) in
             let senders : AllFromServers (users_of st.context known ++ o.packets) = all_both (users_of st.context known) o.packets (users_all st.context known) ((st.context.server, refl, inl refl), tt) in
-            steps.stepped generation nodes target c y x s cell st at is range counted i (fresh_alone i free) begun near (fresh_began i ((begun.history s range).append kinds.Log) free) o [] k (users_of st.context known ++ o.packets)
-            (may_send_all (users_of st.context known ++ o.packets) senders)
-            (asked_joined generation range w i (both generation nodes target c y x range counted) a b (users_of st.context known) o.packets
-            (asked_of_both generation range w i (both generation nodes target c y x range counted) a b k.rule.goes.sent_by.apart (users_of st.context known) (users_plain (log_of range) b.stand b.sent known)) k.rule.goes.asked)
+            steps.stepped generation nodes target c y x s cell st at is range counted i (fresh_alone i free) begun near (fresh_recorded i ((begun.history s range).append kinds.Metadata) free) (fresh_began i ((begun.history s range).append kinds.Log) free) o [] k
+            (users_of st.context known ++ o.packets) (may_send_all (users_of st.context known ++ o.packets) senders) rows
+            (asked_joined generation range w i (both generation nodes target c y x range counted) o.after a b (users_of st.context known) o.packets
+            (asked_of_both generation range w i (both generation nodes target c y x range counted) o.after a b k.rule.goes.sent_by.apart (users_of st.context known) (users_plain (log_of range) b.stand b.sent known)) k.rule.goes.asked)
             (none_from_map (users_of st.context known ++ o.packets) senders)
             (record { context = used st.context; ranges = insert_entry nat_cmp st.ranges range next }) refl inserted
 
@@ -195,11 +212,41 @@ module _ (generation : ℕ → ℕ) (plenty : (g n : ℕ) → (i : ℕ) × (n �
       alone : (t j : ℕ) → x.incarnation t j ≡ Some i → (t ≡ s) × (j ≡ range)
       alone t j e = x.own t s j range i e held.is
 
-      step_good : (o : RangeOutcome) (actions : List StreamAction) → Done generation nodes target c y x range held.counted i st.context (view_at range y s) o actions → AllFromServers o.packets →
+      held_here : HeldAt c.servers s range r
+      held_here = record { cell = cell; state = st; there = at; up = is; found = found }
+
+      -- what its row data waits for
+      out : (q : ReqNo) → awaits r.rows.job q ≡ true → RowsOut generation c.servers x.machines c.stream_layer.post s range r q
+      out q waits = x.rows s range r held_here q waits
+
+      past : IsPastRows st.context r
+      past n from waits = steps.not_used generation nodes target c y x s cell st at is n from (out (requests.Server st.context.server st.context.session n) waits).past
+
+      rows_asked : (q : ReqNo) → awaits r.rows.job q ≡ true → (server : ℕ) (to : ActorId) (b : Body) → Contains w.post (packet (Server server) to b) → asked_number b ≡ Some q → AsksBy r.rows b
+      rows_asked q waits server to b there number = (out q waits).asked server to b (subst (λ (z : StreamSystem). Contains z.post (packet (Server server) to b)) x.leads there) number
+
+      unread : ReadsNothing r.rows.job
+      unread = rows_unread range w (x.machines range).m_sent (x.machines range).l_sent r.rows.job h.follows.rows.job
+
+      -- what a rule leaves of it
+      rows_after : (o : RangeOutcome) (actions : List StreamAction) → Done generation nodes target c y x range held.counted i st.context (view_at range y s) o actions → LeavesRows st.context r.rows o → steps.RowsAfter st range o o.packets
+      rows_after o actions k left next is_next =
+          let have : RowsIf st.context r.rows o.count o.packets (Some next) = subst (λ a. RowsIf st.context r.rows o.count o.packets a) is_next left in
+          let after : FollowsIf generation range w i (Some next) (going.m_after generation nodes target x.moves range (x.machines range) i st.context o k.rule.goes) (going.l_after generation nodes target x.moves range (x.machines range) i st.context o k.rule.goes) =
+          subst (λ a. FollowsIf generation range w i a (going.m_after generation nodes target x.moves range (x.machines range) i st.context o k.rule.goes) (going.l_after generation nodes target x.moves range (x.machines range) i st.context o k.rule.goes)) is_next k.rule.goes.then in
+          (from have.0 (after.rows.stream ∙ sym h.follows.rows.stream), have.1)
+        where
+          from : RowsFrom st.context r.rows o.count next.rows → next.rows.stream ≡ r.rows.stream → (q : ReqNo) → awaits next.rows.job q ≡ true →
+              ((k : RangeState) × (range_of st.ranges range ≡ Some k) × WasOut k.rows next.rows) ⊎ IsNew st.context o.count q
+          from (inl (inl idle)) stream q waits = absurd (let z : false ≡ true = sym (ap (λ j. awaits j q) idle) ∙ waits in cc)
+          from (inl (inr same)) stream q waits = inl (r, found, record { job = same.0; group = same.1; stream = stream })
+          from (inr fresh) stream q waits = inr (fresh q waits)
+
+      step_good : (o : RangeOutcome) (actions : List StreamAction) → Done generation nodes target c y x range held.counted i st.context (view_at range y s) o actions → AllFromServers o.packets → LeavesRows st.context r.rows o →
           Good (Does range r.load.generation actions) (stepped st range o)
-      step_good o actions k senders =
+      step_good o actions k senders left =
           subst (λ g. Good (Does range g actions) (stepped st range o)) (sym h.follows.under)
-          (done_good range held.counted i alone h.append o actions k senders (stepped st range o).after refl
+          (done_good range held.counted i alone h.record_append h.append o actions k senders (rows_after o actions k left) (stepped st range o).after refl
           (record {
             ascending = ascending_left st.ranges range o.after run.ascending;
             here = λ u there. sym (left_here st.ranges range r o.after run.ascending found) ∙ there;
@@ -209,18 +256,20 @@ module _ (generation : ℕ → ℕ) (plenty : (g n : ℕ) → (i : ℕ) × (n �
       transact_held : (p : Packet) (changes : List Change) (q : ReqNo) → Good (transact_effect st p range changes q (Some r)) (transacts_in st p range changes q (Some r))
       transact_held p changes q =
           step_good (transact_rule st.context r p.from q changes) (transact_actions r (transact_rule st.context r p.from q changes))
-          (transact_done generation nodes target c y x range held.counted i st.context (by range held.counted) (view_at range y s) (seen_here range) r h p.from q changes) (transact_tidy st.context r p.from q changes).0
+          (transact_done generation nodes target c y x range held.counted i st.context (by range held.counted) (view_at range y s) (seen_here range) r h past p.from q changes) (transact_tidy st.context r p.from q changes).0
+          (transact_leaves st.context r p.from q changes)
 
       get_held : (p : Packet) (key : List ℕ) (q : ReqNo) → Good Rests (gets_in st p range key q (Some r))
       get_held p key q =
-          step_good (get_rule st.context r p.from q key) [] (get_done generation nodes target c y x range held.counted i st.context (by range held.counted) (view_at range y s) (seen_here range) r h p.from q key)
-          (get_tidy st.context r p.from q key).0
+          step_good (get_rule st.context r p.from q key) [] (get_done generation nodes target c y x range held.counted i st.context (by range held.counted) (view_at range y s) (seen_here range) r h past p.from q key)
+          (get_tidy st.context r p.from q key).0 (get_leaves st.context r p.from q key)
 
       answer_held : (p : Packet) → Contains w.post (packet p.from (Server s) p.body) → is_answerer p.from p.body ≡ true → (v : ReqNo) → answered_number p.body ≡ Some v →
           Good (answer_effect st p v range (Some r)) (answer_in st p v range (Some r))
       answer_held p there gives v number =
           step_good (answer_rule st.context r v p.body) (answer_actions st.context r v p.body (answer_rule st.context r v p.body))
-          (answer_done generation nodes target c y x range held.counted i st.context (by range held.counted) (view_at range y s) (seen_here range) r h p.from s p.body there gives v number) (answer_shows st.context r v p.body).0
+          (answer_done generation nodes target c y x range held.counted i st.context (by range held.counted) (view_at range y s) (seen_here range) r h past rows_asked p.from s p.body there gives v number) (answer_shows st.context r v p.body).0
+          (answer_leaves st.context r v p.body)
 
       give_up_held : (o : ServerOutcome) → gives_up st range (Some r) ≡ Some o → Good Rests o
       give_up_held o e =
@@ -229,7 +278,18 @@ module _ (generation : ℕ → ℕ) (plenty : (g n : ℕ) → (i : ℕ) × (n �
         where
           go : (b : Bool) → Good Rests (if b then stepped st range (give_up_all st.context r) else rests st)
           go true =
-              step_good (give_up_all st.context r) [] (give_up_done generation nodes target c y x range held.counted i st.context (by range held.counted) (view_at range y s) (seen_here range) r h) (give_up_tidy st.context r).0
+              step_good (give_up_all st.context r) [] (give_up_done generation nodes target c y x range held.counted i st.context (by range held.counted) (view_at range y s) (seen_here range) r h past) (give_up_tidy st.context r).0
+              (give_up_leaves st.context r unread)
+          go false = rests_good
+
+      -- a checkpoint begins
+      checkpoint_held : checkpoint_fault r ≡ None → Good Rests (checkpoints_in st range (Some r))
+      checkpoint_held may = go (has_numbers st.context)
+        where
+          go : (b : Bool) → Good Rests (if b then stepped st range (checkpoint_rule st.context r) else rests st)
+          go true =
+              step_good (checkpoint_rule st.context r) [] (checkpoint_done generation nodes target c y x range held.counted i st.context (by range held.counted) (view_at range y s) (seen_here range) r h past may)
+              (checkpoint_tidy st.context r).0 (checkpoint_leaves st.context r)
           go false = rests_good
 
     -- ---- what a server takes
@@ -316,6 +376,17 @@ module _ (generation : ℕ → ℕ) (plenty : (g n : ℕ) → (i : ℕ) × (n �
         go None found is_it = absurd cc
         go (Some r) found is_it = give_up_held range r found o is_it
 
+    checkpoint_good : (range : ℕ) → Good Rests (server_checkpoint st range)
+    checkpoint_good range = by_range (range_of st.ranges range) refl
+      where
+        by_fault : (r : RangeState) → range_of st.ranges range ≡ Some r → (fault : Option Refusal) → checkpoint_fault r ≡ fault → Good Rests (if is_some fault then rests st else checkpoints_in st range (Some r))
+        by_fault r found None may = checkpoint_held range r found may
+        by_fault r found (Some why) refused = rests_good
+
+        by_range : (known : Option RangeState) → range_of st.ranges range ≡ known → Good Rests (if is_some (checkpoint_refused known) then rests st else checkpoints_in st range known)
+        by_range None found = rests_good
+        by_range (Some r) found = by_fault r found (checkpoint_fault r) refl
+
   -- ---- events
 
   -- a server that is down stays so
@@ -329,7 +400,7 @@ module _ (generation : ℕ → ℕ) (plenty : (g n : ℕ) → (i : ℕ) × (n �
   module _ (c : Cluster) (y : ServerRun) (x : Standing generation nodes target c y) (s : ℕ) (p : Packet) (there : Contains c.stream_layer.post p) (to : p.to ≡ Server s) where
     -- a cluster after this, and the run where servers do this with streams
     abbrev Took : RangeEffect → ServersOutcome → ServersOutcome → Type 0
-    Took effect o seen = TablesWithin (with_outcome (with_effect s y effect) seen).shown (with_outcome (with_effect s y effect) seen).notes →
+    Took effect o seen = IsLaid (with_outcome (with_effect s y effect) seen) →
         Standing generation nodes target (servers_perform c o) (with_outcome (with_effect s y effect) seen)
 
     abbrev cell_after : ServerCell → Option ServerState → ServersOutcome
@@ -344,14 +415,14 @@ module _ (generation : ℕ → ℕ) (plenty : (g n : ℕ) → (i : ℕ) × (n �
     cell_takes_so None at = λ laid. nobody_stands generation nodes target c y x
     cell_takes_so (Some cell) at = state_takes cell at cell.state refl
 
-    pub takes_stands : TablesWithin (after_event y (Takes s p)).shown (after_event y (Takes s p)).notes → Standing generation nodes target (servers_perform c (server_takes c.servers s p)) (after_event y (Takes s p))
+    pub takes_stands : IsLaid (after_event y (Takes s p)) → Standing generation nodes target (servers_perform c (server_takes c.servers s p)) (after_event y (Takes s p))
     takes_stands =
         subst (λ l. Took (cell_effect p (entry_at l s)) (server_takes c.servers s p) (server_takes l s p)) x.cells (cell_takes_so (entry_at c.servers s) refl)
 
   -- a server is told to give up
   module _ (c : Cluster) (y : ServerRun) (x : Standing generation nodes target c y) (s range : ℕ) (pick : Nodes) where
     abbrev GaveUp : ServersOutcome → ServersOutcome → Type 0
-    GaveUp o seen = TablesWithin (with_outcome y seen).shown (with_outcome y seen).notes → Standing generation nodes target (servers_perform c o) (with_outcome y seen)
+    GaveUp o seen = IsLaid (with_outcome y seen) → Standing generation nodes target (servers_perform c o) (with_outcome y seen)
 
     abbrev rule_after : ServerCell → Option ServerOutcome → ServersOutcome
     rule_after cell o = record { servers = slice_set c.servers (s - 1) (cell_given_up cell o).cell; packets = (cell_given_up cell o).packets; notes = (cell_given_up cell o).notes }
@@ -389,6 +460,27 @@ module _ (generation : ℕ → ℕ) (plenty : (g n : ℕ) → (i : ℕ) × (n �
     cell_gives None at = λ laid. nobody_stands generation nodes target c y x
     cell_gives (Some cell) at = state_gives cell at cell.state refl
 
-    pub gives_up_stands : TablesWithin (after_event y (GivesUp s range pick)).shown (after_event y (GivesUp s range pick)).notes →
+    pub gives_up_stands : IsLaid (after_event y (GivesUp s range pick)) →
         Standing generation nodes target (servers_perform c (server_gives_up c.servers s range pick)) (after_event y (GivesUp s range pick))
     gives_up_stands = subst (λ l. GaveUp (server_gives_up c.servers s range pick) (server_gives_up l s range pick)) x.cells (cell_gives (entry_at c.servers s) refl)
+
+  -- a server is told to make a checkpoint
+  module _ (c : Cluster) (y : ServerRun) (x : Standing generation nodes target c y) (s range : ℕ) where
+    abbrev Made : ServersOutcome → ServersOutcome → Type 0
+    Made o seen = IsLaid (with_outcome y seen) → Standing generation nodes target (servers_perform c o) (with_outcome y seen)
+
+    abbrev made_after : ServerCell → Option ServerState → ServersOutcome
+    made_after cell o = record { servers = slice_set c.servers (s - 1) (cell_checkpoints cell range o).cell; packets = (cell_checkpoints cell range o).packets; notes = (cell_checkpoints cell range o).notes }
+
+    state_makes : (cell : ServerCell) → entry_at c.servers s ≡ Some cell → (o : Option ServerState) → cell.state ≡ o → Made (made_after cell o) (made_after cell o)
+    state_makes cell at None is = λ laid. stopped c y x s cell at
+    state_makes cell at (Some st) is = checkpoint_good c y x s cell st at is range
+
+    cell_makes : (o : Option ServerCell) → entry_at c.servers s ≡ o →
+        Made (at_server c.servers s (λ cell. cell_checkpoints cell range cell.state) o) (at_server c.servers s (λ cell. cell_checkpoints cell range cell.state) o)
+    cell_makes None at = λ laid. nobody_stands generation nodes target c y x
+    cell_makes (Some cell) at = state_makes cell at cell.state refl
+
+    pub checkpoints_stand : IsLaid (after_event y (Checkpoints s range)) →
+        Standing generation nodes target (servers_perform c (server_checkpoints c.servers s range)) (after_event y (Checkpoints s range))
+    checkpoints_stand = subst (λ l. Made (server_checkpoints c.servers s range) (server_checkpoints l s range)) x.cells (cell_makes (entry_at c.servers s) refl)

@@ -1,5 +1,5 @@
 -- A cluster stands on where a server does a rule of one of its ranges.
-use Rattle.std.proofs.Common.{◌≡◌, ◌⊎◌, ⊎_elim, ℕ, zero, suc, ◌+◌, ◌-◌, ◌≤◌, ◌<◌, Bool, true, false, List, [], ◌∷◌, ◌++◌, Option, Some, None, Contains, slice_set, refl, sym, ap, ◌∙◌, subst, inl, inr, arith, if◌then◌else◌, ◌==◌, ◌&&◌}
+use Rattle.std.proofs.Common.{◌≡◌, ◌⊎◌, ⊎_elim, ℕ, zero, suc, ◌+◌, ◌-◌, ◌≤◌, ◌<◌, Bool, true, false, List, [], ◌∷◌, ◌++◌, length, Option, Some, None, Contains, slice_set, refl, sym, ap, ◌∙◌, subst, inl, inr, arith, if◌then◌else◌, ◌==◌, ◌&&◌}
 use Rattle.std.proofs.lemmas.Bool.{cases_eq, cases_lt}
 use Rattle.std.proofs.lemmas.Bool.Decides.{nat_tests}
 use Rattle.std.proofs.lemmas.List.Elements.{Contains-append_cases}
@@ -14,6 +14,7 @@ use Rattle.wire.specs.declared.streams.StreamKind.{StreamKind}
 use Rattle.wire.specs.declared.streams.StreamKind.TheVariants as kinds
 use Rattle.wire.specs.declared.streams.StreamName.{StreamName}
 use Rattle.replica.specs.Groups.{Group}
+use Rattle.client.specs.Client.{awaits}
 use Rattle.model_streams.specs.Maps.{entry_at}
 use Rattle.model_streams.specs.Outcome.{packet}
 use Rattle.model_streams.specs.StreamSystem.{StreamSystem, Move}
@@ -21,7 +22,7 @@ use Rattle.model_partition.specs.declared.server_context.ServerContext.{ServerCo
 use Rattle.model_partition.specs.Cluster.{Cluster}
 use Rattle.model_partition.specs.Past.{Bytes, table_notes}
 use Rattle.model_partition.specs.Range.{RangeState, RangeOutcome}
-use Rattle.model_partition.specs.ServedTables.{AreSeenAs}
+use Rattle.model_partition.specs.ServedTables.{AreSeenAs, StreamsInOrder}
 use Rattle.model_partition.specs.Server.{ServerState, range_of}
 use Rattle.model_partition.specs.ServerRun.{ServerRun, after_actions, with_outcome, stream_named}
 use Rattle.model_partition.specs.Servers.{ServerCell, noted, with_told}
@@ -30,24 +31,29 @@ use Rattle.model_partition.specs.StreamActions.{StreamAction}
 use Rattle.model_partition.specs.TableContents.{AllTellRightly}
 use Rattle.laws_loads.specs.RangeView.{RangeView, view_after_all}
 use Rattle.laws_loads.proofs.Entries.{entry_set, entry_other}
-use Rattle.laws_stream_machine.specs.Refinement.{Purpose, Sent, purpose_of, IsAt, IsUnsealedAt}
+use Rattle.laws_stream_machine.specs.Refinement.{Purpose, Sent, purpose_of, asked_number, IsAt, IsUnsealedAt}
 use Rattle.laws_stream_machine.proofs.ServerRequests.{Unused}
 use Rattle.laws_ranges.specs.Seen.{BeganAt, SeesStories}
-use Rattle.laws_ranges.specs.Serves.{Side, metadata_of, log_of, sent_with, Adds, AreUnused, IsSentBy, IsKnown, AskedOfBoth, RuleGoes}
+use Rattle.laws_ranges.specs.Serves.{Side, metadata_of, log_of, rows_of, AsksOfRows, IsForRows, Follows, FollowsIf, sent_with, Adds, AreUnused, IsSentBy, IsKnown, AskedOfBoth, RuleGoes}
 use Rattle.laws_ranges.proofs.MachineSteps.{newest}
 use Rattle.laws_server_runs.specs.RunInvariant.{view_at}
 use Rattle.laws_server_runs.proofs.Actions.{same_test, other_test, actions_here, actions_apart, actions_bytes, actions_rest}
 use Rattle.laws_servers.specs.Sending.{MaySendAll}
-use Rattle.laws_server_runs.specs.Places.{AreAscending, TablesWithin}
-use Rattle.laws_clusters.proofs.Invariant.{SeesAll, IsOther, Machines, HasNumber, HasNone, AreDistinct, IsIdle, AreBeside, here, m_side, l_side, Holds, IsHeld, Runs, Standing}
-use Rattle.laws_clusters.proofs.ObservedBytes.{AreObserved, observed_on, before_tells, tables_behind, seen_all}
+use Rattle.laws_server_runs.specs.Places.{AreAscending, TablesWithin, bytes_of}
+use Rattle.laws_clusters.proofs.Invariant.{SeesAll, IsOther, HeldAt, Machines, HasNumber, HasNone, AllRowsOut, AreDistinct, IsIdle, AreBeside, here, m_side, l_side, Holds, IsHeld, Runs, Standing}
+use Rattle.laws_clusters.proofs.ObservedBytes.{AreObserved, observed_on, observed_both, before_tells, tables_behind, seen_all}
 use Rattle.laws_clusters.proofs.OneRange.{IsWord}
 use Rattle.laws_clusters.proofs.OtherRanges.{noted_keeps, onward_same, holds_on, held_on, own_if}
-use Rattle.laws_clusters.proofs.RangeActions.{actions_aside}
+use Rattle.laws_clusters.proofs.RangeActions.{actions_aside, actions_say}
+use Rattle.laws_clusters.proofs.Copies.{AllSay}
+use Rattle.laws_clusters.proofs.RowRules.{AsksIn, AllIn}
+use Rattle.laws_clusters.proofs.RowPurposes.{rows_aside, own_asks, rows_request}
+use Rattle.laws_clusters.proofs.RowSteps.{WasOut, IsNew, StepOfRows, all_rows_out}
+use Rattle.laws_clusters.proofs.StreamOrders.{in_order}
 use Rattle.laws_clusters.proofs.RangeRules.{Done}
 use Rattle.laws_clusters.proofs.RangeSteps.{m_after, l_after, machines_after, m_side_is, l_side_is, others_steady, goes_onward, goes_on}
 use Rattle.laws_clusters.proofs.StreamMachines.{Further, is_unused, all_told}
-use Rattle.laws_clusters.proofs.Elsewhere.{none_of, all_elsewhere}
+use Rattle.laws_clusters.proofs.Elsewhere.{none_of, IsRowsElse, AreRowsElse, all_elsewhere}
 use Rattle.laws_stream_machine.proofs.LowerLayer.{below_alone}
 use Rattle.laws_clusters.proofs.RequestNumbers.{PastAt, IsPast, AreNumbersPast, AllPast, past_on, past_step, not_past, unused_of, new_past, all_past_adds, added_some, added_none}
 
@@ -58,6 +64,10 @@ pub record IsNear (s range : ℕ) (y b : ServerRun) : Type 0 where
   pub shown : (j : ℕ) → b.shown j ≡ y.shown j
   pub answered : (j : ℕ) → b.answered j ≡ y.answered j
   pub notes : b.notes ≡ y.notes
+
+-- where the streams of a run are in order, the tables that its servers show lie within what was shown and answered
+abbrev pub IsLaid : ServerRun → Type 0
+IsLaid y = (texts : ℕ → Bytes) → ((range : ℕ) → StreamsInOrder texts range y) → TablesWithin texts (bytes_of y) y.notes
 
 -- of a server's ranges one is left so, and all others are as before
 pub record AreLeft (before after : List (ℕ × RangeState)) (range : ℕ) (o : Option RangeState) : Type 0 where
@@ -108,6 +118,18 @@ whose o s range i t j k e = go (t == s) (j == range) refl refl e
     go true false one two z = inr z
     go false b one two z = inr z
 
+-- What a range that a step leaves waits for with its row data it waited for before, or under a number that was not used; and each
+-- request about extents that is sent is that of a job.
+abbrev pub RowsAfter : ServerState → ℕ → RangeOutcome → List Packet → Type 0
+RowsAfter st range o ps =
+    (next : RangeState) → o.after ≡ Some next →
+    ((q : ReqNo) → awaits next.rows.job q ≡ true → ((r : RangeState) × (range_of st.ranges range ≡ Some r) × WasOut r.rows next.rows) ⊎ IsNew st.context o.count q) × AllIn next ps
+
+in_all : (r : RangeState) (ps : List Packet) → AllIn r ps → (p : Packet) → Contains ps p → AsksIn r p.body
+in_all r [] all p (at, less, is) = absurd (omega (arith, less))
+in_all r (x ∷ ps) all p (zero, less, is) = subst (λ (z : Packet). AsksIn r z.body) is all.0
+in_all r (x ∷ ps) all p (suc at, less, is) = in_all r ps all.1 p (at, omega (arith, less), is)
+
 module _ (generation : ℕ → ℕ) (nodes target : ℕ) where
   -- a number of both lists, or of one
   has_number : (z : Machines generation) (q : ReqNo) → (purpose_of z.m_sent q ≡ None → purpose_of z.l_sent q ≡ None → ⊥) → HasNumber generation z q
@@ -122,10 +144,15 @@ module _ (generation : ℕ → ℕ) (nodes target : ℕ) where
   has_none z q not = (none_of z.m_sent q (λ p e. not (p, inl e)), none_of z.l_sent q (λ p e. not (p, inr e)))
 
   -- what is asked of both streams of a range is under a number of theirs
-  known_of : (range i : ℕ) (w : StreamSystem) (n k : Side) (ps : List Packet) → AskedOfBoth generation range w i n k ps → (p : Packet) → Contains ps p → IsKnown generation range w i n.sent k.sent p.body
-  known_of range i w n k [] asked p (at, less, is) = absurd (omega (arith, less))
-  known_of range i w n k (x ∷ ps) asked p (zero, less, is) = subst (λ (z : Packet). IsKnown generation range w i n.sent k.sent z.body) is asked.0.2
-  known_of range i w n k (x ∷ ps) asked p (suc at, less, is) = known_of range i w n k ps asked.1 p (at, omega (arith, less), is)
+  known_of : (range i : ℕ) (w : StreamSystem) (after : Option RangeState) (n k : Side) (ps : List Packet) → AskedOfBoth generation range w i after n k ps → (p : Packet) → Contains ps p → IsKnown generation range w i after n.sent k.sent p.body
+  known_of range i w after n k [] asked p (at, less, is) = absurd (omega (arith, less))
+  known_of range i w after n k (x ∷ ps) asked p (zero, less, is) = subst (λ (z : Packet). IsKnown generation range w i after n.sent k.sent z.body) is asked.0.2
+  known_of range i w after n k (x ∷ ps) asked p (suc at, less, is) = known_of range i w after n k ps asked.1 p (at, omega (arith, less), is)
+
+  -- what is so of each of some packets makes a list
+  all_else : (range i : ℕ) (w : StreamSystem) (n k : Side) (sent : List Sent) (ps : List Packet) → ((p : Packet) → Contains ps p → IsRowsElse generation range w i n k sent p.body) → AreRowsElse generation range w i n k sent ps
+  all_else range i w n k sent [] each = tt
+  all_else range i w n k sent (p ∷ ps) each = (each p (0, omega arith, refl), all_else range i w n k sent ps (λ q there. each q (suc there.0, (let less : there.0 < length ps = there.1 in omega arith), there.2)))
 
   module _ (c : Cluster) (y : ServerRun) (x : Standing generation nodes target c y) (s : ℕ) (cell : ServerCell) (st : ServerState) (at : entry_at c.servers s ≡ Some cell) (is : cell.state ≡ Some st) where
     abbrev w : StreamSystem
@@ -134,7 +161,7 @@ module _ (generation : ℕ → ℕ) (nodes target : ℕ) where
     pub run_of : Runs generation nodes target x.moves x.machines (y.history s) (x.incarnation s) s cell st
     run_of = x.servers s cell st at is
 
-    not_used : (k : ℕ) → st.context.count ≤ k → IsPast c.servers (requests.Server st.context.server st.context.session k) → ⊥
+    pub not_used : (k : ℕ) → st.context.count ≤ k → IsPast c.servers (requests.Server st.context.server st.context.session k) → ⊥
     not_used = not_past c.servers s cell st at is run_of.server run_of.session
 
     unused : (k : ℕ) → st.context.count ≤ k → Unused w (requests.Server st.context.server st.context.session k)
@@ -156,9 +183,10 @@ module _ (generation : ℕ → ℕ) (nodes target : ℕ) where
       }
 
     module _ (range : ℕ) (counted : 1 ≤ range) (i : ℕ) (alone : (t j : ℕ) → x.incarnation t j ≡ Some i → (t ≡ s) × (j ≡ range)) (b : ServerRun) (near : IsNear s range y b)
+        (record_began : BeganAt ((b.history s range).append kinds.Metadata) ((after_all Group generation (x.machines range).m).phase i))
         (began : BeganAt ((b.history s range).append kinds.Log) ((after_all Group generation (x.machines range).l).phase i)) (o : RangeOutcome) (actions : List StreamAction)
         (k : Done generation nodes target c y x range counted i st.context (view_at range b s) o actions) (ps : List Packet) (may : MaySendAll ps)
-        (asked : AskedOfBoth generation range w i (m_after generation nodes target x.moves range (x.machines range) i st.context o k.rule.goes) (l_after generation nodes target x.moves range (x.machines range) i st.context o k.rule.goes) ps)
+        (rows : RowsAfter st range o ps) (asked : AskedOfBoth generation range w i o.after (m_after generation nodes target x.moves range (x.machines range) i st.context o k.rule.goes) (l_after generation nodes target x.moves range (x.machines range) i st.context o k.rule.goes) ps)
         (senders : (p : Packet) → Contains ps p → p.from ≡ Map → ⊥)
         (after : ServerState) (context_is : after.context ≡ record st.context { count = o.count }) (shape : AreLeft st.ranges after.ranges range o.after) where
       abbrev z : Machines generation
@@ -277,10 +305,105 @@ module _ (generation : ℕ → ℕ) (nodes target : ℕ) where
       all_past : (j : ℕ) (q : ReqNo) → HasNumber generation (next_machines j) q → IsPast next_servers q
       all_past = by_range (λ j u. (q : ReqNo) → HasNumber generation u q → IsPast next_servers q) new_past_all (λ j apart q has. still_past q (x.past j q has))
 
+      -- ---- row data
+
+      new_here : next_machines range ≡ new
+      new_here = ap (λ t. if t then new else x.machines range) (same_test range)
+
+      next_follows : (next : RangeState) → o.after ≡ Some next → Follows generation range w i m_then l_then next
+      next_follows next is = subst (λ a. FollowsIf generation range w i a m_then l_then) is goes.then
+
+      held_here : (r : RangeState) → range_of st.ranges range ≡ Some r → HeldAt c.servers s range r
+      held_here r found = record { cell = cell; state = st; there = at; up = is; found = found }
+
+      -- a request has a number of the range, or its row data waits for the answer
+      known_now : (p : Packet) → Contains ps p → (q : ReqNo) → asked_number p.body ≡ Some q → HasNumber generation new q ⊎ ((next : RangeState) × (o.after ≡ Some next) × (awaits next.rows.job q ≡ true) × AsksOfRows range next.rows p.body)
+      known_now p there q number = go (purpose_of new.m_sent q) (purpose_of new.l_sent q) refl refl
+        where
+          rows_now : (a : Option RangeState) → IsForRows range a q p.body → (next : RangeState) × (a ≡ Some next) × (awaits next.rows.job q ≡ true) × AsksOfRows range next.rows p.body
+          rows_now None never = absurd never
+          rows_now (Some next) for = (next, refl, for.0, for.1)
+
+          go : (u v : Option Purpose) → purpose_of new.m_sent q ≡ u → purpose_of new.l_sent q ≡ v →
+              HasNumber generation new q ⊎ ((next : RangeState) × (o.after ≡ Some next) × (awaits next.rows.job q ≡ true) × AsksOfRows range next.rows p.body)
+          go (Some u) v one two = inl (u, inl one)
+          go None (Some v) one two = inl (v, inr two)
+          go None None one two = inr (rows_now o.after (known_of range i w o.after m_then l_then ps asked p there q number one two))
+
+      -- what row data waits for has no purpose in a range's streams, before the step and after it
+      none_before : (next : RangeState) → o.after ≡ Some next → (q : ReqNo) → awaits next.rows.job q ≡ true → (j : ℕ) → HasNone generation (x.machines j) q
+      none_before next is_next q waits j = elim ((rows next is_next).0 q waits) [
+        | inl old ↦ (x.rows s range old.0 (held_here old.0 old.1) q (ap (λ z. awaits z q) (sym old.2.job) ∙ waits)).none j
+        | inr fresh ↦ has_none (x.machines j) q (λ has. not_used fresh.0 fresh.1 (subst (λ v. IsPast c.servers v) fresh.3 (x.past j q has)))
+      ]
+
+      past_after : (next : RangeState) → o.after ≡ Some next → (q : ReqNo) → awaits next.rows.job q ≡ true → IsPast next_servers q
+      past_after next is_next q waits = elim ((rows next is_next).0 q waits) [
+        | inl old ↦ still_past q (x.rows s range old.0 (held_here old.0 old.1) q (ap (λ z. awaits z q) (sym old.2.job) ∙ waits)).past
+        | inr fresh ↦ subst (λ v. IsPast next_servers v) (sym fresh.3) (new_number fresh.0 fresh.2)
+      ]
+
+      held_after : (t k : ℕ) (r : RangeState) → HeldAt next_servers t k r → ((t ≡ s) × (k ≡ range) × (o.after ≡ Some r)) ⊎ (HeldAt c.servers t k r × ((t ≡ s) → (k ≡ range) → ⊥))
+      held_after t k r h = elim (cases_eq t s) [
+        | inl same ↦
+            (let found_cell : Some next_cell ≡ Some h.cell = sym (entry_set c.servers s cell next_cell at) ∙ subst (λ n. entry_at next_servers n ≡ Some h.cell) same h.there in
+            let cell_is : next_cell ≡ h.cell = cc in
+            let state_is : Some after ≡ Some h.state = ap (λ (z : ServerCell). z.state) cell_is ∙ h.up in
+            let after_is : after ≡ h.state = cc in
+            let found : range_of after.ranges k ≡ Some r = ap (λ (z : ServerState). range_of z.ranges k) after_is ∙ h.found in
+            at_own same found (cases_eq k range))
+        | inr apart ↦ inr (record { cell = h.cell; state = h.state; there = sym (entry_other c.servers s cell next_cell at t apart) ∙ h.there; up = h.up; found = h.found }, λ same. absurd (apart same))
+      ]
+        where
+          at_own : t ≡ s → range_of after.ranges k ≡ Some r → ((k ≡ range) ⊎ (k ≡ range → ⊥)) → ((t ≡ s) × (k ≡ range) × (o.after ≡ Some r)) ⊎ (HeldAt c.servers t k r × ((t ≡ s) → (k ≡ range) → ⊥))
+          at_own same found (inl own) = inl (same, own, shape.here r (subst (λ n. range_of after.ranges n ≡ Some r) own found))
+          at_own same found (inr apart) =
+              inr (subst (λ n. HeldAt c.servers n k r) (sym same) (record { cell = cell; state = st; there = at; up = is; found = sym (shape.others k apart) ∙ found }), λ q own. absurd (apart own))
+
+      rows_step : StepOfRows generation c.servers next_servers x.machines next_machines c.stream_layer.post ps s range st.context o.count (range_of st.ranges range) o.after x.rows
+      rows_step = record {
+        still_past = still_past;
+        not_used = not_used;
+        new_number = new_number;
+        numbers = x.numbers;
+        past = x.past;
+        none = λ j q none past. by_range (λ n u. HasNone generation (x.machines n) q → HasNone generation u q) (still_none q past) (λ n apart old. old) j none;
+        unused = λ j q apart fresh. by_range (λ n u. (n ≡ range → ⊥) → HasNone generation u q) (λ other. absurd (other refl)) (λ n other more. has_none (x.machines n) q (λ has. fresh (x.past n q has))) j apart;
+        held_before = held_here;
+        held = held_after;
+        from = λ next is_next. (rows next is_next).0;
+        aside = λ next is_next q waits.
+            subst (λ u. HasNone generation u q) (sym new_here) (rows_aside range w goes.metadata_sent goes.log_sent next.rows.job (next_follows next is_next).rows.job q waits);
+        asked = λ next is_next q waits p there number. own_asks generation range w i m_then l_then next (next_follows next is_next) q waits p.body (in_all next ps (rows next is_next).1 p there) number;
+        known = λ p there q number. elim (known_now p there q number) [
+          | inl has ↦ inl (subst (λ u. HasNumber generation u q) (sym new_here) has)
+          | inr own ↦ inr (own.0, own.1, own.2)
+        ];
+      }
+
+      all_rows : AllRowsOut generation next_servers next_machines (c.stream_layer.post ++ ps)
+      all_rows = all_rows_out generation c.servers next_servers x.machines next_machines c.stream_layer.post ps s range st.context o.count (range_of st.ranges range) o.after x.rows rows_step
+
+      -- a request about row data, as a stream of another range sees it
+      rows_else : (j : ℕ) (sent : List Sent) → ((q : ReqNo) → HasNone generation (x.machines j) q → purpose_of sent q ≡ None) → AreRowsElse generation range w i m_then l_then sent ps
+      rows_else j sent side = all_else range i w m_then l_then sent ps
+          (λ p there q number one two. elim (known_now p there q number) [
+            | inl has ↦ absurd (purposes q has one two)
+            | inr own ↦ (
+              rows_request range w m_then.sent l_then.sent own.0.rows (next_follows own.0 own.1).rows p.body own.3
+                  (own_asks generation range w i m_then l_then own.0 (next_follows own.0 own.1) q own.2 p.body (in_all own.0 ps (rows own.0 own.1).1 p there) number),
+              side q (none_before own.0 own.1 q own.2 j),
+            )
+          ])
+        where
+          purposes : (q : ReqNo) → HasNumber generation new q → purpose_of m_then.sent q ≡ None → purpose_of l_then.sent q ≡ None → ⊥
+          purposes q (p, inl has) one two = let z : None ≡ Some p = sym one ∙ has in cc
+          purposes q (p, inr has) one two = let z : None ≡ Some p = sym two ∙ has in cc
+
       all_numbers : AreNumbersPast next_servers (c.stream_layer.post ++ ps)
       all_numbers server to body there q number = elim (Contains-append_cases c.stream_layer.post ps (packet (Server server) to body) there) [
         | inl old ↦ still_past q (x.numbers server to body old q number)
-        | inr now ↦ new_past_all q (has_number new q (known_of range i w m_then l_then ps asked (packet (Server server) to body) now q number))
+        | inr now ↦ elim (known_now (packet (Server server) to body) now q number) [ inl has ↦ new_past_all q has | inr own ↦ past_after own.0 own.1 q own.2 ]
       ]
 
       -- ---- the streams
@@ -290,18 +413,19 @@ module _ (generation : ℕ → ℕ) (nodes target : ℕ) where
       aside_below j apart old = record {
         m_are = old.m_are;
         l_are = old.l_are;
-        unformed = old.unformed;
         apart = old.apart;
         metadata = λ some.
             told.below (metadata_of j) (after_all Group generation (x.machines j).m) (x.machines j).m_sent
             (all_elsewhere generation range w i m_then l_then (metadata_of j) apart (after_all Group generation (x.machines j).m) (x.machines j).m_sent
             (metadata_alone (metadata_of range) (apart_name (metadata_of j) (metadata_of range) apart)) (metadata_alone (log_of range) (apart_name (metadata_of j) (log_of range) apart))
-            (λ q known. (none_elsewhere j apart q (has_number new q known)).0) nodes target ps asked) (old.metadata some);
+            (metadata_alone (rows_of range) (apart_name (metadata_of j) (rows_of range) apart))
+            (λ q known. (none_elsewhere j apart q (has_number new q known)).0) nodes target o.after ps asked (rows_else j (x.machines j).m_sent (λ q none. none.0))) (old.metadata some);
         log = λ some.
             told.below (log_of j) (after_all Group generation (x.machines j).l) (x.machines j).l_sent
             (all_elsewhere generation range w i m_then l_then (log_of j) apart (after_all Group generation (x.machines j).l) (x.machines j).l_sent
             (log_alone (metadata_of range) (apart_name (log_of j) (metadata_of range) apart)) (log_alone (log_of range) (apart_name (log_of j) (log_of range) apart))
-            (λ q known. (none_elsewhere j apart q (has_number new q known)).1) nodes target ps asked) (old.log some);
+            (log_alone (rows_of range) (apart_name (log_of j) (rows_of range) apart))
+            (λ q known. (none_elsewhere j apart q (has_number new q known)).1) nodes target o.after ps asked (rows_else j (x.machines j).l_sent (λ q none. none.1))) (old.log some);
       }
         where
           apart_name : (name other : StreamName) → (name.range ≡ other.range → ⊥) → other ≡ name → ⊥
@@ -316,7 +440,7 @@ module _ (generation : ℕ → ℕ) (nodes target : ℕ) where
       all_beside : (j : ℕ) → AreBeside generation nodes target later j (next_machines j)
       all_beside =
           by_range (λ j u. AreBeside generation nodes target later j u)
-          (goes_on generation nodes target x.moves range z i st.context o goes (x.beside range) unused k.rule.unformed ps (with_told w ps o.notes) asked told) (λ j apart. aside_below j apart (x.beside j))
+          (goes_on generation nodes target x.moves range z i st.context o goes (x.beside range) unused ps (with_told w ps o.notes) asked told) (λ j apart. aside_below j apart (x.beside j))
 
       -- ---- packets of the map
 
@@ -369,26 +493,32 @@ module _ (generation : ℕ → ℕ) (nodes target : ℕ) where
           (record {
             metadata = near.story (stream_named range kinds.Metadata) ∙ x.stories.metadata_is range;
             log = near.story (stream_named range kinds.Log) ∙ x.stories.log_is range;
+            record_append = record_began;
             append = began;
           })
 
+      other_here : (j : ℕ) → (j ≡ range → ⊥) → next_machines j ≡ x.machines j
+      other_here j apart = ap (λ t. if t then new else x.machines j) (other_test j range apart)
+
       -- a range of another number is held as it was
-      aside_held : (t j : ℕ) (r : RangeState) → (j ≡ range → ⊥) → IsHeld generation nodes target x.moves j (x.machines j) (y.history t j) (x.incarnation t j) r →
+      aside_held : (t j : ℕ) (r : RangeState) → (j ≡ range → ⊥) → ((q : ReqNo) → awaits r.rows.job q ≡ true → HasNone generation (next_machines j) q) → IsHeld generation nodes target x.moves j (x.machines j) (y.history t j) (x.incarnation t j) r →
           IsHeld generation nodes target later j (x.machines j) (next_run.history t j) (inc t j) r
-      aside_held t j r apart =
+      aside_held t j r apart none =
           let test : ((t == s) && (j == range)) ≡ false = other_range t s j range apart in
           held_on generation nodes target j x.moves later (x.machines j) (x.machines j) (y.history t j) (next_run.history t j) (apart_is t j test) (x.incarnation t j) (inc t j) (one_other x.incarnation s range i t j test) r
-          (λ n mine h. holds_on generation nodes target j x.moves later (x.machines j) (x.machines j) (onward_same generation nodes target j x.moves later (x.machines j) same_catalog all_notes) n (refl, refl) (y.history t j) r h)
+          (λ n mine h. holds_on generation nodes target j x.moves later (x.machines j) (x.machines j) (onward_same generation nodes target j x.moves later (x.machines j) same_catalog all_notes) n (refl, refl) (y.history t j) r
+          (λ q waits. subst (λ u. HasNone generation u q) (other_here j apart) (none q waits)) h)
 
       -- and so is the range at another server
-      other_held : (t : ℕ) (r : RangeState) → (t ≡ s → ⊥) → IsHeld generation nodes target x.moves range z (y.history t range) (x.incarnation t range) r →
+      other_held : (t : ℕ) (r : RangeState) → (t ≡ s → ⊥) → ((q : ReqNo) → awaits r.rows.job q ≡ true → HasNone generation (next_machines range) q) → IsHeld generation nodes target x.moves range z (y.history t range) (x.incarnation t range) r →
           IsHeld generation nodes target later range new (next_run.history t range) (inc t range) r
-      other_held t r apart =
+      other_held t r apart none =
           let test : ((t == s) && (range == range)) ≡ false = other_server t s range range apart in
           held_on generation nodes target range x.moves later z new (y.history t range) (next_run.history t range) (apart_is t range test) (x.incarnation t range) (inc t range) (one_other x.incarnation s range i t range test) r
           (λ n mine h.
           holds_on generation nodes target range x.moves later z new (goes_onward generation nodes target x.moves range z i st.context o goes later same_catalog all_notes) n
-          (others_steady generation nodes target x.moves range z i st.context o goes n (λ same. apart (alone t range (mine ∙ ap Some same)).0)) (y.history t range) r h)
+          (others_steady generation nodes target x.moves range z i st.context o goes n (λ same. apart (alone t range (mine ∙ ap Some same)).0)) (y.history t range) r
+          (λ q waits. subst (λ u. HasNone generation u q) new_here (none q waits)) h)
 
       own_held : (r : RangeState) → range_of after.ranges range ≡ Some r → IsHeld generation nodes target later range new (next_run.history s range) (inc s range) r
       own_held r found = record {
@@ -396,7 +526,7 @@ module _ (generation : ℕ → ℕ) (nodes target : ℕ) where
         incarnation = i;
         is = one_here x.incarnation s range i;
         holds = subst (λ (u : RangeView). Holds generation nodes target later range new u.history i r) (sym here_is)
-            (own_if generation nodes target x.moves range z i st.context o goes later same_catalog all_notes v.history sees.append k.read r (shape.here r found));
+            (own_if generation nodes target x.moves range z i st.context o goes later same_catalog all_notes v.history sees.record_append sees.append k.read r (shape.here r found));
       }
 
       own_runs : Runs generation nodes target later next_machines (next_run.history s) (inc s) s next_cell after
@@ -406,7 +536,9 @@ module _ (generation : ℕ → ℕ) (nodes target : ℕ) where
         ascending = shape.ascending;
         held = λ j r.
             by_range (λ n u. range_of after.ranges n ≡ Some r → IsHeld generation nodes target later n u (next_run.history s n) (inc s n) r) (own_held r)
-            (λ n apart found. aside_held s n r apart (run_of.held n r (sym (shape.others n apart) ∙ found))) j;
+            (λ n apart found.
+            aside_held s n r apart (λ q waits. (all_rows s n r (record { cell = next_cell; state = after; there = entry_set c.servers s cell next_cell at; up = refl; found = found }) q waits).none n)
+            (run_of.held n r (sym (shape.others n apart) ∙ found))) j;
       }
 
       others_run : (t : ℕ) (other_cell : ServerCell) (u : ServerState) → (t ≡ s → ⊥) → entry_at next_servers t ≡ Some other_cell → other_cell.state ≡ Some u →
@@ -418,9 +550,12 @@ module _ (generation : ℕ → ℕ) (nodes target : ℕ) where
             session = old.session;
             ascending = old.ascending;
             held = λ j r.
-                by_range (λ n m. range_of u.ranges n ≡ Some r → IsHeld generation nodes target later n m (next_run.history t n) (inc t n) r) (λ found. other_held t r other (old.held range r found))
-                (λ n apart found. aside_held t n r apart (old.held n r found)) j;
+                by_range (λ n m. range_of u.ranges n ≡ Some r → IsHeld generation nodes target later n m (next_run.history t n) (inc t n) r) (λ found. other_held t r other (none_at range r found) (old.held range r found))
+                (λ n apart found. aside_held t n r apart (none_at n r found) (old.held n r found)) j;
           }
+        where
+          none_at : (j : ℕ) (r : RangeState) → range_of u.ranges j ≡ Some r → (q : ReqNo) → awaits r.rows.job q ≡ true → HasNone generation (next_machines j) q
+          none_at j r found q waits = (all_rows t j r (record { cell = other_cell; state = u; there = there; up = up; found = found }) q waits).none j
 
       all_run : (t : ℕ) (other_cell : ServerCell) (u : ServerState) → entry_at next_servers t ≡ Some other_cell → other_cell.state ≡ Some u →
           Runs generation nodes target later next_machines (next_run.history t) (inc t) t other_cell u
@@ -457,6 +592,16 @@ module _ (generation : ℕ → ℕ) (nodes target : ℕ) where
         others = λ name other. story_aside name (other range) ∙ x.stories.others name other;
       }
 
+      -- what is formed of a metadata says checkpoints
+      all_says : (j : ℕ) → AllSay (next_run.story (stream_named j kinds.Metadata))
+      all_says j = elim (cases_eq j range) [
+        | inl same ↦
+            subst (λ n. AllSay (next_run.story (stream_named n kinds.Metadata))) (sym same)
+            (subst (λ (u : RangeView). AllSay (u.story kinds.Metadata)) (sym here_is)
+            (actions_say (generation i) (view_at range b s) actions k.on_either (subst (λ story. AllSay story) (sym (near.story (stream_named range kinds.Metadata))) (x.says range))))
+        | inr apart ↦ subst (λ story. AllSay story) (sym (story_aside (stream_named j kinds.Metadata) (of_other j kinds.Metadata apart))) (x.says j)
+      ]
+
       -- what was shown was observed before the rule
       observed_before : (j : ℕ) → AreObserved c.stream_layer.notes (next_run.shown j)
       observed_before j = elim (cases_eq j range) [
@@ -477,16 +622,21 @@ module _ (generation : ℕ → ℕ) (nodes target : ℕ) where
       notes_are : next_run.notes ≡ y.notes ++ o.notes
       notes_are = ap (λ ns. ns ++ o.notes) ((actions_rest s range (generation i) b actions).1 ∙ near.notes)
 
-      tables_told : TablesWithin next_run.shown next_run.notes → (texts : ℕ → Bytes) → AllTellRightly texts (noted c.stream_layer.notes o.notes) →
+      -- over any texts that have what was observed before the rule
+      ordered : (texts : ℕ → Bytes) → AllTellRightly texts c.stream_layer.notes → (j : ℕ) → StreamsInOrder texts j next_run
+      ordered texts all j = in_order generation next_run next_machines (λ n. (all_beside n).m_are) (λ n. (all_beside n).l_are) all_seen texts c.stream_layer.notes all j (observed_before j) (acked_before j)
+
+      tables_told : IsLaid next_run → (texts : ℕ → Bytes) → AllTellRightly texts (noted c.stream_layer.notes o.notes) →
           AreSeenAs texts next_run.notes (table_notes (noted c.stream_layer.notes o.notes))
       tables_told laid texts all =
+          let before : AllTellRightly texts c.stream_layer.notes = before_tells texts c.stream_layer.notes o.notes all in
           subst (λ ns. AreSeenAs texts ns (table_notes (noted c.stream_layer.notes o.notes))) (sym notes_are)
-          (seen_all texts y.notes o.notes c.stream_layer.notes next_run.shown all observed_before
-          (tables_behind next_run.shown y.notes o.notes (subst (λ ns. TablesWithin next_run.shown ns) notes_are laid)) k.bare
-          (x.told texts (before_tells texts c.stream_layer.notes o.notes all)))
+          (seen_all texts y.notes o.notes c.stream_layer.notes (bytes_of next_run) all
+          (λ j. observed_both c.stream_layer.notes (next_run.shown j) (next_run.answered j) (observed_before j) (acked_before j))
+          (tables_behind texts (bytes_of next_run) y.notes o.notes (subst (λ ns. TablesWithin texts (bytes_of next_run) ns) notes_are (laid texts (ordered texts before)))) (x.told texts before))
 
       -- the cluster after the rule
-      pub stepped : TablesWithin next_run.shown next_run.notes → Standing generation nodes target next_cluster next_run
+      pub stepped : IsLaid next_run → Standing generation nodes target next_cluster next_run
       stepped laid = record {
         moves = later;
         leads = told.leads ∙ ap (λ u. with_told u ps o.notes) x.leads;
@@ -495,6 +645,7 @@ module _ (generation : ℕ → ℕ) (nodes target : ℕ) where
         distinct = all_distinct;
         past = all_past;
         numbers = all_numbers;
+        rows = all_rows;
         from_map = map_tells;
         first_range = x.first_range;
         incarnation = inc;
@@ -505,6 +656,7 @@ module _ (generation : ℕ → ℕ) (nodes target : ℕ) where
         cells = refl;
         servers = all_run;
         stories = all_seen;
+        says = all_says;
         observed = λ j. observed_on c.stream_layer.notes (noted c.stream_layer.notes o.notes) (noted_keeps c.stream_layer.notes o.notes) (next_run.shown j) (observed_before j);
         acked = λ j. observed_on c.stream_layer.notes (noted c.stream_layer.notes o.notes) (noted_keeps c.stream_layer.notes o.notes) (next_run.answered j) (acked_before j);
         told = tables_told laid;

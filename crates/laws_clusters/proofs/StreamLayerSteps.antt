@@ -1,5 +1,5 @@
 -- A cluster stands on through each event of the stream layer.
-use Rattle.std.proofs.Common.{◌≡◌, ℕ, zero, suc, ◌≤◌, List, [], ◌∷◌, ◌++◌, length, map, Contains, slice_get, refl, sym, ap, ◌∙◌, subst, arith}
+use Rattle.std.proofs.Common.{◌≡◌, ℕ, zero, suc, ◌≤◌, List, [], ◌∷◌, ◌++◌, length, map, Some, Contains, slice_get, refl, sym, ap, ◌∙◌, subst, arith}
 use Rattle.std.proofs.lemmas.List.{length-append}
 use Rattle.std.proofs.lemmas.Option.{slice_get_within}
 use Rattle.wire.specs.declared.note.Note.{Note}
@@ -23,11 +23,13 @@ use Rattle.laws_stream_machine.specs.Refinement.{Sent, extents_in}
 use Rattle.laws_stream_machine.proofs.SentPackets.{Ahead}
 use Rattle.laws_stream_machine.proofs.MachineCore.{get_same}
 use Rattle.laws_stream_machine.proofs.LowerLayer.{Happened, below_happens}
-use Rattle.laws_ranges.specs.Serves.{metadata_of, log_of, Wider}
-use Rattle.laws_clusters.proofs.Copies.{layer_same, unformed_below}
+use Rattle.laws_ranges.specs.Serves.{metadata_of, log_of, rows_of, Wider}
+use Rattle.model_streams.specs.Maps.{entry_at}
+use Rattle.laws_clusters.proofs.RowAnswers.{still_at}
+use Rattle.laws_clusters.proofs.LayerSteps.{layer_same}
 use Rattle.laws_clusters.proofs.StreamEvents.{happens_tables, happens_servers, happens_map}
 use Rattle.laws_clusters.proofs.ObservedBytes.{observed_on, tells_fewer}
-use Rattle.laws_clusters.proofs.Invariant.{Machines, HasNumber, HasNone, AreBeside, here, IsHeld, Runs, Standing}
+use Rattle.laws_clusters.proofs.Invariant.{Machines, HasNumber, HasNone, RowsOut, AllRowsOut, AreBeside, here, IsHeld, Runs, Standing}
 use Rattle.laws_clusters.proofs.OtherRanges.{holds_on, held_on}
 use Rattle.laws_clusters.proofs.RangeSteps.{IsSteady, IsOnward}
 
@@ -95,7 +97,6 @@ module _ (generation : ℕ → ℕ) (nodes target : ℕ) where
         record {
           m_are = old.m_are;
           l_are = old.l_are;
-          unformed = old.unformed;
           apart = old.apart;
           metadata = λ counted. absurd (omega (arith, counted));
           log = λ counted. absurd (omega (arith, counted));
@@ -103,7 +104,6 @@ module _ (generation : ℕ → ℕ) (nodes target : ℕ) where
     all_beside (suc n) = record {
       m_are = (hm n).are;
       l_are = (hl n).are;
-      unformed = unformed_below generation (hm n).steps (m_at n) (x.beside (suc n)).unformed;
       apart = (x.beside (suc n)).apart;
       metadata = λ counted. (hm n).below;
       log = λ counted. (hl n).below;
@@ -138,25 +138,38 @@ module _ (generation : ℕ → ℕ) (nodes target : ℕ) where
     all_onward (suc n) counted = record {
       metadata = wider_ahead (metadata_of (suc n)) w v (after_all Group generation (m_at n)).state (after_all Group generation (next_machines (suc n)).m).state (x.machines (suc n)).m_sent (hm n).ahead;
       log = wider_ahead (log_of (suc n)) w v (after_all Group generation (l_at n)).state (after_all Group generation (next_machines (suc n)).l).state (x.machines (suc n)).l_sent (hl n).ahead;
+      rows = still_at nodes target x.moves (Happens event ∷ []) (rows_of (suc n));
       notes = all_notes;
     }
 
-    all_run : (s : ℕ) (cell : ServerCell) (st : ServerState) → Runs generation nodes target x.moves x.machines (y.history s) (x.incarnation s) s cell st →
+    all_run : (s : ℕ) (cell : ServerCell) (st : ServerState) → entry_at c.servers s ≡ Some cell → cell.state ≡ Some st → Runs generation nodes target x.moves x.machines (y.history s) (x.incarnation s) s cell st →
         Runs generation nodes target later next_machines (y.history s) (x.incarnation s) s cell st
-    all_run s cell st old = record {
+    all_run s cell st at up old = record {
       server = old.server;
       session = old.session;
       ascending = old.ascending;
       held = λ range r found.
           (let b : IsHeld generation nodes target x.moves range (x.machines range) (y.history s range) (x.incarnation s range) r = old.held range r found in
           held_on generation nodes target range x.moves later (x.machines range) (next_machines range) (y.history s range) (y.history s range) refl (x.incarnation s range) (x.incarnation s range) refl r
-          (λ j mine h. holds_on generation nodes target range x.moves later (x.machines range) (next_machines range) (all_onward range b.counted) j (all_steady range j) (y.history s range) r h) b);
+          (λ j mine h. holds_on generation nodes target range x.moves later (x.machines range) (next_machines range) (all_onward range b.counted) j (all_steady range j) (y.history s range) r
+          (λ q waits. same_none range q ((x.rows s range r (record { cell = cell; state = st; there = at; up = up; found = found }) q waits).none range)) h) b);
     }
 
     kept_notes : (note : Note) → Contains c.stream_layer.notes note → Contains (happens c.stream_layer event).notes note
     kept_notes note there = (moved_gains c.stream_layer (Happens event)).notes note there
 
     -- an event of the stream layer
+    -- servers send nothing, so row data waits for what it waited for
+    all_rows : AllRowsOut generation c.servers next_machines (happens c.stream_layer event).post
+    all_rows s range r held q waits =
+        let old : RowsOut generation c.servers x.machines c.stream_layer.post s range r q = x.rows s range r held q waits in
+        record {
+          past = old.past;
+          none = λ j. same_none j q (old.none j);
+          asked = λ server to body at number. old.asked server to body (happens_servers c.stream_layer event server to body at) number;
+          alone = old.alone;
+        }
+
     pub happens_stands : Standing generation nodes target (record c { stream_layer = happens c.stream_layer event }) y
     happens_stands = record {
       moves = later;
@@ -166,6 +179,7 @@ module _ (generation : ℕ → ℕ) (nodes target : ℕ) where
       distinct = λ one other apart q has. same_none other q (x.distinct one other apart q (same_number one q has));
       past = λ range q has. x.past range q (same_number range q has);
       numbers = λ server to body there. x.numbers server to body (happens_servers c.stream_layer event server to body there);
+      rows = all_rows;
       from_map = λ to body there. x.from_map to body (happens_map c.stream_layer event to body there);
       first_range = x.first_range;
       incarnation = x.incarnation;
@@ -177,12 +191,13 @@ module _ (generation : ℕ → ℕ) (nodes target : ℕ) where
           let steady = all_steady range j in
           (steady.0 ∙ old.0, steady.1 ∙ old.1));
       cells = x.cells;
-      servers = λ s cell st at up. all_run s cell st (x.servers s cell st at up);
+      servers = λ s cell st at up. all_run s cell st at up (x.servers s cell st at up);
       stories = record {
         metadata_is = λ range. x.stories.metadata_is range ∙ sym (m_story range);
         log_is = λ range. x.stories.log_is range ∙ sym (l_story range);
         others = x.stories.others;
       };
+      says = x.says;
       observed = λ range. observed_on c.stream_layer.notes (happens c.stream_layer event).notes kept_notes (y.shown range) (x.observed range);
       acked = λ range. observed_on c.stream_layer.notes (happens c.stream_layer event).notes kept_notes (y.answered range) (x.acked range);
       told = λ texts all.

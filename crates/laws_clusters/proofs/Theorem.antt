@@ -22,27 +22,28 @@ use Rattle.model_partition.specs.Cluster.{Cluster, delivered_to, delivers, stops
 use Rattle.model_partition.specs.Past.{Bytes, Replays, first_range}
 use Rattle.model_partition.specs.Range.{RangeState}
 use Rattle.model_partition.specs.Server.{ServerState, range_of, started}
-use Rattle.model_partition.specs.ServedTables.{IsAtLine, IsOfFirst, AreFirst, LoadsOnce, ServesAt}
-use Rattle.model_partition.specs.ServerRun.{ServerRun, ServerEvent, Takes, GivesUp, Moment as MomentSo, stream_named, first_run, run_of, metadata_name, log_name}
+use Rattle.model_partition.specs.ServedTables.{IsAtLine, IsOfFirst, AreFirst, LoadsOnce, StreamsInOrder, ServesAt}
+use Rattle.model_partition.specs.ServerTurns.{AreMoves}
+use Rattle.model_partition.specs.ServerRun.{ServerRun, ServerEvent, Takes, GivesUp, Checkpoints, Stops as StopsSo, Starts as StartsSo, Moment as MomentSo, stream_named, first_run, run_of, log_name}
 use Rattle.model_partition.specs.Story.{Copy, KeepsOrder, Story, EndsRise}
 use Rattle.model_partition.specs.TableContents.{AllTellRightly}
 use Rattle.laws_stream_machine.proofs.LowerLayer.{below_start}
 use Rattle.laws_ranges.specs.Serves.{Apart, metadata_of, log_of}
 use Rattle.laws_streams.proofs.Choices.{contains_get}
-use Rattle.laws_server_runs.proofs.LaidRuns.{loaded_within}
-use Rattle.laws_server_runs.proofs.Theorem.{run_replays, run_at_line}
-use Rattle.laws_tables.proofs.Turns.{clients_keep_order, clients_ends_rise}
+use Rattle.laws_server_runs.proofs.LoadedWithin.{loaded_within}
+use Rattle.laws_server_runs.proofs.Theorem.{run_replays, served_at_line}
 use Rattle.laws_clusters.specs.Orders.{ComesOfStreams}
 use Rattle.laws_clusters.specs.ServerEvents.{packet_events, delivery_events, stop_events, start_events, server_events, server_events_after, servers_of_run}
 use Rattle.laws_clusters.proofs.Generations.{generation_at, plenty}
-use Rattle.laws_clusters.proofs.Invariant.{Machines, HasNumber, AreBeside, Runs, Standing}
-use Rattle.laws_clusters.proofs.LoadedOnce.{loads_once}
+use Rattle.laws_clusters.proofs.Invariant.{HeldAt, Machines, HasNumber, AreBeside, IsHeld, Runs, Standing}
 use Rattle.laws_clusters.proofs.MapSteps.{map_takes_stand, assigns_stand, renews_stand, map_stops_stand, map_starts_stand}
 use Rattle.laws_clusters.proofs.ObservedBytes.{observed_stand}
 use Rattle.laws_clusters.proofs.OneRange.{IsWord}
 use Rattle.laws_clusters.proofs.OtherEvents.{stops_stand, starts_stand, moment_stands}
 use Rattle.laws_server_runs.specs.Places.{AreAscending}
-use Rattle.laws_clusters.proofs.ServerPackets.{takes_stands, gives_up_stands}
+use Rattle.laws_clusters.proofs.ServerPackets.{takes_stands, gives_up_stands, checkpoints_stand}
+use Rattle.laws_clusters.proofs.ServerRules.{IsLaid}
+use Rattle.laws_clusters.proofs.StreamOrders.{m_order, l_order, m_once, l_once, m_ends, l_ends, in_order}
 use Rattle.laws_clusters.proofs.ShownBytes.{texts, all_right}
 use Rattle.laws_clusters.proofs.StreamLayerSteps.{happens_stands}
 
@@ -103,7 +104,6 @@ module _ (nodes target batch count : ℕ) where
   empty_beside range = record {
     m_are = tt;
     l_are = tt;
-    unformed = tt;
     apart = none_apart;
     metadata = λ counted. below_start generation_at (metadata_of range) nodes target;
     log = λ counted. below_start generation_at (log_of range) nodes target;
@@ -119,6 +119,7 @@ module _ (nodes target batch count : ℕ) where
       distinct = λ one other apart q has. (refl, refl);
       past = λ range q has. absurd (empty_number q has);
       numbers = λ server to body there. absurd (let l = there.1 in omega (arith, l));
+      rows = λ s range r held q waits. absurd (none_held s range r held);
       from_map = λ to body there. absurd (let l = there.1 in omega (arith, l));
       first_range = (refl, tt);
       incarnation = λ s range. None;
@@ -129,6 +130,7 @@ module _ (nodes target batch count : ℕ) where
       cells = refl;
       servers = first_runs;
       stories = record { metadata_is = λ range. refl; log_is = λ range. refl; others = λ name other. refl };
+      says = λ range n g group at. absurd cc;
       observed = λ range. tt;
       acked = λ range. tt;
       told = λ texts all. tt;
@@ -151,7 +153,13 @@ module _ (nodes target batch count : ℕ) where
             held = λ range r found. absurd (let e : None ≡ Some r = ap (λ (z : ServerState). range_of z.ranges range) same ∙ found in cc);
           }
 
+      none_held : (s range : ℕ) (r : RangeState) → HeldAt (first_servers batch 1 count) s range r → ⊥
+      none_held s range r held = let h = (first_runs s held.cell held.state held.there held.up).held range r held.found in let z : None ≡ Some h.incarnation = h.is in cc
+
   -- ---- events
+
+  run_laid : (coming : List ServerEvent) → IsLaid (run coming)
+  run_laid coming texts order = loaded_within texts batch count coming order
 
   module _ (c : Cluster) (coming : List ServerEvent) (x : StandsWith c coming) where
     abbrev y : ServerRun
@@ -181,7 +189,7 @@ module _ (nodes target batch count : ℕ) where
     takes_all : (s : ℕ) (p : Packet) → Contains c.stream_layer.post p → p.to ≡ Server s → StandsWith (delivered_to c p (Server s)) (Takes s p ∷ coming)
     takes_all s p there to =
         let first : AreFirst (Takes s p ∷ coming) = (is_first p there, x.first) in
-        record { stands = takes_stands generation_at plenty nodes target c y x.stands s p there to (loaded_within batch count (Takes s p ∷ coming)); first = first }
+        record { stands = takes_stands generation_at plenty nodes target c y x.stands s p there to (run_laid (Takes s p ∷ coming)); first = first }
 
     delivers_all : (number : ℕ) (o : Option Packet) → slice_get c.stream_layer.post number ≡ o → StandsWith (delivers c o) (delivery_events o ++ coming)
     delivers_all number None at = x
@@ -222,7 +230,12 @@ module _ (nodes target batch count : ℕ) where
     gives_up_all : (s range : ℕ) (pick : Nodes) → StandsWith (cluster_after c (GiveUp s range pick)) (GivesUp s range pick ∷ coming)
     gives_up_all s range pick =
         let first : AreFirst (GivesUp s range pick ∷ coming) = (tt, x.first) in
-        record { stands = gives_up_stands generation_at plenty nodes target c y x.stands s range pick (loaded_within batch count (GivesUp s range pick ∷ coming)); first = first }
+        record { stands = gives_up_stands generation_at plenty nodes target c y x.stands s range pick (run_laid (GivesUp s range pick ∷ coming)); first = first }
+
+    checkpoints_all : (s range : ℕ) (combine : Bool) → StandsWith (cluster_after c (Checkpoint s range combine)) (Checkpoints s range ∷ coming)
+    checkpoints_all s range combine =
+        let first : AreFirst (Checkpoints s range ∷ coming) = (tt, x.first) in
+        record { stands = checkpoints_stand generation_at plenty nodes target c y x.stands s range (run_laid (Checkpoints s range ∷ coming)); first = first }
 
     -- whatever comes
     comes_stands : (event : Event) → StandsWith (cluster_after c event) (server_events c event ++ coming)
@@ -235,34 +248,23 @@ module _ (nodes target batch count : ℕ) where
     comes_stands (Assign range server until) = aside _ (assigns_stand generation_at nodes target y c range server until x.stands)
     comes_stands (Renew range server until) = aside _ (renews_stand generation_at nodes target y c range server until x.stands)
     comes_stands (Moment now) = moment_all now
-    comes_stands (Checkpoint server range combine) = aside _ (happens_stands generation_at nodes target c y x.stands (Checkpoint server range combine))
+    comes_stands (Checkpoint server range combine) = checkpoints_all server range combine
     comes_stands (Split server range key) = aside _ (happens_stands generation_at nodes target c y x.stands (Split server range key))
     comes_stands (Merge server left right) = aside _ (happens_stands generation_at nodes target c y x.stands (Merge server left right))
 
   led_stands : (events : List Event) (c : Cluster) (coming : List ServerEvent) → StandsWith c coming → StandsWith (cluster_after_all c events) (server_events_after c coming events)
   led_stands [] c coming x = x
-  led_stands (event ∷ events) c coming x = led_stands events (cluster_after c event) (server_events c event ++ coming) (comes_stands c coming x event)
+  led_stands (event ∷ events) c coming x =
+      led_stands events (cluster_after c event) (server_events c event ++ coming) (comes_stands c coming x event)
 
   -- ---- what servers see
 
   module _ (c : Cluster) (y : ServerRun) (x : Stands c y) where
-    m_order : (range : ℕ) → KeepsOrder (y.story (stream_named range kinds.Metadata))
-    m_order range = subst (λ z. KeepsOrder z) (sym (x.stories.metadata_is range)) (clients_keep_order Group generation_at (x.machines range).m (x.beside range).m_are)
+    m_are : (range : ℕ) → AreMoves Group generation_at (x.machines range).m
+    m_are range = (x.beside range).m_are
 
-    l_order : (range : ℕ) → KeepsOrder (y.story (stream_named range kinds.Log))
-    l_order range = subst (λ z. KeepsOrder z) (sym (x.stories.log_is range)) (clients_keep_order Group generation_at (x.machines range).l (x.beside range).l_are)
-
-    m_once : (range : ℕ) → LoadsOnce (y.story (stream_named range kinds.Metadata))
-    m_once range = subst (λ z. LoadsOnce z) (sym (x.stories.metadata_is range)) (loads_once generation_at (x.machines range).m (x.beside range).m_are)
-
-    l_once : (range : ℕ) → LoadsOnce (y.story (stream_named range kinds.Log))
-    l_once range = subst (λ z. LoadsOnce z) (sym (x.stories.log_is range)) (loads_once generation_at (x.machines range).l (x.beside range).l_are)
-
-    m_ends : (range : ℕ) → EndsRise (y.story (stream_named range kinds.Metadata))
-    m_ends range = subst (λ z. EndsRise z) (sym (x.stories.metadata_is range)) (clients_ends_rise Group generation_at (x.machines range).m (x.beside range).m_are)
-
-    l_ends : (range : ℕ) → EndsRise (y.story (stream_named range kinds.Log))
-    l_ends range = subst (λ z. EndsRise z) (sym (x.stories.log_is range)) (clients_ends_rise Group generation_at (x.machines range).l (x.beside range).l_are)
+    l_are : (range : ℕ) → AreMoves Group generation_at (x.machines range).l
+    l_are range = (x.beside range).l_are
 
     -- what is so of the metadata and the log of each range, and of a stream in which nothing has happened, is so of each
     each : (P : Story Group → Type 0) → ((range : ℕ) → P (y.story (stream_named range kinds.Metadata))) → ((range : ℕ) → P (y.story (stream_named range kinds.Log))) → P [] → (name : StreamName) → P (y.story name)
@@ -282,9 +284,9 @@ module _ (nodes target batch count : ℕ) where
     stands_ordered : ComesOfStreams c y
     stands_ordered = record {
       servers = x.cells;
-      ordered = each (λ z. KeepsOrder z) m_order l_order empty_order;
-      once = each (λ z. LoadsOnce z) m_once l_once (λ l m g start end start' end' groups groups' e. absurd cc);
-      ends = each (λ z. EndsRise z) m_ends l_ends (λ l m g h start end start' end' groups groups' e. absurd cc);
+      ordered = each (λ z. KeepsOrder z) (m_order generation_at y x.machines m_are l_are x.stories) (l_order generation_at y x.machines m_are l_are x.stories) empty_order;
+      once = each (λ z. LoadsOnce z) (m_once generation_at y x.machines m_are l_are x.stories) (l_once generation_at y x.machines m_are l_are x.stories) (λ l m g start end start' end' groups groups' e. absurd cc);
+      ends = each (λ z. EndsRise z) (m_ends generation_at y x.machines m_are l_are x.stories) (l_ends generation_at y x.machines m_are l_are x.stories) (λ l m g h start end start' end' groups groups' e. absurd cc);
       contents = (
         texts nodes target x.moves,
         subst (λ (w : StreamSystem). AllTellRightly (texts nodes target x.moves) w.notes) x.leads (all_right nodes target x.moves),
@@ -294,46 +296,33 @@ module _ (nodes target batch count : ℕ) where
       told = x.told;
     }
 
+    -- over any texts that have all that was observed
+    all_in_order : (texts : ℕ → Bytes) → AllTellRightly texts c.stream_layer.notes → (range : ℕ) → StreamsInOrder texts range y
+    all_in_order texts all range = in_order generation_at y x.machines m_are l_are x.stories texts c.stream_layer.notes all range (x.observed range) (x.acked range)
+
   -- what a cluster shows replays
   stands_replays : (c : Cluster) (coming : List ServerEvent) → StandsWith c coming → Replays c.stream_layer.notes
   stands_replays c coming x =
       let o : ComesOfStreams c (run coming) = stands_ordered c (run coming) x.stands in
       let bytes : ℕ → Bytes = (o.contents).0 in
       let right : AllTellRightly bytes c.stream_layer.notes = (o.contents).1 in
-      run_replays bytes batch count coming c.stream_layer.notes x.first
-      (record {
-        metadata = o.ordered (metadata_name first_range);
-        log = o.ordered (log_name first_range);
-        once = o.once (log_name first_range);
-        ends = o.ends (log_name first_range);
-        shown = o.shown bytes right first_range;
-      })
-      (o.told bytes right)
+      run_replays bytes batch count coming c.stream_layer.notes x.first (all_in_order c (run coming) x.stands bytes right first_range) (o.told bytes right)
 
   -- each range that is served is at its line, over any texts that have all that was observed
   stands_at_line : (c : Cluster) (coming : List ServerEvent) → StandsWith c coming → (texts : ℕ → Bytes) → AllTellRightly texts c.stream_layer.notes → (s range : ℕ) (r : RangeState) →
-      ServesAt (run coming) s range r → IsAtLine texts ((run coming).story (log_name range)) r
-  stands_at_line c coming x texts all s range r at =
-      let o : ComesOfStreams c (run coming) = stands_ordered c (run coming) x.stands in
-      run_at_line texts batch count coming s range r
-      (record {
-        metadata = o.ordered (metadata_name range);
-        log = o.ordered (log_name range);
-        once = o.once (log_name range);
-        ends = o.ends (log_name range);
-        shown = o.shown texts all range;
-      })
-      (o.answered texts all range) at
+      ServesAt (run coming) s range r → (order : KeepsOrder ((run coming).story (log_name range))) → IsAtLine texts ((run coming).story (log_name range)) order.copies r
+  stands_at_line c coming x texts all s range r at order =
+      served_at_line texts batch count coming s range r (all_in_order c (run coming) x.stands texts all range) at order
 
 abbrev pub after_run : (nodes servers target batch : ℕ) → List Event → Cluster
 after_run nodes servers target batch events = cluster_after_all (first_cluster nodes servers target batch) events
 
-run_stands : (nodes servers target batch : ℕ) (events : List Event) →
-    StandsWith nodes target batch servers (after_run nodes servers target batch events) (server_events_after (first_cluster nodes servers target batch) [] events)
+run_stands : (nodes servers target batch : ℕ) (events : List Event) → StandsWith nodes target batch servers (after_run nodes servers target batch events) (server_events_after (first_cluster nodes servers target batch) [] events)
 run_stands nodes servers target batch events = led_stands nodes target batch servers events (first_cluster nodes servers target batch) [] (first_stands nodes target batch servers)
 
 -- whatever happens, the servers of a run see streams that keep their order
-pub led_ordered : (nodes servers target batch : ℕ) (events : List Event) → ComesOfStreams (after_run nodes servers target batch events) (servers_of_run nodes servers target batch events)
+pub led_ordered : (nodes servers target batch : ℕ) (events : List Event) →
+    ComesOfStreams (after_run nodes servers target batch events) (servers_of_run nodes servers target batch events)
 led_ordered nodes servers target batch events =
     stands_ordered nodes target batch servers (after_run nodes servers target batch events) (servers_of_run nodes servers target batch events) (run_stands nodes servers target batch events).stands
 
@@ -343,8 +332,9 @@ led_replays nodes servers target batch events =
     stands_replays nodes target batch servers (after_run nodes servers target batch events) (server_events_after (first_cluster nodes servers target batch) [] events) (run_stands nodes servers target batch events)
 
 -- and each range that is served is at its line
-pub led_at_line : (nodes servers target batch : ℕ) (events : List Event) (texts : ℕ → Bytes) (s range : ℕ) (r : RangeState) → AllTellRightly texts (after_run nodes servers target batch events).stream_layer.notes →
-    ServesAt (servers_of_run nodes servers target batch events) s range r → IsAtLine texts ((servers_of_run nodes servers target batch events).story (log_name range)) r
-led_at_line nodes servers target batch events texts s range r all at =
+pub led_at_line : (nodes servers target batch : ℕ) (events : List Event) → (texts : ℕ → Bytes) (s range : ℕ) (r : RangeState) →
+    AllTellRightly texts (after_run nodes servers target batch events).stream_layer.notes → ServesAt (servers_of_run nodes servers target batch events) s range r →
+    (order : KeepsOrder ((servers_of_run nodes servers target batch events).story (log_name range))) → IsAtLine texts ((servers_of_run nodes servers target batch events).story (log_name range)) order.copies r
+led_at_line nodes servers target batch events texts s range r all at order =
     stands_at_line nodes target batch servers (after_run nodes servers target batch events) (server_events_after (first_cluster nodes servers target batch) [] events) (run_stands nodes servers target batch events)
-    texts all s range r at
+    texts all s range r at order

@@ -1,4 +1,3 @@
-pub mod Unformed
 pub mod Orders
 pub mod Senders
 pub mod ServerEvents

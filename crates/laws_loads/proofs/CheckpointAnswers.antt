@@ -1,6 +1,6 @@
 -- What answers to a checkpoint leave of a range: its load, its stage, its live layer and what waits at it are as they were, and
 -- nothing is shown.
-use Rattle.std.proofs.Common.{ℕ, List, [], Option, Some, None, option_to_list, refl}
+use Rattle.std.proofs.Common.{ℕ, ◌^◌, nat_lt, List, [], Option, Some, None, option_to_list, refl}
 use Rattle.wire.specs.declared.body.AppendBody.{AppendBody}
 use Rattle.wire.specs.declared.body.AppendBody.TheVariants as appends
 use Rattle.wire.specs.declared.body.Body.{Body}
@@ -52,7 +52,8 @@ module _ (d : ServerContext) (r : RangeState) where
 
   rows_told_same : (s : RangeState) → IsAsBefore r s → (job : Option CheckpointState) (told : Option News) (packets : List Packet) → LeavesAsBefore r (rows_told d s job told packets)
   rows_told_same s b job (Some news.Fenced) packets = gone s
-  rows_told_same s b (Some job) (Some (news.Appended e offset)) packets = rows_stand_same s b job job.phase e offset
+  rows_told_same s b (Some job) (Some (news.Appended e offset)) packets =
+      if_elim (LeavesAsBefore r) (nat_lt e (2 ^ 64)) _ _ (λ t. rows_stand_same s b job job.phase e offset) (λ f. calm s b _ _)
   rows_told_same s b job told packets = calm s b _ _
 
   -- an answer to row data's client

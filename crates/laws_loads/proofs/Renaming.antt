@@ -213,3 +213,8 @@ module _ {A B : Type 0} (f : A → B) where
                 ),
           );
     }
+
+    -- its copies are those that there were, by other names
+    pub renamed_copies : renamed_keeps.copies ≡ (λ l. map (renamed_copy f) (k.copies l))
+    unfolding renamed_keeps
+    renamed_copies = refl

@@ -153,7 +153,7 @@ module _ (texts : ℕ → Bytes) where
 
   -- ---- rows
 
-  row_step : (b : Bool) (key q value : Bytes) (rows : List Row) (es : Entries) (cell : Cell) → is_eq (key_cmp q key) ≡ b →
+  pub row_step : (b : Bool) (key q value : Bytes) (rows : List Row) (es : Entries) (cell : Cell) → is_eq (key_cmp q key) ≡ b →
       value_in texts cell ≡ Some value → stored rows q ≡ table_in texts es q →
       cond (bytes_eq q key) (Some value) (stored rows q) ≡ value_of texts (cond (is_eq (key_cmp q key)) (Some cell) (found es q))
   row_step true key q value rows es cell is says more =
@@ -163,7 +163,7 @@ module _ (texts : ℕ → Bytes) where
       let test : bytes_eq q key ≡ false = sym (is_eq-slice_cmp q key) ∙ is in
       rw (test, is) more
 
-  none_step : (b : Bool) (key q : Bytes) (rows : List Row) (es : Entries) → is_eq (key_cmp q key) ≡ b → Later key es →
+  pub none_step : (b : Bool) (key q : Bytes) (rows : List Row) (es : Entries) → is_eq (key_cmp q key) ≡ b → Later key es →
       stored rows q ≡ table_in texts es q → stored rows q ≡ value_of texts (cond b (Some Deleted) (found es q))
   none_step true key q rows es is later more =
       let same : q ≡ key = same_key q key is in

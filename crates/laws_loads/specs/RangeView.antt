@@ -6,10 +6,10 @@ use Rattle.block_types.specs.Limits.{group_size}
 use Rattle.replica.specs.Groups.{joined}
 use Rattle.model_partition.specs.Story.{StreamEvent, Made, Answered, Showed, Story}
 use Rattle.model_partition.specs.Loading.{Group}
-use Rattle.model_partition.specs.StreamActions.{StreamAction, Reads, Forms, Stands, Shows}
-use Rattle.model_partition.specs.ServerRun.{PlacedBytes, RangeHistory, is_kind, one_more_read, begun_at, place_number, placed_reads, placed_behind, bytes_read}
+use Rattle.model_partition.specs.StreamActions.{PlacedBytes, StreamAction, Reads, Forms, Stands, Shows, Finds, Stores}
+use Rattle.model_partition.specs.ServerRun.{RangeHistory, is_kind, one_more_read, begun_at, place_number, placed_reads, placed_behind, bytes_read}
 
--- the history of the range at the server, the stories of the range's streams, and the bytes that were shown of logs and those that
+-- the history of the range at the server, the stories of the range's streams, and the bytes that loads were shown and those that
 -- appends were answered for
 pub record RangeView : Type 0 where
   pub history : RangeHistory
@@ -38,6 +38,8 @@ module _ (generation : ℕ) where
             (Showed generation (place_number start) (place_number log_end) (placed_behind (place_number start) (placed_reads (v.history.reads kinds.Log))));
         shown = bytes_read (v.history.reads kinds.Log) ++ v.shown;
       }
+  view_after v (Finds found) = record v { shown = found ∷ v.shown }
+  view_after v (Stores stored) = record v { answered = stored ∷ v.answered }
 
   -- after some actions, of which the last was done first
   abbrev pub view_after_all : RangeView → List StreamAction → RangeView

@@ -1,5 +1,5 @@
 -- What any answer leaves of what a range has read.
-use Rattle.std.proofs.Common.{◌≡◌, ℕ, List, [], Bool, true, false, Option, Some, None, option_to_list, is_some, nat_lt, refl, sym, ap, ◌∙◌, subst, if◌then◌else◌}
+use Rattle.std.proofs.Common.{◌≡◌, ◌⊎◌, ⊎_elim, inl, inr, not, ℕ, List, [], Bool, true, false, Option, Some, None, option_to_list, is_some, nat_lt, refl, sym, ap, ◌∙◌, subst, if◌then◌else◌}
 use Rattle.wire.specs.declared.actor.ReqNo.{ReqNo}
 use Rattle.wire.specs.declared.body.AppendBody.{AppendBody}
 use Rattle.wire.specs.declared.body.AppendBody.TheVariants as appends
@@ -24,22 +24,23 @@ use Rattle.model_partition.specs.declared.stage.Stage.{Stage}
 use Rattle.model_partition.specs.declared.stage.Stage.TheVariants as stages
 use Rattle.model_partition.specs.Range.{RangeState, RangeOutcome, request, answers, dropped, picking, is_serving}
 use Rattle.model_partition.specs.ServerRun.{RangeHistory}
-use Rattle.model_partition.specs.StreamActions.{StreamAction, serving_actions, loading_actions, confirmed_actions, load_actions, metadata_actions, log_actions, rows_actions, answered_actions, answer_actions}
+use Rattle.model_partition.specs.StreamActions.{StreamAction, serving_actions, loading_actions, confirmed_actions, load_actions, metadata_actions, log_actions, rows_actions, index_told_actions, index_actions, answered_actions, answer_actions}
 use Rattle.checkpoint_format.specs.Index.{index_at}
 use Rattle.model_partition.specs.PlaceReads.{place_of, reads_under}
-use Rattle.model_partition.specs.Loading.{open_region, opens, are_counted, serves_region, serves_from, serves, log_news, index_read}
+use Rattle.model_partition.specs.Loading.{open_region, opens, has_position, serves_region, serves_from, serves, log_news, index_named, index_read}
 use Rattle.model_partition.specs.Checkpoints.{rows_reply, trim_awaits}
 use Rattle.model_partition.specs.Answering.{answered_number, stream_number, groups_of, load_refused, load_told, load_reply, metadata_reply, serving_news, is_taken, log_taken, log_reply, index_reply, trim_reply, bytes_reply, gets_reply, answer_rule}
 use Rattle.laws_loads.specs.RangeView.{RangeView, view_after_all}
 use Rattle.laws_stream_machine.specs.Refinement.{Opens, purpose_of, Means, StreamMeans}
 use Rattle.laws_stream_machine.proofs.ServerRequests.{same_request}
-use Rattle.laws_ranges.specs.Serves.{Side, metadata_of, log_of, IsOpening, StageIs, Follows, BothListed}
-use Rattle.laws_log_reads.specs.Reads.{HasReadAt, HasRead, HasReadIf, IsEmpty, Shows, RuleReads}
+use Rattle.laws_ranges.specs.Serves.{Side, metadata_of, log_of, HasNoCheckpoint, IsOpening, StageIs, Follows, BothListed}
+use Rattle.laws_log_reads.specs.Reads.{HasReadAt, HasRead, HasReadIf, Shows, RuleReads}
 use Rattle.laws_loads.proofs.IndexAnswers.{index_reply_elim}
 use Rattle.laws_log_reads.proofs.LoadBegins.{Left, opens_left, installs_left}
 use Rattle.laws_log_reads.proofs.MetadataAnswers.{metadata_reply_left}
 use Rattle.laws_log_reads.proofs.LogAnswers.{log_by_stage}
-use Rattle.laws_log_reads.proofs.OtherRules.{bytes_keep, serving_left}
+use Rattle.laws_log_reads.proofs.OtherRules.{bytes_keep, serving_left, is_served}
+use Rattle.laws_log_reads.proofs.CheckpointRules.{rows_reply_left, trim_reply_left}
 
 module _ (generation : ℕ → ℕ) (range : ℕ) (w : StreamSystem) (i : ℕ) (both : BothListed w range) (m l : Side) (d : ServerContext) where
   -- a range that is served from now on, or is dropped
@@ -56,7 +57,7 @@ module _ (generation : ℕ → ℕ) (range : ℕ) (w : StreamSystem) (i : ℕ) (
         go false = tt
 
     serves_left : Goes (serves d r)
-    serves_left = go (are_counted r.log)
+    serves_left = go (has_position r.log)
       where
         go : (t : Bool) → Goes (if t then serves_from d r (open_region r.regions) else dropped d r)
         go true = from_left (open_region r.regions)
@@ -85,8 +86,7 @@ module _ (generation : ℕ → ℕ) (range : ℕ) (w : StreamSystem) (i : ℕ) (
             subst (λ z. StreamMeans generation (metadata_of range) w m.stand.state m.sent z (streams.Opened u lists)) (ap (λ k. purpose_of m.sent k) (sym number) ∙ b.metadata.for) means.0 in
             let two : StreamMeans generation (log_of range) w l.stand.state l.sent (Some (Opens i)) (streams.Opened u lists) =
             subst (λ z. StreamMeans generation (log_of range) w l.stand.state l.sent z (streams.Opened u lists)) (ap (λ k. purpose_of l.sent k) (sym number) ∙ b.log.for) means.1 in
-            opens_left generation range w i m l d v.history r a.fixed a.indexes a.streams.metadata a.streams.log lists
-            one.1 two.1
+            opens_left generation range w i m l d v.history r a.metadata a.log lists one.1 two.1
 
         not_opening : (p : LoadPhase) → r.load.phase ≡ p → (p ≡ phases.Opening q → ⊥) → ⊥
         not_opening p e no_opening = no_opening (sym e ∙ phase)
@@ -164,11 +164,22 @@ module _ (generation : ℕ → ℕ) (range : ℕ) (w : StreamSystem) (i : ℕ) (
 
       index_read_left : (stage : Stage) → ReadAt r stage → (bytes : List ℕ) → Leaves (index_read d r stage bytes) []
       index_read_left (stages.Indexing position) a bytes =
-          installs_left generation range w i m l d v.history r a position (index_at bytes)
+          installs_left generation range w i m l d v.history r a position (index_named r.said.indexes position) (index_at bytes)
       index_read_left stage a bytes = h
 
-      index_reply_left : (body : Body) → Leaves (index_reply d r body) []
-      index_reply_left body = index_reply_elim (λ o. Leaves o []) d r h tt (index_read_left r.stage h.at) body
+      -- an index adds to what is shown, and not to what was read of a stream
+      told_history : (body : ReadBody) → v.history ≡ (view_after_all (generation i) v (index_told_actions body)).history
+      told_history (reads.Bytes k e offset bytes) = refl
+      told_history body = refl
+
+      index_history : (body : Body) → v.history ≡ (view_after_all (generation i) v (index_actions body)).history
+      index_history (bodies.Read body) = told_history body
+      index_history body = refl
+
+      index_reply_left : (body : Body) → Leaves (index_reply d r body) (index_actions body)
+      index_reply_left body =
+          subst (λ z. HasReadIf range w i m.stand.state l.stand.state z (index_reply d r body).after) (index_history body)
+          (index_reply_elim (λ o. Leaves o []) d r h tt (index_read_left r.stage h.at) body)
 
       -- ---- any answer
 
@@ -181,7 +192,7 @@ module _ (generation : ℕ → ℕ) (range : ℕ) (w : StreamSystem) (i : ℕ) (
       gets_reply_left u (bodies.Append body) = refused_left body
       gets_reply_left u body = h
 
-      module _ (empty : IsEmpty i m.stand.state) (u : ReqNo) (body : Body) (number : answered_number body ≡ Some u) (means : Meant body) (shows : Shows (log_of range) w l.sent body) where
+      module _ (u : ReqNo) (body : Body) (number : answered_number body ≡ Some u) (means : Meant body) (shows : Shows (log_of range) w l.sent body) where
         -- where the actions are those of any outcome
         by_job : (whole : RangeOutcome) → Leaves (answer_rule d r u body) (answered_actions d r u body whole)
         by_job whole = first (load_awaits r.load.phase u) refl
@@ -189,8 +200,11 @@ module _ (generation : ℕ → ℕ) (range : ℕ) (w : StreamSystem) (i : ℕ) (
             log_part : List StreamAction
             log_part = if is_taken r body then log_actions d r body whole else []
 
+            index_part : List StreamAction
+            index_part = if reads_under r.reading u then index_actions body else []
+
             rows_part : List StreamAction
-            rows_part = if awaits r.rows.job u then rows_actions d r body else []
+            rows_part = if awaits r.rows.job u then rows_actions d r body else index_part
 
             index_or_later : RangeOutcome
             index_or_later = if reads_under r.reading u then index_reply d r body else if trim_awaits r.control u then trim_reply d r body else gets_reply d r u body
@@ -201,16 +215,25 @@ module _ (generation : ℕ → ℕ) (range : ℕ) (w : StreamSystem) (i : ℕ) (
             log_or_later : RangeOutcome
             log_or_later = if awaits r.log.job u then log_reply d r body else rows_or_later
 
+            -- what a checkpoint waits for, a range that is served waits for
+            serves_or_calm : (t : Bool) → is_serving r.stage ≡ t → (r.stage ≡ stages.Serving) ⊎ HasNoCheckpoint r
+            serves_or_calm true e = inl (is_served r (ap not e))
+            serves_or_calm false e = inr (f.calm e)
+
             sixth : (t : Bool) → trim_awaits r.control u ≡ t → Leaves (if t then trim_reply d r body else gets_reply d r u body) []
-            sixth true e = absurd (let z : false ≡ true = subst (λ c. trim_awaits c u ≡ true) f.calm.1 e in cc)
+            sixth true e = ⊎_elim {C = Leaves (trim_reply d r body) []}
+                (λ serves. trim_reply_left range w i m.stand.state l.stand.state v.history d r serves body)
+                (λ calm. absurd (let z : false ≡ true = subst (λ c. trim_awaits c u ≡ true) calm.1 e in cc)) (serves_or_calm (is_serving r.stage) refl)
             sixth false e = gets_reply_left u body
 
-            fifth : (t : Bool) → Leaves (if t then index_reply d r body else if trim_awaits r.control u then trim_reply d r body else gets_reply d r u body) []
+            fifth : (t : Bool) → Leaves (if t then index_reply d r body else if trim_awaits r.control u then trim_reply d r body else gets_reply d r u body) (if t then index_actions body else [])
             fifth true = index_reply_left body
             fifth false = sixth (trim_awaits r.control u) refl
 
-            fourth : (t : Bool) → awaits r.rows.job u ≡ t → Leaves (if t then rows_reply d r body else index_or_later) (if t then rows_actions d r body else [])
-            fourth true e = absurd (let z : false ≡ true = subst (λ j. awaits j u ≡ true) f.calm.0 e in cc)
+            fourth : (t : Bool) → awaits r.rows.job u ≡ t → Leaves (if t then rows_reply d r body else index_or_later) (if t then rows_actions d r body else index_part)
+            fourth true e = ⊎_elim {C = Leaves (rows_reply d r body) (rows_actions d r body)}
+                (λ serves. rows_reply_left range w i m.stand.state l.stand.state (view_after_all (generation i) v (rows_actions d r body)).history d r serves body)
+                (λ calm. absurd (let z : false ≡ true = subst (λ j. awaits j u ≡ true) calm.0 e in cc)) (serves_or_calm (is_serving r.stage) refl)
             fourth false e = fifth (reads_under r.reading u)
 
             third : (t : Bool) → Leaves (if t then log_reply d r body else rows_or_later) (if t then log_part else rows_part)
@@ -218,7 +241,7 @@ module _ (generation : ℕ → ℕ) (range : ℕ) (w : StreamSystem) (i : ℕ) (
             third false = fourth (awaits r.rows.job u) refl
 
             second : (t : Bool) → Leaves (if t then metadata_reply d r body else log_or_later) (if t then metadata_actions d r body else (if awaits r.log.job u then log_part else rows_part))
-            second true = metadata_reply_left generation range w i both m l d v r h body empty f means.0
+            second true = metadata_reply_left generation range w i both m l d v r h body f means.0
             second false = third (awaits r.log.job u)
 
             first : (t : Bool) → load_awaits r.load.phase u ≡ t →

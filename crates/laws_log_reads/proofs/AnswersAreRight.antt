@@ -22,32 +22,28 @@ use Rattle.laws_log_reads.specs.Reads.{groups_in, ReadsAt}
 module _ (generation : ℕ → ℕ) (name : StreamName) (w : StreamSystem) (i : ℕ) (listed : Listed w name) (sent : List Sent) (x : Stand) where
   -- the groups of the extent at a position
   pub data Rightly (c : ClientState) (position : ℕ) (known : StreamExtent) (groups : List Group) : Type 0 where
-    IsShut : (l : ℕ) (is : known.length ≡ Some l) (y : machine.SealedExtent Group) (shut : machine.shut_at position x.state.core.shut ≡ Some y) (same : groups ≡ groups_in y.copies) →
+    IsShut : (l : ℕ) (is : known.length ≡ Some l) (y : machine.SealedExtent Group) (shut : machine.shut_at (c.base + position) x.state.core.shut ≡ Some y) (same : groups ≡ groups_in y.copies) →
         Rightly c position known groups
     IsStood : (found : ℕ) (is : known.length ≡ None) (checked : c.checked ≡ Some found) (stood : List (Copy Group))
-        (fact : machine.In (machine.Checked i position stood (machine.base position + found)) x.state.facts) (same : groups ≡ groups_in stood) → Rightly c position known groups
+        (fact : machine.In (machine.Checked i (c.base + position) stood (machine.base (c.base + position) + found)) x.state.facts) (same : groups ≡ groups_in stood) → Rightly c position known groups
 
-  module _ (c : ClientState) (told : Tells generation name w x.state sent (record { base = c.base; extents = c.extents })) (from_start : c.base ≡ 0) (e upto : ℕ) (r : ReqNo) (position : ℕ) (groups : List Group) where
-    place : c.base + position ≡ position
-    place = omega (arith, from_start)
-
-    pub index_is : (sealed : Bool) (b : ReadingIs generation name w i x sent c e upto sealed r) → ReadsAt c e upto sealed position → b.index ≡ position
-    index_is sealed b at = listed.once b.index position e b.at (subst (λ k. IsAt w name k e) place (subst (λ z. IsAt w name (c.base + position) z) at.extent (told.are position at.known at.at)))
+  module _ (c : ClientState) (told : Tells generation name w x.state sent (record { base = c.base; extents = c.extents })) (e upto : ℕ) (r : ReqNo) (position : ℕ) (groups : List Group) where
+    pub index_is : (sealed : Bool) (b : ReadingIs generation name w i x sent c e upto sealed r) → ReadsAt c e upto sealed position → b.index ≡ c.base + position
+    index_is sealed b at = listed.once b.index (c.base + position) e b.at (subst (λ z. IsAt w name (c.base + position) z) at.extent (told.are position at.known at.at))
 
     rightly_by : (sealed : Bool) (b : ReadingIs generation name w i x sent c e upto sealed r) (at : ReadsAt c e upto sealed position) →
-        ReadsRightly generation name w x.state sent position upto groups → Rightly c position at.known groups
+        ReadsRightly generation name w x.state sent (c.base + position) upto groups → Rightly c position at.known groups
     rightly_by true b at means =
         let y = told.sealed position at.known upto at.at at.far in
-        let shut : machine.shut_at position x.state.core.shut ≡ Some y.0 = subst (λ k. machine.shut_at k x.state.core.shut ≡ Some y.0) place y.1 in
-        IsShut upto at.far y.0 shut (means.whole y.0 shut (subst (λ k. y.0.end ≡ machine.base k + upto) place y.2))
+        IsShut upto at.far y.0 y.1 (means.whole y.0 y.1 y.2)
     rightly_by false b at means =
         let last : LastIs c e b.index = b.is_last refl in
         let f : FoundIs generation name w i x sent c = found_of generation name w i x sent c b.readable (ap is_live last.last) in
-        let here : b.index ≡ position = index_is false b at in
-        let same : f.index ≡ position = omega (arith, f.last.index_is, last.index_is, here) in
+        let here : b.index ≡ c.base + position = index_is false b at in
+        let same : f.index ≡ c.base + position = omega (arith, f.last.index_is, last.index_is, here) in
         let both : Some f.found ≡ Some upto = sym f.checked ∙ at.far.1 in
         let far : f.found ≡ upto = cc in
-        let fact : machine.In (machine.Checked i position f.stood (machine.base position + upto)) x.state.facts =
+        let fact : machine.In (machine.Checked i (c.base + position) f.stood (machine.base (c.base + position) + upto)) x.state.facts =
         subst (λ k. machine.In (machine.Checked i k f.stood (machine.base k + upto)) x.state.facts) same
         (subst (λ k. machine.In (machine.Checked i f.index f.stood (machine.base f.index + k)) x.state.facts) far f.fact) in
         IsStood upto at.far.0 at.far.1 f.stood fact (means.checked i f.stood fact)

@@ -1,5 +1,5 @@
 -- A stream is read extent by extent: what is read of it is kept.
-use Rattle.std.proofs.Common.{◌≡◌, ℕ, suc, ◌-◌, ◌<◌, ◌≤◌, List, [], ◌∷◌, length, false, Option, Some, None, slice_get, get_or, refl, sym, ap, ◌∙◌, subst, arith}
+use Rattle.std.proofs.Common.{◌≡◌, ℕ, suc, ◌+◌, ◌-◌, ◌<◌, ◌≤◌, List, [], ◌∷◌, length, Bool, true, false, Option, Some, None, slice_get, get_or, refl, sym, ap, ◌∙◌, subst, arith}
 use Rattle.std.proofs.lemmas.Option.{slice_get-get_or}
 use Rattle.wire.specs.declared.streams.StreamExtent.{StreamExtent}
 use Rattle.wire.specs.declared.streams.StreamName.{StreamName}
@@ -13,12 +13,12 @@ use Rattle.model_partition.specs.Loading.{read_of}
 use Rattle.model_partition.specs.StreamActions.{ExtentRead}
 use Rattle.model_partition.specs.StreamMachine as machine
 use Rattle.laws_stream_machine.specs.Refinement.{Sent, Tells}
-use Rattle.laws_ranges.specs.Serves.{Stand, is_live}
-use Rattle.laws_log_reads.specs.Reads.{IsSealed, AllSealed, HasStood, AllRead, WereSealed, LastStood, HasReadTo}
+use Rattle.laws_ranges.specs.Serves.{Stand, is_live, known}
+use Rattle.laws_log_reads.specs.Reads.{IsSealed, AllSealed, HasStood, AllRead, WereSealed, LastStood, Nothing, HasReadTo}
 use Rattle.laws_log_reads.proofs.ReadRequests.{AsksThere, read_there}
 
 -- where no extent is known, none is open
-none_open : (xs : List StreamExtent) → length xs ≤ 0 → is_live (last_extent xs) ≡ false
+pub none_open : (xs : List StreamExtent) → length xs ≤ 0 → is_live (last_extent xs) ≡ false
 none_open [] le = refl
 none_open (x ∷ xs) le = absurd (omega (arith, le))
 
@@ -29,49 +29,61 @@ none_known (x ∷ xs) e =
     let at : last_extent (x ∷ xs) ≡ Some (get_or (x ∷ xs) (length (x ∷ xs) - 1) x) = slice_get-get_or (x ∷ xs) (length (x ∷ xs) - 1) x (omega arith) in
     absurd (let z : None ≡ Some (get_or (x ∷ xs) (length (x ∷ xs) - 1) x) = sym e ∙ at in cc)
 
--- what is read of one more extent: it is sealed, or it is open and was checked
+-- what is read of one more extent, at a position: it is sealed, or it is open and was checked
 pub data IsRead (name : StreamName) (w : StreamSystem) (i : ℕ) (s : machine.MachineState Group) (c : ClientState) (position : ℕ) (known : StreamExtent) (x : ExtentRead) : Type 0 where
-  ItsSealed : (l : ℕ) (is : known.length ≡ Some l) (b : IsSealed name w i s position x) → IsRead name w i s c position known x
-  ItStood : (found : ℕ) (is : known.length ≡ None) (checked : c.checked ≡ Some found) (b : HasStood name w i s position found x) → IsRead name w i s c position known x
+  ItsSealed : (l : ℕ) (is : known.length ≡ Some l) (b : IsSealed name w i s (c.base + position) x) → IsRead name w i s c position known x
+  ItStood : (found : ℕ) (is : known.length ≡ None) (checked : c.checked ≡ Some found) (b : HasStood name w i s (c.base + position) found x) → IsRead name w i s c position known x
 
 -- what the client knows was told rightly
 abbrev pub TellsOf : (ℕ → ℕ) → StreamName → StreamSystem → Stand → List Sent → ClientState → Type 0
 TellsOf generation name w x sent c = Tells generation name w x.state sent (record { base = c.base; extents = c.extents })
 
-module _ (generation : ℕ → ℕ) (name : StreamName) (w : StreamSystem) (i : ℕ) (x : Stand) (sent : List Sent) where
-  -- the extents below a position are read, and nothing is asked for
+-- a last extent that is open was checked
+abbrev pub IsMeasured : ClientState → Type 0
+IsMeasured c = is_live (last_extent c.extents) ≡ true → (found : ℕ) × (c.checked ≡ Some found)
+
+module _ (generation : ℕ → ℕ) (name : StreamName) (w : StreamSystem) (i : ℕ) (x : Stand) (sent : List Sent) (from : ℕ) where
+  -- the extents from an index on below a position are read, and nothing is asked for
   pub record HasReadBelow (c : ClientState) (reads : List ExtentRead) (position : ℕ) : Type 0 where
     pub told : TellsOf generation name w x sent c
-    pub from_start : c.base ≡ 0
+    pub inside : c.base ≤ from
     pub idle : c.job ≡ jobs.Idle
-    pub count : length reads ≡ position
-    pub sealed : position < length c.extents → AllSealed name w i x.state reads
-    pub all : length c.extents ≤ position → AllRead name w i x.state c reads
+    pub count : from + length reads ≡ c.base + position
+    pub sealed : position < length c.extents → AllSealed name w i x.state from reads
+    pub all : length c.extents ≤ position → AllRead name w i x.state from c reads
 
-  -- nothing is read yet
-  pub nothing_read : (c : ClientState) → TellsOf generation name w x sent c → c.base ≡ 0 → c.job ≡ jobs.Idle → (reads : List ExtentRead) → reads ≡ [] → HasReadBelow c reads 0
-  nothing_read c told from_start idle reads none = subst (λ rs. HasReadBelow c rs 0) (sym none) first
+  -- nothing is read yet, and the first extent to be read stands at a position, or just behind the last
+  pub nothing_read : (c : ClientState) (position : ℕ) → TellsOf generation name w x sent c → from ≡ c.base + position → position ≤ length c.extents → (length c.extents ≤ position → IsMeasured c) →
+      c.job ≡ jobs.Idle → (reads : List ExtentRead) → reads ≡ [] → HasReadBelow c reads position
+  nothing_read c position told at upto measured idle reads none = subst (λ rs. HasReadBelow c rs position) (sym none) first
     where
-      first : HasReadBelow c [] 0
+      behind : length c.extents ≤ position → from ≡ known c
+      behind le = omega (arith, at, upto, le)
+
+      all_read : length c.extents ≤ position → (live : Bool) → is_live (last_extent c.extents) ≡ live → AllRead name w i x.state from c []
+      all_read le true e = let m = measured le e in Nothing (omega (arith, at)) m.0 e (behind le) m.1 refl
+      all_read le false e = WereSealed (omega (arith, at)) e (let b : from ≡ known c = behind le in omega (arith, b)) tt
+
+      first : HasReadBelow c [] position
       first = record {
         told = told;
-        from_start = from_start;
+        inside = omega (arith, at);
         idle = idle;
-        count = refl;
+        count = omega (arith, at);
         sealed = λ more. tt;
-        all = λ le. (let count : 0 ≡ length c.extents = omega (arith, le) in WereSealed from_start (none_open c.extents le) count tt);
+        all = λ le. all_read le (is_live (last_extent c.extents)) refl;
       }
 
   -- the next extent is asked for
   pub next_asked : (d : ServerContext) (c : ClientState) (reads : List ExtentRead) (position : ℕ) → HasReadBelow c reads position → position < length c.extents →
-      HasReadTo name w i x.state (read_of d (picking d c) position).after reads position
-  next_asked d c reads position b inside =
+      HasReadTo name w i x.state from (read_of d (picking d c) position).after reads position
+  next_asked d c reads position b below =
       let there : AsksThere d c position b.told.unsealed (read_of d (picking d c) position) = read_there d c position b.told.unsealed b.idle in
       record {
-        from_start = there.0.base ∙ b.from_start;
-        count = b.count;
-        inside = subst (λ k. position < k) (sym (ap length there.0.extents)) inside;
-        sealed = b.sealed inside;
+        inside = subst (λ k. k ≤ from) (sym there.0.base) b.inside;
+        count = b.count ∙ ap (λ k. k + position) (sym there.0.base);
+        below = subst (λ k. position < k) (sym (ap length there.0.extents)) below;
+        sealed = b.sealed below;
         job = there.1;
       }
 
@@ -79,11 +91,11 @@ module _ (generation : ℕ → ℕ) (name : StreamName) (w : StreamSystem) (i : 
 
   pub record HasOneMore (c : ClientState) (older : List ExtentRead) (position : ℕ) (y : ExtentRead) : Type 0 where
     pub told : TellsOf generation name w x sent c
-    pub from_start : c.base ≡ 0
+    pub inside : c.base ≤ from
     pub idle : c.job ≡ jobs.Idle
-    pub count : length older ≡ position
-    pub inside : position < length c.extents
-    pub sealed : AllSealed name w i x.state older
+    pub count : from + length older ≡ c.base + position
+    pub below : position < length c.extents
+    pub sealed : AllSealed name w i x.state from older
     pub known : StreamExtent
     pub at : slice_get c.extents position ≡ Some known
     pub read : IsRead name w i x.state c position known y
@@ -95,29 +107,37 @@ module _ (generation : ℕ → ℕ) (name : StreamName) (w : StreamSystem) (i : 
     live_is : (o : Option ℕ) → b.known.length ≡ o → suc position ≡ length c.extents → is_live (last_extent c.extents) ≡ is_live (Some (record b.known { length = o }))
     live_is o is end = ap is_live (last_is end) ∙ ap (λ k. is_live (Some (record b.known { length = k }))) is
 
-    still_sealed : suc position < length c.extents → IsRead name w i x.state c position b.known y → AllSealed name w i x.state (y ∷ older)
-    still_sealed more (ItsSealed m is k) = (subst (λ n. IsSealed name w i x.state n y) (sym b.count) k, b.sealed)
+    -- one more is sealed
+    more_sealed : IsSealed name w i x.state (c.base + position) y → AllSealed name w i x.state from (y ∷ older)
+    more_sealed k = (subst (λ n. IsSealed name w i x.state n y) (sym b.count) k, b.sealed)
+
+    still_sealed : suc position < length c.extents → IsRead name w i x.state c position b.known y → AllSealed name w i x.state from (y ∷ older)
+    still_sealed more (ItsSealed m is k) = more_sealed k
     still_sealed more (ItStood found is checked k) =
         let end : suc position ≡ length c.extents = b.told.unsealed position b.known b.at is in
         absurd (omega (arith, more, end))
 
-    all_read : length c.extents ≤ suc position → IsRead name w i x.state c position b.known y → AllRead name w i x.state c (y ∷ older)
+    one_longer : from + length (y ∷ older) ≡ c.base + suc position
+    one_longer = let count : from + length older ≡ c.base + position = b.count in omega (arith, count)
+
+    all_read : length c.extents ≤ suc position → IsRead name w i x.state c position b.known y → AllRead name w i x.state from c (y ∷ older)
     all_read le (ItsSealed m is k) =
-        let inside : position < length c.extents = b.inside in
-        let end : suc position ≡ length c.extents = omega (arith, le, inside) in
-        WereSealed b.from_start (live_is (Some m) is end) (ap suc b.count ∙ end) (subst (λ n. IsSealed name w i x.state n y) (sym b.count) k, b.sealed)
+        let below : position < length c.extents = b.below in
+        let end : suc position ≡ length c.extents = omega (arith, le, below) in
+        WereSealed b.inside (live_is (Some m) is end) (one_longer ∙ ap (λ n. c.base + n) end) (more_sealed k)
     all_read le (ItStood found is checked k) =
-        let inside : position < length c.extents = b.inside in
-        let end : suc position ≡ length c.extents = omega (arith, le, inside) in
-        LastStood b.from_start y older found refl (live_is None is end) (ap suc b.count ∙ end) checked b.sealed (subst (λ n. HasStood name w i x.state n found y) (sym b.count) k)
+        let below : position < length c.extents = b.below in
+        let end : suc position ≡ length c.extents = omega (arith, le, below) in
+        let count : from + length older ≡ c.base + position = b.count in
+        LastStood b.inside y older found refl (live_is None is end) (omega (arith, count, end)) checked b.sealed (subst (λ n. HasStood name w i x.state n found y) (sym b.count) k)
 
     -- one more extent is read
     pub one_more : HasReadBelow c (y ∷ older) (suc position)
     one_more = record {
       told = b.told;
-      from_start = b.from_start;
+      inside = b.inside;
       idle = b.idle;
-      count = ap suc b.count;
+      count = one_longer;
       sealed = λ more. still_sealed more b.read;
       all = λ le. all_read le b.read;
     }

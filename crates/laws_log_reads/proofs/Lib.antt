@@ -2,12 +2,16 @@ pub mod ReadRequests
 pub mod ExtentByExtent
 pub mod AnswersAreRight
 pub mod UntouchedReads
+pub mod SoleRegion
+pub mod CheckpointRecords
 pub mod LoadBegins
 pub mod StreamAnswers
 pub mod MetadataAnswers
 pub mod LogAnswers
+pub mod CheckpointRules
 pub mod OtherRules
 pub mod AnswerRules
+pub mod ReadPlaces
 pub mod ReadCopies
 pub mod MoreKnown
 pub mod MachineSteps

@@ -1,5 +1,5 @@
 -- What answers to a range's log leave of what was read, while the range is loaded.
-use Rattle.std.proofs.Common.{◌≡◌, ℕ, suc, ◌+◌, ◌^◌, List, [], ◌∷◌, Bool, true, false, nat_lt, Option, Some, None, option_to_list, refl, sym, ap, subst, if◌then◌else◌}
+use Rattle.std.proofs.Common.{◌≡◌, ℕ, suc, ◌+◌, ◌^◌, List, [], ◌∷◌, Bool, true, false, nat_lt, Option, Some, None, option_to_list, refl, sym, ap, ◌∙◌, subst, if◌then◌else◌}
 use Rattle.wire.specs.declared.body.Body.{Body}
 use Rattle.wire.specs.declared.body.ReadBody.TheVariants as answers
 use Rattle.wire.specs.declared.streams.StreamKind.TheVariants as kinds
@@ -22,8 +22,8 @@ use Rattle.laws_stream_machine.specs.Refinement.{Means}
 use Rattle.laws_stream_machine.specs.Refinement as purposes
 use Rattle.laws_ranges.specs.Serves.{Side, log_of, LoadsLog, StageIs, BothListed}
 use Rattle.laws_ranges.proofs.ClientReplies.{idle_takes}
-use Rattle.laws_log_reads.specs.Reads.{HasReadTo, IsShown, ReadShows, Shows, Loads, HasReadMetadata, HasReadLogTo, HasReadAt, HasRead, RuleReads}
-use Rattle.laws_log_reads.proofs.ExtentByExtent.{TellsOf, HasReadBelow}
+use Rattle.laws_log_reads.specs.Reads.{HasReadTo, IsShown, ReadShows, Shows, first_index, HasReadMetadata, HasReadLogTo, HasReadAt, HasRead, RuleReads}
+use Rattle.laws_log_reads.proofs.ExtentByExtent.{TellsOf, IsMeasured, HasReadBelow}
 use Rattle.laws_log_reads.proofs.LoadBegins.{Left, reads_log_left, from_first}
 use Rattle.laws_log_reads.proofs.ReadRequests.{by_same, keeps_all}
 use Rattle.laws_log_reads.proofs.StreamAnswers.{extent_read, BringsGroups, checking_takes, reading_takes}
@@ -44,51 +44,48 @@ module _ (generation : ℕ → ℕ) (range : ℕ) (w : StreamSystem) (i : ℕ) (
   module _ (r : RangeState) (b : LoadsLog generation range w i m l r) (body : Body) (means : Means generation (log_of range) w l.stand.state l.sent body) where
     -- ---- the length of the last extent is asked for, or it is sealed
 
-    module _ (a : Loads r (HasReadMetadata range w i m.stand.state l.stand.state v.history r)) (e : r.stage ≡ stages.Checking kinds.Log) where
+    module _ (a : HasReadMetadata range w i m.stand.state l.stand.state v.history r) (e : r.stage ≡ stages.Checking kinds.Log) where
       checking_stays : (k : ClientState) → Read (record r { log = k })
       checking_stays k =
-          let loads : Loads (record r { log = k }) (HasReadMetadata range w i m.stand.state l.stand.state v.history (record r { log = k })) =
-          record { said = a.said; fixed = a.fixed; indexes = a.indexes; streams = record { metadata = a.streams.metadata; log = a.streams.log; regions = a.streams.regions } } in
-          record { at = subst (λ z. HasReadAt range w i m.stand.state l.stand.state v.history (record r { log = k }) z) (sym e) loads }
+          let now : HasReadMetadata range w i m.stand.state l.stand.state v.history (record r { log = k }) = record { metadata = a.metadata; log = a.log; regions = a.regions; sole = a.sole } in
+          record { at = subst (λ z. HasReadAt range w i m.stand.state l.stand.state v.history (record r { log = k }) z) (sym e) now }
 
-      begins : (k : ClientState) → TellsOf generation (log_of range) w l.stand l.sent k → k.job ≡ jobs.Idle →
+      begins : (k : ClientState) → TellsOf generation (log_of range) w l.stand l.sent k → k.job ≡ jobs.Idle → IsMeasured k →
           Left generation range w i m l d v.history (reads_log_from d (record r { log = k }) (first_position (record r { log = k }) r.regions))
-      begins k told idle =
-          from_first generation range w i m l d v.history (record r { log = k })
-          (record { said = a.said; fixed = a.fixed; indexes = a.indexes; metadata = a.streams.metadata; log = record { told = told; idle = idle; none = a.streams.log } }) a.streams.regions
+      begins k told idle measured =
+          from_first generation range w i m l d v.history (record r { log = k }) (record { metadata = a.metadata; log = record { told = told; idle = idle; none = a.log }; sole = a.sole }) a.regions measured
 
       checking_news : LogAt r body (stages.Checking kinds.Log) (reply_rule (picking d r.log) (request d) body)
       checking_news =
-          checking_takes generation (log_of range) w i both.log l.stand l.sent d r.log body b.log means (LogAt r body (stages.Checking kinds.Log))
+          checking_takes generation (log_of range) w i both.log l.stand l.sent d (first_index r) r.log body b.log means (LogAt r body (stages.Checking kinds.Log))
           (record {
             stays = λ k packet. checking_stays k;
             fenced = tt;
-            checked = λ n found told. begins (ends_checked (picking d r.log) n found).after told refl;
-            sealed = λ n t told. begins (ends_sealed (picking d r.log) n t).after told refl;
+            checked = λ n found told. begins (ends_checked (picking d r.log) n found).after told refl (λ live. (found, refl));
+            sealed = λ n t told shut. begins (ends_sealed (picking d r.log) n t).after told refl (λ live. absurd (let z : false ≡ true = sym shut ∙ live in cc));
             came = λ n upto. checking_stays (ends (picking d r.log) (news.Content n upto)).after;
           })
 
     -- ---- an extent is read
 
-    module _ (position : ℕ) (a : Loads r (HasReadLogTo range w i m.stand.state l.stand.state v.history r position)) (e : r.stage ≡ stages.Reading kinds.Log position) where
+    module _ (position : ℕ) (a : HasReadLogTo range w i m.stand.state l.stand.state v.history r position) (e : r.stage ≡ stages.Reading kinds.Log position) where
       abbrev ToRead : ClientState → Type 0
-      ToRead k = HasReadTo (log_of range) w i l.stand.state k (v.history.reads kinds.Log) position
+      ToRead k = HasReadTo (log_of range) w i l.stand.state (first_index r) k (v.history.reads kinds.Log) position
 
       reading_stays : (k : ClientState) → ToRead k → Read (record r { log = k })
       reading_stays k to =
-          let loads : Loads (record r { log = k }) (HasReadLogTo range w i m.stand.state l.stand.state v.history (record r { log = k }) position) =
-          record { said = a.said; fixed = a.fixed; indexes = a.indexes; streams = record { metadata = a.streams.metadata; log = to; shown = a.streams.shown } } in
-          record { at = subst (λ z. HasReadAt range w i m.stand.state l.stand.state v.history (record r { log = k }) z) (sym e) loads }
+          let now : HasReadLogTo range w i m.stand.state l.stand.state v.history (record r { log = k }) position = record { metadata = a.metadata; log = to; shown = a.shown; sole = a.sole; unapplied = a.unapplied } in
+          record { at = subst (λ z. HasReadAt range w i m.stand.state l.stand.state v.history (record r { log = k }) z) (sym e) now }
 
       -- the last extent was sealed: it is asked for once more
-      shut_left : (k : ClientState) → HasReadBelow generation (log_of range) w i l.stand l.sent k (v.history.reads kinds.Log) position →
+      shut_left : (k : ClientState) → HasReadBelow generation (log_of range) w i l.stand l.sent (first_index r) k (v.history.reads kinds.Log) position →
           Left generation range w i m l d v.history (reads_log d (record r { log = k }) position)
       shut_left k below =
           reads_log_left generation range w i m l d v.history (record r { log = k }) position
-          (record { said = a.said; fixed = a.fixed; indexes = a.indexes; metadata = a.streams.metadata; log = below; shown = a.streams.shown })
+          (record { metadata = a.metadata; log = below; shown = a.shown; sole = a.sole; unapplied = a.unapplied })
 
       -- the groups have come, and an observation shows them
-      module _ (shows : Shows (log_of range) w l.sent body) (n upto : ℕ) (more : BringsGroups generation (log_of range) w i both.log l.stand l.sent d r.log body (v.history.reads kinds.Log) position n upto) where
+      module _ (shows : Shows (log_of range) w l.sent body) (n upto : ℕ) (more : BringsGroups generation (log_of range) w i both.log l.stand l.sent d (first_index r) r.log body (v.history.reads kinds.Log) position n upto) where
         abbrev after : ClientState
         after = (ends (picking d r.log) (news.Content n upto)).after
 
@@ -112,7 +109,7 @@ module _ (generation : ℕ → ℕ) (range : ℕ) (w : StreamSystem) (i : ℕ) (
         replays_left None = tt
         replays_left (Some z) =
             reads_log_left generation range w i m l d longer (record now { regions = z.0; live = z.1 }) (suc position)
-            (record { said = a.said; fixed = a.fixed; indexes = a.indexes; metadata = a.streams.metadata; log = more.below; shown = (shown, a.streams.shown) })
+            (record { metadata = a.metadata; log = more.below; shown = (shown, a.shown); sole = a.sole; unapplied = λ none. absurd cc })
 
         log_read_left : Left generation range w i m l d longer (log_read d now position n more.groups)
         log_read_left = go (nat_lt (r.log.base + position) (2 ^ 64))
@@ -127,7 +124,7 @@ module _ (generation : ℕ → ℕ) (range : ℕ) (w : StreamSystem) (i : ℕ) (
 
       reading_news : Shows (log_of range) w l.sent body → LogAt r body (stages.Reading kinds.Log position) (reply_rule (picking d r.log) (request d) body)
       reading_news shows =
-          reading_takes generation (log_of range) w i both.log l.stand l.sent d r.log body b.log means (v.history.reads kinds.Log) position a.streams.log (LogAt r body (stages.Reading kinds.Log position))
+          reading_takes generation (log_of range) w i both.log l.stand l.sent d (first_index r) r.log body b.log means (v.history.reads kinds.Log) position a.log (LogAt r body (stages.Reading kinds.Log position))
           (record {
             stays = λ k packet to. reading_stays k to;
             fenced = tt;
@@ -141,8 +138,6 @@ module _ (generation : ℕ → ℕ) (range : ℕ) (w : StreamSystem) (i : ℕ) (
   picked : (r : RangeState) → Same r (record r { log = picking d r.log })
   picked r = record {
     said = refl;
-    fixed = refl;
-    indexes = refl;
     regions = refl;
     metadata = keeps_all r.metadata;
     log = record { base = refl; extents = refl; checked = refl };

@@ -1,12 +1,11 @@
 -- What answers to a range's metadata leave of what was read.
-use Rattle.std.proofs.Common.{◌≡◌, ℕ, suc, List, [], ◌∷◌, option_to_list, refl, sym, ap, ◌∙◌, subst, if◌then◌else◌}
+use Rattle.std.proofs.Common.{◌≡◌, ℕ, suc, List, [], ◌∷◌, Option, Some, None, option_to_list, refl, sym, ap, subst, if◌then◌else◌}
 use Rattle.wire.specs.declared.body.Body.{Body}
-use Rattle.wire.specs.declared.streams.StreamExtent.{StreamExtent}
 use Rattle.wire.specs.declared.streams.StreamKind.TheVariants as kinds
-use Rattle.replica.specs.Groups.{Group}
 use Rattle.client.specs.declared.job.Job.TheVariants as jobs
 use Rattle.client.specs.declared.job.News.TheVariants as news
 use Rattle.client.specs.Client.{ClientState, Outcome, ends, ends_checked, ends_sealed, reply_rule}
+use Rattle.metadata.specs.Fold.{MetadataState}
 use Rattle.model_streams.specs.StreamSystem.{StreamSystem}
 use Rattle.model_partition.specs.declared.server_context.ServerContext.{ServerContext}
 use Rattle.model_partition.specs.declared.stage.Stage.{Stage}
@@ -21,11 +20,12 @@ use Rattle.laws_loads.specs.RangeView.{RangeView}
 use Rattle.laws_stream_machine.specs.Refinement.{Means}
 use Rattle.laws_ranges.specs.Serves.{Side, metadata_of, LoadsMetadata, StageIs, Follows, BothListed}
 use Rattle.laws_ranges.proofs.ClientReplies.{idle_takes}
-use Rattle.laws_log_reads.specs.Reads.{groups_in, IsEmpty, Loads, HasReadTo, HasReadNothing, HasReadMetadataTo, HasReadAt, HasRead, RuleReads}
-use Rattle.laws_log_reads.proofs.AnswersAreRight.{Rightly, IsShut, IsStood}
-use Rattle.laws_log_reads.proofs.ExtentByExtent.{TellsOf, HasReadBelow, nothing_read}
-use Rattle.laws_log_reads.proofs.LoadBegins.{Left, reads_metadata_left}
+use Rattle.laws_log_reads.specs.Reads.{HasReadTo, SaysSole, HasOpened, HasReadMetadataTo, HasReadAt, HasRead, RuleReads}
+use Rattle.laws_log_reads.proofs.ExtentByExtent.{TellsOf, HasReadBelow}
+use Rattle.laws_log_reads.proofs.LoadBegins.{Left, metadata_unread, reads_metadata_left}
 use Rattle.laws_log_reads.proofs.ReadRequests.{by_same, keeps_all}
+use Rattle.laws_log_reads.proofs.CheckpointRules.{told_left}
+use Rattle.laws_log_reads.proofs.SoleRegion.{still_sole}
 use Rattle.laws_log_reads.proofs.StreamAnswers.{extent_read, BringsGroups, checking_takes, reading_takes}
 use Rattle.laws_log_reads.proofs.UntouchedReads.{Same, same_left}
 
@@ -36,12 +36,6 @@ module _ (generation : ℕ → ℕ) (range : ℕ) (w : StreamSystem) (i : ℕ) (
   abbrev Read : RangeState → Type 0
   Read r = HasRead range w i m.stand.state l.stand.state v.history r
 
-  -- nothing is read of a stream in which nothing stands
-  nothing : IsEmpty i m.stand.state → (c : ClientState) (position : ℕ) (known : StreamExtent) (groups : List Group) →
-      Rightly generation (metadata_of range) w i both.metadata m.sent m.stand c position known groups → groups ≡ []
-  nothing empty c position known groups (IsShut k is y shut same) = same ∙ ap groups_in (empty.sealed position y shut)
-  nothing empty c position known groups (IsStood found is checked stood fact same) = same ∙ ap groups_in (empty.stood position _ stood fact)
-
   module _ (r : RangeState) (body : Body) where
     -- what an answer to the metadata's client leaves
     abbrev AtStage : Stage → Outcome → Type 0
@@ -51,75 +45,80 @@ module _ (generation : ℕ → ℕ) (range : ℕ) (w : StreamSystem) (i : ℕ) (
         else metadata_news d (record r { metadata = o.after }) (groups_of body) stage o.news (option_to_list o.packet))
         (if is_serving stage then record_actions r o.news else loading_actions kinds.Metadata r.metadata stage (groups_of body) o.news)
 
-  module _ (empty : IsEmpty i m.stand.state) (r : RangeState) (b : LoadsMetadata generation range w i m l r) (body : Body) (means : Means generation (metadata_of range) w m.stand.state m.sent body) where
+  module _ (r : RangeState) (b : LoadsMetadata generation range w i m l r) (body : Body) (means : Means generation (metadata_of range) w m.stand.state m.sent body) where
     -- ---- the length of the last extent is asked for, or it is sealed
 
-    module _ (a : Loads r (HasReadNothing range w i m.stand.state l.stand.state v.history)) (e : r.stage ≡ stages.Checking kinds.Metadata) where
+    module _ (a : HasOpened range w i m.stand.state l.stand.state v.history r) (e : r.stage ≡ stages.Checking kinds.Metadata) where
       checking_stays : (k : ClientState) → Read (record r { metadata = k })
       checking_stays k =
-          let loads : Loads (record r { metadata = k }) (HasReadNothing range w i m.stand.state l.stand.state v.history) = record { said = a.said; fixed = a.fixed; indexes = a.indexes; streams = a.streams } in
-          record { at = subst (λ z. HasReadAt range w i m.stand.state l.stand.state v.history (record r { metadata = k }) z) (sym e) loads }
+          let nothing : HasOpened range w i m.stand.state l.stand.state v.history (record r { metadata = k }) = record { metadata = a.metadata; log = a.log; sole = a.sole } in
+          record { at = subst (λ z. HasReadAt range w i m.stand.state l.stand.state v.history (record r { metadata = k }) z) (sym e) nothing }
 
       begins : (k : ClientState) → TellsOf generation (metadata_of range) w m.stand m.sent k → k.job ≡ jobs.Idle → Left generation range w i m l d v.history (reads_metadata d (record r { metadata = k }) 0)
       begins k told idle =
           reads_metadata_left generation range w i m l d v.history (record r { metadata = k }) 0
           (record {
-            said = a.said;
-            fixed = a.fixed;
-            indexes = a.indexes;
-            metadata = nothing_read generation (metadata_of range) w i m.stand m.sent k told (told.whole refl) idle (v.history.reads kinds.Metadata) a.streams.metadata;
-            log = record { told = b.log.told.tells; idle = b.log.idle; none = a.streams.log };
+            metadata = metadata_unread generation range w i m l d v.history k told idle a.metadata;
+            log = record { told = b.log.told.tells; idle = b.log.idle; none = a.log };
+            sole = a.sole;
           })
 
       checking_news : AtStage r body (stages.Checking kinds.Metadata) (reply_rule (picking d r.metadata) (request d) body)
       checking_news =
-          checking_takes generation (metadata_of range) w i both.metadata m.stand m.sent d r.metadata body b.metadata means (AtStage r body (stages.Checking kinds.Metadata))
+          checking_takes generation (metadata_of range) w i both.metadata m.stand m.sent d 0 r.metadata body b.metadata means (AtStage r body (stages.Checking kinds.Metadata))
           (record {
             stays = λ k packet. checking_stays k;
             fenced = tt;
             checked = λ n found told. begins (ends_checked (picking d r.metadata) n found).after told refl;
-            sealed = λ n t told. begins (ends_sealed (picking d r.metadata) n t).after told refl;
+            sealed = λ n t told shut. begins (ends_sealed (picking d r.metadata) n t).after told refl;
             came = λ n upto. checking_stays (ends (picking d r.metadata) (news.Content n upto)).after;
           })
 
     -- ---- an extent is read
 
-    module _ (position : ℕ) (a : Loads r (HasReadMetadataTo range w i m.stand.state l.stand.state v.history r position)) (e : r.stage ≡ stages.Reading kinds.Metadata position) where
+    module _ (position : ℕ) (a : HasReadMetadataTo range w i m.stand.state l.stand.state v.history r position) (e : r.stage ≡ stages.Reading kinds.Metadata position) where
       abbrev ToRead : ClientState → Type 0
-      ToRead k = HasReadTo (metadata_of range) w i m.stand.state k (v.history.reads kinds.Metadata) position
+      ToRead k = HasReadTo (metadata_of range) w i m.stand.state 0 k (v.history.reads kinds.Metadata) position
 
       reading_stays : (k : ClientState) → ToRead k → Read (record r { metadata = k })
       reading_stays k to =
-          let loads : Loads (record r { metadata = k }) (HasReadMetadataTo range w i m.stand.state l.stand.state v.history (record r { metadata = k }) position) =
-          record { said = a.said; fixed = a.fixed; indexes = a.indexes; streams = record { metadata = to; log = a.streams.log } } in
-          record { at = subst (λ z. HasReadAt range w i m.stand.state l.stand.state v.history (record r { metadata = k }) z) (sym e) loads }
+          let now : HasReadMetadataTo range w i m.stand.state l.stand.state v.history (record r { metadata = k }) position = record { metadata = to; log = a.log; sole = a.sole } in
+          record { at = subst (λ z. HasReadAt range w i m.stand.state l.stand.state v.history (record r { metadata = k }) z) (sym e) now }
 
-      -- the extents below a position are read, and nothing of the log
-      goes_on : (h : RangeHistory) (k : ClientState) (at : ℕ) → HasReadBelow generation (metadata_of range) w i m.stand m.sent k (h.reads kinds.Metadata) at → h.reads kinds.Log ≡ [] →
-          Left generation range w i m l d h (reads_metadata d (record r { metadata = k }) at)
-      goes_on h k at below none =
-          reads_metadata_left generation range w i m l d h (record r { metadata = k }) at
-          (record { said = a.said; fixed = a.fixed; indexes = a.indexes; metadata = below; log = record { told = b.log.told.tells; idle = b.log.idle; none = none } })
+      -- the extents below a position are read, and nothing of the log; the metadata says this
+      goes_on : (h : RangeHistory) (said : MetadataState) (k : ClientState) (at : ℕ) → HasReadBelow generation (metadata_of range) w i m.stand m.sent 0 k (h.reads kinds.Metadata) at → h.reads kinds.Log ≡ [] →
+          SaysSole h (record r { said = said }) → Left generation range w i m l d h (reads_metadata d (record r { metadata = k; said = said }) at)
+      goes_on h said k at below none sole =
+          reads_metadata_left generation range w i m l d h (record r { metadata = k; said = said }) at
+          (record { metadata = below; log = record { told = b.log.told.tells; idle = b.log.idle; none = none }; sole = sole })
 
-      came : (n upto : ℕ) → BringsGroups generation (metadata_of range) w i both.metadata m.stand m.sent d r.metadata body (v.history.reads kinds.Metadata) position n upto →
+      came : (n upto : ℕ) → BringsGroups generation (metadata_of range) w i both.metadata m.stand m.sent d 0 r.metadata body (v.history.reads kinds.Metadata) position n upto →
           AtStage r body (stages.Reading kinds.Metadata position) (ends (picking d r.metadata) (news.Content n upto))
       came n upto more =
-          let after : ClientState = (ends (picking d r.metadata) (news.Content n upto)).after in
-          let now : RangeState = record r { metadata = after } in
-          let none : more.groups ≡ [] = nothing empty r.metadata position more.known more.groups more.right in
-          subst (λ gs. Leaves (says d now position (said_after now.said gs)) (Reads kinds.Metadata (extent_read r.metadata position n gs) ∷ [])) (sym (ap groups_of more.is))
-          (subst (λ gs. Leaves (says d now position (said_after now.said gs)) (Reads kinds.Metadata (extent_read r.metadata position n more.groups) ∷ [])) (sym none)
-          (goes_on (one_more_read v.history kinds.Metadata (extent_read r.metadata position n more.groups)) after (suc position) more.below a.streams.log))
+          subst (λ gs. Leaves (says d now position (said_after now.said gs)) (Reads kinds.Metadata (extent_read r.metadata position n gs) ∷ [])) (sym (ap groups_of more.is)) (says_left (said_after now.said more.groups) refl)
+        where
+          after : ClientState
+          after = (ends (picking d r.metadata) (news.Content n upto)).after
+
+          now : RangeState
+          now = record r { metadata = after }
+
+          longer : RangeHistory
+          longer = one_more_read v.history kinds.Metadata (extent_read r.metadata position n more.groups)
+
+          says_left : (o : Option MetadataState) → said_after now.said more.groups ≡ o → Left generation range w i m l d longer (says d now position o)
+          says_left None e = tt
+          says_left (Some said) e = goes_on longer said after (suc position) more.below a.log (λ say. still_sole now.said more.groups said say.0 (a.sole say.1) e)
 
       reading_news : AtStage r body (stages.Reading kinds.Metadata position) (reply_rule (picking d r.metadata) (request d) body)
       reading_news =
-          reading_takes generation (metadata_of range) w i both.metadata m.stand m.sent d r.metadata body b.metadata means (v.history.reads kinds.Metadata) position a.streams.metadata
+          reading_takes generation (metadata_of range) w i both.metadata m.stand m.sent d 0 r.metadata body b.metadata means (v.history.reads kinds.Metadata) position a.metadata
           (AtStage r body (stages.Reading kinds.Metadata position))
           (record {
             stays = λ k packet to. reading_stays k to;
             fenced = tt;
             checked = λ n found to. reading_stays (ends_checked (picking d r.metadata) n found).after to;
-            sealed = λ n t below. goes_on v.history (ends_sealed (picking d r.metadata) n t).after position below a.streams.log;
+            sealed = λ n t below. goes_on v.history r.said (ends_sealed (picking d r.metadata) n t).after position below a.log a.sole;
             came = came;
           })
 
@@ -128,8 +127,6 @@ module _ (generation : ℕ → ℕ) (range : ℕ) (w : StreamSystem) (i : ℕ) (
   picked : (r : RangeState) → Same r (record r { metadata = picking d r.metadata })
   picked r = record {
     said = refl;
-    fixed = refl;
-    indexes = refl;
     regions = refl;
     metadata = record { base = refl; extents = refl; checked = refl };
     log = keeps_all r.log;
@@ -141,24 +138,27 @@ module _ (generation : ℕ → ℕ) (range : ℕ) (w : StreamSystem) (i : ℕ) (
     stays : Read (record r { metadata = picking d r.metadata })
     stays = same_left range w i m.stand.state l.stand.state v.history r (record r { metadata = picking d r.metadata }) (picked r) refl h
 
-    by_stage : IsEmpty i m.stand.state → Means generation (metadata_of range) w m.stand.state m.sent body → (stage : Stage) → r.stage ≡ stage → StageIs generation range w i m l r stage →
+    by_stage : Means generation (metadata_of range) w m.stand.state m.sent body → (stage : Stage) → r.stage ≡ stage → StageIs generation range w i m l r stage →
         HasReadAt range w i m.stand.state l.stand.state v.history r stage → AtStage r body stage (reply_rule (picking d r.metadata) (request d) body)
-    by_stage empty means stages.Opening e f a = idle_takes (request d) (AtStage r body stages.Opening) (picking d r.metadata) body f.metadata_idle stays
-    by_stage empty means (stages.Checking kinds.Metadata) e f a = checking_news empty r f body means a e
-    by_stage empty means (stages.Checking kinds.Log) e f a = idle_takes (request d) (AtStage r body (stages.Checking kinds.Log)) (picking d r.metadata) body f.metadata_idle stays
-    by_stage empty means (stages.Checking kinds.RowData) e f a = absurd f
-    by_stage empty means (stages.Checking kinds.BlobData) e f a = absurd f
-    by_stage empty means (stages.Reading kinds.Metadata position) e f a = reading_news empty r f body means position a e
-    by_stage empty means (stages.Reading kinds.Log position) e f a =
+    by_stage means stages.Opening e f a = idle_takes (request d) (AtStage r body stages.Opening) (picking d r.metadata) body f.metadata_idle stays
+    by_stage means (stages.Checking kinds.Metadata) e f a = checking_news r f body means a e
+    by_stage means (stages.Checking kinds.Log) e f a = idle_takes (request d) (AtStage r body (stages.Checking kinds.Log)) (picking d r.metadata) body f.metadata_idle stays
+    by_stage means (stages.Checking kinds.RowData) e f a = absurd f
+    by_stage means (stages.Checking kinds.BlobData) e f a = absurd f
+    by_stage means (stages.Reading kinds.Metadata position) e f a = reading_news r f body means position a e
+    by_stage means (stages.Reading kinds.Log position) e f a =
         idle_takes (request d) (AtStage r body (stages.Reading kinds.Log position)) (picking d r.metadata) body f.metadata_idle stays
-    by_stage empty means (stages.Reading kinds.RowData position) e f a = absurd f
-    by_stage empty means (stages.Reading kinds.BlobData position) e f a = absurd f
-    by_stage empty means (stages.Indexing position) e f a =
+    by_stage means (stages.Reading kinds.RowData position) e f a = absurd f
+    by_stage means (stages.Reading kinds.BlobData position) e f a = absurd f
+    by_stage means (stages.Indexing position) e f a =
         idle_takes (request d) (AtStage r body (stages.Indexing position)) (picking d r.metadata) body f.metadata_idle stays
-    by_stage empty means stages.Confirming e f a = idle_takes (request d) (AtStage r body stages.Confirming) (picking d r.metadata) body f.metadata.idle stays
-    by_stage empty means stages.Serving e f a = idle_takes (request d) (AtStage r body stages.Serving) (picking d r.metadata) body f.metadata_idle stays
+    by_stage means stages.Confirming e f a = idle_takes (request d) (AtStage r body stages.Confirming) (picking d r.metadata) body f.metadata.idle stays
+    by_stage means stages.Serving e f a = told_left range w i m.stand.state l.stand.state _ d (record r { metadata = o.after }) e r.control o.news (option_to_list o.packet)
+      where
+        o : Outcome
+        o = reply_rule (picking d r.metadata) (request d) body
 
     -- an answer to the metadata's client
-    pub metadata_reply_left : IsEmpty i m.stand.state → Follows generation range w i m l r → Means generation (metadata_of range) w m.stand.state m.sent body →
+    pub metadata_reply_left : Follows generation range w i m l r → Means generation (metadata_of range) w m.stand.state m.sent body →
         Leaves (metadata_reply d r body) (metadata_actions d r body)
-    metadata_reply_left empty f means = by_stage empty means r.stage refl f.stage h.at
+    metadata_reply_left f means = by_stage means r.stage refl f.stage h.at

@@ -2,13 +2,15 @@
 -- as it is said to be.
 use Rattle.std.proofs.Common.{◌≡◌, ℕ, suc, ◌+◌, ◌<◌, ◌≤◌, List, [], ◌∷◌, ◌++◌, length, Option, Some, slice_get, get_or, refl, sym, ap, ◌∙◌, subst, arith}
 use Rattle.std.proofs.lemmas.Option.{slice_get-get_or}
-use Rattle.replica.specs.Groups.{Group, size}
+use Rattle.replica.specs.Groups.{Group, size, text_length}
+use Rattle.replica.proofs.Placing.{length-cons}
 use Rattle.streams.specs.Streams.{Stream}
 use Rattle.model_partition.specs.Story.{Copy}
 use Rattle.model_partition.specs.StreamMachine as machine
-use Rattle.laws_streams.proofs.Ground.{Ground}
+use Rattle.laws_streams.proofs.Ground.{Ground, Sound}
+use Rattle.laws_streams.specs.Origins.{Begins}
 use Rattle.laws_stream_machine.specs.Refinement.{Sent, extents_of}
-use Rattle.laws_stream_machine.proofs.ExtentSteps.{Sized, chain_le}
+use Rattle.laws_stream_machine.proofs.ExtentSteps.{Sized, chain_le, chain_len}
 use Rattle.laws_stream_machine.proofs.MachineCore.{StoodThere, ShutThere, Settled}
 use Rattle.laws_ranges.proofs.MachineSteps.{is_within}
 use Rattle.laws_log_reads.specs.Reads.{groups_in, StandsOnce, IsSized}
@@ -33,6 +35,19 @@ one_way from end (x ∷ xs) (y ∷ ys) a b c s d t e =
     ap (λ z. z ∷ groups_in xs) head
     ∙ ap (λ zs. y.group ∷ zs) (one_way x.to end xs ys a b c.2 s.1 (subst (λ k. machine.Chain k ys end) place d.2) t.1 tail)
 
+-- a list of groups is no longer than one that it begins
+begins_short : (xs ys : List Group) → text_length xs ≤ text_length (xs ++ ys)
+begins_short [] ys = omega arith
+begins_short (x ∷ xs) ys = let more = begins_short xs ys in omega (arith, length-cons x xs, length-cons x (xs ++ ys), more)
+
+-- what begins the script of an extent ends before the next extent begins
+ends_before : (g : Ground) → Sound g → (e index end : ℕ) (copies : List (Copy Group)) → Begins (groups_in copies) (g.script e) → machine.Chain (machine.base index) copies end → Sized copies →
+    end ≤ machine.base (suc index)
+ends_before g sound e index end copies begins chain sized =
+    let long = chain_len (machine.base index) copies end chain sized in
+    let short : text_length (groups_in copies) ≤ text_length (g.script e) = subst (λ gs. text_length (groups_in copies) ≤ text_length gs) (sym begins.is) (begins_short (groups_in copies) begins.rest) in
+    omega (arith, long, short, sound.short e)
+
 -- where all that was checked is known of the nodes
 module _ (o : Option Stream) (g : Ground) (s : machine.MachineState Group) (sent : List Sent) (settled : Settled o g s sent) (i : ℕ) where
   pub stands_once : StandsOnce i s
@@ -45,10 +60,16 @@ module _ (o : Option Stream) (g : Ground) (s : machine.MachineState Group) (sent
       (sym one.begins.is ∙ ap (λ e. g.script e) same ∙ two.begins.is)
 
   -- and all that stands in an extent is as long as it is said to be
-  pub all_sized : IsSized i s
-  all_sized = record { sealed = shut_sized; stood = λ index end copies fact. (let k : StoodThere o g index copies end = settled.checked i index copies end fact in (k.chain, k.sized)) }
+  pub all_sized : Sound g → IsSized i s
+  all_sized sound =
+      record {
+        sealed = shut_sized;
+        stood = λ index end copies fact.
+            (let k : StoodThere o g index copies end = settled.checked i index copies end fact in (k.chain, k.sized, ends_before g sound k.extent index end copies k.begins k.chain k.sized));
+      }
     where
-      shut_sized : (index : ℕ) (y : machine.SealedExtent Group) → machine.shut_at index s.core.shut ≡ Some y → machine.Chain (machine.base index) y.copies y.end × Sized y.copies
+      shut_sized : (index : ℕ) (y : machine.SealedExtent Group) → machine.shut_at index s.core.shut ≡ Some y →
+          machine.Chain (machine.base index) y.copies y.end × Sized y.copies × (y.end ≤ machine.base (suc index))
       shut_sized index y is =
           let inside : suc index ≤ length s.core.shut = is_within index s.core.shut y is in
           let counted : length (extents_of o) ≡ length s.core.shut + machine.one_if_live s.core.live = settled.counts in
@@ -56,4 +77,7 @@ module _ (o : Option Stream) (g : Ground) (s : machine.MachineState Group) (sent
           let there : ShutThere g sent s (get_or (extents_of o) index 0) index = settled.shut index (get_or (extents_of o) index 0) at (omega (arith, inside)) in
           let both : Some there.shut ≡ Some y = sym there.is ∙ is in
           let same : there.shut ≡ y = cc in
-          subst (λ (z : machine.SealedExtent Group). machine.Chain (machine.base index) z.copies z.end × Sized z.copies) same (there.tied.chain, there.tied.sized)
+          let bound : there.shut.end ≤ machine.base (suc index) =
+          ends_before g sound (get_or (extents_of o) index 0) index there.shut.end there.shut.copies there.tied.begins there.tied.chain there.tied.sized in
+          subst (λ (z : machine.SealedExtent Group). machine.Chain (machine.base index) z.copies z.end × Sized z.copies × (z.end ≤ machine.base (suc index))) same
+          (there.tied.chain, there.tied.sized, bound)

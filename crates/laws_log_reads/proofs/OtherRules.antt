@@ -1,8 +1,10 @@
--- Rules that read nothing keep what was read: those of users, giving up, and all rules of a range that is served.
-use Rattle.std.proofs.Common.{◌≡◌, ℕ, ◌+◌, ◌-◌, ◌^◌, List, [], ◌∷◌, ◌++◌, length, map, flat_map, Bool, true, false, not, ◌&&◌, nat_lt, Option, Some, None, option_map, is_some, refl, sym, subst, if◌then◌else◌}
+-- Rules that read nothing keep what was read: those of users, giving up, the beginning of a checkpoint, and news of the log of a
+-- range that is served.
+use Rattle.std.proofs.Common.{◌≡◌, ℕ, ◌+◌, ◌-◌, ◌^◌, List, [], ◌∷◌, ◌++◌, length, map, flat_map, Bool, true, false, not, ◌||◌, ◌&&◌, nat_lt, Option, Some, None, option_map, is_some, refl, if◌then◌else◌}
 use Rattle.wire.specs.declared.actor.ActorId.{ActorId}
 use Rattle.wire.specs.declared.actor.ReqNo.{ReqNo}
 use Rattle.wire.specs.declared.refusal.Refusal.{Refusal}
+use Rattle.wire.specs.declared.refusal.Refusal.TheVariants as refusals
 use Rattle.wire.specs.declared.transaction.Change.{Change}
 use Rattle.wire.specs.declared.packet.Packet.{Packet}
 use Rattle.wire.specs.declared.streams.StreamKind.TheVariants as kinds
@@ -24,6 +26,7 @@ use Rattle.model_partition.specs.ServerRun.{RangeHistory, first_history}
 use Rattle.model_partition.specs.Serving.{group_count, appends, forms, transact_fault, transacts, transact_rule, record_of, out_size, log_done}
 use Rattle.model_partition.specs.StreamActions.{Forms, group_of, transact_actions}
 use Rattle.model_partition.specs.StreamMachine as machine
+use Rattle.model_partition.specs.Checkpoints.{checkpoint_fault, checkpoint_rule}
 use Rattle.model_partition.specs.PlaceReads.{moved_on}
 use Rattle.model_partition.specs.Getting.{get_fault, gets, get_rule, read_at, are_no_page, bytes_come, bytes_rule, gives_up_get}
 use Rattle.model_partition.specs.Server.{new_range}
@@ -31,29 +34,26 @@ use Rattle.model_partition.specs.Answering.{serving_news, gives_up_job, give_up_
 use Rattle.laws_loads.specs.RangeView.{RangeView, view_after_all}
 use Rattle.laws_loads.proofs.WaitingIsSound.{tests}
 use Rattle.laws_ranges.specs.Serves.{Side}
-use Rattle.laws_log_reads.specs.Reads.{HasReadAt, HasRead, HasReadIf, RuleReads}
+use Rattle.laws_log_reads.specs.Reads.{HasRead, HasReadIf, RuleReads}
 use Rattle.laws_log_reads.proofs.ReadRequests.{Keeps, keeps_all, by_same, gives_up_there, gives_up_by}
-use Rattle.laws_log_reads.proofs.UntouchedReads.{same_left}
+use Rattle.laws_log_reads.proofs.UntouchedReads.{served, same_left}
+use Rattle.laws_log_reads.proofs.CheckpointRules.{layer_left}
 
 module _ (range : ℕ) (w : StreamSystem) (i : ℕ) (m l : machine.MachineState Group) where
   -- a range that was just taken has read nothing
   pub new_read : (d : ServerContext) (n generation until : ℕ) → HasRead range w i m l first_history (new_range d n generation until)
-  new_read d n generation until = record { at = record { said = refl; fixed = refl; indexes = refl; streams = record { metadata = refl; log = refl } } }
+  new_read d n generation until = record { at = record { metadata = refl; log = refl } }
 
   module _ (h : RangeHistory) where
     abbrev Leaves : RangeOutcome → Type 0
     Leaves o = HasReadIf range w i m l h o.after
-
-    -- nothing is asked of one that is served
-    served : (k : RangeState) → k.stage ≡ stages.Serving → HasRead range w i m l h k
-    served k e = record { at = subst (λ z. HasReadAt range w i m l h k z) (sym e) tt }
 
     -- ---- Gets
 
     got : (r : RangeState) (held : List (Place × List ℕ)) (waiting : List WaitingGet) → HasRead range w i m l h r → HasRead range w i m l h (record r { held = held; gets = waiting })
     got r held waiting b =
         same_left range w i m l h r (record r { held = held; gets = waiting })
-        (record { said = refl; fixed = refl; indexes = refl; regions = refl; metadata = keeps_all r.metadata; log = keeps_all r.log; metadata_by = λ position z. z; log_by = λ position z. z }) refl b
+        (record { said = refl; regions = refl; metadata = keeps_all r.metadata; log = keeps_all r.log; metadata_by = λ position z. z; log_by = λ position z. z }) refl b
 
     get_keeps : (d : ServerContext) (r : RangeState) (from : ActorId) (q : ReqNo) (key : List ℕ) → HasRead range w i m l h r → Leaves (get_rule d r from q key)
     get_keeps d r from q key b = go (get_fault d r key)
@@ -75,11 +75,11 @@ module _ (range : ℕ) (w : StreamSystem) (i : ℕ) (m l : machine.MachineState 
     forms_left d r e = go (not (is_some r.out) && (nat_lt 0 (group_count d r) && nat_lt (r.next + group_count d r) (2 ^ 64)))
       where
         go : (t : Bool) → Leaves (if t then appends d r (group_count d r) else goes d r [] [])
-        go true = served _ e
-        go false = served r e
+        go true = served range w i m l h _ e
+        go false = served range w i m l h r e
 
     done_left : (d : ServerContext) (r : RangeState) → r.stage ≡ stages.Serving → (out : Option OutGroup) (extent offset : ℕ) → Leaves (log_done d r out extent offset)
-    done_left d r e None extent offset = served r e
+    done_left d r e None extent offset = served range w i m l h r e
     done_left d r e (Some out) extent offset =
         forms_left d
         (record r {
@@ -91,12 +91,12 @@ module _ (range : ℕ) (w : StreamSystem) (i : ℕ) (m l : machine.MachineState 
 
     -- news of the log of a range that is served
     pub serving_left : (d : ServerContext) (r : RangeState) → r.stage ≡ stages.Serving → (told : Option News) (packets : List Packet) → Leaves (serving_news d r told packets)
-    serving_left d r e None packets = served r e
+    serving_left d r e None packets = served range w i m l h r e
     serving_left d r e (Some news.Fenced) packets = tt
     serving_left d r e (Some (news.Appended n offset)) packets = done_left d r e r.out n offset
-    serving_left d r e (Some (news.Checked n found)) packets = served r e
-    serving_left d r e (Some (news.Sealed n t)) packets = served r e
-    serving_left d r e (Some (news.Content n upto)) packets = served r e
+    serving_left d r e (Some (news.Checked n found)) packets = served range w i m l h r e
+    serving_left d r e (Some (news.Sealed n t)) packets = served range w i m l h r e
+    serving_left d r e (Some (news.Content n upto)) packets = served range w i m l h r e
 
     -- ---- giving up
 
@@ -105,8 +105,6 @@ module _ (range : ℕ) (w : StreamSystem) (i : ℕ) (m l : machine.MachineState 
         same_left range w i m l h r (record r { metadata = one.after; log = two.after; rows = (gives_up_job (used (used d)) r.rows).after; reading = option_map moved_on r.reading; gets = map (λ g. (gives_up_get d r g).0) r.gets })
         (record {
           said = refl;
-          fixed = refl;
-          indexes = refl;
           regions = refl;
           metadata = record { base = kept_metadata.base; extents = kept_metadata.extents; checked = kept_metadata.checked };
           log = record { base = kept_log.base; extents = kept_log.extents; checked = kept_log.checked };
@@ -133,7 +131,7 @@ module _ (range : ℕ) (w : StreamSystem) (i : ℕ) (m l : machine.MachineState 
         kept_log : Keeps log two.after
         kept_log = gives_up_there log (request d) r.log.job
 
-is_served : (r : RangeState) → not (is_serving r.stage) ≡ false → r.stage ≡ stages.Serving
+pub is_served : (r : RangeState) → not (is_serving r.stage) ≡ false → r.stage ≡ stages.Serving
 is_served r e = go r.stage e
   where
     go : (z : Stage) → not (is_serving z) ≡ false → z ≡ stages.Serving
@@ -168,3 +166,10 @@ module _ (generation : ℕ → ℕ) (range : ℕ) (w : StreamSystem) (i : ℕ) (
           forms_left range w i m.stand.state l.stand.state
           (view_after_all (generation i) v (transact_actions r (transacts d r from q changes None))).history d
           (record r { queue = r.queue ++ record { from = from; request = q; changes = changes } ∷ [] }) (is_served r (none_met (tests d r changes) e).0)
+
+  -- a checkpoint is made of a range that is served
+  pub checkpoint_left : checkpoint_fault r ≡ None → RuleReads generation range w i m l v (checkpoint_rule d r) []
+  checkpoint_left e = layer_left range w i m.stand.state l.stand.state v.history d r (is_served r (none_met faults e).0)
+    where
+      faults : List (Refusal × Bool)
+      faults = (refusals.Loading, not (is_serving r.stage)) ∷ (refusals.Busy, is_some r.control || is_some r.fixed) ∷ []

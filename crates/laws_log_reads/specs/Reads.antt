@@ -1,5 +1,5 @@
 -- What a range that is loaded has read of its metadata and of its log, as the history of its view has it.
-use Rattle.std.specs.Prelude.{◌≡◌, ◌⊎◌, ℕ, suc, ◌+◌, ◌<◌, Bool, true, false, List, [], ◌∷◌, length, map, Option, Some, None, slice_get, Contains}
+use Rattle.std.specs.Prelude.{◌≡◌, ◌⊎◌, ℕ, suc, ◌+◌, ◌<◌, ◌≤◌, Bool, true, false, List, [], ◌∷◌, length, map, Option, Some, None, slice_get, Contains}
 use Rattle.wire.specs.declared.body.Body.{Body}
 use Rattle.wire.specs.declared.body.Body.TheVariants as bodies
 use Rattle.wire.specs.declared.body.ReadBody.{ReadBody}
@@ -10,7 +10,11 @@ use Rattle.wire.specs.declared.streams.StreamExtent.{StreamExtent}
 use Rattle.wire.specs.declared.streams.StreamKind.TheVariants as kinds
 use Rattle.wire.specs.declared.streams.StreamName.{StreamName}
 use Rattle.replica.specs.Groups.{Group, text}
-use Rattle.metadata.specs.Fold.{first_metadata}
+use Rattle.metadata.specs.declared.record.MetaItem.{MetaItem}
+use Rattle.metadata.specs.declared.record.MetaItem.TheVariants.{Checkpoint}
+use Rattle.metadata.specs.declared.record.MetaRecord.{MetaRecord}
+use Rattle.metadata.specs.declared.record.Region.{Region}
+use Rattle.metadata.specs.Reading.{group_at}
 use Rattle.client.specs.declared.job.Job.{Job}
 use Rattle.client.specs.declared.job.Job.TheVariants as jobs
 use Rattle.client.specs.Client.{ClientState, last_extent}
@@ -20,12 +24,12 @@ use Rattle.model_partition.specs.declared.stage.Stage.TheVariants as stages
 use Rattle.model_partition.specs.Range.{RangeState, RangeOutcome}
 use Rattle.model_partition.specs.ServerRun.{RangeHistory}
 use Rattle.model_partition.specs.Story.{Copy}
-use Rattle.model_partition.specs.StreamActions.{ExtentRead, StreamAction}
+use Rattle.model_partition.specs.StreamActions.{ExtentRead, StreamAction, first_start}
 use Rattle.model_partition.specs.StreamMachine as machine
 use Rattle.laws_loads.specs.RangeView.{RangeView, view_after_all}
 use Rattle.laws_stream_machine.specs.Refinement.{Purpose, Sent, Reads, purpose_of, IsAt}
 use Rattle.laws_stream_machine.proofs.ExtentSteps.{Sized}
-use Rattle.laws_ranges.specs.Serves.{Side, metadata_of, log_of, is_live}
+use Rattle.laws_ranges.specs.Serves.{Side, metadata_of, log_of, is_live, known}
 
 -- ---- what stands in a stream
 
@@ -38,15 +42,12 @@ module _ (i : ℕ) (s : machine.MachineState Group) where
   StandsOnce = (index end : ℕ) (stood other : List (Copy Group)) → machine.In (machine.Checked i index stood end) s.facts → machine.In (machine.Checked i index other end) s.facts →
       groups_in stood ≡ groups_in other
 
-  -- what stands in an extent is one group behind the other, each as long as it is said to be
+  -- what stands in an extent is one group behind the other, each as long as it is said to be, and ends before the next extent begins
   pub record IsSized : Type 0 where
-    pub sealed : (index : ℕ) (y : machine.SealedExtent Group) → machine.shut_at index s.core.shut ≡ Some y → machine.Chain (machine.base index) y.copies y.end × Sized y.copies
-    pub stood : (index end : ℕ) (copies : List (Copy Group)) → machine.In (machine.Checked i index copies end) s.facts → machine.Chain (machine.base index) copies end × Sized copies
-
-  -- nothing stands in the stream
-  pub record IsEmpty : Type 0 where
-    pub sealed : (index : ℕ) (y : machine.SealedExtent Group) → machine.shut_at index s.core.shut ≡ Some y → y.copies ≡ []
-    pub stood : (index end : ℕ) (copies : List (Copy Group)) → machine.In (machine.Checked i index copies end) s.facts → copies ≡ []
+    pub sealed : (index : ℕ) (y : machine.SealedExtent Group) → machine.shut_at index s.core.shut ≡ Some y →
+        machine.Chain (machine.base index) y.copies y.end × Sized y.copies × (y.end ≤ machine.base (suc index))
+    pub stood : (index end : ℕ) (copies : List (Copy Group)) → machine.In (machine.Checked i index copies end) s.facts →
+        machine.Chain (machine.base index) copies end × Sized copies × (end ≤ machine.base (suc index))
 
 -- ---- the job that is out
 
@@ -77,9 +78,10 @@ module _ (name : StreamName) (w : StreamSystem) (i : ℕ) (s : machine.MachineSt
     pub is : machine.shut_at index s.core.shut ≡ Some shut
     pub same : x.groups ≡ groups_in shut.copies
 
-  abbrev pub AllSealed : List ExtentRead → Type 0
-  AllSealed [] = Unit {0}
-  AllSealed (x ∷ older) = IsSealed (length older) x × AllSealed older
+  -- from the index of the first on
+  abbrev pub AllSealed : ℕ → List ExtentRead → Type 0
+  AllSealed from [] = Unit {0}
+  AllSealed from (x ∷ older) = IsSealed (from + length older) x × AllSealed from older
 
   -- the extent of an index, which had these groups when this incarnation checked its end
   pub record HasStood (index found : ℕ) (x : ExtentRead) : Type 0 where
@@ -89,18 +91,20 @@ module _ (name : StreamName) (w : StreamSystem) (i : ℕ) (s : machine.MachineSt
     pub fact : machine.In (machine.Checked i index stood (machine.base index + found)) s.facts
     pub same : x.groups ≡ groups_in stood
 
-  -- All extents that a client knows are read, from the first of the stream on. Each is sealed, or the last is open and was checked.
-  pub data AllRead (c : ClientState) (reads : List ExtentRead) : Type 0 where
-    WereSealed : (from_start : c.base ≡ 0) (live : is_live (last_extent c.extents) ≡ false) (count : length reads ≡ length c.extents) (sealed : AllSealed reads) → AllRead c reads
-    LastStood : (from_start : c.base ≡ 0) (x : ExtentRead) (older : List ExtentRead) (found : ℕ) (is : reads ≡ x ∷ older) (live : is_live (last_extent c.extents) ≡ true)
-        (count : suc (length older) ≡ length c.extents) (checked : c.checked ≡ Some found) (sealed : AllSealed older) (stood : HasStood (length older) found x) → AllRead c reads
+  -- All extents that a client knows from an index on are read. Each is sealed, or the last is open and was checked.
+  pub data AllRead (from : ℕ) (c : ClientState) (reads : List ExtentRead) : Type 0 where
+    WereSealed : (inside : c.base ≤ from) (live : is_live (last_extent c.extents) ≡ false) (count : from + length reads ≡ known c) (sealed : AllSealed from reads) → AllRead from c reads
+    LastStood : (inside : c.base ≤ from) (x : ExtentRead) (older : List ExtentRead) (found : ℕ) (is : reads ≡ x ∷ older) (live : is_live (last_extent c.extents) ≡ true)
+        (count : suc (from + length older) ≡ known c) (checked : c.checked ≡ Some found) (sealed : AllSealed from older) (stood : HasStood (from + length older) found x) → AllRead from c reads
+    -- the index is behind the last extent, which is open and was checked
+    Nothing : (inside : c.base ≤ from) (found : ℕ) (live : is_live (last_extent c.extents) ≡ true) (count : from ≡ known c) (checked : c.checked ≡ Some found) (none : reads ≡ []) → AllRead from c reads
 
-  -- the extents below a position are read, from the first of the stream on, and the one there is asked for
-  pub record HasReadTo (c : ClientState) (reads : List ExtentRead) (position : ℕ) : Type 0 where
-    pub from_start : c.base ≡ 0
-    pub count : length reads ≡ position
-    pub inside : position < length c.extents
-    pub sealed : AllSealed reads
+  -- the extents from an index on below a position are read, and the one there is asked for
+  pub record HasReadTo (from : ℕ) (c : ClientState) (reads : List ExtentRead) (position : ℕ) : Type 0 where
+    pub inside : c.base ≤ from
+    pub count : from + length reads ≡ c.base + position
+    pub below : position < length c.extents
+    pub sealed : AllSealed from reads
     pub job : ReadsBy c position c.job
 
 -- ---- observations
@@ -124,15 +128,45 @@ module _ (name : StreamName) (w : StreamSystem) where
   Shows sent (bodies.Read (answers.Groups q n groups)) = ReadShows (purpose_of sent q) (answers.Groups q n groups)
   Shows sent body = Unit {0}
 
+-- ---- what the metadata says
+
+abbrev pub IsCheckpoint : MetaItem → Type 0
+IsCheckpoint (Checkpoint combine index position next) = Unit {0}
+IsCheckpoint item = ⊥
+
+-- a group that spells a record spells that of a checkpoint
+abbrev pub SaysCheckpoint : Group → Type 0
+SaysCheckpoint group = (r : MetaRecord) → group_at group ≡ Some r → IsCheckpoint r.item
+
+abbrev pub SayCheckpoints : List Group → Type 0
+SayCheckpoints [] = Unit {0}
+SayCheckpoints (group ∷ groups) = SaysCheckpoint group × SayCheckpoints groups
+
+abbrev pub AllSayCheckpoints : List ExtentRead → Type 0
+AllSayCheckpoints [] = Unit {0}
+AllSayCheckpoints (x ∷ older) = SayCheckpoints x.groups × AllSayCheckpoints older
+
+-- all that stands in the metadata says checkpoints
+pub record HasCheckpoints (i : ℕ) (s : machine.MachineState Group) : Type 0 where
+  pub sealed : (index : ℕ) (y : machine.SealedExtent Group) → machine.shut_at index s.core.shut ≡ Some y → (c : Copy Group) → machine.In c y.copies → SaysCheckpoint c.group
+  pub stood : (index end : ℕ) (copies : List (Copy Group)) → machine.In (machine.Checked i index copies end) s.facts → (c : Copy Group) → machine.In c copies → SaysCheckpoint c.group
+
+abbrev pub IsSole : List Region → Type 0
+IsSole regions = (region : Region) × (regions ≡ region ∷ [])
+
+-- where all that was read says checkpoints, one region of the log is left to be applied
+abbrev pub SaysSole : RangeHistory → RangeState → Type 0
+SaysSole h r = AllSayCheckpoints (h.reads kinds.Metadata) → IsSole r.said.regions
+
 -- ---- a range
 
--- what is so through all of a load; Streams: what is so of what was read of its metadata and its log
-pub record Loads (r : RangeState) (Streams : Type 0) : Type 0 where
-  pub said : r.said ≡ first_metadata
-  pub fixed : r.fixed ≡ None
-  -- the first metadata names no index
-  pub indexes : r.indexes ≡ []
-  pub streams : Streams
+-- the index of the log's extent that the first region begins in
+abbrev pub first_index : RangeState → ℕ
+first_index r = (first_start r.said.regions).index
+
+-- while nothing of the log is read, the regions are those that the metadata says
+abbrev pub AreUnapplied : RangeHistory → RangeState → Type 0
+AreUnapplied h r = h.reads kinds.Log ≡ [] → r.regions ≡ r.said.regions
 
 module _ (range : ℕ) (w : StreamSystem) (i : ℕ) (m l : machine.MachineState Group) (h : RangeHistory) where
   -- nothing is read yet
@@ -140,41 +174,53 @@ module _ (range : ℕ) (w : StreamSystem) (i : ℕ) (m l : machine.MachineState 
     pub metadata : h.reads kinds.Metadata ≡ []
     pub log : h.reads kinds.Log ≡ []
 
+  -- the same, where the streams are opened
+  pub record HasOpened (r : RangeState) : Type 0 where
+    pub metadata : h.reads kinds.Metadata ≡ []
+    pub log : h.reads kinds.Log ≡ []
+    pub sole : SaysSole h r
+
   -- the metadata is read below a position, and nothing of the log
   pub record HasReadMetadataTo (r : RangeState) (position : ℕ) : Type 0 where
-    pub metadata : HasReadTo (metadata_of range) w i m r.metadata (h.reads kinds.Metadata) position
+    pub metadata : HasReadTo (metadata_of range) w i m 0 r.metadata (h.reads kinds.Metadata) position
     pub log : h.reads kinds.Log ≡ []
+    pub sole : SaysSole h r
 
-  -- all of the metadata is read, and nothing of the log, which is to be read from its first extent on
+  -- all of the metadata is read, and nothing of the log, which is to be read from where the metadata says
   pub record HasReadMetadata (r : RangeState) : Type 0 where
-    pub metadata : AllRead (metadata_of range) w i m r.metadata (h.reads kinds.Metadata)
+    pub metadata : AllRead (metadata_of range) w i m 0 r.metadata (h.reads kinds.Metadata)
     pub log : h.reads kinds.Log ≡ []
-    pub regions : r.regions ≡ first_metadata.regions
+    pub regions : r.regions ≡ r.said.regions
+    pub sole : SaysSole h r
 
   -- all of the metadata is read, and the log below a position
   pub record HasReadLogTo (r : RangeState) (position : ℕ) : Type 0 where
-    pub metadata : AllRead (metadata_of range) w i m r.metadata (h.reads kinds.Metadata)
-    pub log : HasReadTo (log_of range) w i l r.log (h.reads kinds.Log) position
+    pub metadata : AllRead (metadata_of range) w i m 0 r.metadata (h.reads kinds.Metadata)
+    pub log : HasReadTo (log_of range) w i l (first_index r) r.log (h.reads kinds.Log) position
     pub shown : AllShown w (h.reads kinds.Log)
+    pub sole : SaysSole h r
+    pub unapplied : AreUnapplied h r
 
   -- all of both is read
   pub record HasReadAll (r : RangeState) : Type 0 where
-    pub metadata : AllRead (metadata_of range) w i m r.metadata (h.reads kinds.Metadata)
-    pub log : AllRead (log_of range) w i l r.log (h.reads kinds.Log)
+    pub metadata : AllRead (metadata_of range) w i m 0 r.metadata (h.reads kinds.Metadata)
+    pub log : AllRead (log_of range) w i l (first_index r) r.log (h.reads kinds.Log)
     pub shown : AllShown w (h.reads kinds.Log)
+    pub sole : SaysSole h r
+    pub unapplied : AreUnapplied h r
 
   abbrev pub HasReadAt : RangeState → Stage → Type 0
-  HasReadAt r stages.Opening = Loads r HasReadNothing
-  HasReadAt r (stages.Checking kinds.Metadata) = Loads r HasReadNothing
-  HasReadAt r (stages.Checking kinds.Log) = Loads r (HasReadMetadata r)
+  HasReadAt r stages.Opening = HasReadNothing
+  HasReadAt r (stages.Checking kinds.Metadata) = HasOpened r
+  HasReadAt r (stages.Checking kinds.Log) = HasReadMetadata r
   HasReadAt r (stages.Checking kinds.RowData) = ⊥
   HasReadAt r (stages.Checking kinds.BlobData) = ⊥
-  HasReadAt r (stages.Reading kinds.Metadata position) = Loads r (HasReadMetadataTo r position)
-  HasReadAt r (stages.Reading kinds.Log position) = Loads r (HasReadLogTo r position)
+  HasReadAt r (stages.Reading kinds.Metadata position) = HasReadMetadataTo r position
+  HasReadAt r (stages.Reading kinds.Log position) = HasReadLogTo r position
   HasReadAt r (stages.Reading kinds.RowData position) = ⊥
   HasReadAt r (stages.Reading kinds.BlobData position) = ⊥
-  HasReadAt r (stages.Indexing position) = Loads r (HasReadAll r)
-  HasReadAt r stages.Confirming = Loads r (HasReadAll r)
+  HasReadAt r (stages.Indexing position) = HasReadAll r
+  HasReadAt r stages.Confirming = HasReadAll r
   HasReadAt r stages.Serving = Unit {0}
 
   -- what a range has read of its metadata and its log is what the history has

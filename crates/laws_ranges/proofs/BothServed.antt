@@ -24,9 +24,9 @@ use Rattle.model_partition.specs.Answering.{groups_of, metadata_reply, log_reply
 use Rattle.model_partition.specs.StreamActions.{StreamAction, transact_actions, metadata_actions, index_stood_in}
 use Rattle.laws_stream_machine.specs.Refinement.{Sent, Means}
 use Rattle.laws_loads.specs.RangeView.{RangeView, view_after_all}
-use Rattle.laws_ranges.specs.Serves.{Side, after_turns, sent_with, metadata_of, log_of, ServingIs, OutIs, IsCounted, ServesLogIf, Apart, BothListed, IsSentBy}
+use Rattle.laws_ranges.specs.Serves.{is_recording_in, RecordIs, Side, after_turns, sent_with, metadata_of, log_of, ServingIs, OutIs, IsCounted, ServesLogIf, Apart, BothListed, IsSentBy}
 use Rattle.laws_ranges.specs.Seen.{LogRule}
-use Rattle.laws_ranges.specs.Records.{is_recording_in, RecordIs, ServesMetadataIf, MetadataRule, ServesBoth, ServesBothIf, ServedRule}
+use Rattle.laws_ranges.specs.Records.{ServesMetadataIf, MetadataRule, ServesBoth, ServesBothIf, ServedRule}
 use Rattle.laws_ranges.proofs.MachineSteps.{purposes_on}
 use Rattle.laws_ranges.proofs.OneStory.{others_leave, still_seen}
 use Rattle.laws_ranges.proofs.LogRules.{reply_actions, transact_goes, log_reply_goes}
@@ -113,7 +113,7 @@ module _ (generation : ℕ → ℕ) (range : ℕ) (w : StreamSystem) (i : ℕ) (
           log_adds = record { number = d.count; from = omega arith; purpose = rule.purpose; is = refl };
           sent_by = record { apart = apart; metadata = same_unused d o.count rule.purpose m.sent by.metadata rule.counts; log = unused_on d o.count rule.purpose l.sent by.log rule.counts };
           then = log_then k o.after keeps rule.then;
-          asked = asked_of_both generation range w i both m k apart o.packets rule.asked;
+          asked = asked_of_both generation range w i both o.after m k apart o.packets rule.asked;
         };
         metadata = λ s. still_seen generation i kinds.Metadata v (view_after_all (generation i) v done) m.stand (others_leave generation i kinds.Log kinds.Metadata refl v done rule.here) s;
         log = rule.seen v;
@@ -158,7 +158,7 @@ module _ (generation : ℕ → ℕ) (range : ℕ) (w : StreamSystem) (i : ℕ) (
           log_adds = record { number = d.count; from = omega arith; purpose = None; is = refl };
           sent_by = record { apart = apart; metadata = unused_on d o.count rule.purpose m.sent by.metadata (inl count); log = same_unused d o.count rule.purpose l.sent by.log (inl count) };
           then = metadata_then n o.after keeps rule.then;
-          asked = asked_of_metadata generation range w i both n l apart o.packets rule.asked;
+          asked = asked_of_metadata generation range w i both o.after n l apart o.packets rule.asked;
         };
         metadata = rule.seen v;
         log = λ s. still_seen generation i kinds.Log v (view_after_all (generation i) v done) l.stand (others_leave generation i kinds.Metadata kinds.Log refl v done rule.here) s;

@@ -48,7 +48,7 @@ module _ (generation : ℕ → ℕ) (range : ℕ) (w : StreamSystem) (i : ℕ) (
     second_side = record { stand = after_turns generation i l.stand two.list; sent = sent_with (request d) two.purpose l.sent }
 
     unfoldable pub both_step : (after : RangeState) (packets : List Packet) (shown : List TableNote) → Apart first_side.sent second_side.sent → Follows generation range w i first_side second_side after →
-        AskedOfBoth generation range w i first_side second_side packets → RuleGoes generation range w i m l d (goes d after packets shown)
+        AskedOfBoth generation range w i (Some after) first_side second_side packets → RuleGoes generation range w i m l d (goes d after packets shown)
     both_step after packets shown apart follows asked =
         record {
           metadata_turns = one.list;
@@ -101,15 +101,15 @@ module _ (generation : ℕ → ℕ) (range : ℕ) (w : StreamSystem) (i : ℕ) (
   metadata_elsewhere s m l a (bodies.Stream body) b = absurd b
   metadata_elsewhere s m l a body b = absurd b
 
-  pub asked_of_metadata : (n k : Side) → Apart n.sent k.sent → (ps : List Packet) → AreAsked generation range w i (metadata_of range) n.stand n.sent ps → AskedOfBoth generation range w i n k ps
-  asked_of_metadata n k a [] asked = tt
-  asked_of_metadata n k a (p ∷ ps) (inl plain, asked) = ((asked_of_both generation range w i both n k a (p ∷ []) (inl plain, tt)).0, asked_of_metadata n k a ps asked)
-  asked_of_metadata n k a (p ∷ ps) (inr own, asked) =
-      ((own.0, metadata_elsewhere k.stand.state n.sent k.sent a p.body own.1, λ q is one two. own_known generation range w i both (metadata_of range) n.sent p.body own.1 q is one), asked_of_metadata n k a ps asked)
+  pub asked_of_metadata : (after : Option RangeState) (n k : Side) → Apart n.sent k.sent → (ps : List Packet) → AreAsked generation range w i (metadata_of range) n.stand n.sent ps → AskedOfBoth generation range w i after n k ps
+  asked_of_metadata after n k a [] asked = tt
+  asked_of_metadata after n k a (p ∷ ps) (inl plain, asked) = ((asked_of_both generation range w i both after n k a (p ∷ []) (inl plain, tt)).0, asked_of_metadata after n k a ps asked)
+  asked_of_metadata after n k a (p ∷ ps) (inr own, asked) =
+      ((own.0, metadata_elsewhere k.stand.state n.sent k.sent a p.body own.1, λ q is one two. absurd (own_known generation range w i both (metadata_of range) n.sent p.body own.1 q is one)), asked_of_metadata after n k a ps asked)
 
-  pub asked_joined : (n k : Side) (ps qs : List Packet) → AskedOfBoth generation range w i n k ps → AskedOfBoth generation range w i n k qs → AskedOfBoth generation range w i n k (ps ++ qs)
-  asked_joined n k [] qs a b = b
-  asked_joined n k (p ∷ ps) qs a b = (a.0, asked_joined n k ps qs a.1 b)
+  pub asked_joined : (after : Option RangeState) (n k : Side) (ps qs : List Packet) → AskedOfBoth generation range w i after n k ps → AskedOfBoth generation range w i after n k qs → AskedOfBoth generation range w i after n k (ps ++ qs)
+  asked_joined after n k [] qs a b = b
+  asked_joined after n k (p ∷ ps) qs a b = (a.0, asked_joined after n k ps qs a.1 b)
 
   module _ (m l : Side) (d : ServerContext) (by : IsSentBy d d.count m.sent l.sent) where
     -- ---- a step of one client
@@ -122,7 +122,7 @@ module _ (generation : ℕ → ℕ) (range : ℕ) (w : StreamSystem) (i : ℕ) (
         let k : Side = record { stand = after_turns generation i l.stand went.list; sent = sent_with (request d) went.purpose l.sent } in
         let apart : Apart m.sent k.sent = apart_on m.sent l.sent (request d) went.purpose by.apart (by.metadata d.count (omega arith)) in
         both_step generation range w i m l d by (λ y more. Unit {0}) Then None p idle went after (option_to_list p) [] apart follows
-        (asked_of_both generation range w i both m k apart (option_to_list p) (asked_if generation range w i (log_of range) k.stand k.sent p went.asked))
+        (asked_of_both generation range w i both (Some after) m k apart (option_to_list p) (asked_if generation range w i (log_of range) k.stand k.sent p went.asked))
 
     pub metadata_step : (after : RangeState) (p : Option Packet) (Then : Stand → List Sent → Type 0) (went : Goes generation (metadata_of range) w i m.stand m.sent (request d) Then p) →
         Follows generation range w i (record { stand = after_turns generation i m.stand went.list; sent = sent_with (request d) went.purpose m.sent }) l after →
@@ -132,13 +132,13 @@ module _ (generation : ℕ → ℕ) (range : ℕ) (w : StreamSystem) (i : ℕ) (
         let n : Side = record { stand = after_turns generation i m.stand went.list; sent = sent_with (request d) went.purpose m.sent } in
         let apart : Apart n.sent l.sent = apart_first m.sent l.sent (request d) went.purpose by.apart (by.log d.count (omega arith)) in
         both_step generation range w i m l d by Then (λ y more. Unit {0}) p None went idle after (option_to_list p) [] apart follows
-        (asked_of_metadata n l apart (option_to_list p) (asked_if generation range w i (metadata_of range) n.stand n.sent p went.asked))
+        (asked_of_metadata (Some after) n l apart (option_to_list p) (asked_if generation range w i (metadata_of range) n.stand n.sent p went.asked))
 
     -- ---- a step that turns neither
 
-    pub still_quietly : (after : Option RangeState) (count : ℕ) (packets : List Packet) → FollowsIf generation range w i after m l → d.count ≤ count →
-        AreAsked generation range w i (log_of range) l.stand l.sent packets → GoesQuietly generation range w i m l d (record { after = after; count = count; packets = packets; notes = [] })
-    still_quietly after count packets follows more asked =
+    pub still_asked : (after : Option RangeState) (count : ℕ) (packets : List Packet) → FollowsIf generation range w i after m l → d.count ≤ count →
+        AskedOfBoth generation range w i after m l packets → GoesQuietly generation range w i m l d (record { after = after; count = count; packets = packets; notes = [] })
+    still_asked after count packets follows more asked =
         record {
           goes = record {
             metadata_turns = [];
@@ -155,11 +155,15 @@ module _ (generation : ℕ → ℕ) (range : ℕ) (w : StreamSystem) (i : ℕ) (
             log_adds = record { number = d.count; from = omega arith; purpose = None; is = refl };
             sent_by = record { apart = by.apart; metadata = λ k le. by.metadata k (omega (arith, le, more)); log = λ k le. by.log k (omega (arith, le, more)) };
             then = follows;
-            asked = asked_of_both generation range w i both m l by.apart packets asked;
+            asked = asked;
           };
           metadata = tt;
           log = tt;
         }
+
+    pub still_quietly : (after : Option RangeState) (count : ℕ) (packets : List Packet) → FollowsIf generation range w i after m l → d.count ≤ count →
+        AreAsked generation range w i (log_of range) l.stand l.sent packets → GoesQuietly generation range w i m l d (record { after = after; count = count; packets = packets; notes = [] })
+    still_quietly after count packets follows more asked = still_asked after count packets follows more (asked_of_both generation range w i both after m l by.apart packets asked)
 
     pub still_both : (after : RangeState) (count : ℕ) (packets : List Packet) → Follows generation range w i m l after → d.count ≤ count →
         AreAsked generation range w i (log_of range) l.stand l.sent packets → RuleGoes generation range w i m l d (record { after = Some after; count = count; packets = packets; notes = [] })
@@ -191,7 +195,7 @@ module _ (generation : ℕ → ℕ) (range : ℕ) (w : StreamSystem) (i : ℕ) (
     same_stage (stages.Indexing position) b =
         record { phase = b.phase; metadata = b.metadata; metadata_idle = b.metadata_idle; log = b.log; log_idle = b.log_idle }
     same_stage stages.Confirming b = record { q = b.q; phase = b.phase; metadata = b.metadata; log = b.log }
-    same_stage stages.Serving b = record { phase = b.phase; metadata = b.metadata; metadata_idle = b.metadata_idle; log = b.log; out = b.out }
+    same_stage stages.Serving b = record { phase = b.phase; metadata = b.metadata; record_is = b.record_is; log = b.log; out = b.out; position = b.position; trims = b.trims }
 
     pub follows_same : Follows generation range w i m l r → Follows generation range w i m l (kept_but r until gets held)
-    follows_same b = record { range_is = b.range_is; under = b.under; calm = b.calm; stage = same_stage r.stage b.stage }
+    follows_same b = record { range_is = b.range_is; under = b.under; calm = b.calm; rows = b.rows; stage = same_stage r.stage b.stage }

@@ -13,7 +13,8 @@ use Rattle.model_partition.specs.Loading.{confirms}
 use Rattle.model_partition.specs.Server.{new_range}
 use Rattle.model_partition.specs.ServerTurns as turns
 use Rattle.laws_stream_machine.specs.Refinement.{Purpose, Sent, purpose_of, Opens, Confirms, IsAsked}
-use Rattle.laws_ranges.specs.Serves.{HasNoCheckpoint, Side, after_turns, sent_with, is_alone, metadata_of, log_of, LoadingIs, Goes, Apart, IsSentBy, RuleGoes}
+use Rattle.laws_ranges.specs.Serves.{RowsStand, HasNoCheckpoint, Side, after_turns, sent_with, is_alone, metadata_of, log_of, LoadingIs, Goes, Apart, IsSentBy, RuleGoes}
+use Rattle.laws_ranges.proofs.RowData.{rows_idle}
 use Rattle.laws_ranges.proofs.OpenAndConfirm.{assigned_goes, confirms_goes, ConfirmsNow, open_asked, confirm_asked}
 use Rattle.laws_ranges.proofs.BothStreams.{both_step}
 
@@ -47,6 +48,7 @@ module _ (generation : ℕ → ℕ) (range : ℕ) (w : StreamSystem) (i : ℕ) (
     pub range_is : r.load.range ≡ range
     pub under : r.load.generation ≡ generation i
     pub calm : HasNoCheckpoint r
+    pub rows : RowsStand range w m.sent l.sent r.rows
     pub metadata : LoadingIs generation (metadata_of range) w i m.stand m.sent r.metadata
     pub metadata_idle : r.metadata.job ≡ jobs.Idle
     pub log : LoadingIs generation (log_of range) w i l.stand l.sent r.log
@@ -77,7 +79,8 @@ module _ (generation : ℕ → ℕ) (range : ℕ) (w : StreamSystem) (i : ℕ) (
       (record {
         range_is = b.range_is;
         under = b.under;
-        calm = b.calm;
+        calm = λ u. b.calm;
+        rows = rows_idle range w m.sent l.sent _ _ r.rows b.calm.0 b.rows;
         stage = record {
           q = q;
           phase = refl;
@@ -105,7 +108,8 @@ module _ (generation : ℕ → ℕ) (range : ℕ) (w : StreamSystem) (i : ℕ) (
       (record {
         range_is = refl;
         under = refl;
-        calm = (refl, refl);
+        calm = λ u. (refl, refl);
+        rows = record { stream = refl; listed = λ x here. absurd (omega (arith, here.1)); job = tt };
         stage = record {
           q = q;
           phase = refl;

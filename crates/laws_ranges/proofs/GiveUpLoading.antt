@@ -1,5 +1,5 @@
 -- What a range that is not served yet does when it is told to give up, as both streams see it.
-use Rattle.std.proofs.Common.{◌≡◌, ℕ, suc, List, [], ◌++◌, map, flat_map, Option, Some, None, option_map, option_to_list, refl, sym, ap, ◌∙◌, subst, inl, arith}
+use Rattle.std.proofs.Common.{◌≡◌, ℕ, suc, List, [], ◌++◌, map, flat_map, Option, Some, None, option_map, option_to_list, refl, sym, ap, ◌∙◌, subst, inl, arith, true, false}
 use Rattle.wire.specs.declared.actor.ReqNo.{ReqNo}
 use Rattle.wire.specs.declared.body.Body.{Body}
 use Rattle.wire.specs.declared.body.Body.TheVariants as bodies
@@ -16,20 +16,21 @@ use Rattle.model_streams.specs.StreamSystem.{StreamSystem}
 use Rattle.model_partition.specs.declared.server_context.ServerContext.{ServerContext}
 use Rattle.model_partition.specs.declared.stage.Stage.{Stage}
 use Rattle.model_partition.specs.declared.stage.Stage.TheVariants as stages
-use Rattle.model_partition.specs.Range.{RangeState, RangeOutcome, request, used}
+use Rattle.model_partition.specs.Range.{is_serving, RangeState, RangeOutcome, request, used}
 use Rattle.model_partition.specs.PlaceReads.{moved_on}
 use Rattle.model_partition.specs.Getting.{gives_up_get}
 use Rattle.model_partition.specs.Answering.{gives_up_reading, give_up_all}
 use Rattle.model_partition.specs.CheckpointStates.{CheckpointState}
 use Rattle.model_partition.specs.Checkpoints.{trim_again}
 use Rattle.laws_stream_machine.specs.Refinement.{Sent, purpose_of, Opens, Confirms, IsAsked}
-use Rattle.laws_ranges.specs.Serves.{HasNoCheckpoint, Stand, Side, after_turns, sent_with, metadata_of, log_of, Goes, Apart, AreUnused, LoadingIs, UnreadIs, OpeningIs, ConfirmingIs, IsOpening, LoadsMetadata, LoadsLog, LoadsIndexes, IsConfirming, StageIs, Follows, BothListed, IsSentBy, IsKnown, AskedOfBoth, RuleGoes}
+use Rattle.laws_ranges.specs.Serves.{RowsStand, HasNoCheckpoint, Stand, Side, after_turns, sent_with, metadata_of, log_of, Goes, Apart, AreUnused, LoadingIs, UnreadIs, OpeningIs, ConfirmingIs, IsOpening, LoadsMetadata, LoadsLog, LoadsIndexes, IsConfirming, StageIs, Follows, BothListed, IsSentBy, IsKnown, AskedOfBoth, RuleGoes}
+use Rattle.laws_ranges.proofs.RowData.{rows_idle}
 use Rattle.laws_ranges.proofs.MachineSteps.{purposes_on}
 use Rattle.laws_ranges.proofs.AppendJob.{rests}
 use Rattle.laws_ranges.proofs.LogRules.{asked_if}
 use Rattle.laws_ranges.proofs.ServedRules.{unused_on, apart_on, asked_of_both}
 use Rattle.laws_ranges.proofs.OpenAndConfirm.{open_asked, confirm_asked}
-use Rattle.laws_ranges.proofs.GiveUp.{read_again, read_again_plain, give_up_both}
+use Rattle.laws_ranges.proofs.GiveUp.{read_again, read_again_plain}
 use Rattle.laws_ranges.proofs.LoadTurns.{give_up_loading}
 use Rattle.laws_ranges.proofs.ServerPick.{picked_loading, picked_unread, picked_confirming}
 use Rattle.laws_ranges.proofs.BothStreams.{apart_first, asked_of_metadata, asked_joined}
@@ -63,7 +64,7 @@ module _ (generation : ℕ → ℕ) (range : ℕ) (w : StreamSystem) (i : ℕ) (
     abbrev second_side : Side
     second_side = record { stand = after_turns generation i l.stand two.list; sent = sent_with (request d) two.purpose l.sent }
 
-    gave_both : Follows generation range w i first_side second_side (gave_up a b) → AskedOfBoth generation range w i first_side second_side (option_to_list first) → RuleGoes generation range w i m l d (gave a b first)
+    gave_both : Follows generation range w i first_side second_side (gave_up a b) → AskedOfBoth generation range w i (Some (gave_up a b)) first_side second_side (option_to_list first) → RuleGoes generation range w i m l d (gave a b first)
     gave_both follows asked_first =
         let one_sent : List Sent = sent_with (request (used d)) one.purpose m.sent in
         let two_sent : List Sent = sent_with (request d) two.purpose l.sent in
@@ -92,12 +93,12 @@ module _ (generation : ℕ → ℕ) (range : ℕ) (w : StreamSystem) (i : ℕ) (
             log = λ j le. unused j (omega (arith, le));
           };
           then = follows;
-          asked = asked_joined generation range w i both n k (option_to_list first) (option_to_list b.packet ++ (option_to_list a.packet ++ again_asked)) asked_first
-              (asked_joined generation range w i both n k (option_to_list b.packet) (option_to_list a.packet ++ again_asked)
-              (asked_of_both generation range w i both n k apart (option_to_list b.packet) (asked_if generation range w i (log_of range) k.stand two_sent b.packet two.asked))
-              (asked_joined generation range w i both n k (option_to_list a.packet) again_asked
-              (asked_of_metadata generation range w i both n k apart (option_to_list a.packet) (asked_if generation range w i (metadata_of range) n.stand one_sent a.packet one.asked))
-              (asked_of_both generation range w i both n k apart again_asked (read_again_plain generation range w i (log_of range) k.stand two_sent d r))));
+          asked = asked_joined generation range w i both (Some (gave_up a b)) n k (option_to_list first) (option_to_list b.packet ++ (option_to_list a.packet ++ again_asked)) asked_first
+              (asked_joined generation range w i both (Some (gave_up a b)) n k (option_to_list b.packet) (option_to_list a.packet ++ again_asked)
+              (asked_of_both generation range w i both (Some (gave_up a b)) n k apart (option_to_list b.packet) (asked_if generation range w i (log_of range) k.stand two_sent b.packet two.asked))
+              (asked_joined generation range w i both (Some (gave_up a b)) n k (option_to_list a.packet) again_asked
+              (asked_of_metadata generation range w i both (Some (gave_up a b)) n k apart (option_to_list a.packet) (asked_if generation range w i (metadata_of range) n.stand one_sent a.packet one.asked))
+              (asked_of_both generation range w i both (Some (gave_up a b)) n k apart again_asked (read_again_plain generation range w i (log_of range) k.stand two_sent d r))));
         }
 
   -- ---- the jobs of both
@@ -128,7 +129,7 @@ module _ (generation : ℕ → ℕ) (range : ℕ) (w : StreamSystem) (i : ℕ) (
   abbrev GivesUp : Job → Job → LoadPhase → Job → Option CheckpointState → Type 0
   GivesUp j k p g control = RuleGoes generation range w i m l d (gave_all (metadata_gives j) (log_gives k) (rows_gives g) control (again r.load p))
 
-  module _ (range_is : r.load.range ≡ range) (under : r.load.generation ≡ generation i) (calm : HasNoCheckpoint r) where
+  module _ (range_is : r.load.range ≡ range) (under : r.load.generation ≡ generation i) (calm : HasNoCheckpoint r) (rows : RowsStand range w m.sent l.sent r.rows) where
     gives_up : (j k : Job) (p : LoadPhase) → r.metadata.job ≡ j → r.log.job ≡ k → r.load.phase ≡ p → RuleGoes generation range w i m l d (gave (metadata_gives j) (log_gives k) (again r.load p)) →
         RuleGoes generation range w i m l d (give_up_all d r)
     gives_up j k p ej ek ep rule =
@@ -137,13 +138,17 @@ module _ (generation : ℕ → ℕ) (range : ℕ) (w : StreamSystem) (i : ℕ) (
         (subst (λ z. GivesUp j k z r.rows.job r.control) (sym ep)
         (subst (λ z. GivesUp j k p z r.control) (sym calm.0) (subst (λ z. GivesUp j k p jobs.Idle z) (sym calm.1) rule))))
 
-    abbrev AskedTwice : Side → Side → Body → Type 0
-    AskedTwice n k body = IsAsked generation (metadata_of range) w n.stand.state n.sent body × IsAsked generation (log_of range) w k.stand.state k.sent body × IsKnown generation range w i n.sent k.sent body
+    -- nothing is out to row data
+    rows_left : (n k : Side) → RowsStand range w n.sent k.sent (record r.rows { pick = d.pick })
+    rows_left n k = rows_idle range w m.sent l.sent n.sent k.sent (record r.rows { pick = d.pick }) calm.0 (record { stream = rows.stream; listed = rows.listed; job = rows.job })
+
+    abbrev AskedTwice : Option RangeState → Side → Side → Body → Type 0
+    AskedTwice after n k body = IsAsked generation (metadata_of range) w n.stand.state n.sent body × IsAsked generation (log_of range) w k.stand.state k.sent body × IsKnown generation range w i after n.sent k.sent body
 
     -- what is asked for the range and its generation
-    of_load : (n k : Side) (about : ℕ → ℕ → Body) → AskedTwice n k (about range (generation i)) → AskedTwice n k (about r.load.range r.load.generation)
-    of_load n k about asked =
-        subst (λ g. AskedTwice n k (about r.load.range g)) (sym under) (subst (λ g. AskedTwice n k (about g (generation i))) (sym range_is) asked)
+    of_load : (after : Option RangeState) (n k : Side) (about : ℕ → ℕ → Body) → AskedTwice after n k (about range (generation i)) → AskedTwice after n k (about r.load.range r.load.generation)
+    of_load after n k about asked =
+        subst (λ g. AskedTwice after n k (about r.load.range g)) (sym under) (subst (λ g. AskedTwice after n k (about g (generation i))) (sym range_is) asked)
 
     -- ---- the streams are to be opened
 
@@ -154,11 +159,12 @@ module _ (generation : ℕ → ℕ) (range : ℕ) (w : StreamSystem) (i : ℕ) (
         (record {
           range_is = range_is;
           under = under;
-          calm = calm;
+          calm = λ u. calm;
+          rows = rows_left n k;
           stage = subst (λ s. StageIs generation range w i n k (gave_up a z) s) (sym stage)
               (record { q = b.q; phase = b.phase; metadata = one.then; log = two.then; metadata_idle = b.metadata_idle; log_idle = b.log_idle });
         })
-        (of_load n k (λ g h. bodies.Stream (streams.OpenStreams g h b.q)) (open_asked generation (metadata_of range) w i n.stand n.sent b.q one.then, open_asked generation (log_of range) w i k.stand k.sent b.q two.then, λ v is none other. known v is none), tt))
+        (of_load (Some (gave_up a z)) n k (λ g h. bodies.Stream (streams.OpenStreams g h b.q)) (open_asked generation (metadata_of range) w i n.stand n.sent b.q one.then, open_asked generation (log_of range) w i k.stand k.sent b.q two.then, λ v is none other. absurd (known v is none)), tt))
       where
         a : Outcome
         a = metadata_gives jobs.Idle
@@ -196,11 +202,12 @@ module _ (generation : ℕ → ℕ) (range : ℕ) (w : StreamSystem) (i : ℕ) (
         (record {
           range_is = range_is;
           under = under;
-          calm = calm;
+          calm = λ u. calm;
+          rows = rows_left n k;
           stage = subst (λ s. StageIs generation range w i n k (gave_up a z) s) (sym stage) (record { q = b.q; phase = b.phase; metadata = one.then; log = two.then });
         }) (
-          of_load n k (λ g h. bodies.Stream (streams.Confirm g h b.q))
-              (confirm_asked generation (metadata_of range) w i n.stand n.sent a.after b.q one.then, confirm_asked generation (log_of range) w i k.stand k.sent z.after b.q two.then, λ v is none other. known v is none),
+          of_load (Some (gave_up a z)) n k (λ g h. bodies.Stream (streams.Confirm g h b.q))
+              (confirm_asked generation (metadata_of range) w i n.stand n.sent a.after b.q one.then, confirm_asked generation (log_of range) w i k.stand k.sent z.after b.q two.then, λ v is none other. absurd (known v is none)),
           tt,
         ))
       where
@@ -241,7 +248,8 @@ module _ (generation : ℕ → ℕ) (range : ℕ) (w : StreamSystem) (i : ℕ) (
         (record {
           range_is = range_is;
           under = under;
-          calm = calm;
+          calm = λ u. calm;
+          rows = rows_left n k;
           stage = keeps n k (gave_up a z) refl (record { phase = b.phase; metadata = one.then; log = two.then });
         })
         tt)
@@ -283,7 +291,8 @@ module _ (generation : ℕ → ℕ) (range : ℕ) (w : StreamSystem) (i : ℕ) (
         (record {
           range_is = range_is;
           under = under;
-          calm = calm;
+          calm = λ u. calm;
+          rows = rows_left n k;
           stage = keeps n k (gave_up a z) refl (record { phase = b.phase; metadata = one.then; metadata_idle = b.metadata_idle; log = two.then });
         })
         tt)
@@ -324,7 +333,8 @@ module _ (generation : ℕ → ℕ) (range : ℕ) (w : StreamSystem) (i : ℕ) (
         (record {
           range_is = range_is;
           under = under;
-          calm = calm;
+          calm = λ u. calm;
+          rows = rows_left n k;
           stage = subst (λ s. StageIs generation range w i n k (gave_up a z) s) (sym stage)
               (record { phase = b.phase; metadata = one.then; metadata_idle = b.metadata_idle; log = two.then; log_idle = b.log_idle });
         })
@@ -357,7 +367,7 @@ module _ (generation : ℕ → ℕ) (range : ℕ) (w : StreamSystem) (i : ℕ) (
 -- ---- whatever the stage
 
 module _ (generation : ℕ → ℕ) (range : ℕ) (w : StreamSystem) (i : ℕ) (both : BothListed w range) (m l : Side) (d : ServerContext) (by : IsSentBy d d.count m.sent l.sent)
-    (r : RangeState) (f : Follows generation range w i m l r) where
+    (r : RangeState) (f : Follows generation range w i m l r) (unserved : is_serving r.stage ≡ false) where
   abbrev GaveUp : Type 0
   GaveUp = RuleGoes generation range w i m l d (give_up_all d r)
 
@@ -370,22 +380,22 @@ module _ (generation : ℕ → ℕ) (range : ℕ) (w : StreamSystem) (i : ℕ) (
   log_stays e stage is n k s same b = subst (λ g. StageIs generation range w i n k s g) (sym (same ∙ stage)) (is n k s b)
 
   gave_up_at : (s : Stage) → r.stage ≡ s → StageIs generation range w i m l r s → GaveUp
-  gave_up_at stages.Opening e b = opening_gives generation range w i both m l d by r f.range_is f.under f.calm b e
+  gave_up_at stages.Opening e b = opening_gives generation range w i both m l d by r f.range_is f.under (f.calm (ap is_serving e)) f.rows b e
   gave_up_at (stages.Checking kinds.Metadata) e b =
-      metadata_gives_up generation range w i both m l d by r f.range_is f.under f.calm b (metadata_stays (stages.Checking kinds.Metadata) e (λ n k s z. z))
+      metadata_gives_up generation range w i both m l d by r f.range_is f.under (f.calm (ap is_serving e)) f.rows b (metadata_stays (stages.Checking kinds.Metadata) e (λ n k s z. z))
   gave_up_at (stages.Checking kinds.Log) e b =
-      log_gives_up generation range w i both m l d by r f.range_is f.under f.calm b (log_stays (stages.Checking kinds.Log) e (λ n k s z. z))
+      log_gives_up generation range w i both m l d by r f.range_is f.under (f.calm (ap is_serving e)) f.rows b (log_stays (stages.Checking kinds.Log) e (λ n k s z. z))
   gave_up_at (stages.Checking kinds.RowData) e b = absurd b
   gave_up_at (stages.Checking kinds.BlobData) e b = absurd b
   gave_up_at (stages.Reading kinds.Metadata position) e b =
-      metadata_gives_up generation range w i both m l d by r f.range_is f.under f.calm b (metadata_stays (stages.Reading kinds.Metadata position) e (λ n k s z. z))
+      metadata_gives_up generation range w i both m l d by r f.range_is f.under (f.calm (ap is_serving e)) f.rows b (metadata_stays (stages.Reading kinds.Metadata position) e (λ n k s z. z))
   gave_up_at (stages.Reading kinds.Log position) e b =
-      log_gives_up generation range w i both m l d by r f.range_is f.under f.calm b (log_stays (stages.Reading kinds.Log position) e (λ n k s z. z))
+      log_gives_up generation range w i both m l d by r f.range_is f.under (f.calm (ap is_serving e)) f.rows b (log_stays (stages.Reading kinds.Log position) e (λ n k s z. z))
   gave_up_at (stages.Reading kinds.RowData position) e b = absurd b
   gave_up_at (stages.Reading kinds.BlobData position) e b = absurd b
-  gave_up_at (stages.Indexing position) e b = indexes_give_up generation range w i both m l d by r f.range_is f.under f.calm position b e
-  gave_up_at stages.Confirming e b = confirming_gives generation range w i both m l d by r f.range_is f.under f.calm b e
-  gave_up_at stages.Serving e b = give_up_both generation range w i both m l d by r f e
+  gave_up_at (stages.Indexing position) e b = indexes_give_up generation range w i both m l d by r f.range_is f.under (f.calm (ap is_serving e)) f.rows position b e
+  gave_up_at stages.Confirming e b = confirming_gives generation range w i both m l d by r f.range_is f.under (f.calm (ap is_serving e)) f.rows b e
+  gave_up_at stages.Serving e b = absurd (let z : true ≡ false = sym (ap is_serving e) ∙ unserved in cc)
 
   pub give_up_all_both : RuleGoes generation range w i m l d (give_up_all d r)
   give_up_all_both = gave_up_at r.stage refl f.stage

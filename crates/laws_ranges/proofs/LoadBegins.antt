@@ -1,5 +1,5 @@
 -- The streams of a range are opened: its metadata is checked and read, and then its log, as both streams see it.
-use Rattle.std.proofs.Common.{◌≡◌, ℕ, length, Bool, true, false, not, ◌&&◌, nat_lt, Option, Some, None, is_some, refl, sym, ap, ◌∙◌, subst, arith, if◌then◌else◌}
+use Rattle.std.proofs.Common.{◌≡◌, Contains, ℕ, length, Bool, true, false, not, ◌&&◌, nat_lt, Option, Some, None, is_some, refl, sym, ap, ◌∙◌, subst, arith, if◌then◌else◌}
 use Rattle.wire.specs.declared.actor.ReqNo.{ReqNo}
 use Rattle.wire.specs.declared.body.Body.TheVariants as bodies
 use Rattle.wire.specs.declared.body.StreamBody.TheVariants as streams
@@ -18,7 +18,8 @@ use Rattle.model_partition.specs.Range.{RangeState, dropped, given, picking, req
 use Rattle.model_partition.specs.Loading.{read_of, metadata_goes, log_goes, reads_log_from, checks_log, begins_log, reads_metadata, begins_metadata, opens, first_position, open_region}
 use Rattle.laws_stream_machine.specs.Refinement.{Opens, purpose_of, Means, StreamMeans}
 use Rattle.laws_stream_machine.proofs.ServerRequests.{same_request}
-use Rattle.laws_ranges.specs.Serves.{HasNoCheckpoint, Side, is_live, metadata_of, log_of, LoadingIs, UnreadIs, IsOpening, Goes, BothListed, IsSentBy, RuleGoes}
+use Rattle.laws_ranges.specs.Serves.{rows_of, IsOfRows, RowsStand, HasNoCheckpoint, Side, is_live, metadata_of, log_of, LoadingIs, UnreadIs, IsOpening, Goes, BothListed, IsSentBy, RuleGoes}
+use Rattle.laws_ranges.proofs.RowData.{rows_idle}
 use Rattle.laws_ranges.proofs.OpenAndConfirm.{readable_goes}
 use Rattle.laws_ranges.proofs.Confirmed.{dropped_both}
 use Rattle.laws_ranges.proofs.BothStreamsAtOnce.{AllRead}
@@ -36,6 +37,7 @@ module _ (generation : ℕ → ℕ) (range : ℕ) (w : StreamSystem) (i : ℕ) (
     pub range_is : r.load.range ≡ range
     pub under : r.load.generation ≡ generation i
     pub calm : HasNoCheckpoint r
+    pub rows : RowsStand range w m.sent l.sent r.rows
     pub phase : r.load.phase ≡ phases.Opened
     pub metadata : LoadingIs generation (metadata_of range) w i m.stand m.sent r.metadata
     pub metadata_idle : r.metadata.job ≡ jobs.Idle
@@ -46,6 +48,7 @@ module _ (generation : ℕ → ℕ) (range : ℕ) (w : StreamSystem) (i : ℕ) (
     pub range_is : r.load.range ≡ range
     pub under : r.load.generation ≡ generation i
     pub calm : HasNoCheckpoint r
+    pub rows : RowsStand range w m.sent l.sent r.rows
     pub phase : r.load.phase ≡ phases.Opened
     pub metadata : UnreadIs generation (metadata_of range) w i m.stand m.sent r.metadata
     pub log : UnreadIs generation (log_of range) w i l.stand l.sent r.log
@@ -58,6 +61,7 @@ module _ (generation : ℕ → ℕ) (range : ℕ) (w : StreamSystem) (i : ℕ) (
         range_is = b.range_is;
         under = b.under;
         calm = b.calm;
+        rows = b.rows;
         metadata = b.metadata;
         metadata_idle = b.metadata_idle;
         log = readable_goes generation (log_of range) w i l.sent (request d) (by.log d.count (omega arith)) l.stand r.log b.log live;
@@ -75,7 +79,7 @@ module _ (generation : ℕ → ℕ) (range : ℕ) (w : StreamSystem) (i : ℕ) (
       let went : Goes generation (log_of range) w i l.stand l.sent (request d) (λ y more. LoadingIs generation (log_of range) w i y more o.after) o.packet =
       check_goes generation (log_of range) w i both.log l.sent d (by.log d.count (omega arith)) l.stand r.log b.log z e none in
       log_step generation range w i both m l d by (record r { stage = stages.Checking kinds.Log; log = o.after }) o.packet _ went
-      (record { range_is = b.range_is; under = b.under; calm = b.calm; stage = record { phase = b.phase; metadata = b.metadata; metadata_idle = b.metadata_idle; log = went.then } })
+      (record { range_is = b.range_is; under = b.under; calm = λ u. b.calm; rows = rows_idle range w m.sent l.sent _ _ r.rows b.calm.0 b.rows; stage = record { phase = b.phase; metadata = b.metadata; metadata_idle = b.metadata_idle; log = went.then } })
 
   checks_log_both : (r : RangeState) → ReadsMetadata r → (o : Option StreamExtent) → last_extent r.log.extents ≡ o → RuleGoes generation range w i m l d (checks_log d r o)
   checks_log_both r b None e = log_read_from r b (ap is_live e)
@@ -97,7 +101,7 @@ module _ (generation : ℕ → ℕ) (range : ℕ) (w : StreamSystem) (i : ℕ) (
       go : (t : Bool) → RuleGoes generation range w i m l d (if t then checks_log d (record r { regions = r.said.regions }) (last_extent r.log.extents) else dropped d r)
       go true =
           checks_log_both now
-          (record { range_is = b.range_is; under = b.under; calm = b.calm; phase = b.phase; metadata = b.metadata; metadata_idle = b.metadata_idle; log = b.log })
+          (record { range_is = b.range_is; under = b.under; calm = b.calm; rows = b.rows; phase = b.phase; metadata = b.metadata; metadata_idle = b.metadata_idle; log = b.log })
           (last_extent r.log.extents) refl
       go false = dropped_both generation range w i both m l d by r
 
@@ -117,7 +121,7 @@ module _ (generation : ℕ → ℕ) (range : ℕ) (w : StreamSystem) (i : ℕ) (
           (if t then metadata_goes d r (stages.Reading kinds.Metadata position) (read_of d (picking d r.metadata) position) else begins_log d r)
       go true =
           metadata_step generation range w i both m l d by (record r { stage = stages.Reading kinds.Metadata position; metadata = o.after }) o.packet _ went
-          (record { range_is = b.range_is; under = b.under; calm = b.calm; stage = record { phase = b.phase; metadata = went.then; log = b.log } })
+          (record { range_is = b.range_is; under = b.under; calm = λ u. b.calm; rows = rows_idle range w m.sent l.sent _ _ r.rows b.calm.0 b.rows; stage = record { phase = b.phase; metadata = went.then; log = b.log } })
       go false = begins_log_both r b
 
   metadata_checked : (r : RangeState) → BothUnread r → (z : StreamExtent) → last_extent r.metadata.extents ≡ Some z → z.length ≡ None →
@@ -127,7 +131,7 @@ module _ (generation : ℕ → ℕ) (range : ℕ) (w : StreamSystem) (i : ℕ) (
       let went : Goes generation (metadata_of range) w i m.stand m.sent (request d) (λ y more. LoadingIs generation (metadata_of range) w i y more o.after) o.packet =
       check_goes generation (metadata_of range) w i both.metadata m.sent d (by.metadata d.count (omega arith)) m.stand r.metadata b.metadata z e none in
       metadata_step generation range w i both m l d by (record r { stage = stages.Checking kinds.Metadata; metadata = o.after }) o.packet _ went
-      (record { range_is = b.range_is; under = b.under; calm = b.calm; stage = record { phase = b.phase; metadata = went.then; log = b.log } })
+      (record { range_is = b.range_is; under = b.under; calm = λ u. b.calm; rows = rows_idle range w m.sent l.sent _ _ r.rows b.calm.0 b.rows; stage = record { phase = b.phase; metadata = went.then; log = b.log } })
 
   -- where its last extent is not open it can be read at once
   reads_at_once : (r : RangeState) → BothUnread r → is_live (last_extent r.metadata.extents) ≡ false → ReadsMetadata r
@@ -136,6 +140,7 @@ module _ (generation : ℕ → ℕ) (range : ℕ) (w : StreamSystem) (i : ℕ) (
         range_is = b.range_is;
         under = b.under;
         calm = b.calm;
+        rows = b.rows;
         phase = b.phase;
         metadata = readable_goes generation (metadata_of range) w i m.sent (request d) (by.metadata d.count (omega arith)) m.stand r.metadata b.metadata live;
         metadata_idle = b.metadata.idle;
@@ -158,8 +163,9 @@ module _ (generation : ℕ → ℕ) (range : ℕ) (w : StreamSystem) (i : ℕ) (
   -- the answer to the opening, as both streams mean it
   pub opens_both : (r : RangeState) → r.load.range ≡ range → r.load.generation ≡ generation i → HasNoCheckpoint r → (b : IsOpening generation range w i m l r) (v : ReqNo) (lists : StreamLists) → is_same b.q v ≡ true →
       Means generation (metadata_of range) w m.stand.state m.sent (bodies.Stream (streams.Opened v lists)) →
-      Means generation (log_of range) w l.stand.state l.sent (bodies.Stream (streams.Opened v lists)) → RuleGoes generation range w i m l d (opens d r lists)
-  opens_both r range_is under calm b v lists same one two =
+      Means generation (log_of range) w l.stand.state l.sent (bodies.Stream (streams.Opened v lists)) →
+      ((x : StreamExtent) → Contains lists.row_data.extents x → IsOfRows w range x.extent) → RuleGoes generation range w i m l d (opens d r lists)
+  opens_both r range_is under calm b v lists same one two listed =
       let e : b.q ≡ v = same_request b.q v same in
       let metadata_means : StreamMeans generation (metadata_of range) w m.stand.state m.sent (Some (Opens i)) (streams.Opened v lists) =
       subst (λ z. StreamMeans generation (metadata_of range) w m.stand.state m.sent z (streams.Opened v lists)) (ap (λ k. purpose_of m.sent k) (sym e) ∙ b.metadata.for) one in
@@ -178,6 +184,7 @@ module _ (generation : ℕ → ℕ) (range : ℕ) (w : StreamSystem) (i : ℕ) (
         range_is = range_is;
         under = under;
         calm = (refl, calm.1);
+        rows = record { stream = ap rows_of range_is; listed = listed; job = tt };
         phase = refl;
         metadata = record {
           told = record {

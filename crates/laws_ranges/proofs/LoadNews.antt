@@ -1,5 +1,5 @@
 -- What the answers to the client of a stream make of a load, as both streams see it.
-use Rattle.std.proofs.Common.{◌≡◌, ℕ, suc, List, [], Bool, true, false, Option, Some, None, option_to_list, refl, sym, ◌∙◌, subst, arith, if◌then◌else◌}
+use Rattle.std.proofs.Common.{◌≡◌, ap, ℕ, suc, List, [], Bool, true, false, Option, Some, None, option_to_list, refl, sym, ◌∙◌, subst, arith, if◌then◌else◌}
 use Rattle.wire.specs.declared.actor.ReqNo.{ReqNo}
 use Rattle.wire.specs.declared.body.Body.{Body}
 use Rattle.wire.specs.declared.packet.Packet.{Packet}
@@ -19,7 +19,8 @@ use Rattle.model_partition.specs.Loading.{Group, says, said_after, metadata_news
 use Rattle.model_partition.specs.Checkpoints.{record_told}
 use Rattle.model_partition.specs.Answering.{metadata_reply, serving_news, log_taken, log_reply, is_taken, groups_of}
 use Rattle.laws_stream_machine.specs.Refinement.{Means}
-use Rattle.laws_ranges.specs.Serves.{HasNoCheckpoint, Side, metadata_of, log_of, LoadingIs, LoadsMetadata, LoadsLog, StageIs, Follows, Goes, BothListed, IsSentBy, RuleGoes}
+use Rattle.laws_ranges.specs.Serves.{RowsStand, HasNoCheckpoint, Side, metadata_of, log_of, LoadingIs, LoadsMetadata, LoadsLog, StageIs, Follows, Goes, BothListed, IsSentBy, RuleGoes}
+use Rattle.laws_ranges.proofs.RowData.{rows_idle}
 use Rattle.laws_ranges.proofs.AppendJob.{rests}
 use Rattle.laws_ranges.proofs.Confirmed.{dropped_both}
 use Rattle.laws_ranges.proofs.LoadTurns.{LoadsNow}
@@ -31,7 +32,7 @@ use Rattle.laws_ranges.proofs.BothStreams.{log_step, metadata_step, still_both}
 use Rattle.laws_ranges.proofs.LoadBegins.{ReadsMetadata, reads_metadata_both}
 
 module _ (generation : ℕ → ℕ) (range : ℕ) (w : StreamSystem) (i : ℕ) (both : BothListed w range) (m l : Side) (d : ServerContext) (by : IsSentBy d d.count m.sent l.sent)
-    (r : RangeState) (range_is : r.load.range ≡ range) (under : r.load.generation ≡ generation i) (calm : HasNoCheckpoint r) where
+    (r : RangeState) (range_is : r.load.range ≡ range) (under : r.load.generation ≡ generation i) (calm : HasNoCheckpoint r) (rows : RowsStand range w m.sent l.sent r.rows) where
   -- ---- the metadata
 
   module _ (b : LoadsMetadata generation range w i m l r)
@@ -44,7 +45,7 @@ module _ (generation : ℕ → ℕ) (range : ℕ) (w : StreamSystem) (i : ℕ) (
         RuleGoes generation range w i m l d (goes d (with_metadata c) (option_to_list p) [])
     metadata_waits c p went =
         metadata_step generation range w i both m l d by (with_metadata c) p _ went
-        (record { range_is = range_is; under = under; calm = calm; stage = keeps _ l (with_metadata c) refl (record { phase = b.phase; metadata = went.then; log = b.log }) })
+        (record { range_is = range_is; under = under; calm = λ u. calm; rows = rows_idle range w m.sent l.sent _ _ r.rows calm.0 rows; stage = keeps _ l (with_metadata c) refl (record { phase = b.phase; metadata = went.then; log = b.log }) })
 
     metadata_silent : (c : ClientState) (p : Option Packet) → LoadsNow generation (metadata_of range) w i m.stand m.sent c p →
         RuleGoes generation range w i m l d (goes d (with_metadata c) (option_to_list p) [])
@@ -53,14 +54,14 @@ module _ (generation : ℕ → ℕ) (range : ℕ) (w : StreamSystem) (i : ℕ) (
         (metadata_waits c None (rests generation (metadata_of range) w i m.stand m.sent (request d) _ now.loading))
 
     reads_now : (c : ClientState) (p : Option Packet) → LoadsNow generation (metadata_of range) w i m.stand m.sent c p → ReadsMetadata generation range w i both m l d by (with_metadata c)
-    reads_now c p now = record { range_is = range_is; under = under; calm = calm; phase = b.phase; metadata = now.loading; metadata_idle = now.idle; log = b.log }
+    reads_now c p now = record { range_is = range_is; under = under; calm = calm; rows = rows; phase = b.phase; metadata = now.loading; metadata_idle = now.idle; log = b.log }
 
     says_both : (c : ClientState) (p : Option Packet) → LoadsNow generation (metadata_of range) w i m.stand m.sent c p → (position : ℕ) (o : Option MetadataState) →
         RuleGoes generation range w i m l d (says d (with_metadata c) position o)
     says_both c p now position None = dropped_both generation range w i both m l d by (with_metadata c)
     says_both c p now position (Some said) =
         reads_metadata_both generation range w i both m l d by (record r { metadata = c; said = said })
-        (record { range_is = range_is; under = under; calm = calm; phase = b.phase; metadata = now.loading; metadata_idle = now.idle; log = b.log }) (suc position)
+        (record { range_is = range_is; under = under; calm = calm; rows = rows; phase = b.phase; metadata = now.loading; metadata_idle = now.idle; log = b.log }) (suc position)
 
     metadata_checking : (c : ClientState) (told : Option News) (p : Option Packet) → LoadTold generation (metadata_of range) w i m.sent (request d) m.stand told c p → (groups : List Group) →
         RuleGoes generation range w i m l d (metadata_news d (with_metadata c) groups (stages.Checking kinds.Metadata) told (option_to_list p))
@@ -112,7 +113,7 @@ module _ (generation : ℕ → ℕ) (range : ℕ) (w : StreamSystem) (i : ℕ) (
         RuleGoes generation range w i m l d (goes d (with_log c) (option_to_list p) [])
     log_waits c p went =
         log_step generation range w i both m l d by (with_log c) p _ went
-        (record { range_is = range_is; under = under; calm = calm; stage = keeps m _ (with_log c) refl (record { phase = b.phase; metadata = b.metadata; metadata_idle = b.metadata_idle; log = went.then }) })
+        (record { range_is = range_is; under = under; calm = λ u. calm; rows = rows_idle range w m.sent l.sent _ _ r.rows calm.0 rows; stage = keeps m _ (with_log c) refl (record { phase = b.phase; metadata = b.metadata; metadata_idle = b.metadata_idle; log = went.then }) })
 
     log_silent : (c : ClientState) (p : Option Packet) → LoadsNow generation (log_of range) w i l.stand l.sent c p →
         RuleGoes generation range w i m l d (goes d (with_log c) (option_to_list p) [])
@@ -121,7 +122,7 @@ module _ (generation : ℕ → ℕ) (range : ℕ) (w : StreamSystem) (i : ℕ) (
         (log_waits c None (rests generation (log_of range) w i l.stand l.sent (request d) _ now.loading))
 
     read_now : (c : ClientState) (p : Option Packet) → LoadsNow generation (log_of range) w i l.stand l.sent c p → AllRead generation range w i m l d by (with_log c)
-    read_now c p now = record { range_is = range_is; under = under; calm = calm; metadata = b.metadata; metadata_idle = b.metadata_idle; log = now.loading; log_idle = now.idle }
+    read_now c p now = record { range_is = range_is; under = under; calm = calm; rows = rows; metadata = b.metadata; metadata_idle = b.metadata_idle; log = now.loading; log_idle = now.idle }
 
     log_checking : (c : ClientState) (told : Option News) (p : Option Packet) → LoadTold generation (log_of range) w i l.sent (request d) l.stand told c p → (groups : List Group) →
         RuleGoes generation range w i m l d (log_news d (with_log c) groups (stages.Checking kinds.Log) told (option_to_list p))
@@ -177,8 +178,8 @@ module _ (generation : ℕ → ℕ) (range : ℕ) (w : StreamSystem) (i : ℕ) (
   metadata_at_checking : r.stage ≡ stages.Checking kinds.Metadata → LoadsMetadata generation range w i m l r → Means generation (metadata_of range) w m.stand.state m.sent body →
       RuleGoes generation range w i m l d (metadata_reply d r body)
   metadata_at_checking e b means =
-      metadata_at generation range w i both m l d by r f.range_is f.under f.calm b keeps body means (stages.Checking kinds.Metadata) e refl
-      (metadata_checking generation range w i both m l d by r f.range_is f.under f.calm b keeps _ _ _ (metadata_told generation range w i both m l d by r f.range_is f.under f.calm b keeps body means) (groups_of body))
+      metadata_at generation range w i both m l d by r f.range_is f.under (f.calm (ap is_serving e)) f.rows b keeps body means (stages.Checking kinds.Metadata) e refl
+      (metadata_checking generation range w i both m l d by r f.range_is f.under (f.calm (ap is_serving e)) f.rows b keeps _ _ _ (metadata_told generation range w i both m l d by r f.range_is f.under (f.calm (ap is_serving e)) f.rows b keeps body means) (groups_of body))
     where
       keeps : (n k : Side) (s : RangeState) → s.stage ≡ r.stage → LoadsMetadata generation range w i n k s → StageIs generation range w i n k s s.stage
       keeps n k s same z = subst (λ g. StageIs generation range w i n k s g) (sym (same ∙ e)) z
@@ -186,16 +187,16 @@ module _ (generation : ℕ → ℕ) (range : ℕ) (w : StreamSystem) (i : ℕ) (
   metadata_at_reading : (position : ℕ) → r.stage ≡ stages.Reading kinds.Metadata position → LoadsMetadata generation range w i m l r → Means generation (metadata_of range) w m.stand.state m.sent body →
       RuleGoes generation range w i m l d (metadata_reply d r body)
   metadata_at_reading position e b means =
-      metadata_at generation range w i both m l d by r f.range_is f.under f.calm b keeps body means (stages.Reading kinds.Metadata position) e refl
-      (metadata_reading generation range w i both m l d by r f.range_is f.under f.calm b keeps position _ _ _ (metadata_told generation range w i both m l d by r f.range_is f.under f.calm b keeps body means) (groups_of body))
+      metadata_at generation range w i both m l d by r f.range_is f.under (f.calm (ap is_serving e)) f.rows b keeps body means (stages.Reading kinds.Metadata position) e refl
+      (metadata_reading generation range w i both m l d by r f.range_is f.under (f.calm (ap is_serving e)) f.rows b keeps position _ _ _ (metadata_told generation range w i both m l d by r f.range_is f.under (f.calm (ap is_serving e)) f.rows b keeps body means) (groups_of body))
     where
       keeps : (n k : Side) (s : RangeState) → s.stage ≡ r.stage → LoadsMetadata generation range w i n k s → StageIs generation range w i n k s s.stage
       keeps n k s same z = subst (λ g. StageIs generation range w i n k s g) (sym (same ∙ e)) z
 
   log_at_checking : r.stage ≡ stages.Checking kinds.Log → LoadsLog generation range w i m l r → Means generation (log_of range) w l.stand.state l.sent body → RuleGoes generation range w i m l d (log_reply d r body)
   log_at_checking e b means =
-      log_at generation range w i both m l d by r f.range_is f.under f.calm b keeps body means f (stages.Checking kinds.Log) e refl
-      (log_checking generation range w i both m l d by r f.range_is f.under f.calm b keeps _ _ _ (log_told generation range w i both m l d by r f.range_is f.under f.calm b keeps body means f) (groups_of body))
+      log_at generation range w i both m l d by r f.range_is f.under (f.calm (ap is_serving e)) f.rows b keeps body means f (stages.Checking kinds.Log) e refl
+      (log_checking generation range w i both m l d by r f.range_is f.under (f.calm (ap is_serving e)) f.rows b keeps _ _ _ (log_told generation range w i both m l d by r f.range_is f.under (f.calm (ap is_serving e)) f.rows b keeps body means f) (groups_of body))
     where
       keeps : (n k : Side) (s : RangeState) → s.stage ≡ r.stage → LoadsLog generation range w i n k s → StageIs generation range w i n k s s.stage
       keeps n k s same z = subst (λ g. StageIs generation range w i n k s g) (sym (same ∙ e)) z
@@ -203,8 +204,8 @@ module _ (generation : ℕ → ℕ) (range : ℕ) (w : StreamSystem) (i : ℕ) (
   log_at_reading : (position : ℕ) → r.stage ≡ stages.Reading kinds.Log position → LoadsLog generation range w i m l r → Means generation (log_of range) w l.stand.state l.sent body →
       RuleGoes generation range w i m l d (log_reply d r body)
   log_at_reading position e b means =
-      log_at generation range w i both m l d by r f.range_is f.under f.calm b keeps body means f (stages.Reading kinds.Log position) e refl
-      (log_reading generation range w i both m l d by r f.range_is f.under f.calm b keeps position _ _ _ (log_told generation range w i both m l d by r f.range_is f.under f.calm b keeps body means f) (groups_of body))
+      log_at generation range w i both m l d by r f.range_is f.under (f.calm (ap is_serving e)) f.rows b keeps body means f (stages.Reading kinds.Log position) e refl
+      (log_reading generation range w i both m l d by r f.range_is f.under (f.calm (ap is_serving e)) f.rows b keeps position _ _ _ (log_told generation range w i both m l d by r f.range_is f.under (f.calm (ap is_serving e)) f.rows b keeps body means f) (groups_of body))
     where
       keeps : (n k : Side) (s : RangeState) → s.stage ≡ r.stage → LoadsLog generation range w i n k s → StageIs generation range w i n k s s.stage
       keeps n k s same z = subst (λ g. StageIs generation range w i n k s g) (sym (same ∙ e)) z
@@ -213,9 +214,9 @@ module _ (generation : ℕ → ℕ) (range : ℕ) (w : StreamSystem) (i : ℕ) (
   none_awaited : (j : Job) (v : ReqNo) → j ≡ jobs.Idle → awaits j v ≡ true → ⊥
   none_awaited j v idle t = let z : false ≡ true = subst (λ k. awaits k v ≡ true) idle t in cc
 
-  -- an answer that the metadata's client waits for, which means what it says
-  pub metadata_news_both : (v : ReqNo) → awaits r.metadata.job v ≡ true → Means generation (metadata_of range) w m.stand.state m.sent body → RuleGoes generation range w i m l d (metadata_reply d r body)
-  metadata_news_both v waits means = go r.stage refl f.stage
+  -- an answer that the metadata's client waits for, which means what it says; where the range is served that is another's
+  pub metadata_news_by : (r.stage ≡ stages.Serving → RuleGoes generation range w i m l d (metadata_reply d r body)) → (v : ReqNo) → awaits r.metadata.job v ≡ true → Means generation (metadata_of range) w m.stand.state m.sent body → RuleGoes generation range w i m l d (metadata_reply d r body)
+  metadata_news_by served v waits means = go r.stage refl f.stage
     where
       go : (s : Stage) → r.stage ≡ s → StageIs generation range w i m l r s → RuleGoes generation range w i m l d (metadata_reply d r body)
       go stages.Opening e b = absurd (none_awaited r.metadata.job v b.metadata_idle waits)
@@ -229,7 +230,7 @@ module _ (generation : ℕ → ℕ) (range : ℕ) (w : StreamSystem) (i : ℕ) (
       go (stages.Reading kinds.BlobData position) e b = absurd b
       go (stages.Indexing position) e b = absurd (none_awaited r.metadata.job v b.metadata_idle waits)
       go stages.Confirming e b = absurd (none_awaited r.metadata.job v b.metadata.idle waits)
-      go stages.Serving e b = absurd (none_awaited r.metadata.job v b.metadata_idle waits)
+      go stages.Serving e b = served e
 
   -- an answer that the log's client waits for, which means what it says; where the range is served that is another's
   pub log_news_by : (r.stage ≡ stages.Serving → RuleGoes generation range w i m l d (log_reply d r body)) → (v : ReqNo) → awaits r.log.job v ≡ true → Means generation (log_of range) w l.stand.state l.sent body → RuleGoes generation range w i m l d (log_reply d r body)

@@ -1,19 +1,20 @@
 -- What a client has to do with an incarnation is kept while others go on.
-use Rattle.std.proofs.Common.{◌≡◌, ℕ, ◌+◌, List, ◌++◌, ap, ◌∙◌, arith}
+use Rattle.std.proofs.Common.{◌≡◌, true, ℕ, ◌+◌, List, ◌++◌, ap, ◌∙◌, arith}
 use Rattle.wire.specs.declared.actor.ReqNo.{ReqNo}
 use Rattle.wire.specs.declared.streams.StreamName.{StreamName}
 use Rattle.wire.specs.declared.streams.StreamKind.TheVariants as kinds
 use Rattle.client.specs.declared.job.Job.{Job}
 use Rattle.client.specs.declared.job.Job.TheVariants as jobs
-use Rattle.client.specs.Client.{ClientState}
+use Rattle.client.specs.Client.{ClientState, awaits}
 use Rattle.model_streams.specs.StreamSystem.{StreamSystem}
 use Rattle.model_partition.specs.declared.stage.Stage.{Stage}
 use Rattle.model_partition.specs.declared.stage.Stage.TheVariants as stages
 use Rattle.model_partition.specs.Range.{RangeState}
 use Rattle.replica.specs.Groups.{Group}
 use Rattle.model_partition.specs.Story.{Copy}
-use Rattle.laws_stream_machine.specs.Refinement.{Sent, Tells}
-use Rattle.laws_ranges.specs.Serves.{Stand, Side, Wider, known, IsTold, ServesBy, FoundIs, Readable, WasSealed, WasFound, WasShut, LoadsBy, LoadingIs, OpeningIs, ConfirmingIs, LoadOf, OfSealed, OfStood, ServingIs, UnreadIs, metadata_of, log_of, LoadsMetadata, LoadsLog, StageIs, Follows}
+use Rattle.laws_stream_machine.specs.Refinement.{Sent, Tells, IsAt}
+use Rattle.laws_ranges.specs.Serves.{Stand, Side, Wider, known, IsTold, ServesBy, FoundIs, Readable, WasSealed, WasFound, WasShut, LoadsBy, LoadingIs, OpeningIs, ConfirmingIs, LoadOf, OfSealed, OfStood, ServingIs, UnreadIs, metadata_of, log_of, LoadsMetadata, LoadsLog, StageIs, Follows, rows_of, IsAside, RowsJob}
+use Rattle.laws_ranges.proofs.MachineSteps.{request_same}
 use Rattle.laws_ranges.proofs.SealedCopies.{first_grown, grown_within}
 
 -- what the incarnation of a stream knows is wider, and it stands where it stood
@@ -139,11 +140,34 @@ module _ (generation : ℕ → ℕ) (range : ℕ) (w v : StreamSystem) (i : ℕ)
   stage_on r stages.Serving b = record {
     phase = b.phase;
     metadata = serving_on generation (metadata_of range) w v i m.stand n.stand m.sent n.sent gm sm r.metadata b.metadata;
-    metadata_idle = b.metadata_idle;
+    record_is = b.record_is;
     log = serving_on generation (log_of range) w v i l.stand k.stand l.sent k.sent gl sl r.log b.log;
     out = b.out;
+    position = b.position;
+    trims = b.trims;
   }
 
+  -- row data is asked as before, where its number is none that others have used for the two streams
+  rows_job_on : ((index e : ℕ) → IsAt w (rows_of range) index e → IsAt v (rows_of range) index e) → (j : Job) → ((q : ReqNo) → awaits j q ≡ true → IsAside n.sent k.sent q) → RowsJob range w m.sent l.sent j → RowsJob range v n.sent k.sent j
+  rows_job_on more jobs.Idle aside b = tt
+  rows_job_on more (jobs.Sent e q) aside b = ((b.0.0, more b.0.0 e b.0.1), aside q (request_same q))
+  rows_job_on more (jobs.Closing e q) aside b = ((b.0.0, more b.0.0 e b.0.1), aside q (request_same q))
+  rows_job_on more (jobs.Growing last q) aside b = aside q (request_same q)
+  rows_job_on more (jobs.Checking e q) aside b = b
+  rows_job_on more (jobs.Shutting e q) aside b = b
+  rows_job_on more (jobs.Reading e places upto sealed place q) aside b = b
+
   -- whatever others do, the range is where it was
-  pub follows_on : (r : RangeState) → Follows generation range w i m l r → Follows generation range v i n k r
-  follows_on r b = record { range_is = b.range_is; under = b.under; calm = b.calm; stage = stage_on r r.stage b.stage }
+  pub follows_on : ((index e : ℕ) → IsAt w (rows_of range) index e → IsAt v (rows_of range) index e) → (r : RangeState) → ((q : ReqNo) → awaits r.rows.job q ≡ true → IsAside n.sent k.sent q) →
+      Follows generation range w i m l r → Follows generation range v i n k r
+  follows_on more r aside b = record {
+    range_is = b.range_is;
+    under = b.under;
+    calm = b.calm;
+    rows = record {
+      stream = b.rows.stream;
+      listed = λ x here. (let at = b.rows.listed x here in (at.0, more at.0 x.extent at.1));
+      job = rows_job_on more r.rows.job aside b.rows.job;
+    };
+    stage = stage_on r r.stage b.stage;
+  }

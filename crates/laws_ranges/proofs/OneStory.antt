@@ -9,7 +9,7 @@ use Rattle.replica.specs.Groups.{Group}
 use Rattle.model_partition.specs.ServerRun.{RangeHistory, is_kind, begun_at, place_number}
 use Rattle.model_partition.specs.ServerTurns as turns
 use Rattle.model_partition.specs.Story.{StreamEvent, Made, Answered, Story}
-use Rattle.model_partition.specs.StreamActions.{StreamAction, Reads, Forms, Stands, Shows}
+use Rattle.model_partition.specs.StreamActions.{StreamAction, Reads, Forms, Stands, Shows, Finds, Stores}
 use Rattle.model_partition.specs.StreamMachine as machine
 use Rattle.laws_loads.specs.RangeView.{RangeView, with_kind, view_after, view_after_all}
 use Rattle.laws_ranges.specs.Serves.{Stand, after_turns}
@@ -44,6 +44,8 @@ begun_there h kind other event e = ap (λ t. if t then event else h.append other
 pub reads_of : (kind : StreamKind) (actions : List StreamAction) → AreReads actions → AreOf kind actions
 reads_of kind [] q = tt
 reads_of kind (Reads k read ∷ earlier) q = (tt, reads_of kind earlier q.1)
+reads_of kind (Finds found ∷ earlier) q = (tt, reads_of kind earlier q.1)
+reads_of kind (Stores stored ∷ earlier) q = (tt, reads_of kind earlier q.1)
 reads_of kind (Forms k group ∷ earlier) q = absurd q.0
 reads_of kind (Stands k extent at group ∷ earlier) q = absurd q.0
 reads_of kind (Shows start log_end metadata_end ∷ earlier) q = absurd q.0
@@ -68,6 +70,8 @@ module _ (generation : ℕ → ℕ) (i : ℕ) where
   pub others_leave : (kind other : StreamKind) → is_kind other kind ≡ false → (v : RangeView) (actions : List StreamAction) → AreOf kind actions → Leaves other v (view_after_all (generation i) v actions)
   others_leave kind other e v [] q = record { story = refl; append = refl }
   others_leave kind other e v (Reads k read ∷ earlier) q = let b = others_leave kind other e v earlier q.1 in record { story = b.story; append = b.append }
+  others_leave kind other e v (Finds found ∷ earlier) q = let b = others_leave kind other e v earlier q.1 in record { story = b.story; append = b.append }
+  others_leave kind other e v (Stores stored ∷ earlier) q = let b = others_leave kind other e v earlier q.1 in record { story = b.story; append = b.append }
   others_leave kind other e v (Forms k group ∷ earlier) q =
       let b = others_leave kind other e v earlier q.1 in
       let apart : is_kind other k ≡ false = ap (λ z. is_kind other z) q.0 ∙ e in
@@ -88,6 +92,8 @@ module _ (generation : ℕ → ℕ) (i : ℕ) where
   reads_left : (kind : StreamKind) (v : RangeView) (actions : List StreamAction) → AreReads actions → Leaves kind v (view_after_all (generation i) v actions)
   reads_left kind v [] q = record { story = refl; append = refl }
   reads_left kind v (Reads k read ∷ earlier) q = let b = reads_left kind v earlier q.1 in record { story = b.story; append = b.append }
+  reads_left kind v (Finds found ∷ earlier) q = let b = reads_left kind v earlier q.1 in record { story = b.story; append = b.append }
+  reads_left kind v (Stores stored ∷ earlier) q = let b = reads_left kind v earlier q.1 in record { story = b.story; append = b.append }
   reads_left kind v (Forms k group ∷ earlier) q = absurd q.0
   reads_left kind v (Stands k extent at group ∷ earlier) q = absurd q.0
   reads_left kind v (Shows start log_end metadata_end ∷ earlier) q = absurd q.0

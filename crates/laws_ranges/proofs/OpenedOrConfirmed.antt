@@ -1,5 +1,5 @@
 -- What the answers to the opening and the confirmation make of a range, as both streams see it.
-use Rattle.std.proofs.Common.{◌≡◌, ℕ, [], true, false, Some, refl, sym, subst, arith}
+use Rattle.std.proofs.Common.{◌≡◌, ℕ, [], true, false, Some, refl, sym, ap, subst, arith}
 use Rattle.wire.specs.declared.actor.ReqNo.{ReqNo}
 use Rattle.wire.specs.declared.body.AppendBody.{AppendBody}
 use Rattle.wire.specs.declared.body.AppendBody.TheVariants as appends
@@ -18,11 +18,11 @@ use Rattle.model_streams.specs.StreamSystem.{StreamSystem}
 use Rattle.model_partition.specs.declared.server_context.ServerContext.{ServerContext}
 use Rattle.model_partition.specs.declared.stage.Stage.{Stage}
 use Rattle.model_partition.specs.declared.stage.Stage.TheVariants as stages
-use Rattle.model_partition.specs.Range.{RangeState, answers}
+use Rattle.model_partition.specs.Range.{RangeState, answers, is_serving}
 use Rattle.model_partition.specs.Loading.{serves}
 use Rattle.model_partition.specs.Answering.{answered_number, load_refused, load_told, load_reply}
 use Rattle.laws_stream_machine.specs.Refinement.{Means}
-use Rattle.laws_ranges.specs.Serves.{Side, metadata_of, log_of, IsOpening, IsConfirming, StageIs, Follows, BothListed, IsSentBy, RuleGoes}
+use Rattle.laws_ranges.specs.Serves.{RowsTold, Side, metadata_of, log_of, IsOpening, IsConfirming, StageIs, Follows, BothListed, IsSentBy, RuleGoes}
 use Rattle.laws_ranges.proofs.Confirmed.{dropped_both}
 use Rattle.laws_ranges.proofs.LoadBegins.{opens_both}
 use Rattle.laws_ranges.proofs.BothStreams.{still_both}
@@ -50,18 +50,19 @@ module _ (generation : ℕ → ℕ) (range : ℕ) (w : StreamSystem) (i : ℕ) (
   load_refused_both (appends.Refused v why) = refused_by v why
   load_refused_both body = rested
 
-  opening_told : IsOpening generation range w i m l r → (v : ReqNo) → load_awaits r.load.phase v ≡ true → (body : StreamBody) → answered_number (bodies.Stream body) ≡ Some v → BothMean (bodies.Stream body) →
+  opening_told : r.stage ≡ stages.Opening → IsOpening generation range w i m l r → (v : ReqNo) → load_awaits r.load.phase v ≡ true → (body : StreamBody) → answered_number (bodies.Stream body) ≡ Some v → BothMean (bodies.Stream body) → RowsTold w range r (bodies.Stream body) →
       RuleGoes generation range w i m l d (load_told d r r.load.phase body)
-  opening_told b v waits body number means = subst (λ p. RuleGoes generation range w i m l d (load_told d r p body)) (sym b.phase) (go body number means)
+  opening_told stage b v waits body number means told = subst (λ p. RuleGoes generation range w i m l d (load_told d r p body)) (sym b.phase) (go body number means told)
     where
       same : is_same b.q v ≡ true
       same = subst (λ p. load_awaits p v ≡ true) b.phase waits
 
-      go : (body : StreamBody) → answered_number (bodies.Stream body) ≡ Some v → BothMean (bodies.Stream body) → RuleGoes generation range w i m l d (load_told d r (phases.Opening b.q) body)
-      go (streams.Opened u lists) number means =
+      go : (body : StreamBody) → answered_number (bodies.Stream body) ≡ Some v → BothMean (bodies.Stream body) → RowsTold w range r (bodies.Stream body) → RuleGoes generation range w i m l d (load_told d r (phases.Opening b.q) body)
+      go (streams.Opened u lists) number means told =
           let e : v ≡ u = cc in
-          opens_both generation range w i both m l d by r f.range_is f.under f.calm b u lists (subst (λ z. is_same b.q z ≡ true) e same) means.0 means.1
-      go body number means = rested
+          opens_both generation range w i both m l d by r f.range_is f.under (f.calm (ap is_serving stage)) b u lists (subst (λ z. is_same b.q z ≡ true) e same) means.0 means.1
+          (told (subst (λ z. load_awaits r.load.phase z ≡ true) e waits))
+      go body number means told = rested
 
   confirming_told : IsConfirmed → IsConfirming generation range w i m l r → (v : ReqNo) → load_awaits r.load.phase v ≡ true → (body : StreamBody) → answered_number (bodies.Stream body) ≡ Some v → BothMean (bodies.Stream body) →
       RuleGoes generation range w i m l d (load_told d r r.load.phase body)
@@ -80,27 +81,27 @@ module _ (generation : ℕ → ℕ) (range : ℕ) (w : StreamSystem) (i : ℕ) (
   not_awaited : (p q : LoadPhase) (v : ReqNo) → p ≡ q → load_awaits q v ≡ false → load_awaits p v ≡ true → ⊥
   not_awaited p q v e none waits = let z : load_awaits q v ≡ true = subst (λ k. load_awaits k v ≡ true) e waits in cc
 
-  load_told_by : IsConfirmed → (v : ReqNo) → load_awaits r.load.phase v ≡ true → (body : StreamBody) → answered_number (bodies.Stream body) ≡ Some v → BothMean (bodies.Stream body) →
+  load_told_by : IsConfirmed → (v : ReqNo) → load_awaits r.load.phase v ≡ true → (body : StreamBody) → answered_number (bodies.Stream body) ≡ Some v → BothMean (bodies.Stream body) → RowsTold w range r (bodies.Stream body) →
       RuleGoes generation range w i m l d (load_told d r r.load.phase body)
-  load_told_by confirmed v waits body number means = go r.stage f.stage
+  load_told_by confirmed v waits body number means told = go r.stage refl f.stage
     where
-      go : (s : Stage) → StageIs generation range w i m l r s → RuleGoes generation range w i m l d (load_told d r r.load.phase body)
-      go stages.Opening b = opening_told b v waits body number means
-      go (stages.Checking kinds.Metadata) b = absurd (not_awaited r.load.phase phases.Opened v b.phase refl waits)
-      go (stages.Checking kinds.Log) b = absurd (not_awaited r.load.phase phases.Opened v b.phase refl waits)
-      go (stages.Checking kinds.RowData) b = absurd b
-      go (stages.Checking kinds.BlobData) b = absurd b
-      go (stages.Reading kinds.Metadata position) b = absurd (not_awaited r.load.phase phases.Opened v b.phase refl waits)
-      go (stages.Reading kinds.Log position) b = absurd (not_awaited r.load.phase phases.Opened v b.phase refl waits)
-      go (stages.Reading kinds.RowData position) b = absurd b
-      go (stages.Reading kinds.BlobData position) b = absurd b
-      go (stages.Indexing position) b = absurd (not_awaited r.load.phase phases.Opened v b.phase refl waits)
-      go stages.Confirming b = confirming_told confirmed b v waits body number means
-      go stages.Serving b = absurd (not_awaited r.load.phase phases.Confirmed v b.phase refl waits)
+      go : (s : Stage) → r.stage ≡ s → StageIs generation range w i m l r s → RuleGoes generation range w i m l d (load_told d r r.load.phase body)
+      go stages.Opening e b = opening_told e b v waits body number means told
+      go (stages.Checking kinds.Metadata) e b = absurd (not_awaited r.load.phase phases.Opened v b.phase refl waits)
+      go (stages.Checking kinds.Log) e b = absurd (not_awaited r.load.phase phases.Opened v b.phase refl waits)
+      go (stages.Checking kinds.RowData) e b = absurd b
+      go (stages.Checking kinds.BlobData) e b = absurd b
+      go (stages.Reading kinds.Metadata position) e b = absurd (not_awaited r.load.phase phases.Opened v b.phase refl waits)
+      go (stages.Reading kinds.Log position) e b = absurd (not_awaited r.load.phase phases.Opened v b.phase refl waits)
+      go (stages.Reading kinds.RowData position) e b = absurd b
+      go (stages.Reading kinds.BlobData position) e b = absurd b
+      go (stages.Indexing position) e b = absurd (not_awaited r.load.phase phases.Opened v b.phase refl waits)
+      go stages.Confirming e b = confirming_told confirmed b v waits body number means
+      go stages.Serving e b = absurd (not_awaited r.load.phase phases.Confirmed v b.phase refl waits)
 
   -- an answer that the load waits for, which means what it says to both streams
   pub load_reply_by : IsConfirmed → (v : ReqNo) → load_awaits r.load.phase v ≡ true → (body : Body) → answered_number body ≡ Some v → Means generation (metadata_of range) w m.stand.state m.sent body →
-      Means generation (log_of range) w l.stand.state l.sent body → RuleGoes generation range w i m l d (load_reply d r body)
-  load_reply_by confirmed v waits (bodies.Append body) number one two = load_refused_both body
-  load_reply_by confirmed v waits (bodies.Stream body) number one two = load_told_by confirmed v waits body number (one, two)
-  load_reply_by confirmed v waits body number one two = rested
+      Means generation (log_of range) w l.stand.state l.sent body → RowsTold w range r body → RuleGoes generation range w i m l d (load_reply d r body)
+  load_reply_by confirmed v waits (bodies.Append body) number one two told = load_refused_both body
+  load_reply_by confirmed v waits (bodies.Stream body) number one two told = load_told_by confirmed v waits body number (one, two) told
+  load_reply_by confirmed v waits body number one two told = rested

@@ -1,24 +1,10 @@
--- Quiet turns form no group, and leave the story as it was; and turns after turns.
+-- Quiet turns leave the story as it was; and turns after turns.
 use Rattle.std.proofs.Common.{◌≡◌, ℕ, zero, suc, true, false, List, [], ◌∷◌, ◌++◌, refl, ap, ◌∙◌, subst}
 use Rattle.replica.specs.Groups.{Group}
 use Rattle.model_partition.specs.StreamMachine as machine
 use Rattle.model_partition.specs.ServerTurns as turns
-use Rattle.laws_ranges.specs.Serves.{Stand, turned, after_turns, AreTurns, AreUnformed}
+use Rattle.laws_ranges.specs.Serves.{Stand, turned, after_turns, AreTurns}
 use Rattle.laws_ranges.specs.Quiet.{IsQuiet, AreQuiet, IsLoading}
-
--- quiet turns form no group
-pub quiet_unformed : (ts : List (turns.Turn Group)) → AreQuiet ts → AreUnformed ts
-quiet_unformed [] q = tt
-quiet_unformed (turns.Assigned ∷ ts) q = (tt, quiet_unformed ts q.1)
-quiet_unformed (turns.AllSealed n ∷ ts) q = (tt, quiet_unformed ts q.1)
-quiet_unformed (turns.LastOpen e ∷ ts) q = (tt, quiet_unformed ts q.1)
-quiet_unformed (turns.Found stood end ∷ ts) q = (tt, quiet_unformed ts q.1)
-quiet_unformed (turns.Fails ∷ ts) q = (tt, quiet_unformed ts q.1)
-quiet_unformed (turns.IsShut ∷ ts) q = (tt, quiet_unformed ts q.1)
-quiet_unformed (turns.ConfirmedIs start end read ∷ ts) q = absurd q.0
-quiet_unformed (turns.Forms group ∷ ts) q = absurd q.0
-quiet_unformed (turns.AppendedAt from to ∷ ts) q = absurd q.0
-quiet_unformed (turns.ExtendedTo m ∷ ts) q = (tt, quiet_unformed ts q.1)
 
 module _ (generation : ℕ → ℕ) (i : ℕ) where
   quiet_step : (s : machine.MachineState Group) (p : turns.Phase Group) (t : turns.Turn Group) → IsQuiet t → (turns.all_next Group generation s (turns.does Group generation s i p t)).story ≡ s.story

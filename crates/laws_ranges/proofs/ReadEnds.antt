@@ -85,18 +85,3 @@ module _ (generation : ℕ → ℕ) (name : StreamName) (w : StreamSystem) (i : 
   pub found_ends : (f : FoundIs generation name w i x sent c) → machine.base f.index + f.found ≡ place_number (read_end c First)
   found_ends f =
       end_from First (omega arith) refl (record { extent = f.e; places = f.last.places; length = None }) f.index f.found f.last.last (ap (λ k. length_or None k) f.checked) f.last.index_is
-
-  -- the end is the same from any position on that is none after the first
-  pub ends_alike : (from : Position) → from.index ≤ c.base → from.offset ≡ 0 → place_number (read_end c First) ≡ place_number (read_end c from)
-  ends_alike from low offset = by_last (last_extent c.extents) refl
-    where
-      by_last : (o : Option StreamExtent) → last_extent c.extents ≡ o → place_number (log_end c o First) ≡ place_number (log_end c o from)
-      by_last None e =
-          let empty : length c.extents ≡ 0 = none_last c.extents e in
-          let first = told.tells.ends empty in
-          let index : c.base ≡ from.index = omega (arith, first, low) in
-          ap (λ k. machine.base k + 0) index ∙ ap (λ k. machine.base from.index + k) (sym offset)
-      by_last (Some z) e =
-          let inside : 0 < length c.extents = some_last c z e in
-          let end : Position = record { index = known c - 1; offset = length_or z.length c.checked } in
-          later_first end First (omega (arith, inside)) refl ∙ sym (later_first end from (omega (arith, inside, low)) offset)

@@ -1,5 +1,5 @@
 -- The indexes of a range are read one by one, and then its generation is to be confirmed, as both streams see it.
-use Rattle.std.proofs.Common.{◌≡◌, ℕ, suc, List, [], ◌∷◌, false, Option, Some, None, sym, subst, inl, arith}
+use Rattle.std.proofs.Common.{◌≡◌, refl, ap, ℕ, suc, List, [], ◌∷◌, false, Option, Some, None, sym, subst, inl, arith}
 use Rattle.block_types.specs.declared.record.Nodes.{Nodes}
 use Rattle.wire.specs.declared.body.Body.{Body}
 use Rattle.client.specs.declared.job.Place.TheVariants.{First}
@@ -12,13 +12,14 @@ use Rattle.model_partition.specs.declared.server_context.ServerContext.{ServerCo
 use Rattle.model_partition.specs.declared.stage.Stage.{Stage}
 use Rattle.model_partition.specs.declared.stage.Stage.TheVariants as stages
 use Rattle.model_partition.specs.declared.waiting.PlaceRead.{PlaceRead}
-use Rattle.model_partition.specs.Range.{RangeState, request, answers}
+use Rattle.model_partition.specs.Range.{RangeState, request, answers, is_serving}
 use Rattle.model_partition.specs.PlaceReads.{places_of, reads_place}
 use Rattle.model_partition.specs.Loading.{asks_index, index_named, reads_named, reads_index, installs, index_read}
 use Rattle.model_partition.specs.Answering.{index_reply}
 use Rattle.laws_loads.proofs.IndexAnswers.{index_reply_elim}
 use Rattle.laws_ranges.specs.Serves.{Side, StageIs, Follows, BothListed, IsSentBy, RuleGoes}
 use Rattle.laws_ranges.specs.Quiet.{GoesQuietly}
+use Rattle.laws_ranges.proofs.RowData.{rows_idle}
 use Rattle.laws_ranges.proofs.BothStreamsAtOnce.{AllRead, confirms_both}
 use Rattle.laws_ranges.proofs.BothStreams.{still_both, still_quietly}
 use Rattle.laws_ranges.proofs.Confirmed.{dropped_both, dropped_quietly}
@@ -34,7 +35,8 @@ module _ (generation : ℕ → ℕ) (range : ℕ) (w : StreamSystem) (i : ℕ) (
       (record {
         range_is = b.range_is;
         under = b.under;
-        calm = b.calm;
+        calm = λ u. b.calm;
+        rows = rows_idle range w m.sent l.sent _ _ r.rows b.calm.0 b.rows;
         stage = record { phase = opened; metadata = b.metadata; metadata_idle = b.metadata_idle; log = b.log; log_idle = b.log_idle };
       })
       (omega arith) (inl (λ n s z. tt), tt)
@@ -43,7 +45,7 @@ module _ (generation : ℕ → ℕ) (range : ℕ) (w : StreamSystem) (i : ℕ) (
       RuleGoes generation range w i m l d (reads_named d r position named)
   reads_named_both r b opened position None =
       confirms_both generation range w i m l d by (record r { reading = None })
-      (record { range_is = b.range_is; under = b.under; calm = b.calm; metadata = b.metadata; metadata_idle = b.metadata_idle; log = b.log; log_idle = b.log_idle })
+      (record { range_is = b.range_is; under = b.under; calm = b.calm; rows = b.rows; metadata = b.metadata; metadata_idle = b.metadata_idle; log = b.log; log_idle = b.log_idle })
   reads_named_both r b opened position (Some index) = asks_index_both r b opened position index (places_of r index.place.extent)
 
   -- the next index is read, or all is read
@@ -54,23 +56,23 @@ module _ (generation : ℕ → ℕ) (range : ℕ) (w : StreamSystem) (i : ℕ) (
       RuleGoes generation range w i m l d (installs d r position named index)
   installs_both r b opened position (Some named) (Some index) =
       reads_index_both (record r { indexes = record { place = named.place; keys = named.keys; index = index } ∷ r.indexes })
-      (record { range_is = b.range_is; under = b.under; calm = b.calm; metadata = b.metadata; metadata_idle = b.metadata_idle; log = b.log; log_idle = b.log_idle }) opened (suc position)
+      (record { range_is = b.range_is; under = b.under; calm = b.calm; rows = b.rows; metadata = b.metadata; metadata_idle = b.metadata_idle; log = b.log; log_idle = b.log_idle }) opened (suc position)
   installs_both r b opened position named index = dropped_both generation range w i both m l d by r
 
   -- ---- an answer to the read of an index
 
   module _ (r : RangeState) (f : Follows generation range w i m l r) where
-    index_read_both : (stage : Stage) → StageIs generation range w i m l r stage → (bytes : List ℕ) → RuleGoes generation range w i m l d (index_read d r stage bytes)
-    index_read_both (stages.Indexing position) b bytes =
-        installs_both r (record { range_is = f.range_is; under = f.under; calm = f.calm; metadata = b.metadata; metadata_idle = b.metadata_idle; log = b.log; log_idle = b.log_idle }) b.phase position
+    index_read_both : (stage : Stage) → r.stage ≡ stage → StageIs generation range w i m l r stage → (bytes : List ℕ) → RuleGoes generation range w i m l d (index_read d r stage bytes)
+    index_read_both (stages.Indexing position) e b bytes =
+        installs_both r (record { range_is = f.range_is; under = f.under; calm = f.calm (ap is_serving e); rows = f.rows; metadata = b.metadata; metadata_idle = b.metadata_idle; log = b.log; log_idle = b.log_idle }) b.phase position
         (index_named r.said.indexes position) (index_at bytes)
-    index_read_both stage b bytes = still_both generation range w i both m l d by r d.count [] f (omega arith) tt
+    index_read_both stage e b bytes = still_both generation range w i both m l d by r d.count [] f (omega arith) tt
 
     -- whatever it is
     pub index_reply_both : (body : Body) → RuleGoes generation range w i m l d (index_reply d r body)
     index_reply_both body =
         index_reply_elim (λ o. RuleGoes generation range w i m l d o) d r (still_both generation range w i both m l d by r d.count [] f (omega arith) tt)
-        (dropped_both generation range w i both m l d by r) (index_read_both r.stage f.stage) body
+        (dropped_both generation range w i both m l d by r) (index_read_both r.stage refl f.stage) body
 
     -- where the range is served it turns nothing
     pub index_reply_quietly : r.stage ≡ stages.Serving → (body : Body) → GoesQuietly generation range w i m l d (index_reply d r body)

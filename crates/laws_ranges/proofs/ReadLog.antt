@@ -9,6 +9,7 @@ use Rattle.model_partition.specs.declared.stage.Stage.TheVariants as stages
 use Rattle.model_partition.specs.Range.{RangeState, dropped, picking, request}
 use Rattle.model_partition.specs.Loading.{Group, read_of, log_goes, reads_index, reads_log, reads_log_from, replays, replayed, log_read}
 use Rattle.laws_ranges.specs.Serves.{Side, log_of, LoadingIs, Goes, BothListed, IsSentBy, RuleGoes}
+use Rattle.laws_ranges.proofs.RowData.{rows_idle}
 use Rattle.laws_ranges.proofs.BothStreamsAtOnce.{AllRead}
 use Rattle.laws_ranges.proofs.ReadIndexes.{reads_index_both}
 use Rattle.laws_ranges.proofs.ServerPick.{reading_goes}
@@ -31,7 +32,7 @@ module _ (generation : ℕ → ℕ) (range : ℕ) (w : StreamSystem) (i : ℕ) (
       go : (t : Bool) → RuleGoes generation range w i m l d (if t then log_goes d r (stages.Reading kinds.Log position) (read_of d (picking d r.log) position) else reads_index d r 0)
       go true =
           log_step generation range w i both m l d by (record r { stage = stages.Reading kinds.Log position; log = o.after }) o.packet _ went
-          (record { range_is = b.range_is; under = b.under; calm = b.calm; stage = record { phase = opened; metadata = b.metadata; metadata_idle = b.metadata_idle; log = went.then } })
+          (record { range_is = b.range_is; under = b.under; calm = λ u. b.calm; rows = rows_idle range w m.sent l.sent _ _ r.rows b.calm.0 b.rows; stage = record { phase = opened; metadata = b.metadata; metadata_idle = b.metadata_idle; log = went.then } })
       go false = reads_index_both generation range w i both m l d by r b opened 0
 
   -- the log is read from a position, or the range is dropped where there is none
@@ -43,7 +44,7 @@ module _ (generation : ℕ → ℕ) (range : ℕ) (w : StreamSystem) (i : ℕ) (
   replays_both r b opened position None = dropped_both generation range w i both m l d by r
   replays_both r b opened position (Some x) =
       reads_log_both (record r { regions = x.0; live = x.1 })
-      (record { range_is = b.range_is; under = b.under; calm = b.calm; metadata = b.metadata; metadata_idle = b.metadata_idle; log = b.log; log_idle = b.log_idle }) opened (suc position)
+      (record { range_is = b.range_is; under = b.under; calm = b.calm; rows = b.rows; metadata = b.metadata; metadata_idle = b.metadata_idle; log = b.log; log_idle = b.log_idle }) opened (suc position)
 
   -- groups of the log were read: they are replayed, and the next extent is read
   pub log_read_both : (r : RangeState) → AllRead generation range w i m l d by r → r.load.phase ≡ phases.Opened → (position e : ℕ) (groups : List Group) → RuleGoes generation range w i m l d (log_read d r position e groups)

@@ -27,11 +27,11 @@ use Rattle.model_partition.specs.Answering.{groups_of, metadata_reply}
 use Rattle.model_partition.specs.ServerTurns as turns
 use Rattle.model_partition.specs.StreamActions.{StreamAction, Forms, Stands, last_position, loading_actions, record_group, record_stood_in, record_stood, record_actions, metadata_actions, index_stood_in}
 use Rattle.laws_stream_machine.specs.Refinement.{Sent, purpose_of, Means}
-use Rattle.laws_ranges.specs.Serves.{Stand, after_turns, known, is_live, IsTold, ServesBy, ServingIs, Listed, sent_with, Goes, ServesAfter, IsCounted, JobIs, metadata_of}
+use Rattle.laws_ranges.specs.Serves.{IsRecord, is_recording_in, Stand, after_turns, known, is_live, IsTold, ServesBy, ServingIs, Listed, sent_with, Goes, ServesAfter, IsCounted, JobIs, metadata_of}
 use Rattle.laws_ranges.specs.Quiet.{AreQuiet, IsSent, AppendsOnly, FormsOnly, MadeBy}
 use Rattle.laws_ranges.specs.Seen.{AreSeenOf}
 use Rattle.std.proofs.lemmas.Bool.{and_parts}
-use Rattle.laws_ranges.specs.Records.{IsRecord, is_recording_in, ServesMetadata, MetadataRule}
+use Rattle.laws_ranges.specs.Records.{ServesMetadata, MetadataRule}
 use Rattle.laws_ranges.proofs.AppendJob.{GoesBy, append_goes, picked_serving}
 use Rattle.laws_ranges.proofs.AppendReplies.{reply_goes}
 use Rattle.laws_ranges.proofs.LogRules.{asked_if, refused_plain}

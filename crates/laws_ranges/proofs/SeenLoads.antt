@@ -1,13 +1,14 @@
 -- What a load does with the streams of a range, as servers see it: extents are read, and its confirmation shows all that was read.
-use Rattle.std.proofs.Common.{◌≡◌, ◌⊎◌, ⊎_elim, ℕ, List, [], ◌∷◌, Bool, true, false, Option, Some, None, is_some, refl, sym, ap, ◌∙◌, subst, inl, inr, arith, if◌then◌else◌}
+use Rattle.std.proofs.Common.{◌≡◌, ◌⊎◌, ⊎_elim, ℕ, List, [], ◌∷◌, Bool, true, false, Option, Some, None, is_some, refl, sym, ap, ◌∙◌, subst, inl, inr, if◌then◌else◌}
 use Rattle.wire.specs.declared.actor.ReqNo.{ReqNo}
 use Rattle.wire.specs.declared.body.Body.{Body}
 use Rattle.wire.specs.declared.body.Body.TheVariants as bodies
+use Rattle.wire.specs.declared.body.ReadBody.{ReadBody}
+use Rattle.wire.specs.declared.body.ReadBody.TheVariants as reads
 use Rattle.wire.specs.declared.body.StreamBody.{StreamBody}
 use Rattle.wire.specs.declared.body.StreamBody.TheVariants as streams
 use Rattle.wire.specs.declared.streams.StreamKind.{StreamKind}
 use Rattle.wire.specs.declared.streams.StreamKind.TheVariants as kinds
-use Rattle.metadata.specs.Fold.{MetadataState}
 use Rattle.client.specs.declared.job.News.{News}
 use Rattle.client.specs.declared.job.News.TheVariants as news
 use Rattle.client.specs.declared.load.LoadPhase.{LoadPhase}
@@ -23,16 +24,16 @@ use Rattle.model_partition.specs.declared.stage.Stage.TheVariants as stages
 use Rattle.model_partition.specs.Range.{RangeState, RangeOutcome, request, picking, is_serving}
 use Rattle.model_partition.specs.Loading.{Group, serves}
 use Rattle.model_partition.specs.Answering.{answered_number, load_told, load_reply, answer_rule, is_taken, groups_of}
-use Rattle.model_partition.specs.ServerRun.{place_number}
+use Rattle.model_partition.specs.PlaceReads.{reads_under}
+use Rattle.laws_tables.specs.Runs.{start_number}
 use Rattle.model_partition.specs.ServerTurns as turns
-use Rattle.model_partition.specs.StreamActions.{StreamAction, Shows, first_start, read_end, loading_actions, confirmed_actions, load_actions, answered_actions, answer_actions}
+use Rattle.model_partition.specs.StreamActions.{StreamAction, Shows, first_start, read_end, index_told_actions, index_actions, loading_actions, confirmed_actions, load_actions, answered_actions, answer_actions}
 use Rattle.laws_stream_machine.specs.Refinement.{Means}
 use Rattle.laws_loads.specs.RangeView.{RangeView}
 use Rattle.laws_loads.specs.StaysLoading.{IsConfirmation}
-use Rattle.laws_ranges.specs.Serves.{HasNoCheckpoint, Side, AreUnformed, metadata_of, log_of, IsConfirming, Follows, BothListed, IsSentBy}
+use Rattle.laws_ranges.specs.Serves.{BeginsRightly, HasNoCheckpoint, Side, metadata_of, log_of, IsConfirming, Follows, BothListed, IsSentBy}
 use Rattle.laws_ranges.specs.Quiet.{AreReads}
 use Rattle.laws_ranges.specs.Seen.{AreSeen, LoadIsRead, RuleSees}
-use Rattle.laws_ranges.proofs.ReadEnds.{ends_alike}
 use Rattle.laws_ranges.proofs.SeenTurns.{shows_seen}
 use Rattle.laws_ranges.proofs.Confirmed.{ShowsAll, confirmed_all}
 use Rattle.laws_ranges.proofs.Stages.{confirming_at}
@@ -43,6 +44,15 @@ use Rattle.laws_ranges.proofs.Stages.{confirming_at}
 loading_reads : (kind : StreamKind) (c : ClientState) (stage : Stage) (groups : List Group) (told : Option News) → AreReads (loading_actions kind c stage groups told)
 loading_reads kind c (stages.Reading k position) groups (Some (news.Content extent upto)) = (tt, tt)
 loading_reads kind c stage groups told = tt
+
+-- the bytes of an index
+bytes_quiet : (body : ReadBody) → AreReads (index_told_actions body)
+bytes_quiet (reads.Bytes q e offset bytes) = (tt, tt)
+bytes_quiet body = tt
+
+pub index_quiet : (body : Body) → AreReads (index_actions body)
+index_quiet (bodies.Read body) = bytes_quiet body
+index_quiet body = tt
 
 -- a range that is dropped does nothing
 pub kept_reads : (o : Option RangeState) (done : List StreamAction) → AreReads done → AreReads (if is_some o then done else [])
@@ -68,7 +78,8 @@ module _ (d : ServerContext) (r : RangeState) (v : ReqNo) where
       (λ f. if_elim AreReads (awaits r.log.job v) _ _
       (λ t. if_elim AreReads (is_taken r body) _ _
       (λ t. if_elim AreReads (is_serving r.stage) _ _ (λ s. absurd (cc (unserved, s))) (λ f. loading_reads kinds.Log r.log r.stage (groups_of body) (reply_rule (picking d r.log) (request d) body).news)) (λ f. tt))
-      (λ f. if_elim AreReads (awaits r.rows.job v) _ _ (λ t. absurd (let z : false ≡ true = subst (λ j. awaits j v ≡ true) calm.0 t in cc)) (λ f. tt)))))
+      (λ f. if_elim AreReads (awaits r.rows.job v) _ _ (λ t. absurd (let z : false ≡ true = subst (λ j. awaits j v ≡ true) calm.0 t in cc))
+      (λ f. if_elim AreReads (reads_under r.reading v) _ _ (λ t. index_quiet body) (λ f. tt))))))
 
   -- an answer that a range waits for
   pub answer_reads : (body : Body) (o : RangeOutcome) → is_serving r.stage ≡ false → HasNoCheckpoint r → AreReads (answer_actions d r v body o) ⊎ IsConfirmation d r v body (answer_rule d r v body)
@@ -83,7 +94,7 @@ module _ (d : ServerContext) (r : RangeState) (v : ReqNo) where
 
   -- from the first region's place on, up to the end of each stream
   abbrev all_shown : StreamAction
-  all_shown = Shows (first_start r.said.regions) (read_end r.log (first_start r.said.regions)) (read_end r.metadata (record { index = r.metadata.base; offset = 0 }))
+  all_shown = Shows (first_start r.said.regions) (read_end r.log (record { index = r.log.base; offset = 0 })) (read_end r.metadata (record { index = r.metadata.base; offset = 0 }))
 
   shown_actions : (body : Body) (z o : RangeOutcome) → IsConfirmation d r v body z → answered_actions d r v body o ≡ all_shown ∷ []
   shown_actions body z o c =
@@ -100,23 +111,19 @@ module _ (generation : ℕ → ℕ) (range : ℕ) (w : StreamSystem) (i : ℕ) (
     (r : RangeState) (f : Follows generation range w i m l r) (v : ReqNo) (body : Body) where
   -- the load has read all that it shows
   all_seen : (b : IsConfirming generation range w i m l r) → LoadIsRead generation i range w view m l r b →
-      AreSeen generation i view m.stand l.stand (turns.ConfirmedIs 0 b.metadata.end b.metadata.read ∷ []) (turns.ConfirmedIs 0 b.log.end b.log.read ∷ []) (all_shown d r v ∷ [])
+      AreSeen generation i view m.stand l.stand (turns.ConfirmedIs 0 b.metadata.end b.metadata.read ∷ []) (turns.ConfirmedIs (start_number r.said.regions) b.log.end b.log.read ∷ []) (all_shown d r v ∷ [])
   all_seen b read =
       shows_seen generation i view m.stand l.stand b.metadata.end b.log.end b.metadata.read b.log.read
       (record { n = _; live = _; stands = b.metadata.stands }) (record { n = _; live = _; stands = b.log.stands })
-      (first_start r.said.regions) (read_end r.log (first_start r.said.regions)) (read_end r.metadata (record { index = r.metadata.base; offset = 0 }))
-      (ap place_number start) b.metadata.ends
-      (b.log.ends ∙ ends_alike generation (log_of range) w i l.stand l.sent r.log b.log.told (record { index = 0; offset = 0 }) (omega arith) refl ∙ ap (λ p. place_number (read_end r.log p)) (sym start)) read.metadata read.log
-    where
-      start : first_start r.said.regions ≡ record { index = 0; offset = 0 }
-      start = ap (λ (z : MetadataState). first_start z.regions) read.said
+      (first_start r.said.regions) (read_end r.log (record { index = r.log.base; offset = 0 })) (read_end r.metadata (record { index = r.metadata.base; offset = 0 }))
+      b.metadata.ends b.log.ends read.metadata read.log
 
   -- a confirmation, as both streams mean it
-  pub confirmation_sees : ((b : IsConfirming generation range w i m l r) → LoadIsRead generation i range w view m l r b) →
+  pub confirmation_sees : ((b : IsConfirming generation range w i m l r) → LoadIsRead generation i range w view m l r b) → BeginsRightly r → is_serving r.stage ≡ false →
       answered_number body ≡ Some v →
       Means generation (metadata_of range) w m.stand.state m.sent body → Means generation (log_of range) w l.stand.state l.sent body → IsConfirmation d r v body (answer_rule d r v body) →
       RuleSees generation i range w view m l d (answer_rule d r v body) (answer_actions d r v body (answer_rule d r v body))
-  confirmation_sees read number one two c =
+  confirmation_sees read begins unserved number one two c =
       subst (λ o. RuleSees generation i range w view m l d o (answer_actions d r v body o)) (sym c.outcome) (go (serves d r).after refl went.1)
     where
       b : IsConfirming generation range w i m l r
@@ -129,7 +136,7 @@ module _ (generation : ℕ → ℕ) (range : ℕ) (w : StreamSystem) (i : ℕ) (
 
       went : ShowsAll generation range w i both m l d by r b (serves d r)
       went =
-          confirmed_all generation range w i both m l d by r b f.range_is f.under f.calm c.told awaited
+          confirmed_all generation range w i both m l d by r b f.range_is f.under (f.calm unserved) f.rows begins c.told awaited
           (subst (λ z. Means generation (metadata_of range) w m.stand.state m.sent z) c.body_is one) (subst (λ z. Means generation (log_of range) w l.stand.state l.sent z) c.body_is two)
 
       Sees : List StreamAction → Type 0
@@ -140,22 +147,20 @@ module _ (generation : ℕ → ℕ) (range : ℕ) (w : StreamSystem) (i : ℕ) (
       none e =
           record {
             goes = went.0;
-            unformed = subst (λ ts. AreUnformed ts) (sym (went.0.none e).0) tt;
             seen = subst (λ ts. AreSeen generation i view m.stand l.stand ts went.0.log_turns []) (sym (went.0.none e).0) (subst (λ ts. AreSeen generation i view m.stand l.stand [] ts []) (sym (went.0.none e).1) (λ s. s));
           }
 
       -- it is served
-      some : went.0.metadata_turns ≡ turns.ConfirmedIs 0 b.metadata.end b.metadata.read ∷ [] → went.0.log_turns ≡ turns.ConfirmedIs 0 b.log.end b.log.read ∷ [] → Sees (all_shown d r v ∷ [])
+      some : went.0.metadata_turns ≡ turns.ConfirmedIs 0 b.metadata.end b.metadata.read ∷ [] → went.0.log_turns ≡ turns.ConfirmedIs (start_number r.said.regions) b.log.end b.log.read ∷ [] → Sees (all_shown d r v ∷ [])
       some em el =
           record {
             goes = went.0;
-            unformed = subst (λ ts. AreUnformed ts) (sym em) (tt, tt);
             seen = subst (λ ts. AreSeen generation i view m.stand l.stand ts went.0.log_turns (all_shown d r v ∷ [])) (sym em)
                 (subst (λ ts. AreSeen generation i view m.stand l.stand (turns.ConfirmedIs 0 b.metadata.end b.metadata.read ∷ []) ts (all_shown d r v ∷ [])) (sym el) (all_seen b (read b)));
           }
 
       go : (after : Option RangeState) → (serves d r).after ≡ after →
-          ((went.0.metadata_turns ≡ turns.ConfirmedIs 0 b.metadata.end b.metadata.read ∷ []) × (went.0.log_turns ≡ turns.ConfirmedIs 0 b.log.end b.log.read ∷ [])) ⊎ ((serves d r).after ≡ None) →
+          ((went.0.metadata_turns ≡ turns.ConfirmedIs 0 b.metadata.end b.metadata.read ∷ []) × (went.0.log_turns ≡ turns.ConfirmedIs (start_number r.said.regions) b.log.end b.log.read ∷ [])) ⊎ ((serves d r).after ≡ None) →
           Sees (if is_some (serves d r).after then answered_actions d r v body (serves d r) else [])
       go None e k = subst (λ z. Sees (if is_some z then answered_actions d r v body (serves d r) else [])) (sym e) (none e)
       go (Some after) e (inl k) =

@@ -14,9 +14,8 @@ use Rattle.model_partition.specs.StreamActions.{StreamAction, Shows}
 use Rattle.laws_loads.specs.RangeView.{RangeView, view_after_all}
 use Rattle.laws_ranges.specs.Serves.{Stand, Side, after_turns}
 use Rattle.laws_ranges.specs.Quiet.{AreQuiet, GoesQuietly, AreReads}
-use Rattle.laws_ranges.specs.Seen.{BeganAt, SeesStories, SeesStory, AreOf, AreSeen, AreSeenOf, RuleSees}
-use Rattle.laws_ranges.proofs.OneStory.{others_leave, reads_leave, quiet_seen_of}
-use Rattle.laws_ranges.proofs.QuietTurns.{quiet_unformed, quiet_story}
+use Rattle.laws_ranges.specs.Seen.{BeganAt, SeesStories, SeesStory, AreSeen, AreSeenOf, RuleSees}
+use Rattle.laws_ranges.proofs.OneStory.{quiet_seen_of}
 
 none_below : (n : ℕ) → nat_lt n 0 ≡ false
 none_below n = grind (arith, nat_tests)
@@ -30,47 +29,42 @@ from_first (c ∷ copies) = go (nat_lt c.from 0) (none_below c.from)
     go true e = absurd (cc)
     go false e = refl
 
-behind_first : (groups : List (Placed Group)) → placed_behind 0 groups ≡ groups
-behind_first [] = refl
-behind_first (p ∷ groups) = go (nat_lt p.from 0) (none_below p.from)
-  where
-    go : (t : Bool) → t ≡ false → (if t then placed_behind 0 groups else p ∷ groups) ≡ p ∷ groups
-    go true e = absurd (cc)
-    go false e = refl
-
 module _ (generation : ℕ → ℕ) (i : ℕ) where
   -- ---- one of both streams
 
   log_story : (v : RangeView) (m l : Stand) → SeesStories generation i v m l → SeesStory generation i kinds.Log v l
   log_story v m l s = record { story = s.log; append = s.append }
 
-  -- what is seen of the log, by actions on it alone
-  pub of_log : (v : RangeView) (m x : Stand) (ts : List (turns.Turn Group)) (actions : List StreamAction) → AreOf kinds.Log actions → AreSeenOf generation i kinds.Log v x ts actions → AreSeen generation i v m x [] ts actions
-  of_log v m x ts actions here seen s =
-      let log : SeesStory generation i kinds.Log (view_after_all (generation i) v actions) (after_turns generation i x ts) = seen (log_story v m x s) in
-      record { metadata = (others_leave generation i kinds.Log kinds.Metadata refl v actions here).story ∙ s.metadata; log = log.story; append = log.append }
+  metadata_story : (v : RangeView) (m l : Stand) → SeesStories generation i v m l → SeesStory generation i kinds.Metadata v m
+  metadata_story v m l s = record { story = s.metadata; append = s.record_append }
+
+  -- what is seen of each is seen of both
+  pub seen_of_both : (v : RangeView) (m x : Stand) (ms ls : List (turns.Turn Group)) (actions : List StreamAction) → AreSeenOf generation i kinds.Metadata v m ms actions → AreSeenOf generation i kinds.Log v x ls actions →
+      AreSeen generation i v m x ms ls actions
+  seen_of_both v m x ms ls actions one two s =
+      let a : SeesStory generation i kinds.Metadata (view_after_all (generation i) v actions) (after_turns generation i m ms) = one (metadata_story v m x s) in
+      let b : SeesStory generation i kinds.Log (view_after_all (generation i) v actions) (after_turns generation i x ls) = two (log_story v m x s) in
+      record { metadata = a.story; log = b.story; record_append = a.append; append = b.append }
 
   -- ---- quiet turns
 
   pub quiet_seen : (v : RangeView) (m l : Stand) (ms ls : List (turns.Turn Group)) (actions : List StreamAction) → AreQuiet ms → AreQuiet ls → AreReads actions → AreSeen generation i v m l ms ls actions
-  quiet_seen v m l ms ls actions one two quiet s =
-      let log : SeesStory generation i kinds.Log (view_after_all (generation i) v actions) (after_turns generation i l ls) = quiet_seen_of generation i kinds.Log v l ls actions two quiet (log_story v m l s) in
-      record { metadata = reads_leave generation i kinds.Metadata v actions quiet ∙ s.metadata ∙ sym (quiet_story generation i m ms one); log = log.story; append = log.append }
+  quiet_seen v m l ms ls actions one two quiet =
+      seen_of_both v m l ms ls actions (quiet_seen_of generation i kinds.Metadata v m ms actions one quiet) (quiet_seen_of generation i kinds.Log v l ls actions two quiet)
 
   -- ---- a generation is confirmed
 
-  loaded_story : (x : Stand) (n end : ℕ) (live : Bool) (read : List (Copy Group)) → x.phase ≡ turns.Confirming n live →
-      Showed (generation i) 0 end (map placed read) ∷ x.state.story ≡ (after_turns generation i x (turns.ConfirmedIs 0 end read ∷ [])).state.story
-  loaded_story x n end live read stands =
-      ap (λ z. Showed (generation i) 0 end (map placed z) ∷ x.state.story) (sym (from_first read))
-      ∙ subst (λ p. Showed (generation i) 0 end (map placed (from_place 0 read)) ∷ x.state.story ≡ (after_turns generation i (record { state = x.state; phase = p }) (turns.ConfirmedIs 0 end read ∷ [])).state.story) (sym stands) refl
+  loaded_story : (x : Stand) (n start end : ℕ) (live : Bool) (read : List (Copy Group)) → x.phase ≡ turns.Confirming n live →
+      Showed (generation i) start end (map placed (from_place start read)) ∷ x.state.story ≡ (after_turns generation i x (turns.ConfirmedIs start end read ∷ [])).state.story
+  loaded_story x n start end live read stands =
+      subst (λ p. Showed (generation i) start end (map placed (from_place start read)) ∷ x.state.story ≡ (after_turns generation i (record { state = x.state; phase = p }) (turns.ConfirmedIs start end read ∷ [])).state.story) (sym stands) refl
 
-  -- a load shows all that it has read, and the server says its places
-  shown_story : (x : Stand) (n end : ℕ) (live : Bool) (read : List (Copy Group)) → x.phase ≡ turns.Confirming n live → (story : Story Group) → story ≡ x.state.story → (from at : ℕ) → from ≡ 0 → end ≡ at → (groups : List (Placed Group)) → groups ≡ map placed read →
-      Showed (generation i) from at groups ∷ story ≡ (after_turns generation i x (turns.ConfirmedIs 0 end read ∷ [])).state.story
-  shown_story x n end live read stands story same from at begins ends groups are =
-      ap (λ k. Showed (generation i) k at groups ∷ story) begins ∙ ap (λ k. Showed (generation i) 0 k groups ∷ story) (sym ends) ∙ ap (λ z. Showed (generation i) 0 end z ∷ story) are
-      ∙ ap (λ z. Showed (generation i) 0 end (map placed read) ∷ z) same ∙ loaded_story x n end live read stands
+  -- a load shows all that it has read from a place on, and the server says its places
+  shown_story : (x : Stand) (n start end : ℕ) (live : Bool) (read : List (Copy Group)) → x.phase ≡ turns.Confirming n live → (story : Story Group) → story ≡ x.state.story → (at : ℕ) → end ≡ at → (groups : List (Placed Group)) →
+      groups ≡ map placed (from_place start read) → Showed (generation i) start at groups ∷ story ≡ (after_turns generation i x (turns.ConfirmedIs start end read ∷ [])).state.story
+  shown_story x n start end live read stands story same at ends groups are =
+      ap (λ k. Showed (generation i) start k groups ∷ story) (sym ends) ∙ ap (λ z. Showed (generation i) start end z ∷ story) are
+      ∙ ap (λ z. Showed (generation i) start end (map placed (from_place start read)) ∷ z) same ∙ loaded_story x n start end live read stands
 
   -- a load waits for its confirmation
   pub record WaitsAt (x : Stand) : Type 0 where
@@ -79,15 +73,17 @@ module _ (generation : ℕ → ℕ) (i : ℕ) where
     pub stands : x.phase ≡ turns.Confirming n live
 
   pub shows_seen : (v : RangeView) (m l : Stand) (metadata_end log_end : ℕ) (metadata_read log_read : List (Copy Group)) → WaitsAt m → WaitsAt l →
-      (start log_at metadata_at : Position) → place_number start ≡ 0 → metadata_end ≡ place_number metadata_at → log_end ≡ place_number log_at →
-      placed_reads (v.history.reads kinds.Metadata) ≡ map placed metadata_read → placed_reads (v.history.reads kinds.Log) ≡ map placed log_read →
-      AreSeen generation i v m l (turns.ConfirmedIs 0 metadata_end metadata_read ∷ []) (turns.ConfirmedIs 0 log_end log_read ∷ []) (Shows start log_at metadata_at ∷ [])
-  shows_seen v m l metadata_end log_end metadata_read log_read one two start log_at metadata_at first metadata_ends log_ends metadata_are log_are s =
+      (start log_at metadata_at : Position) → metadata_end ≡ place_number metadata_at → log_end ≡ place_number log_at →
+      placed_reads (v.history.reads kinds.Metadata) ≡ map placed metadata_read →
+      placed_behind (place_number start) (placed_reads (v.history.reads kinds.Log)) ≡ map placed (from_place (place_number start) log_read) →
+      AreSeen generation i v m l (turns.ConfirmedIs 0 metadata_end metadata_read ∷ []) (turns.ConfirmedIs (place_number start) log_end log_read ∷ []) (Shows start log_at metadata_at ∷ [])
+  shows_seen v m l metadata_end log_end metadata_read log_read one two start log_at metadata_at metadata_ends log_ends metadata_are log_are s =
       record {
-        metadata = shown_story m one.n metadata_end one.live metadata_read one.stands (v.story kinds.Metadata) s.metadata 0 (place_number metadata_at) refl metadata_ends (placed_reads (v.history.reads kinds.Metadata)) metadata_are;
-        log = shown_story l two.n log_end two.live log_read two.stands (v.story kinds.Log) s.log (place_number start) (place_number log_at) first log_ends (placed_behind (place_number start) (placed_reads (v.history.reads kinds.Log)))
-            (ap (λ k. placed_behind k (placed_reads (v.history.reads kinds.Log))) first ∙ behind_first (placed_reads (v.history.reads kinds.Log)) ∙ log_are);
-        append = subst (λ p. BeganAt (v.history.append kinds.Log) (after_turns generation i (record { state = l.state; phase = p }) (turns.ConfirmedIs 0 log_end log_read ∷ [])).phase) (sym two.stands) tt;
+        metadata = shown_story m one.n 0 metadata_end one.live metadata_read one.stands (v.story kinds.Metadata) s.metadata (place_number metadata_at) metadata_ends (placed_reads (v.history.reads kinds.Metadata))
+            (metadata_are ∙ ap (map placed) (sym (from_first metadata_read)));
+        log = shown_story l two.n (place_number start) log_end two.live log_read two.stands (v.story kinds.Log) s.log (place_number log_at) log_ends (placed_behind (place_number start) (placed_reads (v.history.reads kinds.Log))) log_are;
+        record_append = subst (λ p. BeganAt (v.history.append kinds.Metadata) (after_turns generation i (record { state = m.state; phase = p }) (turns.ConfirmedIs 0 metadata_end metadata_read ∷ [])).phase) (sym one.stands) tt;
+        append = subst (λ p. BeganAt (v.history.append kinds.Log) (after_turns generation i (record { state = l.state; phase = p }) (turns.ConfirmedIs (place_number start) log_end log_read ∷ [])).phase) (sym two.stands) tt;
       }
 
 -- ---- rules
@@ -98,6 +94,5 @@ pub quiet_sees : (generation : ℕ → ℕ) (range : ℕ) (w : StreamSystem) (i 
 quiet_sees generation range w i v m l d o actions g quiet =
     record {
       goes = g.goes;
-      unformed = quiet_unformed g.goes.metadata_turns g.metadata;
       seen = quiet_seen generation i v m.stand l.stand g.goes.metadata_turns g.goes.log_turns actions g.metadata g.log quiet;
     }

@@ -22,23 +22,18 @@ use Rattle.client.specs.Requests.{is_same}
 use Rattle.model_streams.specs.StreamSystem.{StreamSystem}
 use Rattle.model_partition.specs.declared.server_context.ServerContext.{ServerContext}
 use Rattle.model_partition.specs.declared.stage.Stage.TheVariants as stages
-use Rattle.model_partition.specs.Range.{OutGroup, RangeState, RangeOutcome, request, goes, answers, picking, is_serving}
+use Rattle.model_partition.specs.Range.{OutGroup, RangeState, request, goes, answers, picking, is_serving}
 use Rattle.model_partition.specs.Loading.{log_news}
-use Rattle.model_partition.specs.Serving.{group_count, appends as appending, forms, log_done, transact_fault, transacts, transact_rule, record_of, out_size}
+use Rattle.model_partition.specs.Serving.{group_count, appends as appending, forms, log_done, transacts, record_of, out_size}
 use Rattle.commitlog.specs.Places.{kept}
 use Rattle.memtable.specs.Entries.{put_all}
 use Rattle.model_partition.specs.Answering.{serving_news, log_taken, log_reply, is_taken, groups_of}
-use Rattle.model_partition.specs.StreamActions.{StreamAction, transact_actions}
 use Rattle.model_partition.specs.StreamMachine as machine
 use Rattle.replica.specs.Groups.{Group}
-use Rattle.laws_stream_machine.specs.Refinement.{Purpose, Sent, purpose_of, asked_number, Opens, Checks, Seals, Reads, Confirms, Appends, Extends, IsAt, AsksToAppend, AsksToCheck, AsksToRead, AsksToSeal, OfExtent, IsAsked, Means}
+use Rattle.laws_stream_machine.specs.Refinement.{Purpose, Sent, purpose_of, asked_number, Opens, Checks, Seals, Reads, Confirms, Appends, Extends, IsAt, AsksToAppend, AsksToCheck, AsksToRead, AsksToSeal, OfExtent, IsAsked}
 use Rattle.laws_stream_machine.proofs.ServerRequests.{same_request}
-use Rattle.laws_ranges.specs.Serves.{Side, IsPlain, after_turns, metadata_of, log_of, is_alone, sent_with, IsNumbered, IsOwn, AreAsked, ServingIs, IsCounted, ServesLog, ServesLogIf, IsServing, StageIs, Follows, Apart, BothListed, AreUnused, IsSentBy, FollowsIf, AskedOfBoth}
-use Rattle.laws_loads.specs.RangeView.{RangeView}
-use Rattle.laws_ranges.specs.Seen.{LogRule, RuleSees}
-use Rattle.laws_ranges.proofs.MachineSteps.{purposes_on, newest}
-use Rattle.laws_ranges.proofs.SeenTurns.{of_log}
-use Rattle.laws_ranges.proofs.LogRules.{reply_actions, transact_goes, log_reply_goes}
+use Rattle.laws_ranges.specs.Serves.{Side, IsPlain, metadata_of, log_of, is_alone, sent_with, IsNumbered, IsOwn, AreAsked, Apart, BothListed, AreUnused, AskedOfBoth}
+use Rattle.laws_ranges.proofs.MachineSteps.{newest}
 
 -- ---- numbers
 
@@ -191,60 +186,13 @@ module _ (generation : ℕ → ℕ) (range : ℕ) (w : StreamSystem) (i : ℕ) (
           let same : v ≡ q = cc in let k : Some (Opens i) ≡ None = sym (at (Opens i)) ∙ ap (purpose_of (Marked q (Opens i))) (sym same) ∙ none in cc
       go body b t = absurd cc
 
-  pub asked_of_both : (n k : Side) → Apart n.sent k.sent → (ps : List Packet) → AreAsked generation range w i (log_of range) k.stand k.sent ps → AskedOfBoth generation range w i n k ps
-  asked_of_both n k a [] asked = tt
-  asked_of_both n k a (p ∷ ps) (inl plain, asked) =
-      ((plain (metadata_of range) n.stand.state n.sent, plain (log_of range) k.stand.state k.sent, λ q is one two. plain_unasked p plain q is), asked_of_both n k a ps asked)
-  asked_of_both n k a (p ∷ ps) (inr own, asked) = ((log_elsewhere n.stand.state n.sent k.sent a p.body own.1, own.0, λ q is one two. own_known (log_of range) k.sent p.body own.1 q is two), asked_of_both n k a ps asked)
+  pub asked_of_both : (after : Option RangeState) (n k : Side) → Apart n.sent k.sent → (ps : List Packet) → AreAsked generation range w i (log_of range) k.stand k.sent ps → AskedOfBoth generation range w i after n k ps
+  asked_of_both after n k a [] asked = tt
+  asked_of_both after n k a (p ∷ ps) (inl plain, asked) =
+      ((plain (metadata_of range) n.stand.state n.sent, plain (log_of range) k.stand.state k.sent, λ q is one two. absurd (plain_unasked p plain q is)), asked_of_both after n k a ps asked)
+  asked_of_both after n k a (p ∷ ps) (inr own, asked) = ((log_elsewhere n.stand.state n.sent k.sent a p.body own.1, own.0, λ q is one two. absurd (own_known (log_of range) k.sent p.body own.1 q is two)), asked_of_both after n k a ps asked)
 
-  -- ---- a rule of a range that is served
-
-  served_if : (m l k : Side) (r : RangeState) → Follows generation range w i m l r → IsServing generation range w i m l r → (o : Option RangeState) → Keeps r o → ServesLogIf generation range w i o k.stand k.sent →
-      FollowsIf generation range w i o m k
-  served_if m l k r f b None keeps served = tt
-  served_if m l k r f b (Some after) keeps served =
-      let same = keeps.keeps after refl in
-      let serving : IsServing generation range w i m k after = record {
-        phase = ap (λ z. z.phase) same.load ∙ b.phase;
-        metadata = subst (λ c. ServingIs generation (metadata_of range) w i m.stand m.sent c) (sym same.metadata) b.metadata;
-        metadata_idle = ap (λ z. z.job) same.metadata ∙ b.metadata_idle;
-        log = served.client;
-        out = served.out;
-      } in
-      record {
-        range_is = ap (λ z. z.range) same.load ∙ f.range_is;
-        under = ap (λ z. z.generation) same.load ∙ f.under;
-        calm = (ap (λ z. z.job) same.rows ∙ f.calm.0, same.control ∙ f.calm.1);
-        stage = subst (λ z. StageIs generation range w i m k after z) (sym served.stage) serving;
-      }
-
-  pub sees_of_log : (v : RangeView) (m l : Side) (d : ServerContext) (r : RangeState) (o : RangeOutcome) (done : List StreamAction) → IsSentBy d d.count m.sent l.sent → Follows generation range w i m l r → IsServing generation range w i m l r → Keeps r o.after →
-      LogRule generation range w i l.stand l.sent d o done → RuleSees generation i range w v m l d o done
-  sees_of_log v m l d r o done by f b keeps rule =
-      let sent : List Sent = sent_with (request d) rule.purpose l.sent in
-      let k : Side = record { stand = after_turns generation i l.stand rule.list; sent = sent } in
-      let apart : Apart m.sent sent = apart_on m.sent l.sent (request d) rule.purpose by.apart (by.metadata d.count (omega arith)) in
-      record {
-        goes = record {
-          metadata_turns = [];
-          log_turns = rule.list;
-          metadata_allowed = tt;
-          log_allowed = rule.allowed;
-          none = λ e. (refl, rule.none e);
-          metadata_sent = m.sent;
-          log_sent = sent;
-          metadata_keeps = λ q p e. e;
-          log_keeps = purposes_on (request d) rule.purpose l.sent (by.log d.count (omega arith));
-          rises = ⊎_elim {C = d.count ≤ o.count} (λ e. omega (arith, e)) (λ e. (let z : o.count ≡ d.count = e.0 in omega (arith, z))) rule.counts;
-          metadata_adds = record { number = d.count; from = omega arith; purpose = None; is = refl };
-          log_adds = record { number = d.count; from = omega arith; purpose = rule.purpose; is = refl };
-          sent_by = record { apart = apart; metadata = same_unused d o.count rule.purpose m.sent by.metadata rule.counts; log = unused_on d o.count rule.purpose l.sent by.log rule.counts };
-          then = served_if m l k r f b o.after keeps rule.then;
-          asked = asked_of_both m k apart o.packets rule.asked;
-        };
-        unformed = tt;
-        seen = of_log generation i v m.stand l.stand rule.list done rule.here (rule.seen v);
-      }
+  -- ---- what a rule of a range that is served keeps
 
   all_kept : (r : RangeState) → KeepsRest r r
   all_kept r = record { load = refl; metadata = refl; rows = refl; said = refl; control = refl }
@@ -303,27 +251,3 @@ module _ (generation : ℕ → ℕ) (range : ℕ) (w : StreamSystem) (i : ℕ) (
           else log_news d (record r { log = o.after }) (groups_of body) z o.news (option_to_list o.packet)).after) (sym stage)
           (news_keep d r o.after o.news (option_to_list o.packet))
       go false = keeps_some r r (all_kept r)
-
-  -- ---- the rules, as both streams see them
-
-  module _ (m l : Side) (d : ServerContext) (by : IsSentBy d d.count m.sent l.sent) (r : RangeState) (f : Follows generation range w i m l r) (stage : r.stage ≡ stages.Serving) where
-    is_served : IsServing generation range w i m l r
-    is_served = subst (λ z. StageIs generation range w i m l r z) stage f.stage
-
-    served_log : ServesLog generation range w i l.stand l.sent r
-    served_log = record { range_is = f.range_is; under = f.under; client = is_served.log; out = is_served.out; stage = stage }
-
-    module _ (view : RangeView) where
-      -- a transaction
-      pub transact_served : (from : ActorId) (v : ReqNo) (changes : List Change) →
-          RuleSees generation i range w view m l d (transact_rule d r from v changes) (transact_actions r (transact_rule d r from v changes))
-      transact_served from v changes =
-          sees_of_log view m l d r (transact_rule d r from v changes) (transact_actions r (transact_rule d r from v changes)) by f is_served (transacts_keep d r from v changes (transact_fault d r changes))
-          (transact_goes generation range w i both.log d l.stand l.sent (by.log d.count (omega arith)) r from v changes served_log)
-
-      -- an answer to its log, which means what it says
-      pub log_reply_served : IsCounted i l.stand → (body : Body) → Means generation (log_of range) w l.stand.state l.sent body →
-          RuleSees generation i range w view m l d (log_reply d r body) (reply_actions d r body (log_reply d r body))
-      log_reply_served counted body means =
-          sees_of_log view m l d r (log_reply d r body) (reply_actions d r body (log_reply d r body)) by f is_served (reply_keeps d r body stage)
-          (log_reply_goes generation range w i both.log d l.sent (by.log d.count (omega arith)) l.stand r counted served_log body means)

@@ -14,7 +14,7 @@ use Rattle.laws_stream_machine.proofs.MachineCore.{pushed_get}
 use Rattle.laws_ranges.specs.Serves.{Stand, known, LastIs, is_live, IsTold}
 use Rattle.laws_ranges.proofs.ClientAsks.{some_last}
 
-set_length : {A : Type 0} (xs : List A) (k : ℕ) (y : A) → length (slice_set xs k y) ≡ length xs
+pub set_length : {A : Type 0} (xs : List A) (k : ℕ) (y : A) → length (slice_set xs k y) ≡ length xs
 set_length {A} [] k y = refl
 set_length {A} (x ∷ xs) zero y = refl
 set_length {A} (x ∷ xs) (suc k) y = ap suc (set_length xs k y)

@@ -1,7 +1,5 @@
--- Steps of a range that is served which turn neither of its streams, where each may have an append job: as the answer to a Trim, which
--- cuts sealed extents off the log.
-use Rattle.std.proofs.Common.{List, ◌≡◌, ◌⊎◌, ℕ, ◌<◌, ◌≤◌, [], ◌++◌, Bool, Option, Some, None, false, refl, sym, ap, ◌∙◌, subst, arith}
-use Rattle.wire.specs.declared.actor.ReqNo.{ReqNo}
+-- The answer to a Trim, which cuts sealed extents off the log and turns neither stream, where each may have an append job.
+use Rattle.std.proofs.Common.{◌≡◌, ℕ, ◌≤◌, [], ◌++◌, Option, Some, None, false, refl, sym, ap, ◌∙◌, subst, arith}
 use Rattle.wire.specs.declared.body.AppendBody.{AppendBody}
 use Rattle.wire.specs.declared.body.AppendBody.TheVariants as appends
 use Rattle.wire.specs.declared.body.Body.{Body}
@@ -15,26 +13,16 @@ use Rattle.model_partition.specs.CheckpointStates.{CheckpointState, is_recording
 use Rattle.model_partition.specs.declared.checkpoint_job.CheckpointPhase.{CheckpointPhase}
 use Rattle.model_partition.specs.declared.checkpoint_job.CheckpointPhase.TheVariants as checkpoints
 use Rattle.model_partition.specs.declared.server_context.ServerContext.{ServerContext}
-use Rattle.wire.specs.declared.actor.ActorId.{ActorId}
-use Rattle.wire.specs.declared.packet.Packet.{Packet}
-use Rattle.memtable.specs.declared.cell.Place.{Place}
-use Rattle.model_partition.specs.declared.waiting.WaitingGet.{WaitingGet}
-use Rattle.model_partition.specs.Getting.{get_rule}
 use Rattle.model_partition.specs.Range.{RangeState, RangeOutcome, answers, dropped, waiting_out}
 use Rattle.model_partition.specs.Checkpoints.{trimmed, trim_told, trim_reply_in}
-use Rattle.model_partition.specs.Answering.{load_refused, gets_reply, trim_reply}
+use Rattle.model_partition.specs.Answering.{load_refused, trim_reply}
 use Rattle.laws_loads.specs.RangeView.{RangeView}
-use Rattle.laws_ranges.specs.Serves.{Side, known, JobIs, log_of, AreAsked, BothListed, IsSentBy}
-use Rattle.laws_ranges.specs.Records.{IsRecord, is_recording_in, ServesBoth, ServesBothIf, ServedRule}
-use Rattle.laws_ranges.proofs.Gets.{get_is, gets_reply_is}
+use Rattle.laws_ranges.specs.Serves.{TrimsJob, TrimsPhase, IsRecord, is_recording_in, Side, JobIs, log_of, AreAsked, BothListed, IsSentBy}
+use Rattle.laws_ranges.specs.Records.{ServesBoth, ServesBothIf, ServedRule}
 use Rattle.laws_ranges.proofs.LogRules.{refused_plain}
 use Rattle.laws_ranges.proofs.RecordRules.{unrecorded_idle}
 use Rattle.laws_ranges.proofs.TrimmedLog.{trimmed_serving}
 use Rattle.laws_ranges.proofs.ServedRules.{asked_of_both}
-
--- the Trim that is out leaves the last extent of the log
-abbrev pub TrimStays : RangeState → Type 0
-TrimStays r = (job : CheckpointState) (before : ℕ) (to_blob : Bool) (q : ReqNo) → r.control ≡ Some job → job.phase ≡ checkpoints.Trim before to_blob q → (before ≤ r.log.base) ⊎ (before < known r.log)
 
 module _ (generation : ℕ → ℕ) (range : ℕ) (w : StreamSystem) (i : ℕ) (both : BothListed w range) (m l : Side) (d : ServerContext) (by : IsSentBy d d.count m.sent l.sent) (v : RangeView) where
   abbrev Served : RangeOutcome → Type 0
@@ -59,7 +47,7 @@ module _ (generation : ℕ → ℕ) (range : ℕ) (w : StreamSystem) (i : ℕ) (
           log_adds = record { number = d.count; from = omega arith; purpose = None; is = refl };
           sent_by = record { apart = by.apart; metadata = λ k le. by.metadata k (omega (arith, le, more)); log = λ k le. by.log k (omega (arith, le, more)) };
           then = then;
-          asked = asked_of_both generation range w i both m l by.apart o.packets asked;
+          asked = asked_of_both generation range w i both o.after m l by.apart o.packets asked;
         };
         metadata = λ s. s;
         log = λ s. s;
@@ -82,8 +70,8 @@ module _ (generation : ℕ → ℕ) (range : ℕ) (w : StreamSystem) (i : ℕ) (
     trimming_idle job phase control is none =
         unrecorded_idle r r.metadata.job r.metadata.group b.metadata.record_is (ap is_recording_in control ∙ ap is_recording is ∙ none)
 
-    told_served : TrimStays r → (job : CheckpointState) → r.control ≡ Some job → (phase : CheckpointPhase) → job.phase ≡ phase → (body : StreamBody) → Served (trim_told d r phase body)
-    told_served stays job control (checkpoints.Trim before to_blob q) is (streams.Trimmed u) =
+    told_served : (job : CheckpointState) → TrimsPhase r.log job.phase → r.control ≡ Some job → (phase : CheckpointPhase) → job.phase ≡ phase → (body : StreamBody) → Served (trim_told d r phase body)
+    told_served job stays control (checkpoints.Trim before to_blob q) is (streams.Trimmed u) =
         still_rule (answers d (trimmed r before to_blob) [])
         (record {
           phase = b.phase;
@@ -97,50 +85,20 @@ module _ (generation : ℕ → ℕ) (range : ℕ) (w : StreamSystem) (i : ℕ) (
           log = record {
             range_is = b.log.range_is;
             under = b.log.under;
-            client = trimmed_serving generation range w i l.stand l.sent r.log before (stays job before to_blob q control is) b.log.client;
+            client = trimmed_serving generation range w i l.stand l.sent r.log before (subst (λ z. TrimsPhase r.log z) is stays) b.log.client;
             out = b.log.out;
             stage = b.log.stage;
           };
         })
         (omega arith) tt
-    told_served stays job control phase is body = rests
+    told_served job stays control phase is body = rests
 
     -- an answer to the Trim
-    pub trim_reply_served : TrimStays r → (body : Body) → Served (trim_reply d r body)
+    pub trim_reply_served : TrimsJob r.log r.control → (body : Body) → Served (trim_reply d r body)
     trim_reply_served stays (bodies.Stream body) = go r.control refl
       where
         go : (o : Option CheckpointState) → r.control ≡ o → Served (trim_reply_in d r o body)
         go None e = rests
-        go (Some job) e = told_served stays job e job.phase refl body
+        go (Some job) e = told_served job (subst (λ z. TrimsJob r.log z) e stays).1 e job.phase refl body
     trim_reply_served stays (bodies.Append body) = refused_served body
     trim_reply_served stays body = rests
-
-    -- ---- Gets
-
-    still_served : (gets : List WaitingGet) (held : List (Place × List ℕ)) (count : ℕ) (packets : List Packet) → d.count ≤ count → AreAsked generation range w i (log_of range) l.stand l.sent packets →
-        Served (record { after = Some (record r { gets = gets; held = held }); count = count; packets = packets; notes = [] })
-    still_served gets held count packets more asked =
-        still_rule (record { after = Some (record r { gets = gets; held = held }); count = count; packets = packets; notes = [] })
-        (record {
-          phase = b.phase;
-          metadata = record {
-            range_is = b.metadata.range_is;
-            under = b.metadata.under;
-            client = b.metadata.client;
-            record_is = b.metadata.record_is;
-            stage = b.metadata.stage;
-          };
-          log = record {
-            range_is = b.log.range_is;
-            under = b.log.under;
-            client = b.log.client;
-            out = b.log.out;
-            stage = b.log.stage;
-          };
-        }) more asked
-
-    pub get_served : (from : ActorId) (q : ReqNo) (key : List ℕ) → Served (get_rule d r from q key)
-    get_served from q key = get_is generation range w i l d r (λ o. Served o) still_served dropped_served from q key
-
-    pub gets_reply_served : (q : ReqNo) (body : Body) → Served (gets_reply d r q body)
-    gets_reply_served q body = gets_reply_is generation range w i l d r (λ o. Served o) still_served dropped_served q body

@@ -2,7 +2,7 @@
 -- append job. The last extent stays.
 use Rattle.std.proofs.Common.{◌≡◌, ◌⊎◌, ⊎_elim, ℕ, zero, suc, ◌+◌, ◌-◌, ◌<◌, ◌≤◌, max, min, nat_lt, ◌==◌, Bool, true, false, inl, inr, if◌then◌else◌, List, [], ◌∷◌, length, drop, Option, Some, None, slice_get, refl, sym, ap, ◌∙◌, subst, arith}
 use Rattle.std.proofs.Math.Nat.{max-eq_left, max-eq_right, min-le_right}
-use Rattle.std.proofs.lemmas.Bool.{ltb-true, ltb-false, eqb-true}
+use Rattle.std.proofs.lemmas.Bool.{ltb-true, ltb-false, eqb-true, eqb-false}
 use Rattle.std.proofs.lemmas.List.{length-drop}
 use Rattle.streams.specs.declared.table.Position.{Position}
 use Rattle.model_partition.specs.Checkpoints.{trim_index}
@@ -17,7 +17,7 @@ use Rattle.model_streams.specs.StreamSystem.{StreamSystem}
 use Rattle.model_partition.specs.ServerTurns as turns
 use Rattle.model_partition.specs.StreamMachine as machine
 use Rattle.laws_stream_machine.specs.Refinement.{Sent, purpose_of, Extends, IsAt, extents_in}
-use Rattle.laws_ranges.specs.Serves.{log_of, Stand, known, is_live, number_of, LastIs, IsTold, ServesBy, ServingIs}
+use Rattle.laws_ranges.specs.Serves.{BeginsInLog, log_of, Stand, known, is_live, number_of, LastIs, IsTold, ServesBy, ServingIs}
 
 lt_or_le : (a b : ℕ) → (a < b) ⊎ (b ≤ a)
 lt_or_le a b = go (nat_lt a b) refl
@@ -160,10 +160,18 @@ trimmed_serving generation range w i x sent c before stays b =
         go (inl low) high = inl (omega (arith, low))
         go (inr up) high = inr (omega (arith, up, high))
 
--- the index that a Trim is asked for leaves the last extent
-pub trim_stays : (c : ClientState) (position : Position) → 0 < length c.extents → (trim_index c position ≤ c.base) ⊎ (trim_index c position < known c)
-trim_stays c position some = go (length c.extents == 0) refl
+-- the index that a Trim is asked for leaves the last extent, if there is one
+pub trim_stays : (c : ClientState) (position : Position) → BeginsInLog c position → (trim_index c position ≤ c.base) ⊎ (trim_index c position < known c)
+trim_stays c position begins = go (length c.extents == 0) refl
   where
     go : (t : Bool) → (length c.extents == 0) ≡ t → (let k : ℕ = if t then position.index else min position.index (known c - 1) in (k ≤ c.base) ⊎ (k < known c))
-    go true e = absurd (let z : length c.extents ≡ 0 = eqb-true (length c.extents) 0 e in omega (arith, z, some))
-    go false e = let least : min position.index (known c - 1) ≤ known c - 1 = min-le_right position.index (known c - 1) in inr (omega (arith, least, some))
+    go true e = let z : position.index ≡ 0 = begins (eqb-true (length c.extents) 0 e) in inl (omega (arith, z))
+    go false e =
+        let some : length c.extents ≡ 0 → ⊥ = eqb-false (length c.extents) 0 e in
+        let least : min position.index (known c - 1) ≤ known c - 1 = min-le_right position.index (known c - 1) in inr (omega (arith, least, some))
+
+-- what is left of the log has an extent where the log had one
+pub below_begins : (c : ClientState) (before : ℕ) (position : Position) → (before ≤ c.base) ⊎ (before < known c) → BeginsInLog c position → BeginsInLog (below c before) position
+below_begins c before position stays begins none =
+    let e : length (drop (before - c.base) c.extents) ≡ length c.extents - (before - c.base) = length-drop (before - c.base) c.extents in
+    begins (⊎_elim {C = length c.extents ≡ 0} (λ low. omega (arith, e, none, low)) (λ high. omega (arith, e, none, high)) stays)

@@ -13,7 +13,7 @@ use Rattle.model_partition.specs.Range.{OutGroup, RangeOutcome}
 use Rattle.model_partition.specs.ServerRun.{place_number}
 use Rattle.model_partition.specs.Serving.{record_of}
 use Rattle.model_partition.specs.Story.{Copy}
-use Rattle.model_partition.specs.StreamActions.{StreamAction, Reads, Forms, Stands, Shows, last_position}
+use Rattle.model_partition.specs.StreamActions.{StreamAction, Reads, Forms, Stands, Shows, Finds, Stores, last_position}
 use Rattle.model_partition.specs.ServerTurns as turns
 use Rattle.laws_ranges.specs.Serves.{Stand, Side, group_in, RuleGoes}
 
@@ -39,12 +39,14 @@ pub record GoesQuietly (generation : ℕ → ℕ) (range : ℕ) (w : StreamSyste
   pub metadata : AreQuiet goes.metadata_turns
   pub log : AreQuiet goes.log_turns
 
--- nothing but an extent is read
+-- nothing happens to the stories: an extent or an index is read, or row data is stored
 abbrev pub IsRead : StreamAction → Type 0
 IsRead (Reads kind read) = Unit {0}
 IsRead (Forms kind group) = ⊥
 IsRead (Stands kind extent at group) = ⊥
 IsRead (Shows start log_end metadata_end) = ⊥
+IsRead (Finds found) = Unit {0}
+IsRead (Stores stored) = Unit {0}
 
 abbrev pub AreReads : List StreamAction → Type 0
 AreReads [] = Unit {0}
@@ -70,9 +72,9 @@ pub record AppendsOnly (c : ClientState) (offset : ℕ) (x : Stand) (list : List
 abbrev pub FormsOnly : Group → Stand → List (turns.Turn Group) → Type 0
 FormsOnly group = λ x list. list ≡ turns.Forms group ∷ []
 
--- all that was read is shown, and nothing else happens
-abbrev pub ShowsOnly : ℕ → List (Copy Group) → Stand → List (turns.Turn Group) → Type 0
-ShowsOnly end read = λ x list. list ≡ turns.ConfirmedIs 0 end read ∷ []
+-- all that was read is shown from a place on, and nothing else happens
+abbrev pub ShowsOnly : ℕ → ℕ → List (Copy Group) → Stand → List (turns.Turn Group) → Type 0
+ShowsOnly start end read = λ x list. list ≡ turns.ConfirmedIs start end read ∷ []
 
 abbrev pub Quietly : Stand → List (turns.Turn Group) → Type 0
 Quietly = λ x list. AreQuiet list

@@ -1,36 +1,21 @@
 -- What a rule of a range that is served does to its metadata, to which it appends the records of its checkpoints.
-use Rattle.std.specs.Prelude.{◌≡◌, ℕ, suc, true, false, Bool, List, [], Option, Some, None}
+use Rattle.std.specs.Prelude.{◌≡◌, ◌⊎◌, ℕ, suc, ◌<◌, ◌≤◌, true, List, [], Option, Some, None}
+use Rattle.wire.specs.declared.actor.ReqNo.{ReqNo}
+use Rattle.wire.specs.declared.actor.ReqNo.TheVariants as requests
 use Rattle.wire.specs.declared.streams.StreamKind.TheVariants as kinds
-use Rattle.memtable.specs.declared.cell.Place.{Place}
 use Rattle.replica.specs.Groups.{Group}
 use Rattle.client.specs.declared.load.LoadPhase.TheVariants as phases
+use Rattle.client.specs.Client.{awaits}
 use Rattle.model_streams.specs.StreamSystem.{StreamSystem}
-use Rattle.model_partition.specs.CheckpointStates.{CheckpointState, is_recording}
-use Rattle.model_partition.specs.declared.checkpoint_job.CheckpointPhase.TheVariants.{Record}
 use Rattle.model_partition.specs.declared.server_context.ServerContext.{ServerContext}
 use Rattle.model_partition.specs.declared.stage.Stage.TheVariants as stages
 use Rattle.model_partition.specs.Range.{RangeState, RangeOutcome, request}
-use Rattle.model_partition.specs.Checkpoints.{has_record_number}
 use Rattle.model_partition.specs.ServerTurns as turns
-use Rattle.model_partition.specs.StreamActions.{StreamAction, record_group}
+use Rattle.model_partition.specs.StreamActions.{StreamAction}
 use Rattle.laws_stream_machine.specs.Refinement.{Purpose, Sent}
 use Rattle.laws_loads.specs.RangeView.{RangeView}
-use Rattle.laws_ranges.specs.Serves.{Stand, Side, BothGo, ServesLog, after_turns, AreTurns, JobIs, metadata_of, ServingIs, sent_with, AreAsked}
+use Rattle.laws_ranges.specs.Serves.{Stand, Side, BothGo, ServesLog, after_turns, AreTurns, RecordIs, metadata_of, ServingIs, sent_with, AreAsked}
 use Rattle.laws_ranges.specs.Seen.{AreOf, AreSeenOf}
-
--- the group is the record of the checkpoint that is under way
-abbrev pub IsRecord : RangeState → Group → Type 0
-IsRecord r group =
-    (job : CheckpointState) × (index : Place) × (r.control ≡ Some job) × (job.phase ≡ Record index) × (group ≡ record_group r job index) × (has_record_number r ≡ true)
-
--- whether a record is being appended
-abbrev pub is_recording_in : Option CheckpointState → Bool
-is_recording_in None = false
-is_recording_in (Some job) = is_recording job.phase
-
--- what the metadata's client appends is the record of the checkpoint that is under way
-abbrev pub RecordIs : RangeState → Type 0
-RecordIs r = JobIs (IsRecord r) (is_recording_in r.control ≡ false) r.metadata.job r.metadata.group
 
 module _ (generation : ℕ → ℕ) (range : ℕ) (w : StreamSystem) (i : ℕ) where
   -- a range that is served, as its metadata has it
@@ -77,3 +62,9 @@ module _ (generation : ℕ → ℕ) (range : ℕ) (w : StreamSystem) (i : ℕ) w
     pub goes : BothGo generation range w i (λ after n k. ServesBothIf after n k) m l d o
     pub metadata : AreSeenOf generation i kinds.Metadata v m.stand goes.metadata_turns actions
     pub log : AreSeenOf generation i kinds.Log v l.stand goes.log_turns actions
+
+-- the number that row data waits under is the one that it waited under, for the same group, or one that the server had not used
+abbrev pub RowsGo : ServerContext → RangeState → RangeOutcome → Type 0
+RowsGo d r o =
+    (next : RangeState) → o.after ≡ Some next → (q : ReqNo) → awaits next.rows.job q ≡ true →
+    ((awaits r.rows.job q ≡ true) × (next.rows.group ≡ r.rows.group)) ⊎ ((k : ℕ) × (d.count ≤ k) × (k < o.count) × (q ≡ requests.Server d.server d.session k))

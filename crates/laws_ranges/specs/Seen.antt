@@ -3,18 +3,18 @@ use Rattle.std.specs.Prelude.{◌≡◌, ◌⊎◌, ℕ, suc, List, [], ◌∷�
 use Rattle.wire.specs.declared.streams.StreamKind.{StreamKind}
 use Rattle.wire.specs.declared.streams.StreamKind.TheVariants as kinds
 use Rattle.replica.specs.Groups.{Group}
-use Rattle.metadata.specs.Fold.{first_metadata}
 use Rattle.model_streams.specs.StreamSystem.{StreamSystem}
 use Rattle.model_partition.specs.declared.server_context.ServerContext.{ServerContext}
 use Rattle.model_partition.specs.Range.{RangeState, RangeOutcome, request}
-use Rattle.model_partition.specs.ServerRun.{placed_reads}
+use Rattle.model_partition.specs.ServerRun.{placed_reads, placed_behind}
 use Rattle.model_partition.specs.ServerTurns as turns
-use Rattle.model_partition.specs.Story.{placed}
+use Rattle.model_partition.specs.Story.{placed, from_place}
 use Rattle.model_partition.specs.StreamActions as actions
 use Rattle.model_partition.specs.StreamActions.{StreamAction}
 use Rattle.laws_stream_machine.specs.Refinement.{Purpose, Sent}
+use Rattle.laws_tables.specs.Runs.{start_number}
 use Rattle.laws_loads.specs.RangeView.{RangeView, view_after_all}
-use Rattle.laws_ranges.specs.Serves.{Stand, Side, after_turns, AreTurns, AreUnformed, IsConfirming, AreAsked, ServesLogIf, log_of, sent_with, RuleGoes}
+use Rattle.laws_ranges.specs.Serves.{Stand, Side, after_turns, AreTurns, IsConfirming, AreAsked, ServesLogIf, log_of, sent_with, RuleGoes}
 
 -- the append that is out began with this event of the story
 abbrev pub BeganAt : ℕ → turns.Phase Group → Type 0
@@ -29,16 +29,19 @@ IsOf kind (actions.Reads k read) = Unit {0}
 IsOf kind (actions.Forms k group) = k ≡ kind
 IsOf kind (actions.Stands k extent at group) = k ≡ kind
 IsOf kind (actions.Shows start log_end metadata_end) = ⊥
+IsOf kind (actions.Finds found) = Unit {0}
+IsOf kind (actions.Stores stored) = Unit {0}
 
 abbrev pub AreOf : StreamKind → List StreamAction → Type 0
 AreOf kind [] = Unit {0}
 AreOf kind (action ∷ earlier) = IsOf kind action × AreOf kind earlier
 
 module _ (generation : ℕ → ℕ) (i : ℕ) where
-  -- the stories that servers see of a range's metadata and log are those of the machines
+  -- the stories that servers see of a range's metadata and log are those of the machines, and the appends that are out began where they say
   pub record SeesStories (v : RangeView) (m l : Stand) : Type 0 where
     pub metadata : v.story kinds.Metadata ≡ m.state.story
     pub log : v.story kinds.Log ≡ l.state.story
+    pub record_append : BeganAt (v.history.append kinds.Metadata) m.phase
     pub append : BeganAt (v.history.append kinds.Log) l.phase
 
   -- the story that servers see of one stream is that of its machine, and the append that is out began where they say
@@ -57,17 +60,15 @@ module _ (generation : ℕ → ℕ) (i : ℕ) where
       SeesStories (view_after_all (generation i) v actions) (after_turns generation i m metadata_turns) (after_turns generation i l log_turns)
 
   module _ (range : ℕ) (w : StreamSystem) (v : RangeView) (m l : Side) where
-    -- a load that waits for its confirmation has read the copies that stood, and the metadata said nothing
+    -- a load that waits for its confirmation has read the copies that stood: all of the metadata's, and the log's from the position on
+    -- that its metadata names
     pub record LoadIsRead (r : RangeState) (b : IsConfirming generation range w i m l r) : Type 0 where
-      pub said : r.said ≡ first_metadata
       pub metadata : placed_reads (v.history.reads kinds.Metadata) ≡ map placed b.metadata.read
-      pub log : placed_reads (v.history.reads kinds.Log) ≡ map placed b.log.read
+      pub log : placed_behind (start_number r.said.regions) (placed_reads (v.history.reads kinds.Log)) ≡ map placed (from_place (start_number r.said.regions) b.log.read)
 
     -- what a rule does, and that its actions are what its turns add
     pub record RuleSees (d : ServerContext) (o : RangeOutcome) (actions : List StreamAction) : Type 0 where
       pub goes : RuleGoes generation range w i m l d o
-      -- nothing is appended to the metadata
-      pub unformed : AreUnformed goes.metadata_turns
       pub seen : AreSeen v m.stand l.stand goes.metadata_turns goes.log_turns actions
 
 -- ---- what a rule of a range that is served does to its log

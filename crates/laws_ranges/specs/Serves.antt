@@ -1,6 +1,6 @@
 -- What a server's client of one stream has to do with one incarnation of the machine of the stream: where it stands in the
 -- load, and in its append job.
-use Rattle.std.specs.Prelude.{◌≡◌, ◌⊎◌, ℕ, suc, ◌+◌, ◌≤◌, Bool, true, false, not, List, [], ◌∷◌, ◌++◌, length, Option, Some, None, is_some}
+use Rattle.std.specs.Prelude.{◌≡◌, ◌⊎◌, ℕ, suc, ◌+◌, ◌<◌, ◌≤◌, Bool, true, false, not, List, [], ◌∷◌, ◌++◌, length, Option, Some, None, is_some, Contains}
 use Rattle.block_types.specs.declared.record.Nodes.{Nodes}
 use Rattle.wire.specs.declared.actor.ReqNo.{ReqNo}
 use Rattle.wire.specs.declared.actor.ReqNo.TheVariants as requests
@@ -15,24 +15,33 @@ use Rattle.wire.specs.declared.packet.Packet.{Packet}
 use Rattle.wire.specs.declared.streams.StreamExtent.{StreamExtent}
 use Rattle.wire.specs.declared.streams.StreamKind.TheVariants as kinds
 use Rattle.wire.specs.declared.streams.StreamName.{StreamName}
+use Rattle.memtable.specs.declared.cell.Place.{Place}
 use Rattle.replica.specs.Groups.{Group}
+use Rattle.streams.specs.declared.table.Position.{Position}
+use Rattle.metadata.specs.declared.record.Region.{Region}
 use Rattle.client.specs.declared.job.Job.{Job}
 use Rattle.client.specs.declared.job.Job.TheVariants as jobs
 use Rattle.client.specs.declared.job.News.{News}
 use Rattle.client.specs.declared.job.News.TheVariants as news
 use Rattle.client.specs.declared.load.LoadPhase.TheVariants as phases
-use Rattle.client.specs.Client.{ClientState, last_extent}
+use Rattle.client.specs.Client.{ClientState, awaits, last_extent}
+use Rattle.client.specs.Load.{load_awaits}
 use Rattle.commitlog.specs.Record.{spelling}
 use Rattle.model_streams.specs.Manager.{sealed_lengths}
 use Rattle.model_streams.specs.StreamSystem.{StreamSystem}
+use Rattle.model_partition.specs.CheckpointStates.{CheckpointState, is_recording}
+use Rattle.model_partition.specs.Checkpoints.{has_record_number}
+use Rattle.model_partition.specs.declared.checkpoint_job.CheckpointPhase.{CheckpointPhase}
+use Rattle.model_partition.specs.declared.checkpoint_job.CheckpointPhase.TheVariants.{Record, Trim}
 use Rattle.model_partition.specs.declared.server_context.ServerContext.{ServerContext}
 use Rattle.model_partition.specs.declared.stage.Stage.{Stage}
 use Rattle.model_partition.specs.declared.stage.Stage.TheVariants as stages
-use Rattle.model_partition.specs.Range.{OutGroup, RangeState, RangeOutcome}
+use Rattle.model_partition.specs.Range.{OutGroup, RangeState, RangeOutcome, is_serving}
+use Rattle.model_partition.specs.Loading.{open_region}
 use Rattle.model_partition.specs.ServerRun.{place_number}
 use Rattle.model_partition.specs.Serving.{record_of}
 use Rattle.model_partition.specs.Story.{Copy}
-use Rattle.model_partition.specs.StreamActions.{read_end}
+use Rattle.model_partition.specs.StreamActions.{read_end, record_group}
 use Rattle.model_partition.specs.StreamMachine as machine
 use Rattle.model_partition.specs.ServerTurns as turns
 use Rattle.laws_stream_machine.specs.Refinement.{Purpose, Sent, purpose_of, asked_number, extents_in, Opens, Checks, Seals, Reads, Confirms, Appends, Extends, Tells, IsAt, IsAsked}
@@ -271,6 +280,20 @@ GroupIs group out = (o : OutGroup) × (out ≡ Some o) × (group ≡ spelling (r
 abbrev pub OutIs : Job → Group → Option OutGroup → Type 0
 OutIs job group out = JobIs (λ g. GroupIs g out) (out ≡ None) job group
 
+-- the group is the record of the checkpoint that is under way
+abbrev pub IsRecord : RangeState → Group → Type 0
+IsRecord r group =
+    (job : CheckpointState) × (index : Place) × (r.control ≡ Some job) × (job.phase ≡ Record index) × (group ≡ record_group r job index) × (has_record_number r ≡ true)
+
+-- whether a record is being appended
+abbrev pub is_recording_in : Option CheckpointState → Bool
+is_recording_in None = false
+is_recording_in (Some job) = is_recording job.phase
+
+-- what the metadata's client appends is the record of the checkpoint that is under way
+abbrev pub RecordIs : RangeState → Type 0
+RecordIs r = JobIs (IsRecord r) (is_recording_in r.control ≡ false) r.metadata.job r.metadata.group
+
 -- no checkpoint is under way, and nothing is out to row data
 abbrev pub HasNoCheckpoint : RangeState → Type 0
 HasNoCheckpoint r = (r.rows.job ≡ jobs.Idle) × (r.control ≡ None)
@@ -280,6 +303,70 @@ metadata_of range = record { range = range; kind = kinds.Metadata }
 
 abbrev pub log_of : ℕ → StreamName
 log_of range = record { range = range; kind = kinds.Log }
+
+abbrev pub rows_of : ℕ → StreamName
+rows_of range = record { range = range; kind = kinds.RowData }
+
+-- ---- row data, which no machine follows: it is in no order, and nothing reads it but by place
+
+-- the manager's list of row data has the extent
+abbrev pub IsOfRows : StreamSystem → ℕ → ℕ → Type 0
+IsOfRows w range e = (index : ℕ) × IsAt w (rows_of range) index e
+
+-- the number is that of no request about the metadata or the log
+abbrev pub IsAside : List Sent → List Sent → ReqNo → Type 0
+IsAside m l q = (purpose_of m q ≡ None) × (purpose_of l q ≡ None)
+
+module _ (range : ℕ) (w : StreamSystem) (m l : List Sent) where
+  -- a job of the client of row data: it asks of an extent of that stream, under a number that is none of the other streams'
+  abbrev pub RowsJob : Job → Type 0
+  RowsJob jobs.Idle = Unit {0}
+  RowsJob (jobs.Sent e q) = IsOfRows w range e × IsAside m l q
+  RowsJob (jobs.Closing e q) = IsOfRows w range e × IsAside m l q
+  RowsJob (jobs.Growing last q) = IsAside m l q
+  RowsJob (jobs.Checking e q) = ⊥
+  RowsJob (jobs.Shutting e q) = ⊥
+  RowsJob (jobs.Reading e places upto sealed place q) = ⊥
+
+  -- the client of row data knows extents of that stream alone
+  pub record RowsStand (c : ClientState) : Type 0 where
+    pub stream : c.stream ≡ rows_of range
+    pub listed : (x : StreamExtent) → Contains c.extents x → IsOfRows w range x.extent
+    pub job : RowsJob c.job
+
+-- what a request about row data asks: its group is the one that is being appended, and its list is that of row data
+abbrev pub AsksOfRows : ℕ → ClientState → Body → Type 0
+AsksOfRows range c (bodies.Append (appends.Append e g blocks q)) = blocks ≡ c.group
+AsksOfRows range c (bodies.Seal (seals.SealExtent e q)) = Unit {0}
+AsksOfRows range c (bodies.Stream (streams.Extend stream g last pick q)) = stream ≡ rows_of range
+AsksOfRows range c body = ⊥
+
+-- a request of this number is about row data, and its answer is waited for
+abbrev pub IsForRows : ℕ → Option RangeState → ReqNo → Body → Type 0
+IsForRows range None q body = ⊥
+IsForRows range (Some r) q body = (awaits r.rows.job q ≡ true) × AsksOfRows range r.rows body
+
+-- what is told of row data is of its list: what the opening told, and an extent that was added
+abbrev pub RowsTold : StreamSystem → ℕ → RangeState → Body → Type 0
+RowsTold w range r (bodies.Stream (streams.Opened q lists)) = load_awaits r.load.phase q ≡ true → (x : StreamExtent) → Contains lists.row_data.extents x → IsOfRows w range x.extent
+RowsTold w range r (bodies.Stream (streams.Extended q e places)) = awaits r.rows.job q ≡ true → IsOfRows w range e
+RowsTold w range r body = Unit {0}
+
+-- the log's last extent stays below what a checkpoint trims, and where the log has none its first index is named
+abbrev pub BeginsInLog : ClientState → Position → Type 0
+BeginsInLog log position = length log.extents ≡ 0 → position.index ≡ 0
+
+-- the region that a load leaves open begins so
+abbrev pub BeginsRightly : RangeState → Type 0
+BeginsRightly r = (region : Region) → open_region r.regions ≡ Some region → BeginsInLog r.log region.start
+
+abbrev pub TrimsPhase : ClientState → CheckpointPhase → Type 0
+TrimsPhase log (Trim before to_blob q) = (before ≤ log.base) ⊎ (before < known log)
+TrimsPhase log phase = Unit {0}
+
+abbrev pub TrimsJob : ClientState → Option CheckpointState → Type 0
+TrimsJob log None = Unit {0}
+TrimsJob log (Some job) = BeginsInLog log job.position × TrimsPhase log job.phase
 
 module _ (generation : ℕ → ℕ) (range : ℕ) (w : StreamSystem) (i : ℕ) (m l : Side) where
   pub record IsOpening (r : RangeState) : Type 0 where
@@ -318,9 +405,12 @@ module _ (generation : ℕ → ℕ) (range : ℕ) (w : StreamSystem) (i : ℕ) (
   pub record IsServing (r : RangeState) : Type 0 where
     pub phase : r.load.phase ≡ phases.Confirmed
     pub metadata : ServingIs generation (metadata_of range) w i m.stand m.sent r.metadata
-    pub metadata_idle : r.metadata.job ≡ jobs.Idle
+    pub record_is : RecordIs r
     pub log : ServingIs generation (log_of range) w i l.stand l.sent r.log
     pub out : OutIs r.log.job r.log.group r.out
+    -- what the log is trimmed to
+    pub position : BeginsInLog r.log r.position
+    pub trims : TrimsJob r.log r.control
 
   abbrev pub StageIs : RangeState → Stage → Type 0
   StageIs r stages.Opening = IsOpening r
@@ -340,7 +430,9 @@ module _ (generation : ℕ → ℕ) (range : ℕ) (w : StreamSystem) (i : ℕ) (
   pub record Follows (r : RangeState) : Type 0 where
     pub range_is : r.load.range ≡ range
     pub under : r.load.generation ≡ generation i
-    pub calm : HasNoCheckpoint r
+    -- no checkpoint is made until it is served
+    pub calm : is_serving r.stage ≡ false → HasNoCheckpoint r
+    pub rows : RowsStand range w m.sent l.sent r.rows
     pub stage : StageIs r r.stage
 
 -- ---- what a step of a client does
@@ -435,15 +527,22 @@ pub record Apart (one other : List Sent) : Type 0 where
   pub here : (q : ReqNo) (p : Purpose) → purpose_of one q ≡ Some p → is_alone p ≡ true → purpose_of other q ≡ None
   pub there : (q : ReqNo) (p : Purpose) → purpose_of other q ≡ Some p → is_alone p ≡ true → purpose_of one q ≡ None
 
--- what the manager's lists of both keep: no extent stands in both while it is not sealed
+-- what the manager's lists of both, and of row data, keep: no extent stands in two of them while it is not sealed
 pub record BothListed (w : StreamSystem) (range : ℕ) : Type 0 where
   pub metadata : Listed w (metadata_of range)
   pub log : Listed w (log_of range)
   pub apart : (j k e : ℕ) → IsAt w (metadata_of range) j e → IsAt w (log_of range) k e → sealed_lengths w.catalog e ≡ None → ⊥
+  pub rows_made : (e : ℕ) → IsOfRows w range e → w.catalog.extent e ≡ None → ⊥
+  pub rows_metadata : (k e : ℕ) → IsOfRows w range e → IsAt w (metadata_of range) k e → sealed_lengths w.catalog e ≡ None → ⊥
+  pub rows_log : (k e : ℕ) → IsOfRows w range e → IsAt w (log_of range) k e → sealed_lengths w.catalog e ≡ None → ⊥
 
 -- the server's numbers from its count on are not used
 abbrev pub AreUnused : ServerContext → ℕ → List Sent → Type 0
 AreUnused d count sent = (k : ℕ) → count ≤ k → purpose_of sent (requests.Server d.server d.session k) ≡ None
+
+-- row data waits under none of them
+abbrev pub IsPastRows : ServerContext → RangeState → Type 0
+IsPastRows d r = (k : ℕ) → d.count ≤ k → awaits r.rows.job (requests.Server d.server d.session k) ≡ true → ⊥
 
 -- what was sent before is known, and its numbers are those of two streams, and below the server's count
 pub record IsSentBy (d : ServerContext) (count : ℕ) (m l : List Sent) : Type 0 where
@@ -463,15 +562,15 @@ module _ (generation : ℕ → ℕ) (range : ℕ) (w : StreamSystem) (i : ℕ) w
   FollowsIf None n k = Unit {0}
   FollowsIf (Some r) n k = Follows generation range w i n k r
 
-  -- what can have a purpose has one, in one of the streams
-  abbrev pub IsKnown : List Sent → List Sent → Body → Type 0
-  IsKnown m l body = (q : ReqNo) → asked_number body ≡ Some q → purpose_of m q ≡ None → purpose_of l q ≡ None → ⊥
+  -- what can have a purpose has one, in one of the streams, or is about row data
+  abbrev pub IsKnown : Option RangeState → List Sent → List Sent → Body → Type 0
+  IsKnown after m l body = (q : ReqNo) → asked_number body ≡ Some q → purpose_of m q ≡ None → purpose_of l q ≡ None → IsForRows range after q body
 
-  -- each packet is asked, as both streams see it
-  abbrev pub AskedOfBoth : Side → Side → List Packet → Type 0
-  AskedOfBoth n k [] = Unit {0}
-  AskedOfBoth n k (p ∷ ps) =
-      (IsAsked generation (metadata_of range) w n.stand.state n.sent p.body × IsAsked generation (log_of range) w k.stand.state k.sent p.body × IsKnown n.sent k.sent p.body) × AskedOfBoth n k ps
+  -- each packet is asked, as both streams see it; after: the range that sends it
+  abbrev pub AskedOfBoth : Option RangeState → Side → Side → List Packet → Type 0
+  AskedOfBoth after n k [] = Unit {0}
+  AskedOfBoth after n k (p ∷ ps) =
+      (IsAsked generation (metadata_of range) w n.stand.state n.sent p.body × IsAsked generation (log_of range) w k.stand.state k.sent p.body × IsKnown after n.sent k.sent p.body) × AskedOfBoth after n k ps
 
   -- What a rule does: turns of the incarnation in both machines, each allowed, and requests of the server's next numbers; then this
   -- is so of the range and of where the machines stand, and all that is sent is asked.
@@ -492,7 +591,7 @@ module _ (generation : ℕ → ℕ) (range : ℕ) (w : StreamSystem) (i : ℕ) w
     pub log_adds : Adds d l.sent log_sent
     pub sent_by : IsSentBy d o.count metadata_sent log_sent
     pub then : Then o.after (record { stand = after_turns generation i m.stand metadata_turns; sent = metadata_sent }) (record { stand = after_turns generation i l.stand log_turns; sent = log_sent })
-    pub asked : AskedOfBoth (record { stand = after_turns generation i m.stand metadata_turns; sent = metadata_sent }) (record { stand = after_turns generation i l.stand log_turns; sent = log_sent }) o.packets
+    pub asked : AskedOfBoth o.after (record { stand = after_turns generation i m.stand metadata_turns; sent = metadata_sent }) (record { stand = after_turns generation i l.stand log_turns; sent = log_sent }) o.packets
 
   -- the range, if it is still there, is where the machines have it
   abbrev pub RuleGoes : Side → Side → ServerContext → RangeOutcome → Type 0

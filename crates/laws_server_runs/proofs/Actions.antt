@@ -9,8 +9,8 @@ use Rattle.replica.specs.Groups.{joined}
 use Rattle.model_streams.specs.Maps.{changed, entry_at}
 use Rattle.model_partition.specs.Loading.{Group}
 use Rattle.model_partition.specs.Story.{StreamEvent, Story, Made, Answered, Showed}
-use Rattle.model_partition.specs.StreamActions.{StreamAction, Reads, Forms, Stands, Shows}
-use Rattle.model_partition.specs.ServerRun.{PlacedBytes, ServerRun, RangeHistory, ServerEvent, Takes, GivesUp, Stops, Starts, Moment, RangeEffect, Begins, Does, Rests, after_action, after_actions, with_event, with_effect, cell_effect, after_event, is_kind, is_stream, one_more_read, begun_at, stream_named, place_number, placed_reads, placed_behind, bytes_read}
+use Rattle.model_partition.specs.StreamActions.{StreamAction, Reads, Forms, Stands, Shows, Finds, Stores, PlacedBytes}
+use Rattle.model_partition.specs.ServerRun.{ServerRun, RangeHistory, ServerEvent, Takes, GivesUp, Checkpoints, Stops, Starts, Moment, RangeEffect, Begins, Does, Rests, after_action, after_actions, with_event, with_effect, cell_effect, after_event, is_kind, is_stream, one_more_read, begun_at, stream_named, place_number, placed_reads, placed_behind, bytes_read}
 use Rattle.laws_loads.specs.RangeView.{view_after, view_after_all}
 use Rattle.laws_server_runs.specs.RangeInvariant.{IsLonger}
 use Rattle.laws_server_runs.specs.RunInvariant.{view_at}
@@ -49,6 +49,8 @@ module _ (s range g : ℕ) where
             else (if same_test range i && is_kind other kinds.Metadata then Showed g 0 (place_number metadata_end) (placed_reads (h.reads kinds.Metadata)) ∷ x.story (stream_named range other) else x.story (stream_named range other));
         shown = if same_test range i then bytes_read (h.reads kinds.Log) ++ x.shown range else x.shown range;
       })
+  action_here x (Finds found) = (λ i. record (view_at range x s) { shown = if same_test range i then found ∷ x.shown range else x.shown range })
+  action_here x (Stores stored) = (λ i. record (view_at range x s) { answered = if same_test range i then stored ∷ x.answered range else x.answered range })
 
   pub actions_here : (x : ServerRun) (actions : List StreamAction) → view_at range (after_actions s range g x actions) s ≡ view_after_all g (view_at range x s) actions
   actions_here x [] = refl
@@ -61,6 +63,8 @@ module _ (s range g : ℕ) where
   action_apart t k apart x (Forms kind group) = ap (λ b. if b then begun_at (x.history s range) kind (length (x.story (stream_named range kind))) else x.history t k) apart
   action_apart t k apart x (Stands kind extent at group) = refl
   action_apart t k apart x (Shows start log_end metadata_end) = refl
+  action_apart t k apart x (Finds found) = refl
+  action_apart t k apart x (Stores stored) = refl
 
   -- another range at this server, or any at another, has the history that it had
   pub actions_apart : (t k : ℕ) → ((t == s) && (k == range)) ≡ false → (x : ServerRun) (actions : List StreamAction) → (after_actions s range g x actions).history t k ≡ x.history t k
@@ -78,6 +82,8 @@ module _ (s range g : ℕ) where
       then Showed g (place_number start) (place_number log_end) (placed_behind (place_number start) (placed_reads (h.reads kinds.Log)))
       ∷ (if b && is_kind n.kind kinds.Metadata then Showed g 0 (place_number metadata_end) (placed_reads (h.reads kinds.Metadata)) ∷ x.story n else x.story n)
       else (if b && is_kind n.kind kinds.Metadata then Showed g 0 (place_number metadata_end) (placed_reads (h.reads kinds.Metadata)) ∷ x.story n else x.story n)) apart
+  action_beside n apart x (Finds found) = refl
+  action_beside n apart x (Stores stored) = refl
 
   -- streams of other ranges have the stories that they had
   pub actions_beside : (n : StreamName) → (n.range == range) ≡ false → (x : ServerRun) (actions : List StreamAction) → (after_actions s range g x actions).story n ≡ x.story n
@@ -90,6 +96,8 @@ module _ (s range g : ℕ) where
   action_bytes k apart x (Stands kind extent at group) =
       (refl, ap (λ b. if b then record { extent = extent; offset = at.offset; bytes = joined group } ∷ x.answered range else x.answered k) (other_test k range apart))
   action_bytes k apart x (Shows start log_end metadata_end) = (ap (λ b. if b then bytes_read ((x.history s range).reads kinds.Log) ++ x.shown range else x.shown k) (other_test k range apart), refl)
+  action_bytes k apart x (Finds found) = (ap (λ b. if b then found ∷ x.shown range else x.shown k) (other_test k range apart), refl)
+  action_bytes k apart x (Stores stored) = (refl, ap (λ b. if b then stored ∷ x.answered range else x.answered k) (other_test k range apart))
 
   -- of other ranges the same bytes were shown and answered
   pub actions_bytes : (k : ℕ) → (k ≡ range → ⊥) → (x : ServerRun) (actions : List StreamAction) → ((after_actions s range g x actions).shown k ≡ x.shown k) × ((after_actions s range g x actions).answered k ≡ x.answered k)
@@ -104,6 +112,8 @@ module _ (s range g : ℕ) where
   action_rest x (Forms kind group) = (refl, refl)
   action_rest x (Stands kind extent at group) = (refl, refl)
   action_rest x (Shows start log_end metadata_end) = (refl, refl)
+  action_rest x (Finds found) = (refl, refl)
+  action_rest x (Stores stored) = (refl, refl)
 
   -- actions change nothing of servers and of what they show
   pub actions_rest : (x : ServerRun) (actions : List StreamAction) → ((after_actions s range g x actions).servers ≡ x.servers) × ((after_actions s range g x actions).notes ≡ x.notes)
@@ -147,6 +157,8 @@ action_longer s range g x (Shows start log_end metadata_end) =
       shown = λ k. longer_at x.shown range k (bytes_read ((x.history s range).reads kinds.Log));
       answered = λ k. longer_same (x.answered k);
     }
+action_longer s range g x (Finds found) = record { story = λ n. longer_same (x.story n); shown = λ k. longer_at x.shown range k (found ∷ []); answered = λ k. longer_same (x.answered k) }
+action_longer s range g x (Stores stored) = record { story = λ n. longer_same (x.story n); shown = λ k. longer_same (x.shown k); answered = λ k. longer_at x.answered range k (stored ∷ []) }
 
 pub actions_longer : (s range g : ℕ) (x : ServerRun) (actions : List StreamAction) → Longer x (after_actions s range g x actions)
 actions_longer s range g x [] = same_run x
@@ -169,6 +181,7 @@ event_longer x (Takes s p) =
     let l : Longer x (with_effect s x (cell_effect p (entry_at x.servers s))) = effect_longer s x (cell_effect p (entry_at x.servers s)) in
     record { story = l.story; shown = l.shown; answered = l.answered }
 event_longer x (GivesUp s range pick) = record { story = λ n. longer_same (x.story n); shown = λ k. longer_same (x.shown k); answered = λ k. longer_same (x.answered k) }
+event_longer x (Checkpoints s range) = record { story = λ n. longer_same (x.story n); shown = λ k. longer_same (x.shown k); answered = λ k. longer_same (x.answered k) }
 event_longer x (Stops s call) = record { story = λ n. longer_same (x.story n); shown = λ k. longer_same (x.shown k); answered = λ k. longer_same (x.answered k) }
 event_longer x (Starts s now batch) = record { story = λ n. longer_same (x.story n); shown = λ k. longer_same (x.shown k); answered = λ k. longer_same (x.answered k) }
 event_longer x (Moment now) = record { story = λ n. longer_same (x.story n); shown = λ k. longer_same (x.shown k); answered = λ k. longer_same (x.answered k) }

@@ -1,5 +1,5 @@
 -- What is kept of a range stays so while others act, and while it begins its load anew.
-use Rattle.std.proofs.Common.{[], ◌≡◌, ◌⊎◌, ℕ, suc, List, true, false, Some, sym, ap, ◌∙◌, subst, inl, inr, arith, None}
+use Rattle.std.proofs.Common.{[], ◌≡◌, ◌⊎◌, ℕ, suc, List, true, false, Some, sym, ap, ◌∙◌, subst, inl, inr, arith}
 use Rattle.wire.specs.declared.note.Note.{Note}
 use Rattle.wire.specs.declared.streams.StreamKind.{StreamKind}
 use Rattle.wire.specs.declared.streams.StreamKind.TheVariants as kinds
@@ -46,10 +46,6 @@ module _ (texts : ℕ → Bytes) (subject : ℕ) (x : ServerRun) (kept : RunKept
     is_kept t r (inl was) = was_kept t r was
     is_kept t r (inr (d, generation, until, is, none)) = subst (λ z. RangeKept texts subject kept.run (view_at subject y t) z) (sym is) (new_kept texts subject kept.run (view_at subject y t) d none generation until)
 
-    is_calm : (t : ℕ) (r : RangeState) → Was t r ⊎ IsNew t r → r.control ≡ None
-    is_calm t r (inl (cell, st, there, up, held, same)) = kept.calm t cell st there up r held
-    is_calm t r (inr (d, generation, until, is, none)) = ap (λ (z : RangeState). z.control) is
-
     served_before : (t : ℕ) (r : RangeState) → ServesAt y t subject r → ServesAt x t subject r
     served_before t r s = go (b.holds t s.cell s.state s.there s.runs r s.held)
       where
@@ -63,7 +59,5 @@ module _ (texts : ℕ → Bytes) (subject : ℕ) (x : ServerRun) (kept : RunKept
       ranges = λ t c q there up r held. is_kept t r (b.holds t c q there up r held);
       own = λ s t r u one two same. kept.own s t r u (served_before s r one) (served_before t u two) same;
       streams = streams_same texts kept.run (view_at subject x 0) (view_at subject y 0) (b.story kinds.Log) (b.story kinds.Metadata) kept.streams;
-      plain = kept.plain;
-      calm = λ t c q there up r held. is_calm t r (b.holds t c q there up r held);
       seen = λ notes seen. let n = b.notes notes seen in subst (λ l. AreObserved texts subject kept.run l) (sym n.2) (kept.seen n.0 n.1);
     }

@@ -1,10 +1,11 @@
--- What the steps of a checkpoint do with the metadata: nothing, or they form the group of its record, or that group stands.
-use Rattle.std.proofs.Common.{ℕ, List, [], ◌∷◌, Option, Some, None}
+-- What the steps of a checkpoint do with streams: nothing, or bytes of row data stand, and the group of its record is formed, or that group stands.
+use Rattle.std.proofs.Common.{ℕ, ◌^◌, nat_lt, List, [], ◌∷◌, ◌++◌, Option, Some, None}
 use Rattle.wire.specs.declared.body.Body.{Body}
 use Rattle.wire.specs.declared.streams.StreamKind.TheVariants as kinds
 use Rattle.streams.specs.declared.table.Position.{Position}
 use Rattle.client.specs.declared.job.News.{News}
 use Rattle.client.specs.declared.job.News.TheVariants as news
+use Rattle.replica.specs.Groups.{joined}
 use Rattle.client.specs.Client.{reply_rule}
 use Rattle.model_streams.proofs.Tests.{if_elim}
 use Rattle.model_partition.specs.CheckpointStates.{CheckpointState}
@@ -14,20 +15,24 @@ use Rattle.model_partition.specs.declared.server_context.ServerContext.{ServerCo
 use Rattle.model_partition.specs.Checkpoints.{may_record, index_place, rows_may_stand}
 use Rattle.model_partition.specs.Loading.{Group}
 use Rattle.model_partition.specs.Range.{RangeState, request, picking}
-use Rattle.model_partition.specs.StreamActions.{StreamAction, Forms, Stands, last_position, record_group, record_stood_in, record_stood, record_actions, index_stood_in, index_stood, rows_told_actions, rows_actions}
+use Rattle.model_partition.specs.StreamActions.{PlacedBytes, StreamAction, Forms, Stands, Stores, last_position, record_group, record_stood_in, record_stood, record_actions, index_stood_in, index_stood, rows_told_actions, rows_actions}
 
 -- an answer to row data's client
-module _ (Is : List StreamAction → Type 0) (d : ServerContext) (r : RangeState) (nothing : Is []) (forms : (group : Group) → Is (Forms kinds.Metadata group ∷ [])) where
-  index_stood_elim : (job : CheckpointState) (phase : CheckpointPhase) (e offset : ℕ) → Is (index_stood_in r job phase e offset)
-  index_stood_elim job checkpoints.Index e offset = if_elim Is (may_record r job) _ _ (λ t. forms (record_group r job (index_place job e offset))) (λ f. nothing)
-  index_stood_elim job phase e offset = nothing
+module _ (Is : List StreamAction → Type 0) (d : ServerContext) (r : RangeState) (nothing : Is []) (stores : (stored : PlacedBytes) → Is (Stores stored ∷ []))
+    (forms : (group : Group) (stored : PlacedBytes) → Is (Forms kinds.Metadata group ∷ Stores stored ∷ [])) where
+  index_stood_elim : (stored : PlacedBytes) (job : CheckpointState) (phase : CheckpointPhase) (e offset : ℕ) → Is (index_stood_in r job phase e offset ++ Stores stored ∷ [])
+  index_stood_elim stored job checkpoints.Index e offset =
+      if_elim (λ (actions : List StreamAction). Is (actions ++ Stores stored ∷ [])) (may_record r job) _ _ (λ t. forms (record_group r job (index_place job e offset)) stored) (λ f. stores stored)
+  index_stood_elim stored job phase e offset = stores stored
 
-  index_elim : (job : Option CheckpointState) (e offset : ℕ) → Is (index_stood r job e offset)
-  index_elim None e offset = nothing
-  index_elim (Some job) e offset = index_stood_elim job job.phase e offset
+  index_elim : (stored : PlacedBytes) (job : Option CheckpointState) (e offset : ℕ) → Is (index_stood r job e offset ++ Stores stored ∷ [])
+  index_elim stored None e offset = stores stored
+  index_elim stored (Some job) e offset = index_stood_elim stored job job.phase e offset
 
   told_elim : (told : Option News) → Is (rows_told_actions r told)
-  told_elim (Some (news.Appended e offset)) = index_elim r.control e offset
+  told_elim (Some (news.Appended e offset)) =
+      let stored : PlacedBytes = record { extent = e; offset = offset; bytes = joined r.rows.group } in
+      if_elim (λ (actions : List StreamAction). Is (actions ++ Stores stored ∷ [])) (nat_lt e (2 ^ 64)) (index_stood r r.control e offset) [] (λ t. index_elim stored r.control e offset) (λ f. stores stored)
   told_elim told = nothing
 
   pub rows_actions_elim : (body : Body) → Is (rows_actions d r body)

@@ -1,8 +1,8 @@
 -- A checkpoint begins at a range that is served: what it notes, and what is appended to row data first.
-use Rattle.std.proofs.Common.{◌≡◌, ℕ, [], ◌∷◌, Option, Some, None, refl, subst}
+use Rattle.std.proofs.Common.{◌≡◌, ℕ, [], ◌∷◌, Option, Some, None, refl, subst, inr, ◌∙◌}
 use Rattle.std.specs.List.{AllByRecursion}
 use Rattle.wire.specs.declared.streams.StreamKind.TheVariants as kinds
-use Rattle.client.specs.Client.{ClientState}
+use Rattle.client.specs.Client.{ClientState, append_rule}
 use Rattle.memtable.specs.Entries.{Entries, IsFit}
 use Rattle.metadata.specs.Record.{IsNext, IsPosition}
 use Rattle.checkpoint_format.specs.Page.{IsPageEntry}
@@ -14,12 +14,13 @@ use Rattle.model_partition.specs.declared.checkpoint_job.CheckpointPhase.{Checkp
 use Rattle.model_partition.specs.declared.checkpoint_job.CheckpointPhase.TheVariants as checkpoints
 use Rattle.model_partition.specs.declared.server_context.ServerContext.{ServerContext}
 use Rattle.model_partition.specs.CheckpointStates.{CheckpointState}
-use Rattle.model_partition.specs.Checkpoints.{number_to_apply, new_job, with_phase, index_if_fit, next_append, rows_go, writes_pages, checkpoint_rule}
+use Rattle.model_partition.specs.Checkpoints.{number_to_apply, new_job, with_phase, index_if_fit, next_append, rows_go, writes_pages, begins_pages}
 use Rattle.model_partition.specs.Loading.{Group}
 use Rattle.model_partition.specs.Past.{Bytes}
 use Rattle.model_partition.specs.Range.{RangeState}
 use Rattle.model_partition.specs.ServedTables.{AllStand}
 use Rattle.model_partition.specs.ServerRun.{place_number}
+use Rattle.laws_loads.proofs.Rows.{Ordered}
 use Rattle.laws_loads.specs.MemoryLayers.{layer_in}
 use Rattle.laws_loads.specs.RangeView.{RangeView}
 use Rattle.laws_loads.specs.Sound.{OutFits}
@@ -28,8 +29,13 @@ use Rattle.laws_tables.specs.Runs.{Run, Serving, first_beginning, held, noting, 
 use Rattle.laws_checkpoints.specs.IndexLayers.{layer_at}
 use Rattle.laws_checkpoints.proofs.CheckpointRecords.{job_notes}
 use Rattle.laws_checkpoints.proofs.WrittenPages.{writing_begins}
-use Rattle.laws_server_runs.specs.CheckpointInvariant.{CheckpointParts, parts_of, HoldsNone, HasNoted, HoldsPhase, HoldsCheckpoint}
-use Rattle.laws_server_runs.specs.RangeInvariant.{HasNoCheckpoint, append_of, Matches}
+use Rattle.laws_server_runs.specs.CheckpointInvariant.{CheckpointParts, parts_of, HoldsNone, HasNoted, HoldsPhase, HoldsCheckpoint, AppendsPhase, AppendsRows}
+use Rattle.laws_server_runs.specs.NamedIndexes.{NamesSuch}
+use Rattle.laws_server_runs.specs.RangeInvariant.{IsOfPages, append_of, Matches}
+use Rattle.laws_server_runs.proofs.RowAppends.{idle_phase, appended_group, pages_group, index_group_is}
+use Rattle.client.specs.declared.job.Job.TheVariants as jobs
+use Rattle.model_partition.specs.Range.{request, picking, given}
+use Rattle.laws_checkpoints.specs.ShownTables.{AreInstalled}
 
 module _ (texts : ℕ → Bytes) where
   -- what a range holds is what its run says, but for its checkpoint
@@ -39,9 +45,12 @@ module _ (texts : ℕ → Bytes) where
     pub out : s.out ≡ append_of (v.history.append kinds.Log) r.out
     pub live : AllStand texts v.answered → (key : Bytes) → layer_in texts r.live key ≡ s.live key
     pub said : r.said ≡ said first_beginning s.records
+    pub installed : AreInstalled texts r.indexes r.said.indexes
+    pub ordered : Ordered r.live
+    pub named : NamesSuch (IsOfPages texts) r.said
 
   pub beside : (v : RangeView) (s : Serving) (r : RangeState) → Matches texts v s r → MatchesBeside v s r
-  beside v s r m = record { position = m.position; next = m.next; out = m.out; live = m.live; said = m.said }
+  beside v s r m = record { position = m.position; next = m.next; out = m.out; live = m.live; said = m.said; installed = m.installed; ordered = m.ordered; named = m.named }
 
   -- a range that is dropped holds nothing
   abbrev pub MatchesIf : RangeView → Serving → Option RangeState → Type 0
@@ -65,28 +74,26 @@ module _ (texts : ℕ → Bytes) where
 
   module _ (v : RangeView) (s : Serving) (r : RangeState) (m : MatchesBeside v s r) (d : ServerContext) where
     -- whatever becomes of the client of row data
-    pub with_control : (c : ClientState) (job : CheckpointState) → HoldsPhase texts (parts_of v s r) job job.phase → Matches texts v s (record r { rows = c; control = Some job })
-    with_control c job h = record { position = m.position; next = m.next; out = m.out; live = m.live; checkpoint = h; said = m.said }
+    pub with_control : (c : ClientState) (job : CheckpointState) → HoldsPhase texts (parts_of v s r) job job.phase → AppendsPhase c job job.phase → Matches texts v s (record r { rows = c; control = Some job })
+    with_control c job h appends = record { position = m.position; next = m.next; out = m.out; live = m.live; checkpoint = h; said = m.said; installed = m.installed; ordered = m.ordered; named = m.named; rows = appends }
 
-    go : (job : CheckpointState) → HoldsPhase texts (parts_of v s r) job job.phase → (group : Option Group) → MatchesIf v s (rows_go d r (job, group)).after
-    go job h None = with_control r.rows job h
-    go job h (Some group) = with_control _ job h
+    go : r.rows.job ≡ jobs.Idle → (job : CheckpointState) → HoldsPhase texts (parts_of v s r) job job.phase → (group : Option Group) →
+        ((c : ClientState) (some : Group) → group ≡ Some some → c.group ≡ some → AppendsPhase c job job.phase) → MatchesIf v s (rows_go d r (job, group)).after
+    go idle job h None appends = with_control r.rows job h (idle_phase r.rows idle job job.phase)
+    go idle job h (Some group) appends =
+        let c : ClientState = (given (picking d r.rows) (append_rule (picking d r.rows) (request d) group)).after in
+        with_control c job h (appends c group refl (appended_group (picking d r.rows) (request d) group idle))
 
     -- the next pages are appended, and behind the last ones the index
-    pub writes_on : (job : CheckpointState) → HasNoted texts (parts_of v s r) job → s.record_out ≡ None → MatchesIf v s (writes_pages d r job).after
-    writes_on job h none = by (next_group job.pages) refl
+    pub writes_on : (job : CheckpointState) → HasNoted texts (parts_of v s r) job → s.record_out ≡ None → r.rows.job ≡ jobs.Idle → MatchesIf v s (writes_pages d r job).after
+    writes_on job h none idle = by (next_group job.pages) refl
       where
         by : (group : Option Group) → next_group job.pages ≡ group → MatchesIf v s (rows_go d r (next_append job group)).after
-        by (Some group) e = go (with_phase job checkpoints.Pages) (noted_phase (parts_of v s r) job checkpoints.Pages h, none) (Some group)
-        by None e = go (with_phase job checkpoints.Index) (noted_phase (parts_of v s r) job checkpoints.Index h, none, e) (index_if_fit job.pages.index)
-
-  -- a checkpoint is under way then
-  goes_controlled : (d : ServerContext) (r : RangeState) (x : CheckpointState × Option Group) → HasNoCheckpoint (rows_go d r x).after → ⊥
-  goes_controlled d r (job, None) none = absurd cc
-  goes_controlled d r (job, Some group) none = absurd cc
-
-  pub begins_controlled : (d : ServerContext) (r : RangeState) → HasNoCheckpoint (checkpoint_rule d r).after → ⊥
-  begins_controlled d r none = goes_controlled d (record r { live = []; fixed = Some r.live }) (next_append (new_job r) (next_group (new_job r).pages)) none
+        by (Some group) e =
+            go idle (with_phase job checkpoints.Pages) (noted_phase (parts_of v s r) job checkpoints.Pages h, none) (Some group) (λ c some is same. inr (same ∙ pages_group job.pages some (e ∙ is)))
+        by None e =
+            go idle (with_phase job checkpoints.Index) (noted_phase (parts_of v s r) job checkpoints.Index h, none, e) (index_if_fit job.pages.index)
+            (λ c some is same. inr (same ∙ index_group_is job.pages.index some is))
 
   -- ---- it begins
 
@@ -116,11 +123,11 @@ module _ (texts : ℕ → Bytes) where
     }
 
     beside_now : MatchesBeside v (noting s) fixed_range
-    beside_now = record { position = m.position; next = m.next; out = m.out; live = λ all key. refl; said = m.said }
+    beside_now = record { position = m.position; next = m.next; out = m.out; live = λ all key. refl; said = m.said; installed = m.installed; ordered = tt; named = m.named }
 
     -- what is fixed and noted is what the run says then
-    pub checkpoint_begins : (d : ServerContext) → MatchesIf v (noting s) (checkpoint_rule d r).after
-    checkpoint_begins d = writes_on v (noting s) fixed_range beside_now d (new_job r) noted_now nothing.record_out
+    pub checkpoint_begins : (d : ServerContext) → MatchesIf v (noting s) (begins_pages d r).after
+    checkpoint_begins d = writes_on v (noting s) fixed_range beside_now d (new_job r) noted_now nothing.record_out (subst (AppendsRows r.rows) none m.rows)
 
   -- and it may note it
   pub may_note : (run : Run) (v : RangeView) (r : RangeState) → IsServing run r.load.generation → Matches texts v (held first_beginning run r.load.generation) r → r.control ≡ None →

@@ -27,9 +27,12 @@ use Rattle.laws_loads.specs.RangeView.{RangeView, view_after}
 use Rattle.laws_tables.specs.Runs as chains
 use Rattle.laws_tables.specs.Runs.{Event, Run, Serving, first_beginning, held, items_out, said, start_number, IsServing, MayInChain}
 use Rattle.laws_checkpoints.specs.IndexLayers.{layer_at}
-use Rattle.laws_checkpoints.proofs.CheckpointRecords.{said_with, may_trim}
-use Rattle.laws_server_runs.specs.CheckpointInvariant.{item_of, parts_of, HasRecordOut, HoldsPhase, HoldsCheckpoint}
-use Rattle.laws_server_runs.specs.RangeInvariant.{Matches}
+use Rattle.laws_checkpoints.proofs.CheckpointRecords.{said_with, may_trim, recorded_installed}
+use Rattle.laws_server_runs.specs.CheckpointInvariant.{item_of, parts_of, HasRecordOut, HoldsPhase, HoldsCheckpoint, AppendsPhase, AppendsRows}
+use Rattle.client.specs.declared.job.Job.TheVariants as jobs
+use Rattle.model_partition.specs.ServedTables.{AllStand}
+use Rattle.laws_server_runs.specs.RangeInvariant.{IsOfPages, Matches}
+use Rattle.laws_server_runs.proofs.NamedIndexes.{one_more_named}
 use Rattle.laws_server_runs.proofs.CheckpointBegins.{MatchesIf}
 use Rattle.laws_server_runs.proofs.Others.{serving_on}
 use Rattle.laws_server_runs.proofs.ServedNotes.{same_here}
@@ -71,9 +74,9 @@ module _ (texts : ℕ → Bytes) where
     abbrev pub now_taken : ClientState → CheckpointState → RangeState
     now_taken c next = record (recorded (record r { metadata = c }) job index) { control = Some next }
 
-    pub recorded_match : (e offset : ℕ) (c : ClientState) (next : CheckpointState) → (before : ℕ) (to_blob : Bool) (q : ReqNo) → next.phase ≡ checkpoints.Trim before to_blob q →
+    pub recorded_match : (e offset : ℕ) (c : ClientState) (next : CheckpointState) → (before : ℕ) (to_blob : Bool) (q : ReqNo) → next.phase ≡ checkpoints.Trim before to_blob q → AllStand texts v.answered → r.rows.job ≡ jobs.Idle →
         Matches texts (view_after r.load.generation v (Stands kinds.Metadata e (last_position r.metadata offset) (record_group r job index))) (chains.recorded s) (now_taken c next)
-    recorded_match e offset c next before to_blob q waits = record {
+    recorded_match e offset c next before to_blob q waits stand idle = record {
       position = m.position;
       next = m.next;
       out = m.out;
@@ -82,18 +85,24 @@ module _ (texts : ℕ → Bytes) where
           (λ phase. HoldsPhase texts (parts_of (view_after r.load.generation v (Stands kinds.Metadata e (last_position r.metadata offset) (record_group r job index))) (chains.recorded s) (now_taken c next)) next phase)
           (sym waits) (record { entries = refl; layer = refl; noted = refl; record_out = refl });
       said = ap (λ z. taken z (item_of job index)) m.said ∙ sym (said_with first_beginning s.records (item_of job index)) ∙ ap (said first_beginning) (sym records_now);
+      installed = recorded_installed texts r job h.noted.fixed index (h.written stand) m.installed;
+      ordered = m.ordered;
+      named = one_more_named (IsOfPages texts) r.said (item_of job index)
+          ((index, job.position, job.next, refl, h.noted.position, (job.pages.index, h.noted.fixed, h.written stand, h.filed stand)), tt) m.named;
+      rows = subst (AppendsPhase r.rows next) (sym waits) idle;
     }
 
   -- ---- the Trim
 
   module _ (v : RangeView) (s : Serving) (r : RangeState) (m : Matches texts v s r) (d : ServerContext) where
-    trim_told_match : (job : CheckpointState) (phase : CheckpointPhase) → HoldsPhase texts (parts_of v s r) job phase → (body : StreamBody) → MatchesIf texts v s (trim_told d r phase body).after
-    trim_told_match job (checkpoints.Trim before to_blob q) h (streams.Trimmed w) = record { position = m.position; next = m.next; out = m.out; live = m.live; checkpoint = h; said = m.said }
-    trim_told_match job phase h body = m
+    trim_told_match : (job : CheckpointState) (phase : CheckpointPhase) → HoldsPhase texts (parts_of v s r) job phase → AppendsPhase r.rows job phase → (body : StreamBody) → MatchesIf texts v s (trim_told d r phase body).after
+    trim_told_match job (checkpoints.Trim before to_blob q) h idle (streams.Trimmed w) =
+        record { position = m.position; next = m.next; out = m.out; live = m.live; checkpoint = h; said = m.said; installed = m.installed; ordered = m.ordered; named = m.named; rows = idle }
+    trim_told_match job phase h idle body = m
 
-    trim_match : (control : Option CheckpointState) → HoldsCheckpoint texts (parts_of v s r) control → (body : StreamBody) → MatchesIf texts v s (trim_reply_in d r control body).after
-    trim_match None h body = m
-    trim_match (Some job) h body = trim_told_match job job.phase h body
+    trim_match : (control : Option CheckpointState) → HoldsCheckpoint texts (parts_of v s r) control → AppendsRows r.rows control → (body : StreamBody) → MatchesIf texts v s (trim_reply_in d r control body).after
+    trim_match None h appends body = m
+    trim_match (Some job) h appends body = trim_told_match job job.phase h appends body
 
     refused_match : (body : AppendBody) → MatchesIf texts v s (load_refused d r body).after
     refused_match (appends.Refused w refusals.Stale) = tt
@@ -101,6 +110,6 @@ module _ (texts : ℕ → Bytes) where
 
     -- the answer to it, whatever is under way
     pub trim_reply_match : (body : Body) → MatchesIf texts v s (trim_reply d r body).after
-    trim_reply_match (bodies.Stream body) = trim_match r.control m.checkpoint body
+    trim_reply_match (bodies.Stream body) = trim_match r.control m.checkpoint m.rows body
     trim_reply_match (bodies.Append body) = refused_match body
     trim_reply_match body = m

@@ -1,5 +1,6 @@
--- Answers to the clients of row data and of the metadata, while a range is served: the steps that they are for a checkpoint.
-use Rattle.std.proofs.Common.{◌≡◌, ℕ, ◌<◌, ◌^◌, List, [], Bool, true, false, Option, Some, None, option_to_list, refl, sym, ◌∙◌, subst}
+-- Answers to the client of row data, while a range is served: the steps that they are for a checkpoint. What stands is what was told, by the
+-- bytes that are answered then.
+use Rattle.std.proofs.Common.{◌≡◌, ℕ, ◌^◌, nat_lt, List, [], ◌∷◌, Bool, true, false, Option, Some, None, option_to_list, refl, sym, ap, ◌∙◌, subst, inl, inr}
 use Rattle.std.specs.Prelude.{if◌then◌else◌}
 use Rattle.block_types.specs.declared.record.Nodes.{Nodes}
 use Rattle.wire.specs.declared.actor.ReqNo.{ReqNo}
@@ -17,7 +18,6 @@ use Rattle.wire.specs.declared.body.StreamBody.{StreamBody}
 use Rattle.wire.specs.declared.body.StreamBody.TheVariants as streams
 use Rattle.wire.specs.declared.refusal.Refusal.{Refusal}
 use Rattle.wire.specs.declared.refusal.Refusal.TheVariants as refusals
-use Rattle.wire.specs.declared.streams.StreamKind.TheVariants as kinds
 use Rattle.client.specs.declared.job.Job.{Job}
 use Rattle.client.specs.declared.job.Job.TheVariants as jobs
 use Rattle.client.specs.declared.job.News.{News}
@@ -25,19 +25,25 @@ use Rattle.client.specs.declared.job.News.TheVariants as news
 use Rattle.client.specs.Client.{ClientState, Outcome, waits, awaits, if_awaited, fenced_if, append_refused, refused_job, appended_job, checked_job, sealed_job, groups_job, extended_job, append_reply, check_reply, seal_reply, read_reply, stream_reply, reply_rule}
 use Rattle.model_streams.proofs.Tests.{if_elim}
 use Rattle.model_partition.specs.declared.server_context.ServerContext.{ServerContext}
-use Rattle.model_partition.specs.Answering.{groups_of, metadata_reply}
 use Rattle.model_partition.specs.CheckpointStates.{CheckpointState}
-use Rattle.model_partition.specs.Checkpoints.{job_may_stand, record_told, rows_may_stand, rows_reply, rows_told}
-use Rattle.model_partition.specs.Loading.{metadata_news}
+use Rattle.model_partition.specs.Checkpoints.{job_may_stand, rows_may_stand, rows_reply, rows_told}
 use Rattle.model_partition.specs.Past.{Bytes}
-use Rattle.model_partition.specs.Range.{RangeState, RangeOutcome, request, answers, picking, is_serving}
-use Rattle.model_partition.specs.ServedTables.{AllStand}
-use Rattle.model_partition.specs.StreamActions.{StreamAction, loading_actions, metadata_actions, record_actions, rows_actions, rows_told_actions}
-use Rattle.laws_loads.specs.RangeView.{RangeView}
+use Rattle.model_partition.specs.Range.{RangeState, RangeOutcome, request, answers, picking}
+use Rattle.model_partition.specs.StreamActions.{PlacedBytes, StreamAction, Stores, index_stood, rows_actions, rows_told_actions}
+use Rattle.laws_loads.specs.RangeView.{RangeView, view_after, view_after_all}
 use Rattle.laws_tables.specs.Runs.{Run, first_beginning, held, IsServing}
-use Rattle.laws_server_runs.specs.RangeInvariant.{Matches, StreamsKept, Rests}
+use Rattle.replica.specs.Groups.{joined}
+use Rattle.model_partition.specs.declared.checkpoint_job.CheckpointPhase.{CheckpointPhase}
+use Rattle.model_partition.specs.declared.checkpoint_job.CheckpointPhase.TheVariants as checkpoints
+use Rattle.model_partition.specs.TableContents.{StandsAt}
+use Rattle.laws_server_runs.specs.CheckpointInvariant.{AppendsPhase, AppendsRows}
+use Rattle.laws_server_runs.specs.RangeInvariant.{Matches, StreamsKept, InOrder, Rests}
+use Rattle.laws_server_runs.proofs.ClientAnswers.{IsIdleIf, reply_takes}
+use Rattle.laws_server_runs.proofs.Fronts.{order_before_actions}
+use Rattle.laws_server_runs.proofs.RowAppends.{idle_waits, reply_appends}
+use Rattle.laws_server_runs.proofs.ServedNotes.{view_both}
 use Rattle.laws_server_runs.proofs.CheckpointRows.{GroupStands, StandsRightlyIf}
-use Rattle.laws_server_runs.proofs.CheckpointSteps.{CheckpointStep, rows_step, metadata_step}
+use Rattle.laws_server_runs.proofs.CheckpointSteps.{CheckpointStep, told_actions, IsStored, rows_step}
 
 -- ---- where a group stands
 
@@ -120,64 +126,87 @@ module _ (control : Option CheckpointState) (q : ReqNo) (c : ClientState) where
   reply_place (bodies.Stream b) = stream_place control q c (bodies.Stream b) b
   reply_place b = tt
 
-module _ (texts : ℕ → Bytes) where
-  -- What is premised of an answer that tells of the group which is appended to row data: it stands there, in an extent whose number fits 64 bits.
-  pub record IsToldOf (v : RangeView) (job : CheckpointState) (e offset : ℕ) : Type 0 where
-    pub known : e < 2 ^ 64
-    pub all : AllStand texts v.answered
-    pub stands : GroupStands texts job job.phase e offset
-
-  abbrev pub IsToldIf : RangeView → Option CheckpointState → Option News → Type 0
-  IsToldIf v (Some job) (Some (news.Appended e offset)) = IsToldOf v job e offset
-  IsToldIf v control told = Unit {0}
-
-  told_rightly : (v : RangeView) (control : Option CheckpointState) (body : Body) (told : Option News) → rows_may_stand control body ≡ true → NewsPlace control body told → IsToldIf v control told → StandsRightlyIf texts v control told
-  told_rightly v None body told may place is = tt
-  told_rightly v (Some job) body None may place is = tt
-  told_rightly v (Some job) body (Some (news.Appended e offset)) may place is = record { known = is.known; may = sym place ∙ may; all = is.all; stands = is.stands }
-  told_rightly v (Some job) body (Some (news.Checked e l)) may place is = tt
-  told_rightly v (Some job) body (Some (news.Sealed e l)) may place is = tt
-  told_rightly v (Some job) body (Some (news.Content e upto)) may place is = tt
-  told_rightly v (Some job) body (Some news.Fenced) may place is = tt
-
 module _ (texts : ℕ → Bytes) (subject : ℕ) (run : Run) (v : RangeView) (r : RangeState) (m : Matches texts v (held first_beginning run r.load.generation) r) (serving : IsServing run r.load.generation)
     (kept : StreamsKept texts run v) (d : ServerContext) (body : Body) where
   -- ---- row data
 
   module _ (c : ClientState) where
-    matches_with : Matches texts v (held first_beginning run r.load.generation) (record r { rows = c })
-    matches_with = record { position = m.position; next = m.next; out = m.out; live = m.live; checkpoint = m.checkpoint; said = m.said }
+    matches_with : AppendsRows c r.control → Matches texts v (held first_beginning run r.load.generation) (record r { rows = c })
+    matches_with appends = record { position = m.position; next = m.next; out = m.out; live = m.live; checkpoint = m.checkpoint; said = m.said; installed = m.installed; ordered = m.ordered; named = m.named; rows = appends }
 
     of_range : (actions : List StreamAction) (o : RangeOutcome) → CheckpointStep texts subject run v (record r { rows = c }) actions o → CheckpointStep texts subject run v r actions o
-    of_range actions o s = record { next = s.next; goes = s.goes; shown = s.shown; matches = s.matches; streams = s.streams; longer = s.longer; seen = s.seen; rest = s.rest }
+    of_range actions o s = record { next = s.next; goes = s.goes; shown = s.shown; matches = s.matches; streams = s.streams; longer = s.longer; seen = s.seen }
 
   abbrev rows_answer : Outcome
   rows_answer = reply_rule (picking d r.rows) (request d) body
 
+  abbrev rows_after : RangeState
+  rows_after = record r { rows = rows_answer.after }
+
+  rows_matches : Matches texts v (held first_beginning run r.load.generation) rows_after
+  rows_matches = matches_with rows_answer.after (reply_appends (picking d r.rows) (request d) body r.control m.rows)
+
+  -- what was told brings these actions
+  same_told : (told : Option News) → told_actions texts subject rows_after r.rows.group told ≡ rows_told_actions r told
+  same_told None = refl
+  same_told (Some (news.Appended e offset)) = refl
+  same_told (Some (news.Checked e l)) = refl
+  same_told (Some (news.Sealed e l)) = refl
+  same_told (Some (news.Content e upto)) = refl
+  same_told (Some news.Fenced) = refl
+
+  -- a client that waits for nothing is told nothing
+  awake : (told : News) → rows_answer.news ≡ Some told → r.rows.job ≡ jobs.Idle → ⊥
+  awake told is idle = let none : None ≡ Some told = sym (ap (λ (o : Outcome). o.news) (idle_waits (picking d r.rows) (request d) idle body)) ∙ is in cc
+
+  told_idle : (told : News) → rows_answer.news ≡ Some told → rows_answer.after.job ≡ jobs.Idle
+  told_idle told is = subst (λ n. IsIdleIf n rows_answer.after.job) is (reply_takes (picking d r.rows) (request d) body).idle
+
+  -- the group that was appended is the one that the checkpoint waits for
+  group_stands : (job : CheckpointState) (phase : CheckpointPhase) → AppendsPhase r.rows job phase → (r.rows.job ≡ jobs.Idle → ⊥) → (e offset : ℕ) → StandsAt (texts e) offset (joined r.rows.group) →
+      GroupStands texts job phase e offset
+  group_stands job checkpoints.Pages (inl idle) never e offset stood = absurd (never idle)
+  group_stands job checkpoints.Pages (inr same) never e offset stood = subst (λ group. StandsAt (texts e) offset (joined group)) same stood
+  group_stands job checkpoints.Index (inl idle) never e offset stood = absurd (never idle)
+  group_stands job checkpoints.Index (inr same) never e offset stood = subst (λ group. StandsAt (texts e) offset (joined group)) same stood
+  group_stands job (checkpoints.Record index) appends never e offset stood = tt
+  group_stands job (checkpoints.Trim before to_blob q) appends never e offset stood = tt
+
+  abbrev Ordered : List StreamAction → Type 0
+  Ordered actions = InOrder texts (view_after_all r.load.generation v actions)
+
+  stands_rightly : (control : Option CheckpointState) → AppendsRows r.rows control → (e offset : ℕ) → rows_answer.news ≡ Some (news.Appended e offset) → rows_may_stand control body ≡ true → NewsPlace control body (Some (news.Appended e offset)) →
+      InOrder texts (view_after r.load.generation v (Stores (record { extent = e; offset = offset; bytes = joined r.rows.group }))) →
+      StandsRightlyIf texts (view_after r.load.generation v (Stores (record { extent = e; offset = offset; bytes = joined r.rows.group }))) control (Some (news.Appended e offset))
+  stands_rightly None appends e offset is may place order = tt
+  stands_rightly (Some job) appends e offset is may place order =
+      record { may = sym place ∙ may; all = order.answered; stands = group_stands job job.phase appends (awake (news.Appended e offset) is) e offset order.answered.0 }
+
+  is_stored : (told : Option News) → rows_answer.news ≡ told → rows_may_stand r.control body ≡ true → NewsPlace r.control body told → Ordered (rows_told_actions r told) →
+      IsStored texts subject run v rows_after rows_matches serving kept d r.rows.group told
+  is_stored None is may place order = tt
+  is_stored (Some (news.Appended e offset)) is may place order =
+      let p : PlacedBytes = record { extent = e; offset = offset; bytes = joined r.rows.group } in (
+        told_idle (news.Appended e offset) is,
+        stands_rightly r.control m.rows e offset is may place
+            (order_before_actions texts r.load.generation (view_after r.load.generation v (Stores p)) (if nat_lt e (2 ^ 64) then index_stood r r.control e offset else [])
+            (subst (InOrder texts) (view_both texts subject r.load.generation v (if nat_lt e (2 ^ 64) then index_stood r r.control e offset else []) (Stores p ∷ [])) order)),
+      )
+  is_stored (Some (news.Checked e l)) is may place order = tt
+  is_stored (Some (news.Sealed e l)) is may place order = tt
+  is_stored (Some (news.Content e upto)) is may place order = tt
+  is_stored (Some news.Fenced) is may place order = tt
+
   -- an answer to the client of row data
-  pub rows_reply_step : IsToldIf texts v r.control rows_answer.news → CheckpointStep texts subject run v r (rows_actions d r body) (rows_reply d r body)
-  rows_reply_step told = by (rows_may_stand r.control body) refl
+  pub rows_reply_step : Ordered (rows_actions d r body) → CheckpointStep texts subject run v r (rows_actions d r body) (rows_reply d r body)
+  rows_reply_step = by (rows_may_stand r.control body) refl
     where
-      by : (b : Bool) → rows_may_stand r.control body ≡ b →
+      by : (b : Bool) → rows_may_stand r.control body ≡ b → Ordered (if b then rows_told_actions r rows_answer.news else []) →
           CheckpointStep texts subject run v r (if b then rows_told_actions r rows_answer.news else [])
-          (if b then rows_told d (record r { rows = rows_answer.after }) r.control rows_answer.news (option_to_list rows_answer.packet) else answers d r [])
-      by true may =
-          of_range rows_answer.after (rows_told_actions r rows_answer.news) (rows_told d (record r { rows = rows_answer.after }) r.control rows_answer.news (option_to_list rows_answer.packet))
-          (rows_step texts subject run v (record r { rows = rows_answer.after }) (matches_with rows_answer.after) serving kept d rows_answer.news (option_to_list rows_answer.packet)
-          (told_rightly texts v r.control body rows_answer.news may (reply_place r.control (request d) (picking d r.rows) body) told))
-      by false never = record { next = run; goes = Rests; shown = serving; matches = m; streams = kept; longer = ([], refl); seen = λ notes old. old; rest = λ none later. refl }
-
-  -- ---- the metadata
-
-  abbrev metadata_answer : Outcome
-  metadata_answer = reply_rule (picking d r.metadata) (request d) body
-
-  -- an answer to the metadata's client while the range is served
-  pub metadata_reply_step : is_serving r.stage ≡ true → CheckpointStep texts subject run v r (metadata_actions d r body) (metadata_reply d r body)
-  metadata_reply_step served =
-      subst
-      (λ b. CheckpointStep texts subject run v r (if b then record_actions r metadata_answer.news else loading_actions kinds.Metadata r.metadata r.stage (groups_of body) metadata_answer.news)
-      (if b then record_told d (record r { metadata = metadata_answer.after }) r.control metadata_answer.news (option_to_list metadata_answer.packet)
-      else metadata_news d (record r { metadata = metadata_answer.after }) (groups_of body) r.stage metadata_answer.news (option_to_list metadata_answer.packet)))
-      (sym served)
-      (metadata_step texts subject run v r m serving kept d metadata_answer.after metadata_answer.news (option_to_list metadata_answer.packet))
+          (if b then rows_told d rows_after r.control rows_answer.news (option_to_list rows_answer.packet) else answers d r [])
+      by true may order =
+          of_range rows_answer.after (rows_told_actions r rows_answer.news) (rows_told d rows_after r.control rows_answer.news (option_to_list rows_answer.packet))
+          (subst (λ actions. CheckpointStep texts subject run v rows_after actions (rows_told d rows_after r.control rows_answer.news (option_to_list rows_answer.packet))) (same_told rows_answer.news)
+          (rows_step texts subject run v rows_after rows_matches serving kept d r.rows.group rows_answer.news (option_to_list rows_answer.packet)
+          (is_stored rows_answer.news refl may (reply_place r.control (request d) (picking d r.rows) body) order)))
+      by false never order = record { next = run; goes = Rests; shown = serving; matches = m; streams = kept; longer = ([], refl); seen = λ notes old. old }

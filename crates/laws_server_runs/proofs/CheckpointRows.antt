@@ -6,6 +6,7 @@ use Rattle.wire.specs.declared.streams.StreamKind.TheVariants as kinds
 use Rattle.memtable.specs.declared.cell.Place.{Place}
 use Rattle.metadata.specs.Record.{IsNext, IsPlace}
 use Rattle.replica.specs.Groups.{joined}
+use Rattle.client.specs.declared.job.Job.TheVariants as jobs
 use Rattle.client.specs.declared.job.News.{News}
 use Rattle.client.specs.declared.job.News.TheVariants as news
 use Rattle.client.specs.Client.{ClientState}
@@ -47,9 +48,8 @@ module _ (texts : ℕ → Bytes) where
   GroupStands job (checkpoints.Record index) e offset = Unit {0}
   GroupStands job (checkpoints.Trim before to_blob q) e offset = Unit {0}
 
-  -- the offset is one where it may stand, and the extent's number one of 64 bits
+  -- the offset is one where it may stand
   pub record StandsRightly (v : RangeView) (job : CheckpointState) (e offset : ℕ) : Type 0 where
-    pub known : e < 2 ^ 64
     pub may : may_stand_at job.pages offset ≡ true
     pub all : AllStand texts v.answered
     pub stands : GroupStands job job.phase e offset
@@ -63,8 +63,8 @@ module _ (texts : ℕ → Bytes) where
 
     -- one more group of them stands
     pub pages_go : HoldsPhase texts (parts_of v s r) job checkpoints.Pages → (e offset : ℕ) → e < 2 ^ 64 → may_stand_at job.pages offset ≡ true →
-        (AllStand texts v.answered → GroupStands job checkpoints.Pages e offset) → MatchesIf texts v s (writes_pages d r (pages_stand job e offset)).after
-    pages_go h e offset known may stands = writes_on texts v s r (beside texts v s r m) d (pages_stand job e offset) more h.1
+        (AllStand texts v.answered → GroupStands job checkpoints.Pages e offset) → r.rows.job ≡ jobs.Idle → MatchesIf texts v s (writes_pages d r (pages_stand job e offset)).after
+    pages_go h e offset known may stands idle = writes_on texts v s r (beside texts v s r m) d (pages_stand job e offset) more h.1 idle
       where
         more : HasNoted texts (parts_of v s r) (pages_stand job e offset)
         more = record {
@@ -131,9 +131,9 @@ module _ (texts : ℕ → Bytes) where
           )
 
       -- its append is out
-      pub records_match : (n : ℕ) → n ≡ length (metadata_of v) → (c : ClientState) →
+      pub records_match : (n : ℕ) → n ≡ length (metadata_of v) → (c : ClientState) → r.rows.job ≡ jobs.Idle →
           Matches texts formed_view (recording n (chains.record_group r.said.next (item_of job place)) s) (record r { metadata = c; control = Some (with_phase job (checkpoints.Record place)) })
-      records_match n same c = record {
+      records_match n same c idle = record {
         position = m.position;
         next = m.next;
         out = m.out;
@@ -155,4 +155,8 @@ module _ (texts : ℕ → Bytes) where
           numbered = (may_parts r job may).1;
         };
         said = m.said;
+        installed = m.installed;
+        ordered = m.ordered;
+        named = m.named;
+        rows = idle;
       }

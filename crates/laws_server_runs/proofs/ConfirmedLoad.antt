@@ -1,6 +1,6 @@
 -- What follows where a generation is confirmed, and the streams keep their order with that load: the metadata says the fold of the records
 -- that the load shows, and where it names one region without end, the range has what the load replays of the log from the region's start
--- on. No record is made yet, so that is the whole log.
+-- on.
 use Rattle.std.proofs.Common.{◌≡◌, ℕ, ◌+◌, ◌<◌, ◌^◌, List, [], ◌∷◌, length, map, true, Some, is_some, refl, sym, ap, ◌∙◌, subst, inl, arith}
 use Rattle.std.specs.Prelude.{if◌then◌else◌}
 use Rattle.streams.specs.declared.table.Position.{Position}
@@ -31,14 +31,16 @@ use Rattle.laws_tables.specs.Runs as chains
 use Rattle.laws_tables.specs.Runs.{Run, first_beginning, first_next, start_number, added, greater, said, replayed_by, next_loaded, loaded_layer, IsServing, MayStart}
 use Rattle.laws_loads.specs.MemoryLayers.{layer_in}
 use Rattle.laws_checkpoints.specs.IndexLayers.{layer_at}
-use Rattle.laws_server_runs.specs.RangeInvariant.{groups_read, replayed_all, ReadsLog, IsPlain, AllSpelled, AreCheckpoints, StreamsKept, InOrder}
+use Rattle.laws_server_runs.specs.RangeInvariant.{groups_read, replayed_all, ReadsLog, AllSpelled, AreCheckpoints, IsOfPages, EndFits, StreamsKept, InOrder}
 use Rattle.laws_loads.specs.RangeView.{RangeView, view_after, log_of, metadata_of}
-use Rattle.laws_server_runs.proofs.Behind.{groups_shown, all_behind, left_is_all, end_behind}
+use Rattle.laws_server_runs.proofs.Behind.{groups_shown, all_behind, left_is_all, end_place}
 use Rattle.laws_server_runs.proofs.Folding.{IsFoldOf, groups_folded}
 use Rattle.laws_server_runs.proofs.LoadedLine.{line_read, reads_groups, groups_renamed, first_stand, extents_replayed, the_region}
 use Rattle.laws_server_runs.proofs.OneRegion.{IsOneRegion, AllKeepOneRegion, all_kept, first_one}
-use Rattle.laws_server_runs.proofs.LoadedRecords.{AreOfCheckpoints, shown_of_checkpoints, checkpoints_keep, keys_stay, plain_unmade}
-use Rattle.laws_server_runs.proofs.Order.{unmade_shows_nothing, shown_spelled, shown_behind, made_before}
+use Rattle.laws_server_runs.specs.NamedIndexes.{NamesSuch}
+use Rattle.laws_server_runs.proofs.NamedIndexes.{named_by_load}
+use Rattle.laws_server_runs.proofs.LoadedRecords.{AreOfCheckpoints, shown_of_checkpoints, checkpoints_keep, keys_stay}
+use Rattle.laws_server_runs.proofs.Order.{shown_spelled, shown_behind, made_before}
 use Rattle.laws_server_runs.proofs.Replaying.{AreRead, After}
 
 module _ (r : RangeState) where
@@ -49,9 +51,12 @@ module _ (r : RangeState) where
   abbrev pub metadata_end : Position
   metadata_end = read_end r.metadata (record { index = r.metadata.base; offset = 0 })
 
+  abbrev pub log_stop : Position
+  log_stop = read_end r.log (record { index = r.log.base; offset = 0 })
+
   -- what the confirmed load shows
   abbrev pub shows : StreamAction
-  shows = Shows start_of (read_end r.log start_of) metadata_end
+  shows = Shows start_of (log_stop) metadata_end
 
 module _ (v : RangeView) (r : RangeState) where
   -- the groups that it shows of the log, its events, and the view with them
@@ -59,7 +64,7 @@ module _ (v : RangeView) (r : RangeState) where
   shown_groups = placed_behind (place_number (start_of r)) (placed_reads (v.history.reads kinds.Log))
 
   abbrev pub log_load : StreamEvent Group
-  log_load = Showed r.load.generation (place_number (start_of r)) (place_number (read_end r.log (start_of r))) shown_groups
+  log_load = Showed r.load.generation (place_number (start_of r)) (place_number (log_stop r)) shown_groups
 
   abbrev pub metadata_load : StreamEvent Group
   metadata_load = Showed r.load.generation 0 (place_number (metadata_end r)) (placed_reads (v.history.reads kinds.Metadata))
@@ -77,7 +82,7 @@ module _ (v : RangeView) (r : RangeState) where
 -- the run with that load
 abbrev pub run_loaded : Run → RangeView → RangeState → Run
 run_loaded run v r =
-    chains.Confirms r.load.generation (place_number (start_of r)) (place_number (read_end r.log (start_of r))) (spelled_groups v r) (place_number (metadata_end r)) (shown_records v r) ∷ run
+    chains.Confirms r.load.generation (place_number (start_of r)) (place_number (log_stop r)) (spelled_groups v r) (place_number (metadata_end r)) (shown_records v r) ∷ run
 
 module _ (texts : ℕ → Bytes) (run : Run) (v : RangeView) (r : RangeState) (h : ReadsLog v.history r) (streams : StreamsKept texts run v) (order : InOrder texts (view_shown v r)) where
   -- ---- the metadata
@@ -99,19 +104,19 @@ module _ (texts : ℕ → Bytes) (run : Run) (v : RangeView) (r : RangeState) (h
   spelled_still : AllSpelled texts (log_load v r ∷ log_of v)
   spelled_still a g group at =
       streams.spelled a g group
-      (made_before (log_of v) r.load.generation (place_number (start_of r)) (place_number (read_end r.log (start_of r))) (shown_groups v r) a g group at)
+      (made_before (log_of v) r.load.generation (place_number (start_of r)) (place_number (log_stop r)) (shown_groups v r) a g group at)
 
   -- all that it shows was handed to appends
   read_back : (rs : List LogRecord) × AreRead (groups_shown (shown_groups v r)) rs
   read_back =
       shown_spelled texts (log_load v r ∷ log_of v) order.log spelled_still (length (log_of v)) r.load.generation (place_number (start_of r))
-      (place_number (read_end r.log (start_of r))) (shown_groups v r) load_stands
+      (place_number (log_stop r)) (shown_groups v r) load_stands
 
   -- and is all that was read from its start on
   all_shown : all_behind (place_number (start_of r)) (placed_reads (v.history.reads kinds.Log)) ≡ shown_groups v r
   all_shown =
       left_is_all (place_number (start_of r)) (placed_reads (v.history.reads kinds.Log))
-      (shown_behind texts (log_load v r ∷ log_of v) order.log (length (log_of v)) r.load.generation (place_number (start_of r)) (place_number (read_end r.log (start_of r)))
+      (shown_behind texts (log_load v r ∷ log_of v) order.log (length (log_of v)) r.load.generation (place_number (start_of r)) (place_number (log_stop r))
       (shown_groups v r) load_stands)
 
   -- what it adds to the line
@@ -167,12 +172,11 @@ module _ (texts : ℕ → Bytes) (run : Run) (v : RangeView) (r : RangeState) (h
           ap (λ (z : Region). z.next) (sym region_is) ∙ loaded.has.next
           ∙ (λ i. (number_is ∙ ap (λ (m : MetadataState). first_next m.regions) said_is) i + length (sym replayed_is i))
 
-      pub position_is : place_number (log_end r.log (last_extent r.log.extents) region.start) ≡ greater (place_number (read_end r.log (start_of r))) (place_number (start_of r))
-      position_is =
+      pub position_is : EndFits r.log → place_number (log_end r.log (last_extent r.log.extents) region.start) ≡ greater (place_number (log_stop r)) (place_number (start_of r))
+      position_is fits =
           let there : region.start ≡ start_of r = ap (λ (z : Region). z.start) (sym region_is) ∙ loaded.has.start ∙ first_is in
           let short : (start_of r).offset < 2 ^ 32 = subst (λ (p : Position). p.offset < 2 ^ 32) first_is one.short in
-          ap (λ p. place_number (log_end r.log (last_extent r.log.extents) p)) there
-          ∙ sym (greater_left (place_number (read_end r.log (start_of r))) (place_number (start_of r)) (end_behind r.log (start_of r) short))
+          ap (λ p. place_number (log_end r.log (last_extent r.log.extents) p)) there ∙ end_place r.log (start_of r) short h.begins fits
 
   -- ---- the run
 
@@ -182,7 +186,7 @@ module _ (texts : ℕ → Bytes) (run : Run) (v : RangeView) (r : RangeState) (h
       let old = showed_from decoded (log_of v) l r.load.generation start end groups (ap (λ z. event_at z l) (sym streams.log) ∙ at) in
       let there : event_at (log_of v) l ≡ Some (Showed r.load.generation start end old.0) = old.1 in
       let same : l ≡ length (log_of v) =
-      order.once l (length (log_of v)) r.load.generation start end (place_number (start_of r)) (place_number (read_end r.log (start_of r))) old.0 (shown_groups v r)
+      order.once l (length (log_of v)) r.load.generation start end (place_number (start_of r)) (place_number (log_stop r)) old.0 (shown_groups v r)
       (older Group (log_load v r) (log_of v) l (Showed r.load.generation start end old.0) there) load_stands in
       let less : l < length (log_of v) = bound Group (log_of v) l (Showed r.load.generation start end old.0) there in
       omega (arith, same, less)
@@ -195,43 +199,33 @@ module _ (texts : ℕ → Bytes) (run : Run) (v : RangeView) (r : RangeState) (h
 
   -- ---- records
 
-  records_still : AreCheckpoints (metadata_load v r ∷ metadata_of v)
+  records_still : AreCheckpoints (IsOfPages texts) (metadata_load v r ∷ metadata_of v)
   records_still a g group at =
       streams.records a g group
       (made_before (metadata_of v) r.load.generation 0 (place_number (metadata_end r)) (placed_reads (v.history.reads kinds.Metadata)) a g group at)
 
   -- those that the load shows are of plain checkpoints
-  all_plain : AreOfCheckpoints (line_shown (shown_records v r))
+  all_plain : AreOfCheckpoints (IsOfPages texts) (line_shown (shown_records v r))
   all_plain =
-      shown_of_checkpoints (metadata_load v r ∷ metadata_of v) order.metadata records_still (length (metadata_of v)) r.load.generation 0 (place_number (metadata_end r))
+      shown_of_checkpoints (IsOfPages texts) (metadata_load v r ∷ metadata_of v) order.metadata records_still (length (metadata_of v)) r.load.generation 0 (place_number (metadata_end r))
       (placed_reads (v.history.reads kinds.Metadata)) (newest Group (metadata_load v r) (metadata_of v))
 
   -- so they leave one region, and all keys
   pub records_keep : AllKeepOneRegion first_metadata (line_shown (shown_records v r))
-  records_keep = checkpoints_keep (line_shown (shown_records v r)) first_metadata all_plain
+  records_keep = checkpoints_keep (IsOfPages texts) (line_shown (shown_records v r)) first_metadata all_plain
 
-  keys_are : r.said.keys ≡ all_keys
-  keys_are = ap (λ (m : MetadataState). m.keys) said_is ∙ keys_stay (line_shown (shown_records v r)) first_metadata all_plain
+  pub keys_are : r.said.keys ≡ all_keys
+  keys_are = ap (λ (m : MetadataState). m.keys) said_is ∙ keys_stay (IsOfPages texts) (line_shown (shown_records v r)) first_metadata all_plain
+
+  -- and the indexes that they name were written, each of its pages
+  pub named_are : NamesSuch (IsOfPages texts) r.said
+  named_are =
+      named_by_load (IsOfPages texts) (metadata_load v r ∷ metadata_of v) order.metadata records_still (length (metadata_of v)) r.load.generation 0 (place_number (metadata_end r))
+      (placed_reads (v.history.reads kinds.Metadata)) (newest Group (metadata_load v r) (metadata_of v)) r.said said_is
 
   -- and the layer is that of all keys
   pub whole_layer : (key : Bytes) → layer_in texts r.live key ≡ layer_line (replayed_by first_beginning (spelled_groups v r) (shown_records v r)) empty_layer key
   whole_layer key = layer_is records_keep key (ap (λ keys. within keys key) keys_are ∙ in_all key)
-
-  -- ---- no records yet
-
-  module _ (plain : IsPlain run) where
-    -- the load shows none
-    pub no_records : shown_records v r ≡ []
-    no_records =
-        ap (map (renamed_placed decoded_record))
-        (unmade_shows_nothing texts (metadata_load v r ∷ metadata_of v) order.metadata
-        (λ a g group at. plain_unmade run plain (metadata_of v) streams.metadata a g group
-        (made_before (metadata_of v) r.load.generation 0 (place_number (metadata_end r)) (placed_reads (v.history.reads kinds.Metadata)) a g group at))
-        (length (metadata_of v)) r.load.generation 0 (place_number (metadata_end r))
-        (placed_reads (v.history.reads kinds.Metadata)) (newest Group (metadata_load v r) (metadata_of v)))
-
-    pub place_is : place_number (start_of r) ≡ 0
-    place_is = ap (λ (m : MetadataState). place_number (first_start m.regions)) (said_is ∙ ap (λ l. said first_beginning (line_shown l)) no_records)
 
   -- servers may load it now
   pub streams_loaded : StreamsKept texts (run_loaded run v r) (view_shown v r)

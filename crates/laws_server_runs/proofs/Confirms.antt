@@ -1,6 +1,6 @@
 -- The answers to the opening and the confirmation of a range keep what is kept of it; where its generation is confirmed, it is served
 -- from then on with the layer of the line that its load shows.
-use Rattle.std.proofs.Common.{◌≡◌, inl, inr, ℕ, ◌<◌, true, nat_lt, List, [], ◌∷◌, ◌++◌, length, Option, Some, None, is_some, refl, sym, ap, ◌∙◌, subst, arith}
+use Rattle.std.proofs.Common.{◌≡◌, inl, inr, ℕ, ◌<◌, true, nat_lt, List, [], ◌∷◌, ◌++◌, length, Option, Some, None, is_some, refl, sym, ◌∙◌, subst, arith}
 use Rattle.std.specs.Prelude.{if◌then◌else◌}
 use Rattle.std.proofs.lemmas.Bool.{ltb-true}
 use Rattle.wire.specs.declared.actor.ReqNo.{ReqNo}
@@ -19,7 +19,6 @@ use Rattle.client.specs.declared.load.LoadPhase.{LoadPhase}
 use Rattle.client.specs.declared.load.LoadPhase.TheVariants as phases
 use Rattle.client.specs.Client.{last_extent}
 use Rattle.client.specs.Load.{load_awaits}
-use Rattle.memtable.specs.Entries.{found}
 use Rattle.metadata.specs.declared.record.Region.{Region}
 use Rattle.metadata.specs.Fold.{first_metadata}
 use Rattle.commitlog.specs.Replay.{Numbered}
@@ -29,42 +28,47 @@ use Rattle.model_partition.specs.declared.stage.Stage.{Stage}
 use Rattle.model_partition.specs.declared.stage.Stage.TheVariants as stages
 use Rattle.model_partition.specs.declared.table_note.TableNote.TheVariants as tables
 use Rattle.model_partition.specs.Answering.{load_refused, load_told, load_reply}
-use Rattle.model_partition.specs.Loading.{are_counted, log_end, open_region, opens, serves, serves_from, serves_region, shown_table}
+use Rattle.model_partition.specs.Loading.{has_position, log_end, open_region, opens, serves, serves_from, serves_region, shown_table}
 use Rattle.model_partition.specs.Log.{line_shown}
 use Rattle.model_partition.specs.Past.{Bytes, Transaction, stored}
+use Rattle.model_partition.specs.IndexContents.{entries_in}
 use Rattle.model_partition.specs.Range.{RangeState, RangeOutcome, answers, dropped}
 use Rattle.model_partition.specs.ServedTables.{AreSeenAs}
 use Rattle.model_partition.specs.ServerRun.{place_number}
-use Rattle.model_partition.specs.StreamActions.{StreamAction, confirmed_actions, load_actions, read_end}
+use Rattle.model_partition.specs.StreamActions.{StreamAction, confirmed_actions, load_actions}
 use Rattle.model_partition.specs.TableContents.{table_in}
 use Rattle.laws_tables.proofs.Range.{newest}
-use Rattle.laws_tables.specs.Layers.{empty_layer, flat, layer_line}
+use Rattle.laws_tables.specs.Layers.{empty_layer, layer_line}
 use Rattle.laws_tables.specs.Runs as chains
 use Rattle.laws_tables.specs.Runs.{Run, first_beginning, greater, confirmed, replayed_by, next_loaded}
+use Rattle.laws_loads.proofs.Rows.{Ordered}
 use Rattle.laws_loads.specs.MemoryLayers.{layer_in}
 use Rattle.laws_checkpoints.specs.IndexLayers.{layer_at}
-use Rattle.laws_server_runs.specs.CheckpointInvariant.{parts_of, HoldsCheckpoint}
-use Rattle.laws_server_runs.specs.RangeInvariant.{IsPlain, ReadsLog, Matches, Serves, PhaseIs, StageIs, RangeKept, StreamsKept, InOrder, AreObserved, Rests, Adds, StepKept}
+use Rattle.laws_server_runs.specs.CheckpointInvariant.{parts_of, HoldsCheckpoint, AppendsRows}
+use Rattle.laws_server_runs.specs.RangeInvariant.{HasReadAll, Matches, Serves, PhaseIs, StageIs, RangeKept, StreamsKept, InOrder, AreObserved, Rests, Adds, StepKept}
 use Rattle.laws_loads.specs.RangeView.{RangeView, view_after_all}
-use Rattle.laws_server_runs.proofs.ConfirmedLoad.{start_of, metadata_end, shows, view_shown, spelled_groups, shown_records, run_loaded, said_is, next_is, position_is, no_records, place_is, records_keep, whole_layer, first_load, streams_loaded}
-use Rattle.laws_server_runs.proofs.HeldLine.{flat_value}
+use Rattle.laws_server_runs.proofs.Behind.{end_fits}
+use Rattle.laws_server_runs.proofs.ConfirmedLoad.{start_of, metadata_end, shows, view_shown, spelled_groups, shown_records, run_loaded, log_stop, named_are, said_is, next_is, position_is, records_keep, whole_layer, first_load, streams_loaded}
+use Rattle.laws_server_runs.proofs.LoadedRows.{table_load}
 use Rattle.laws_server_runs.proofs.Loads.{calm_kept}
-use Rattle.laws_server_runs.proofs.ObservedLoad.{SaysLoad, plain_load, load_observed}
+use Rattle.laws_server_runs.proofs.ObservedLoad.{SaysLoad, load_observed}
 use Rattle.laws_server_runs.proofs.OneRegion.{AllKeepOneRegion}
 use Rattle.laws_server_runs.proofs.ServedNotes.{same_here}
 
-module _ (texts : ℕ → Bytes) (subject : ℕ) (run : Run) (v : RangeView) (r : RangeState) (kept : RangeKept texts subject run v r) (streams : StreamsKept texts run v) (plain : IsPlain run) (d : ServerContext) where
+module _ (texts : ℕ → Bytes) (subject : ℕ) (run : Run) (v : RangeView) (r : RangeState) (kept : RangeKept texts subject run v r) (streams : StreamsKept texts run v) (ordered : Ordered r.live)
+    (d : ServerContext) where
   -- ---- nothing is done
 
   calm : StepKept texts subject run v r [] (answers d r [])
-  calm = calm_kept texts subject run v r (answers d r []) streams refl (kept, refl) (λ s. inl s) (λ none. none)
+  calm = calm_kept texts subject run v r (answers d r []) streams refl (kept, refl) (λ s. inl s)
 
   gone : StepKept texts subject run v r [] (dropped d r)
-  gone = calm_kept texts subject run v r (dropped d r) streams refl tt tt (λ none. tt)
+  gone = calm_kept texts subject run v r (dropped d r) streams refl tt tt
 
   -- ---- the range is served
 
-  module _ (h : ReadsLog v.history r) (order : InOrder texts (view_shown v r)) (region : Region) (is : open_region r.regions ≡ Some region) (some : 0 < region.next) where
+  module _ (h : HasReadAll texts v.history r) (sorted : Ordered r.live) (order : InOrder texts (view_shown v r)) (region : Region) (is : open_region r.regions ≡ Some region) (some : 0 < region.next)
+      (counted : has_position r.log ≡ true) where
     abbrev served : RangeState
     served =
         record r {
@@ -77,29 +81,30 @@ module _ (texts : ℕ → Bytes) (subject : ℕ) (run : Run) (v : RangeView) (r 
         }
 
     keep : AllKeepOneRegion first_metadata (line_shown (shown_records v r))
-    keep = records_keep texts run v r h streams order
+    keep = records_keep texts run v r h.log streams order
 
     number_is : region.next ≡ next_loaded first_beginning (spelled_groups v r) (shown_records v r)
-    number_is = next_is texts run v r h streams order keep region is
+    number_is = next_is texts run v r h.log streams order keep region is
 
     layer_now : (key : Bytes) → layer_in texts r.live key ≡ layer_line (replayed_by first_beginning (spelled_groups v r) (shown_records v r)) empty_layer key
-    layer_now = whole_layer texts run v r h streams order
-
-    none : shown_records v r ≡ []
-    none = no_records texts run v r h streams order plain
+    layer_now = whole_layer texts run v r h.log streams order
 
     abbrev end : ℕ
-    end = place_number (read_end r.log (start_of r))
+    end = place_number (log_stop r)
 
     matches_now : Matches texts (view_shown v r) (confirmed first_beginning (place_number (start_of r)) end (spelled_groups v r) (shown_records v r)) served
     matches_now = record {
-      position = position_is texts run v r h streams order keep region is;
+      position = position_is texts run v r h.log streams order keep region is (end_fits r.log counted);
       next = number_is;
       out = refl;
       live = λ stand key. layer_now key;
       checkpoint = subst (λ control. HoldsCheckpoint texts (parts_of (view_shown v r) (confirmed first_beginning (place_number (start_of r)) end (spelled_groups v r) (shown_records v r)) served) control)
-          (sym h.none) (record { entries = h.fixed; layer = refl; noted = refl; record_out = refl });
-      said = said_is texts run v r h streams order;
+          (sym h.log.none) (record { entries = h.log.fixed; layer = refl; noted = refl; record_out = refl });
+      said = said_is texts run v r h.log streams order;
+      installed = h.installed;
+      ordered = sorted;
+      named = named_are texts run v r h.log streams order;
+      rows = subst (AppendsRows r.rows) (sym h.log.none) h.log.rows;
     }
 
     serves_now : Serves texts (run_loaded run v r) (view_shown v r) served
@@ -117,9 +122,8 @@ module _ (texts : ℕ → Bytes) (subject : ℕ) (run : Run) (v : RangeView) (r 
     }
 
     -- the rows of the load are what its layers say
-    rows_say : (rows : List Row) → ((key : Bytes) → stored rows key ≡ table_in texts r.live key) → SaysLoad (layer_at texts) rows (spelled_groups v r) (shown_records v r)
-    rows_say rows says = plain_load (layer_at texts) rows (spelled_groups v r) (shown_records v r) none
-        (λ key. says key ∙ flat_value texts (found r.live key) ∙ ap flat (layer_now key))
+    rows_say : (rows : List Row) → ((key : Bytes) → stored rows key ≡ table_in texts (entries_in texts (shown_table r)) key) → SaysLoad (layer_at texts) rows (spelled_groups v r) (shown_records v r)
+    rows_say rows says = table_load texts run v r h.log streams order h.installed sorted rows says
 
     seen_now : (before later : List Note) → AreObserved texts subject run before →
         AreSeenAs texts (tables.Loaded r.load.range r.load.generation (shown_table r) region.next ∷ []) later → AreObserved texts subject (run_loaded run v r) (before ++ later)
@@ -137,12 +141,11 @@ module _ (texts : ℕ → Bytes) (subject : ℕ) (run : Run) (v : RangeView) (r 
     region_kept = record {
       next = run_loaded run v r;
       goes = Adds _ run Rests refl;
-      alone = inr (inr (first_load texts run v r h streams order));
+      alone = inr (inr (first_load texts run v r h.log streams order));
       kept = (kept_now, refl);
-      streams = streams_loaded texts run v r h streams order;
-      plain = λ rest p. ((place_is texts run v r h streams order plain, none, p), rest);
+      streams = streams_loaded texts run v r h.log streams order;
       longer = ([], refl);
-      anew = λ s. inr (first_load texts run v r h streams order);
+      anew = λ s. inr (first_load texts run v r h.log streams order);
       seen = seen_now;
     }
 
@@ -157,16 +160,16 @@ module _ (texts : ℕ → Bytes) (subject : ℕ) (run : Run) (v : RangeView) (r 
   no_action : (o : RangeOutcome) → StepKept texts subject run v r [] o → LoadStep o []
   no_action o s order = if_elim (λ (actions : List StreamAction). StepKept texts subject run v r actions o) (is_some o.after) [] [] (λ t. s) (λ f. s)
 
-  confirmation_kept : ReadsLog v.history r → LoadStep (serves d r) (shows r ∷ [])
-  confirmation_kept h =
-      if_elim (λ (o : RangeOutcome). LoadStep o (shows r ∷ [])) (are_counted r.log) (serves_from d r (open_region r.regions)) (dropped d r)
-      (λ t. from (open_region r.regions) refl) (λ f order. gone)
+  confirmation_kept : HasReadAll texts v.history r → Ordered r.live → LoadStep (serves d r) (shows r ∷ [])
+  confirmation_kept h sorted =
+      if_elim (λ (o : RangeOutcome). LoadStep o (shows r ∷ [])) (has_position r.log) (serves_from d r (open_region r.regions)) (dropped d r)
+      (λ t. from t (open_region r.regions) refl) (λ f order. gone)
     where
-      from : (region : Option Region) → open_region r.regions ≡ region → LoadStep (serves_from d r region) (shows r ∷ [])
-      from None e = λ order. gone
-      from (Some region) e =
+      from : has_position r.log ≡ true → (region : Option Region) → open_region r.regions ≡ region → LoadStep (serves_from d r region) (shows r ∷ [])
+      from counted None e = λ order. gone
+      from counted (Some region) e =
           if_elim (λ (o : RangeOutcome). LoadStep o (shows r ∷ [])) (nat_lt 0 region.next) (serves_region d r region) (dropped d r)
-          (λ t order. region_kept h order region e (ltb-true 0 region.next t)) (λ f order. gone)
+          (λ t order. region_kept h sorted order region e (ltb-true 0 region.next t) counted) (λ f order. gone)
 
   refused_kept : (body : AppendBody) → StepKept texts subject run v r [] (load_refused d r body)
   refused_kept (appends.Refused w refusals.Stale) = gone
@@ -194,7 +197,8 @@ module _ (texts : ℕ → Bytes) (subject : ℕ) (run : Run) (v : RangeView) (r 
     told_kept : (phase : LoadPhase) → r.load.phase ≡ phase → (body : StreamBody) → LoadStep (load_told d r phase body) (confirmed_actions r phase body)
     told_kept (phases.Opening q) e (stream_bodies.Opened w lists) = no_action (opens d r lists) (opened (is_opening r.stage r.load.phase q kept.phase e) lists)
     told_kept (phases.Confirming q) e (stream_bodies.Confirmed w) =
-        confirmation_kept (subst (λ (z : Stage). StageIs texts run v r z) (is_confirming r.stage r.load.phase q kept.phase e) kept.stage)
+        let confirming : r.stage ≡ stages.Confirming = is_confirming r.stage r.load.phase q kept.phase e in
+        confirmation_kept (subst (λ (z : Stage). StageIs texts run v r z) confirming kept.stage) ordered
     told_kept phase e body = no_action (answers d r []) calm
 
     answer_kept : (body : Body) → LoadStep (load_reply d r body) (load_actions r body)

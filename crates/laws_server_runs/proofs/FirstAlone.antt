@@ -10,7 +10,8 @@ use Rattle.model_partition.specs.Past.{Bytes, first_range}
 use Rattle.model_partition.specs.Range.{RangeState}
 use Rattle.model_partition.specs.Server.{ServerState, ServerOutcome, range_of, new_range}
 use Rattle.model_partition.specs.Servers.{ServerCell}
-use Rattle.model_partition.specs.ServerRun.{PlacedBytes, ServerRun, RangeEffect, ServerEvent, Takes, GivesUp, Stops, Starts, Moment, run_of, after_event}
+use Rattle.model_partition.specs.ServerRun.{ServerRun, RangeEffect, ServerEvent, Takes, GivesUp, Checkpoints, Stops, Starts, Moment, run_of, after_event}
+use Rattle.model_partition.specs.StreamActions.{PlacedBytes}
 use Rattle.model_partition.specs.ServedTables.{IsOfFirst, IsFirst, AreFirst, AreSeenAs}
 use Rattle.laws_loads.proofs.Entries.{entry_set, entry_other}
 use Rattle.laws_loads.specs.RangeView.{view_after_all}
@@ -29,6 +30,7 @@ IsTheFirst range = range ≡ first_range
 first_assigned : (event : ServerEvent) → IsFirst event → AllAssigned IsTheFirst event
 first_assigned (Takes s p) first = λ range generation until from body. subst (λ b. IsOfFirst actors.Map b) body (subst (λ a. IsOfFirst a p.body) from first)
 first_assigned (GivesUp s range pick) first = tt
+first_assigned (Checkpoints s range) first = tt
 first_assigned (Stops s call) first = tt
 first_assigned (Starts s now batch) first = tt
 first_assigned (Moment now) first = tt

@@ -7,8 +7,8 @@ use Rattle.model_partition.specs.declared.table_note.TableNote.{TableNote}
 use Rattle.model_partition.specs.Loading.{Group}
 use Rattle.model_partition.specs.Past.{Bytes}
 use Rattle.model_partition.specs.Story.{StreamEvent, Made, Showed, Story, KeepsOrder, EndsRise}
-use Rattle.model_partition.specs.StreamActions.{StreamAction, Reads, Forms, Stands, Shows}
-use Rattle.model_partition.specs.ServerRun.{PlacedBytes, is_kind}
+use Rattle.model_partition.specs.StreamActions.{StreamAction, Reads, Forms, Stands, Shows, Finds, Stores, PlacedBytes}
+use Rattle.model_partition.specs.ServerRun.{is_kind}
 use Rattle.model_partition.specs.ServedTables.{AllStand, AreSeenAs, LoadsOnce}
 use Rattle.laws_tables.proofs.Range.{older}
 use Rattle.laws_tables.proofs.Whole.{order_before, ends_before}
@@ -91,12 +91,24 @@ module _ (texts : ℕ → Bytes) where
     action_longer v (Stands kind extent at group) k = longer_kind v.story kind k _
     action_longer v (Shows start log_end metadata_end) k =
         longer_twice (v.story k) (with_kind v.story kinds.Metadata _ k) _ (longer_kind v.story kinds.Metadata k _) (longer_kind (with_kind v.story kinds.Metadata _) kinds.Log k _)
+    action_longer v (Finds found) k = longer_same (v.story k)
+    action_longer v (Stores stored) k = longer_same (v.story k)
 
     action_shown : (v : RangeView) (action : StreamAction) → IsLonger v.shown (view_after g v action).shown
     action_shown v (Reads kind read) = longer_same v.shown
     action_shown v (Forms kind group) = longer_same v.shown
     action_shown v (Stands kind extent at group) = longer_same v.shown
     action_shown v (Shows start log_end metadata_end) = (_, refl)
+    action_shown v (Finds found) = (found ∷ [], refl)
+    action_shown v (Stores stored) = longer_same v.shown
+
+    action_answered : (v : RangeView) (action : StreamAction) → IsLonger v.answered (view_after g v action).answered
+    action_answered v (Reads kind read) = longer_same v.answered
+    action_answered v (Forms kind group) = longer_same v.answered
+    action_answered v (Stands kind extent at group) = (_ ∷ [], refl)
+    action_answered v (Shows start log_end metadata_end) = longer_same v.answered
+    action_answered v (Finds found) = longer_same v.answered
+    action_answered v (Stores stored) = (stored ∷ [], refl)
 
     actions_longer : (v : RangeView) (actions : List StreamAction) (k : StreamKind) → IsLonger (v.story k) ((view_after_all g v actions).story k)
     actions_longer v [] k = longer_same (v.story k)
@@ -108,6 +120,11 @@ module _ (texts : ℕ → Bytes) where
     actions_shown v (a ∷ earlier) =
         longer_twice v.shown (view_after_all g v earlier).shown (view_after_all g v (a ∷ earlier)).shown (actions_shown v earlier) (action_shown (view_after_all g v earlier) a)
 
+    actions_answered : (v : RangeView) (actions : List StreamAction) → IsLonger v.answered (view_after_all g v actions).answered
+    actions_answered v [] = longer_same v.answered
+    actions_answered v (a ∷ earlier) =
+        longer_twice v.answered (view_after_all g v earlier).answered (view_after_all g v (a ∷ earlier)).answered (actions_answered v earlier) (action_answered (view_after_all g v earlier) a)
+
     -- what is premised of a view holds of the one before some actions
     pub order_before_actions : (v : RangeView) (actions : List StreamAction) → InOrder texts (view_after_all g v actions) → InOrder texts v
     order_before_actions v actions o =
@@ -118,4 +135,5 @@ module _ (texts : ℕ → Bytes) where
           once = once_shorter Group (log_of v) (log_of w) (actions_longer v actions kinds.Log) o.once;
           ends = ends_shorter Group (log_of v) (log_of w) (actions_longer v actions kinds.Log) o.ends;
           shown = stand_shorter v.shown w.shown (actions_shown v actions) o.shown;
+          answered = stand_shorter v.answered w.answered (actions_answered v actions) o.answered;
         }

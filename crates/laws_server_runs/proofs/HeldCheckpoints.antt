@@ -6,7 +6,7 @@ use Rattle.model_partition.specs.declared.checkpoint_job.CheckpointPhase.TheVari
 use Rattle.model_partition.specs.CheckpointStates.{CheckpointState}
 use Rattle.model_partition.specs.Past.{Bytes}
 use Rattle.model_partition.specs.ServedTables.{AllStand}
-use Rattle.model_partition.specs.ServerRun.{PlacedBytes}
+use Rattle.model_partition.specs.StreamActions.{PlacedBytes}
 use Rattle.laws_server_runs.specs.CheckpointInvariant.{CheckpointParts, HoldsNone, HasNoted, HasRecordOut, HoldsPhase, HoldsCheckpoint}
 use Rattle.laws_server_runs.specs.RangeInvariant.{IsLonger}
 use Rattle.laws_server_runs.proofs.Fronts.{stand_shorter}

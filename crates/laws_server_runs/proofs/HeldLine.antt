@@ -1,52 +1,51 @@
--- What a generation holds over a plain run is the line that it has come to: so a range that matches it is at its line.
-use Rattle.std.proofs.Common.{◌≡◌, ℕ, suc, ◌+◌, ◌==◌, max, Bool, true, false, List, [], ◌∷◌, ◌++◌, length, map, Option, Some, None, option_map, if◌then◌else◌, refl, sym, ap, ◌∙◌, subst, arith, append-nil}
+-- What a generation holds over a chain run is the line that it has come to, with what is out: so a range that matches it is at its line.
+use Rattle.std.proofs.Common.{◌≡◌, ℕ, suc, ◌+◌, ◌==◌, max, nat_lt, Bool, true, false, List, [], ◌∷◌, ◌++◌, length, map, Option, Some, None, if◌then◌else◌, refl, sym, ap, ◌∙◌, subst, arith, append-nil}
+use Rattle.std.proofs.lemmas.Bool.{ltb-true, ltb-false}
 use Rattle.std.proofs.lemmas.Bool.Decides.{nat_tests}
-use Rattle.std.proofs.lemmas.List.{length-append}
-use Rattle.memtable.specs.declared.cell.Cell.{Cell}
+use Rattle.std.proofs.lemmas.List.{append_cancel_right}
+use Rattle.wire.specs.declared.rows.Row.{Row}
 use Rattle.memtable.specs.declared.cell.Place.{Place}
-use Rattle.memtable.specs.Entries.{Entries, found}
-use Rattle.memtable.specs.Layers.{found_in, or_else}
+use Rattle.memtable.specs.Entries.{Entries}
+use Rattle.metadata.specs.declared.record.IndexRange.{IndexRange}
 use Rattle.metadata.specs.declared.record.MetaItem.{MetaItem}
+use Rattle.metadata.specs.Keys.{within}
 use Rattle.commitlog.specs.Replay.{Numbered}
 use Rattle.commitlog.proofs.Laws.{record_again}
+use Rattle.checkpoint_format.specs.Page.{is_ascending}
+use Rattle.model_partition.specs.declared.checkpoint_job.CheckpointPhase.{CheckpointPhase}
+use Rattle.model_partition.specs.declared.checkpoint_job.CheckpointPhase.TheVariants as checkpoints
+use Rattle.model_partition.specs.CheckpointStates.{CheckpointState}
+use Rattle.model_partition.specs.IndexContents.{served_entries}
 use Rattle.model_partition.specs.Loading.{Group}
 use Rattle.model_partition.specs.Log.{line_shown}
 use Rattle.model_partition.specs.Past.{Bytes, Transaction, after_line, empty_table}
 use Rattle.model_partition.specs.Range.{OutGroup, RangeState, waiting_out}
-use Rattle.model_partition.specs.Renaming.{renamed, numbered_if, decoded}
+use Rattle.model_partition.specs.Renaming.{renamed, renamed_copy, renamed_placed, renamed_event, numbered_if, decoded, decoded_record}
 use Rattle.model_partition.specs.ServedTables.{AllStand, IsAtLine, items_under, is_under, line_to, end_to}
+use Rattle.model_partition.specs.Servers.{entries_if}
 use Rattle.model_partition.specs.Serving.{record_of}
-use Rattle.model_partition.specs.Story.{Placed, StreamEvent, Made, Answered, Showed, Story, event_at}
-use Rattle.model_partition.specs.TableContents.{value_in, value_of}
-use Rattle.laws_loads.specs.RangeView.{RangeView, log_of}
+use Rattle.model_partition.specs.Story.{Placed, StreamEvent, Made, Answered, Showed, Story, event_at, Copy, placed, whole, KeepsOrder, EndsRise}
+use Rattle.model_partition.specs.TableContents.{table_in}
+use Rattle.laws_loads.specs.MemoryLayers.{layer_in}
+use Rattle.laws_loads.specs.RangeView.{RangeView, log_of, metadata_of}
 use Rattle.laws_loads.specs.Sound.{OutFits}
-use Rattle.laws_loads.proofs.Renaming.{mapped_length, renamed_if, renamed_at}
-use Rattle.laws_tables.specs.Layers.{Layer, empty_layer, flat, layer_line}
+use Rattle.laws_loads.proofs.Renaming.{mapped_length, renamed_if, renamed_at, renamed_keeps, renamed_copies}
+use Rattle.laws_tables.specs.Layers.{Layer, over, flat, indexed}
 use Rattle.laws_tables.specs.Runs as chains
-use Rattle.laws_tables.specs.Runs.{Run, Beginning, Serving, first_beginning, first_next, added, said, held, formed, logged, confirmed, greater, items_out, replayed_by, next_loaded, IsChainRun}
-use Rattle.laws_tables.specs.Through.{OutAppend}
-use Rattle.laws_tables.proofs.Layers.{layer_line_is, pick_none}
-use Rattle.laws_tables.proofs.Loads.{greater_left}
-use Rattle.laws_tables.proofs.Points.{replay_added}
+use Rattle.laws_tables.specs.Runs.{Run, Beginning, Serving, first_beginning, held, formed, logged, noting, recording, confirmed, greater, items_out, IsChainRun, ShowsLayers}
+use Rattle.laws_tables.specs.Through.{OutAppend, HasLine, line_through}
+use Rattle.laws_tables.proofs.Ends.{renamed_ends_rise}
+use Rattle.laws_tables.proofs.Layers.{in_all}
 use Rattle.laws_tables.proofs.Range.{newest, older}
-use Rattle.laws_checkpoints.specs.IndexLayers.{layer_at}
-use Rattle.laws_server_runs.specs.CheckpointInvariant.{parts_of, HoldsNone, HoldsCheckpoint}
-use Rattle.laws_server_runs.specs.RangeInvariant.{IsPlain, append_of, Matches, Serves, StreamsKept}
-use Rattle.laws_server_runs.proofs.Replaying.{line_both}
-
--- ---- loads from the first number on
-
--- what a load replays from the number 1 on is the line that it shows
-replayed_first : (b : Beginning) (groups : List (Placed (Numbered Transaction))) (records : List (Placed (Numbered MetaItem))) → first_next (said b (line_shown records)).regions ≡ 1 →
-    replayed_by b groups records ≡ line_shown groups
-replayed_first b groups records one = ap (λ n. added n (map (λ p. p.group) groups)) one ∙ sym (replay_added Transaction (map (λ p. p.group) groups) [])
-
-next_first : (b : Beginning) (groups : List (Placed (Numbered Transaction))) (records : List (Placed (Numbered MetaItem))) → first_next (said b (line_shown records)).regions ≡ 1 →
-    next_loaded b groups records ≡ suc (length (line_shown groups))
-next_first b groups records one = (λ i. one i + length (replayed_first b groups records one i)) ∙ one_more (length (line_shown groups))
-  where
-    one_more : (n : ℕ) → 1 + n ≡ suc n
-    one_more n = omega arith
+use Rattle.laws_tables.proofs.Whole.{to_made}
+use Rattle.laws_checkpoints.specs.IndexLayers.{layer_at, AreWritten}
+use Rattle.laws_checkpoints.proofs.Checkpoints.{newer_layer}
+use Rattle.laws_checkpoints.proofs.ShownRows.{ascending_if, written_ascending}
+use Rattle.laws_checkpoints.proofs.TableLayers.{table_flat, served_layer}
+use Rattle.laws_server_runs.specs.CheckpointInvariant.{CheckpointParts, parts_of, HoldsNone, HasNoted, HoldsPhase, HoldsCheckpoint}
+use Rattle.laws_server_runs.specs.NamedIndexes.{AreNamed}
+use Rattle.laws_server_runs.specs.RangeInvariant.{IsOfPages, append_of, Matches, Serves, StreamsKept}
+use Rattle.laws_server_runs.proofs.ServedLine.{known_at, IsAtOwnLine, at_own_line}
 
 -- ---- the append that is out
 
@@ -89,110 +88,118 @@ module _ (b : Beginning) (g : ℕ) where
       out_gone (Showed h start end groups ∷ chains.log_of run) (confirmed b start end groups records) (held b run g) refl
       (out_later (Showed h start end groups) (chains.log_of run) (held b run g) (out_made run)) (g == h)
 
--- ---- what is held
+-- ---- the line of a generation
 
--- position, next number and layer are those of the line of a generation
-record HoldsLine (log : Story (Numbered Transaction)) (g : ℕ) (s : Serving) : Type 0 where
-  position : s.position ≡ end_to log g
-  next : s.next ≡ suc (length (line_to log g)) + length (items_out s.out)
-  live : s.live ≡ layer_line (line_to log g) empty_layer
+module _ (g : ℕ) where
+  -- what it has come to, with what is out, is all that it made
+  abbrev IsThrough : Story (Numbered Transaction) → Serving → Type 0
+  IsThrough story s = line_to story g ++ items_out s.out ≡ line_through story g
 
-module _ (log : Story (Numbered Transaction)) (g h : ℕ) (s : Serving) (old : HoldsLine log g s) where
-  same_of : (g == h) ≡ true → g ≡ h
-  same_of e = grind (arith, nat_tests)
+  same_of : (h : ℕ) → (g == h) ≡ true → g ≡ h
+  same_of h e = grind (arith, nat_tests)
 
-  -- a group is formed
-  forms_line : (group : Numbered Transaction) → (g ≡ h → s.out ≡ None) → (g ≡ h → group.first ≡ s.next) → (t : Bool) → (g == h) ≡ t →
-      HoldsLine (Made h group ∷ log) g (if t then formed (length log) group s else s)
-  forms_line group none first true e =
-      let same : g ≡ h = same_of e in
-      let empty : length (items_out s.out) ≡ 0 = ap (λ o. length (items_out o)) (none same) in
-      let number : group.first ≡ s.next = first same in
-      record {
-        position = old.position;
-        next = omega (arith, old.next, empty, number);
-        live = old.live;
-      }
-  forms_line group none first false e = record { position = old.position; next = old.next; live = old.live }
+  through_formed : (story : Story (Numbered Transaction)) (s : Serving) (h n : ℕ) (group : Numbered Transaction) → (g ≡ h → s.out ≡ None) → IsThrough story s → (t : Bool) → (g == h) ≡ t →
+      line_to story g ++ items_out (if t then formed n group s else s).out ≡ (if t then line_through story g ++ group.items else line_through story g)
+  through_formed story s h n group none old true e =
+      let all : line_to story g ≡ line_through story g =
+      sym (append-nil (line_to story g)) ∙ ap (λ o. line_to story g ++ items_out o) (sym (none (same_of h e))) ∙ old in
+      ap (λ l. l ++ group.items) all
+  through_formed story s h n group none old false e = old
 
-  -- the group that is out is answered
-  logged_line : (append from to : ℕ) (group : Numbered Transaction) → event_at log append ≡ Some (Made h group) → (g ≡ h → items_out s.out ≡ group.items) → (t : Bool) → (g == h) ≡ t →
-      HoldsLine (Answered append from to ∷ log) g (if t then logged to s else s)
-  logged_line append from to group made out true e =
-      let line : List Transaction = line_to log g in
-      let items : items_out s.out ≡ group.items = out (same_of e) in
-      let line_is : line_to (Answered append from to ∷ log) g ≡ line ++ group.items =
-      ap (λ x. line ++ items_under g x) made ∙ ap (λ (b : Bool). line ++ (if b then group.items else [])) e in
-      let count : length (line_to (Answered append from to ∷ log) g) ≡ length line + length group.items = ap length line_is ∙ length-append line group.items in
-      let size : length (items_out s.out) ≡ length group.items = ap length items in
-      record {
-        position = sym (ap (λ x. if is_under g x then to else end_to log g) made ∙ ap (λ (b : Bool). if b then to else end_to log g) e);
-        next = omega (arith, old.next, count, size);
-        live = ap (λ l. layer_line l s.live) items ∙ ap (layer_line group.items) old.live ∙ sym (line_both line group.items empty_layer) ∙ ap (λ l. layer_line l empty_layer) (sym line_is);
-      }
-  logged_line append from to group made out false e =
-      let line : List Transaction = line_to log g in
-      let line_is : line_to (Answered append from to ∷ log) g ≡ line =
-      ap (λ x. line ++ items_under g x) made ∙ ap (λ (b : Bool). line ++ (if b then group.items else [])) e ∙ append-nil line in
-      record {
-        position = old.position ∙ sym (ap (λ x. if is_under g x then to else end_to log g) made ∙ ap (λ (b : Bool). if b then to else end_to log g) e);
-        next = old.next ∙ ap (λ (l : List Transaction). suc (length l) + length (items_out s.out)) (sym line_is);
-        live = old.live ∙ ap (λ l. layer_line l empty_layer) (sym line_is);
-      }
+  through_logged : (story : Story (Numbered Transaction)) (s : Serving) (h append to : ℕ) (group : Numbered Transaction) → event_at story append ≡ Some (Made h group) →
+      (g ≡ h → s.out ≡ Some (record { append = append; group = group })) → IsThrough story s → (t : Bool) → (g == h) ≡ t →
+      (line_to story g ++ items_under g (event_at story append)) ++ items_out (if t then logged to s else s).out ≡ line_through story g
+  through_logged story s h append to group made out old true e =
+      let items : items_under g (event_at story append) ≡ group.items = ap (items_under g) made ∙ ap (λ (b : Bool). if b then group.items else []) e in
+      append-nil (line_to story g ++ items_under g (event_at story append))
+      ∙ ap (λ l. line_to story g ++ l) (items ∙ sym (ap items_out (out (same_of h e)))) ∙ old
+  through_logged story s h append to group made out old false e =
+      let items : items_under g (event_at story append) ≡ [] = ap (items_under g) made ∙ ap (λ (b : Bool). if b then group.items else []) e in
+      ap (λ l. (line_to story g ++ l) ++ items_out s.out) items ∙ ap (λ l. l ++ items_out s.out) (append-nil (line_to story g)) ∙ old
 
-  -- a load that shows no records is confirmed
-  first_number : (records : List (Placed (Numbered MetaItem))) → records ≡ [] → first_next (said first_beginning (line_shown records)).regions ≡ 1
-  first_number records none = ap (λ l. first_next (said first_beginning (line_shown l)).regions) none
+  through_same : (story : Story (Numbered Transaction)) (next s : Serving) → next.out ≡ s.out → IsThrough story s → (t : Bool) → IsThrough story (if t then next else s)
+  through_same story next s same old true = ap (λ o. line_to story g ++ items_out o) same ∙ old
+  through_same story next s same old false = old
 
-  confirms_line : (start end : ℕ) (groups : List (Placed (Numbered Transaction))) (records : List (Placed (Numbered MetaItem))) → start ≡ 0 → records ≡ [] → (t : Bool) → (g == h) ≡ t →
-      HoldsLine (Showed h start end groups ∷ log) g (if t then confirmed first_beginning start end groups records else s)
-  confirms_line start end groups records first none true e =
-      let line_is : line_to (Showed h start end groups ∷ log) g ≡ line_shown groups = ap (λ (b : Bool). if b then line_shown groups else line_to log g) e in
-      let end_is : end_to (Showed h start end groups ∷ log) g ≡ max start end = ap (λ (b : Bool). if b then max start end else end_to log g) e in
-      let number : next_loaded first_beginning groups records ≡ suc (length (line_shown groups)) = next_first first_beginning groups records (first_number records none) in
-      let count : length (line_to (Showed h start end groups ∷ log) g) ≡ length (line_shown groups) = ap length line_is in
-      let at_end : greater end start ≡ end = greater_left end start (omega (arith, first)) in
-      let top : max start end ≡ end = omega (arith, first) in
-      record {
-        position = at_end ∙ sym top ∙ sym end_is;
-        next = omega (arith, number, count);
-        live = ap (λ l. layer_line l empty_layer) (replayed_first first_beginning groups records (first_number records none) ∙ sym line_is);
-      }
-  confirms_line start end groups records first none false e =
-      let line_is : line_to (Showed h start end groups ∷ log) g ≡ line_to log g = ap (λ (b : Bool). if b then line_shown groups else line_to log g) e in
-      let end_is : end_to (Showed h start end groups ∷ log) g ≡ end_to log g = ap (λ (b : Bool). if b then max start end else end_to log g) e in
-      record {
-        position = old.position ∙ sym end_is;
-        next = old.next ∙ ap (λ (l : List Transaction). suc (length l) + length (items_out s.out)) (sym line_is);
-        live = old.live ∙ ap (λ l. layer_line l empty_layer) (sym line_is);
-      }
+  through_confirmed : (story : Story (Numbered Transaction)) (next s : Serving) (line : List Transaction) → next.out ≡ None → IsThrough story s → (t : Bool) →
+      (if t then line else line_to story g) ++ items_out (if t then next else s).out ≡ (if t then line else line_through story g)
+  through_confirmed story next s line none old true = ap (λ o. line ++ items_out o) none ∙ append-nil line
+  through_confirmed story next s line none old false = old
 
-held_line : (layer_at : Place → Layer) (run : Run) → IsPlain run → IsChainRun layer_at first_beginning run → (g : ℕ) → HoldsLine (chains.log_of run) g (held first_beginning run g)
-held_line layer_at [] plain chain g = record { position = refl; next = refl; live = refl }
-held_line layer_at (chains.Forms h group ∷ run) plain chain g =
-    forms_line (chains.log_of run) g h (held first_beginning run g) (held_line layer_at run plain chain.1 g) group
-    (λ same. subst (λ k. (held first_beginning run k).out ≡ None) (sym same) chain.0.1)
-    (λ same. subst (λ k. group.first ≡ (held first_beginning run k).next) (sym same) chain.0.2) (g == h) refl
-held_line layer_at (chains.Logged h append from to ∷ run) plain chain g =
-    let group : Numbered Transaction = chain.0.1 in
-    let out : (held first_beginning run h).out ≡ Some (record { append = append; group = group }) = chain.0.2 in
-    logged_line (chains.log_of run) g h (held first_beginning run g) (held_line layer_at run plain chain.1 g) append from to group
-    (out_made first_beginning h run (record { append = append; group = group }) out)
-    (λ same. subst (λ k. items_out (held first_beginning run k).out ≡ group.items) (sym same) (ap items_out out)) (g == h) refl
-held_line layer_at (chains.Confirms h start end groups metadata_end records ∷ run) plain chain g =
-    confirms_line (chains.log_of run) g h (held first_beginning run g) (held_line layer_at run plain.2 chain.1 g) start end groups records plain.0 plain.1 (g == h) refl
-held_line layer_at (event ∷ run) plain chain g = absurd plain
+  pub through_line : (layer_at : Place → Layer) (copies : ℕ → List (Copy (Numbered Transaction))) (run : Run) → IsChainRun layer_at first_beginning run →
+      IsThrough (whole (Numbered Transaction) copies (chains.log_of run)) (held first_beginning run g)
+  through_line layer_at copies [] chain = refl
+  through_line layer_at copies (chains.Forms h group ∷ run) chain =
+      through_formed (whole (Numbered Transaction) copies (chains.log_of run)) (held first_beginning run g) h (length (chains.log_of run)) group
+      (λ same. subst (λ k. (held first_beginning run k).out ≡ None) (sym same) chain.0.1) (through_line layer_at copies run chain.1) (g == h) refl
+  through_line layer_at copies (chains.Logged h append from to ∷ run) chain =
+      let group : Numbered Transaction = chain.0.1 in
+      let out : (held first_beginning run h).out ≡ Some (record { append = append; group = group }) = chain.0.2 in
+      through_logged (whole (Numbered Transaction) copies (chains.log_of run)) (held first_beginning run g) h append to group
+      (to_made (Numbered Transaction) copies (chains.log_of run) append h group (out_made first_beginning h run (record { append = append; group = group }) out))
+      (λ same. subst (λ k. (held first_beginning run k).out ≡ Some (record { append = append; group = group })) (sym same) out) (through_line layer_at copies run chain.1) (g == h) refl
+  through_line layer_at copies (chains.Notes h ∷ run) chain = through_same (whole (Numbered Transaction) copies (chains.log_of run)) (noting (held first_beginning run g)) (held first_beginning run g) refl (through_line layer_at copies run chain.1) (g == h)
+  through_line layer_at copies (chains.Records h number item ∷ run) chain =
+      through_same (whole (Numbered Transaction) copies (chains.log_of run)) (recording (length (chains.meta_of run)) (chains.record_group number item) (held first_beginning run g)) (held first_beginning run g) refl (through_line layer_at copies run chain.1) (g == h)
+  through_line layer_at copies (chains.Recorded h append from to ∷ run) chain = through_same (whole (Numbered Transaction) copies (chains.log_of run)) (chains.recorded (held first_beginning run g)) (held first_beginning run g) refl (through_line layer_at copies run chain.1) (g == h)
+  through_line layer_at copies (chains.Trims h place ∷ run) chain = through_line layer_at copies run chain.1
+  through_line layer_at copies (chains.Confirms h start end groups metadata_end records ∷ run) chain =
+      through_confirmed (whole (Numbered Transaction) copies (chains.log_of run)) (confirmed first_beginning start end groups records) (held first_beginning run g)
+      (line_shown (map placed (copies (length (chains.log_of run))))) refl (through_line layer_at copies run chain.1) (g == h)
 
--- ---- a layer as a table
+  -- ---- its position
 
-pub flat_line : (line : List Transaction) (key : Bytes) → flat (layer_line line empty_layer key) ≡ after_line line empty_table key
-flat_line line key = sym (pick_none (layer_line line empty_layer key)) ∙ layer_line_is line empty_layer empty_layer key
+  position_same : (next s : Serving) (end : ℕ) → next.position ≡ s.position → s.position ≡ end → (t : Bool) → (if t then next else s).position ≡ end
+  position_same next s end same old true = same ∙ old
+  position_same next s end same old false = old
 
-pub flat_value : (texts : ℕ → Bytes) (cell : Option Cell) → value_of texts cell ≡ flat (option_map (value_in texts) cell)
-flat_value texts None = refl
-flat_value texts (Some cell) = refl
+  position_logged : (log : Story (Numbered Transaction)) (s : Serving) (h append to : ℕ) (group : Numbered Transaction) → event_at log append ≡ Some (Made h group) → s.position ≡ end_to log g → (t : Bool) → (g == h) ≡ t →
+      (if t then logged to s else s).position ≡ (if is_under g (event_at log append) then to else end_to log g)
+  position_logged log s h append to group made old true e = sym (ap (λ x. if is_under g x then to else end_to log g) made ∙ ap (λ (b : Bool). if b then to else end_to log g) e)
+  position_logged log s h append to group made old false e = old ∙ sym (ap (λ x. if is_under g x then to else end_to log g) made ∙ ap (λ (b : Bool). if b then to else end_to log g) e)
 
--- ---- a range that is served
+  greater_max : (start end : ℕ) → greater end start ≡ max start end
+  greater_max start end = by (nat_lt end start) refl
+    where
+      by : (b : Bool) → nat_lt end start ≡ b → (if b then start else end) ≡ max start end
+      by true t = let low = ltb-true end start t in omega (arith, low)
+      by false f = let high = ltb-false end start f in omega (arith, high)
+
+  position_confirmed : (s : Serving) (start end : ℕ) (groups : List (Placed (Numbered Transaction))) (records : List (Placed (Numbered MetaItem))) (old_end : ℕ) → s.position ≡ old_end → (t : Bool) →
+      (if t then confirmed first_beginning start end groups records else s).position ≡ (if t then max start end else old_end)
+  position_confirmed s start end groups records old_end old true = greater_max start end
+  position_confirmed s start end groups records old_end old false = old
+
+  pub position_at : (layer_at : Place → Layer) (run : Run) → IsChainRun layer_at first_beginning run → (held first_beginning run g).position ≡ end_to (chains.log_of run) g
+  position_at layer_at [] chain = refl
+  position_at layer_at (chains.Forms h group ∷ run) chain = position_same (formed (length (chains.log_of run)) group (held first_beginning run g)) (held first_beginning run g) _ refl (position_at layer_at run chain.1) (g == h)
+  position_at layer_at (chains.Logged h append from to ∷ run) chain =
+      let group : Numbered Transaction = chain.0.1 in
+      position_logged (chains.log_of run) (held first_beginning run g) h append to group (out_made first_beginning h run (record { append = append; group = group }) chain.0.2) (position_at layer_at run chain.1) (g == h) refl
+  position_at layer_at (chains.Notes h ∷ run) chain = position_same (noting (held first_beginning run g)) (held first_beginning run g) _ refl (position_at layer_at run chain.1) (g == h)
+  position_at layer_at (chains.Records h number item ∷ run) chain =
+      position_same (recording (length (chains.meta_of run)) (chains.record_group number item) (held first_beginning run g)) (held first_beginning run g) _ refl (position_at layer_at run chain.1) (g == h)
+  position_at layer_at (chains.Recorded h append from to ∷ run) chain = position_same (chains.recorded (held first_beginning run g)) (held first_beginning run g) _ refl (position_at layer_at run chain.1) (g == h)
+  position_at layer_at (chains.Trims h place ∷ run) chain = position_at layer_at run chain.1
+  position_at layer_at (chains.Confirms h start end groups metadata_end records ∷ run) chain =
+      position_confirmed (held first_beginning run g) start end groups records (end_to (chains.log_of run) g) (position_at layer_at run chain.1) (g == h)
+
+-- ---- groups by what they spell
+
+module _ {A B : Type 0} (f : A → B) (copies : ℕ → List (Copy A)) where
+  all_placed : (cs : List (Copy A)) → map placed (map (renamed_copy f) cs) ≡ map (renamed_placed f) (map placed cs)
+  all_placed [] = refl
+  all_placed (c ∷ cs) = ap (λ l. renamed_placed f (placed c) ∷ l) (all_placed cs)
+
+  -- each load shows all of its copies, whatever groups are called
+  whole_renamed : (story : Story A) → whole B (λ l. map (renamed_copy f) (copies l)) (renamed f story) ≡ renamed f (whole A copies story)
+  whole_renamed [] = refl
+  whole_renamed (Made g group ∷ story) = ap (λ l. Made g (f group) ∷ l) (whole_renamed story)
+  whole_renamed (Answered append from to ∷ story) = ap (λ l. Answered append from to ∷ l) (whole_renamed story)
+  whole_renamed (Showed g start end groups ∷ story) =
+      let shown : map placed (map (renamed_copy f) (copies (length (renamed f story)))) ≡ map (renamed_placed f) (map placed (copies (length story))) =
+      ap (λ n. map placed (map (renamed_copy f) (copies n))) (mapped_length (renamed_event f) story) ∙ all_placed (copies (length story)) in
+      (λ i. Showed g 0 end (shown i) ∷ whole_renamed story i)
 
 -- where a line ends is said of places alone
 end_renamed : (story : Story Group) (g : ℕ) → end_to (renamed decoded story) g ≡ end_to story g
@@ -215,31 +222,84 @@ out_count append None fits = refl
 out_count append (Some out) fits =
     ap (λ x. length (numbered_if x).items) (record_again (record_of out.first out.transactions) fits) ∙ mapped_length (λ t. t.changes) out.transactions
 
-module _ (texts : ℕ → Bytes) (run : Run) (v : RangeView) (r : RangeState) (streams : StreamsKept texts run v) (plain : IsPlain run) (k : Serves texts run v r) (calm : r.control ≡ None) where
-  abbrev g : ℕ
-  g = r.load.generation
+module _ (texts : ℕ → Bytes) where
+  -- ---- layers in order
 
-  abbrev s : Serving
-  s = held first_beginning run g
+  newer_same : (x : Option Entries) (key : Bytes) → layer_in texts (entries_if x) key ≡ newer_layer texts x key
+  newer_same None key = refl
+  newer_same (Some entries) key = refl
 
-  of_line : HoldsLine (chains.log_of run) g s
-  of_line = held_line (layer_at texts) run plain streams.chain g
+  none_ordered : (c : CheckpointParts) → HoldsNone c → is_ascending (entries_if c.entries) ≡ true
+  none_ordered c h = ap (λ x. is_ascending (entries_if x)) h.entries
 
-  none_behind : (cell : Option Cell) → value_of texts (or_else cell None) ≡ value_of texts cell
-  none_behind None = refl
-  none_behind (Some cell) = refl
+  noted_ordered : (c : CheckpointParts) (job : CheckpointState) → HasNoted texts c job → is_ascending (entries_if c.entries) ≡ true
+  noted_ordered c job h = ap (λ x. is_ascending (entries_if x)) h.entries ∙ h.are_entries.ascending
 
-  -- the tables of a range that is served are those of its line
-  pub at_line : OutFits r.out → AllStand texts v.answered → IsAtLine texts (log_of v) r
-  at_line fits stand =
-      let m : Matches texts v s r = k.matches in
-      let none : HoldsNone (parts_of v s r) = subst (HoldsCheckpoint texts (parts_of v s r)) calm m.checkpoint in
-      let count : length (items_out s.out) ≡ length (waiting_out r.out) = ap (λ o. length (items_out o)) m.out ∙ out_count (v.history.append _) r.out fits in
-      record {
-        position = m.position ∙ of_line.position ∙ ap (λ l. end_to l g) streams.log ∙ end_renamed (log_of v) g;
-        next = m.next ∙ of_line.next ∙ (λ i. suc (length (line_to (streams.log i) g)) + count i);
-        table = λ key.
-            ap (λ (x : Option Entries). value_of texts (or_else (found r.live key) (found_in x key))) none.entries ∙ none_behind (found r.live key) ∙ flat_value texts (found r.live key)
-            ∙ ap flat (m.live stand key) ∙ ap (λ (l : Layer). flat (l key)) of_line.live ∙ flat_line (line_to (chains.log_of run) g) key
-            ∙ ap (λ l. after_line (line_to l g) empty_table key) streams.log;
-      }
+  phase_ordered : (c : CheckpointParts) (job : CheckpointState) (phase : CheckpointPhase) → HoldsPhase texts c job phase → is_ascending (entries_if c.entries) ≡ true
+  phase_ordered c job checkpoints.Pages h = noted_ordered c job h.0
+  phase_ordered c job checkpoints.Index h = noted_ordered c job h.0
+  phase_ordered c job (checkpoints.Record index) h = noted_ordered c job h.noted
+  phase_ordered c job (checkpoints.Trim before to_blob q) h = none_ordered c h
+
+  -- the fixed layer, whatever is under way
+  fixed_ordered : (c : CheckpointParts) (control : Option CheckpointState) → HoldsCheckpoint texts c control → is_ascending (entries_if c.entries) ≡ true
+  fixed_ordered c None h = none_ordered c h
+  fixed_ordered c (Some job) h = phase_ordered c job job.phase h
+
+  written_named : (named : List IndexRange) → AreNamed (IsOfPages texts) named → AreWritten texts named
+  written_named [] all = tt
+  written_named (x ∷ named) all = ((all.0.holds.0, all.0.holds.1, all.0.holds.2), written_named named all.1)
+
+  module _ (run : Run) (v : RangeView) (r : RangeState) (streams : StreamsKept texts run v) (k : Serves texts run v r) where
+    abbrev g : ℕ
+    g = r.load.generation
+
+    abbrev s : Serving
+    s = held first_beginning run g
+
+    abbrev m : Matches texts v s r
+    m = k.matches
+
+    -- the range's own layers
+    known_table : (key : Bytes) → table_in texts (served_entries texts r) key ≡ flat (known_at texts r key)
+    known_table key =
+        let inside : within r.said.keys key ≡ true = ap (λ keys. within keys key) m.named.keys ∙ in_all key in
+        table_flat texts (served_entries texts r) key
+        ∙ ap flat (served_layer texts r r.said.indexes key m.installed (written_ascending texts r.said.indexes (written_named r.said.indexes m.named.indexes)) (ascending_if r.live m.ordered)
+        (fixed_ordered (parts_of v s r) r.control m.checkpoint) inside)
+        ∙ ap (λ x. flat (over (layer_in texts r.live) (λ q. over x (indexed (layer_at texts) r.said.indexes) q) key)) (λ i q. newer_same r.fixed q i)
+
+    all_out : (story : Story (Numbered Transaction)) (line : List Transaction) (out : Option (OutAppend Transaction)) → HasLine story g line out → line_through story g ≡ line ++ items_out out
+    all_out story line None h = h.is_line ∙ sym (append-nil line)
+    all_out story line (Some out) h = h.is_line
+
+    -- a range that is served is at its line, by any copies that belong to its loads
+    pub at_line : (rows : ℕ → List Row) → ShowsLayers (layer_at texts) first_beginning rows run → (order : KeepsOrder (log_of v)) → EndsRise (log_of v) → KeepsOrder (metadata_of v) → OutFits r.out → AllStand texts v.answered →
+        IsAtLine texts (log_of v) order.copies r
+    at_line rows shows order ends metadata_order fits stand = record {
+      position = m.position ∙ position_at g (layer_at texts) run streams.chain ∙ ap (λ l. end_to l g) streams.log ∙ end_renamed (log_of v) g;
+      next = m.next ∙ own.next ∙ (λ i. suc (length (line_is i)) + count i);
+      table = λ key. known_table key ∙ own.table key (ap (λ keys. within keys key) m.named.keys ∙ in_all key) ∙ ap (λ l. after_line l empty_table key) line_is;
+    }
+      where
+        copies : ℕ → List (Copy (Numbered Transaction))
+        copies l = map (renamed_copy decoded) (order.copies l)
+
+        of_log : (o : KeepsOrder (renamed decoded (log_of v))) → EndsRise (renamed decoded (log_of v)) → IsAtOwnLine texts o.copies run s r
+        of_log = subst (λ (z : Story (Numbered Transaction)). (o : KeepsOrder z) → EndsRise z → IsAtOwnLine texts o.copies run s r) streams.log
+            (λ o rise. at_own_line texts run v r m k.shown fits rows streams.chain shows o rise (subst (λ z. KeepsOrder z) (sym streams.metadata) (renamed_keeps decoded_record (metadata_of v) metadata_order)) stand)
+
+        own : IsAtOwnLine texts copies run s r
+        own = subst (λ c. IsAtOwnLine texts c run s r) (renamed_copies decoded (log_of v) order) (of_log (renamed_keeps decoded (log_of v) order) (renamed_ends_rise decoded (log_of v) ends))
+
+        story_is : whole (Numbered Transaction) copies (chains.log_of run) ≡ renamed decoded (whole Group order.copies (log_of v))
+        story_is = ap (whole (Numbered Transaction) copies) streams.log ∙ whole_renamed decoded order.copies (log_of v)
+
+        line_is : own.line ≡ line_to (renamed decoded (whole Group order.copies (log_of v))) g
+        line_is =
+            append_cancel_right own.line (line_to (whole (Numbered Transaction) copies (chains.log_of run)) g) (items_out s.out)
+            (sym (all_out (whole (Numbered Transaction) copies (chains.log_of run)) own.line s.out own.of_generation) ∙ sym (through_line g (layer_at texts) copies run streams.chain))
+            ∙ ap (λ z. line_to z g) story_is
+
+        count : length (items_out s.out) ≡ length (waiting_out r.out)
+        count = ap (λ o. length (items_out o)) m.out ∙ out_count (v.history.append _) r.out fits

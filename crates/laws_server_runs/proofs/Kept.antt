@@ -138,12 +138,12 @@ module _ (texts : ℕ → Bytes) (subject : ℕ) (x : ServerRun) (laid : RunLaid
       -- the range itself
       acts_here : range_of st.ranges subject ≡ Some r → next.ranges ≡ set_range st.ranges subject o.after → Kept (After subject)
       acts_here held left order =
-          let all : InOrder texts (view_at subject (After subject) s) = record { log = order.log; metadata = order.metadata; once = order.once; ends = order.ends; shown = order.shown } in
+          let all : InOrder texts (view_at subject (After subject) s) = record { log = order.log; metadata = order.metadata; once = order.once; ends = order.ends; shown = order.shown; answered = order.answered } in
           let here : InOrder texts (view_after_all r.load.generation (view_at subject x s) actions) = subst (λ v. InOrder texts v) (actions_here s subject r.load.generation x actions) all in
           let streams : StreamsKept texts kept.run (view_at subject x s) = streams_same texts kept.run (view_at subject x 0) (view_at subject x s) refl refl kept.streams in
           let l : StepLaid subject (view_at subject x s) r.load.generation actions o = step_laid subject held in
           stepped_kept texts subject x kept s cell st at is r held actions o
-          (rule_kept texts subject kept.run (view_at subject x s) r (kept.ranges s cell st at is r held) streams kept.plain (kept.calm s cell st at is r held) actions o rule here)
+          (rule_kept texts subject kept.run (view_at subject x s) r (kept.ranges s cell st at is r held) streams (laid.ranges s cell st at is subject r held).low actions o rule here)
           (λ notes seen. own_notes texts (view_after_all r.load.generation (view_at subject x s) actions).shown subject o.notes notes l.notes seen)
           next (ap (λ z. range_of z subject) left ∙ left_here st.ranges subject r o.after (laid.ascending s cell st at is) held) o.packets
 

@@ -1,6 +1,7 @@
--- Whatever comes to servers, each table that they show as loaded is in the order of its keys, and its values by place stand within
--- the bytes that confirmed loads have shown.
+-- Whatever comes to servers, their ranges are in the order of their numbers, and the values of their layers stand within the bytes that
+-- loads have read or were shown, and that appends were answered for.
 use Rattle.std.proofs.Common.{◌≡◌, ℕ, zero, suc, ◌-◌, List, [], ◌∷◌, ◌++◌, false, ◌&&◌, ◌==◌, Option, Some, None, slice_get, slice_set, refl, sym, ap, ◌∙◌, subst, inl, inr, append-nil, if◌then◌else◌}
+use Rattle.wire.specs.declared.streams.StreamKind.TheVariants as kinds
 use Rattle.std.specs.BTreeMap.{insert_entry}
 use Rattle.std.specs.Ordering.{nat_cmp}
 use Rattle.std.proofs.lemmas.Bool.{cases_eq}
@@ -8,54 +9,58 @@ use Rattle.wire.specs.declared.packet.Packet.{Packet}
 use Rattle.model_streams.specs.Maps.{entry_at}
 use Rattle.model_partition.specs.declared.server_context.ServerContext.{ServerContext}
 use Rattle.model_partition.specs.declared.table_note.TableNote.{TableNote}
-use Rattle.model_partition.specs.declared.table_note.TableNote.TheVariants as tables
 use Rattle.model_partition.specs.Range.{RangeState, RangeOutcome}
 use Rattle.model_partition.specs.Server.{ServerState, ServerOutcome, range_of, set_range, new_range, started}
 use Rattle.model_partition.specs.Servers.{ServerCell, first_pick, first_server, first_servers}
-use Rattle.model_partition.specs.StreamActions.{StreamAction}
-use Rattle.model_partition.specs.ServerRun.{PlacedBytes, ServerRun, RangeEffect, Begins, Does, Rests, ServerEvent, Takes, GivesUp, Stops, Starts, Moment, first_history, cell_effect, with_effect, with_outcome, after_event, first_run, run_of}
+use Rattle.model_partition.specs.StreamActions.{StreamAction, PlacedBytes}
+use Rattle.model_partition.specs.ServerRun.{ServerRun, RangeEffect, Begins, Does, Rests, ServerEvent, Takes, GivesUp, Checkpoints as EventCheckpoints, Stops, Starts, Moment, RangeHistory, first_history, cell_effect, with_effect, with_outcome, after_actions, after_event, first_run, run_of, bytes_read}
 use Rattle.laws_loads.proofs.Entries.{entry_set, entry_other}
 use Rattle.laws_loads.specs.RangeView.{RangeView, view_after_all}
-use Rattle.laws_server_runs.specs.Places.{IsLaid, NotesWithin, TablesWithin, RangeLaid, RangeLaidIf, StepLaid, AreAscending, RunLaid}
+use Rattle.laws_server_runs.specs.Places.{IsWithin, IsLaid, placed_of, bytes_of, RangeLaid, RangeLaidIf, StepLaid, RuleLaid, AreAscending, RunLaid}
 use Rattle.laws_server_runs.specs.RangeInvariant.{IsLonger}
 use Rattle.laws_server_runs.specs.RunInvariant.{view_at}
-use Rattle.laws_server_runs.specs.Turns.{IsRule, Transacts, Answers, Gets, Yields, Renews, Turn, Idles, Opens, Acts, Calms, outcome_of, HoldNoMore, RunStep, Keeps, Passes, Turns}
-use Rattle.laws_server_runs.proofs.LaidLayers.{laid_behind}
-use Rattle.laws_server_runs.proofs.LaidSteps.{new_laid, transact_laid, get_laid, give_up_laid, answer_laid}
+use Rattle.laws_server_runs.specs.Turns.{IsRule, Transacts, Answers, Gets, Yields, Checkpoints, Renews, Turn, Idles, Opens, Acts, Calms, outcome_of, HoldNoMore, RunStep, Keeps, Passes, Turns}
+use Rattle.laws_server_runs.proofs.LaidBytes.{Covers, covers_both, entries_on, checkpoint_on}
+use Rattle.laws_server_runs.proofs.LaidCheckpoints.{begins_laid}
+use Rattle.laws_server_runs.proofs.LaidLayers.{within_behind}
+use Rattle.laws_server_runs.proofs.LaidServed.{transact_laid}
+use Rattle.laws_server_runs.proofs.LaidSteps.{new_laid, get_laid, give_up_laid, renewed_laid, answer_laid}
 use Rattle.laws_server_runs.proofs.RangeLists.{inserted_here, inserted_other, ascending_inserted, left_here, left_other, ascending_left}
 use Rattle.laws_server_runs.proofs.RunSteps.{IsAny, any_assigned, event_step}
-use Rattle.laws_server_runs.proofs.Actions.{same_test, other_test, actions_here, actions_apart, actions_rest, Longer, event_longer}
+use Rattle.laws_server_runs.proofs.Actions.{same_test, other_test, actions_here, actions_apart, actions_rest, Longer, actions_longer}
 
 -- each rule
-pub rule_laid : (k : ℕ) (v : RangeView) (r : RangeState) → RangeLaid k v.history r → (actions : List StreamAction) (o : RangeOutcome) → IsRule r actions o → StepLaid k v r.load.generation actions o
-rule_laid k v r before actions o (Transacts d from q changes) = transact_laid k v r before d from q changes
-rule_laid k v r before actions o (Answers d w body) = answer_laid k v r before d body w
-rule_laid k v r before actions o (Gets d from q key) = get_laid k v r before d from q key
-rule_laid k v r before actions o (Yields d) = give_up_laid k v r before d
-rule_laid k v r before actions o (Renews until count) = record { after = record { range = before.range; confirmed = before.confirmed; layer = before.layer }; notes = tt }
+pub rule_left : (k : ℕ) (v : RangeView) (r : RangeState) → RangeLaid k v r → (actions : List StreamAction) (o : RangeOutcome) → IsRule r actions o → RuleLaid k v r actions o
+rule_left k v r before actions o (Transacts d from q changes) = transact_laid k v r before d from q changes
+rule_left k v r before actions o (Answers d w body) = answer_laid k v r before d body w
+rule_left k v r before actions o (Gets d from q key) = get_laid k v r before d from q key
+rule_left k v r before actions o (Yields d) = give_up_laid k v r before d
+rule_left k v r before actions o (Checkpoints d may) = begins_laid k v r d before may
+rule_left k v r before actions o (Renews until count) = renewed_laid k v r before until count
 
--- ---- observations
+pub rule_laid : (k : ℕ) (v : RangeView) (r : RangeState) → RangeLaid k v r → (actions : List StreamAction) (o : RangeOutcome) → IsRule r actions o → StepLaid k v r.load.generation actions o
+rule_laid k v r before actions o rule = (rule_left k v r before actions o rule).step
 
-within_tables : (k : ℕ) (placed : ℕ → List PlacedBytes) (notes : List TableNote) → NotesWithin k (placed k) notes → TablesWithin placed notes
-within_tables k placed [] w = tt
-within_tables k placed (tables.Began range generation number changes ∷ notes) w = within_tables k placed notes w.1
-within_tables k placed (tables.Done range generation number ∷ notes) w = within_tables k placed notes w.1
-within_tables k placed (tables.Loaded range generation table next ∷ notes) w = (subst (λ n. IsLaid (placed n) table.live) (sym w.0.0) w.0.1, within_tables k placed notes w.1)
+-- ---- more bytes
 
-tables_later : (placed later : ℕ → List PlacedBytes) → ((k : ℕ) → IsLonger (placed k) (later k)) → (notes : List TableNote) → TablesWithin placed notes → TablesWithin later notes
-tables_later placed later longer [] w = tt
-tables_later placed later longer (tables.Began range generation number changes ∷ notes) w = tables_later placed later longer notes w
-tables_later placed later longer (tables.Done range generation number ∷ notes) w = tables_later placed later longer notes w
-tables_later placed later longer (tables.Loaded range generation table next ∷ notes) w = (
-  subst (λ l. IsLaid l table.live) (sym (longer range).1) (laid_behind (longer range).0 (placed range) table.live w.0),
-  tables_later placed later longer notes w.1,
-)
+-- a range that did nothing is laid as it was, whatever else was shown and answered
+pub laid_later : (k : ℕ) (v w : RangeView) (r : RangeState) → w.history ≡ v.history → Covers (placed_of v) (placed_of w) → RangeLaid k v r → RangeLaid k w r
+laid_later k v w r same on l = record {
+  range = l.range;
+  confirmed = l.confirmed;
+  layer = λ e. subst (λ (h : RangeHistory). IsLaid (bytes_read (h.reads kinds.Log)) r.live) (sym same) (l.layer e);
+  live = λ e. entries_on (placed_of v) (placed_of w) on r.live (l.live e);
+  low = l.low;
+  sound = l.sound;
+  checkpoint = checkpoint_on (placed_of v) (placed_of w) on r.rows r.fixed r.control l.checkpoint;
+}
 
-tables_both : (placed : ℕ → List PlacedBytes) (xs ys : List TableNote) → TablesWithin placed xs → TablesWithin placed ys → TablesWithin placed (xs ++ ys)
-tables_both placed [] ys a b = b
-tables_both placed (tables.Began range generation number changes ∷ xs) ys a b = tables_both placed xs ys a b
-tables_both placed (tables.Done range generation number ∷ xs) ys a b = tables_both placed xs ys a b
-tables_both placed (tables.Loaded range generation table next ∷ xs) ys a b = (a.0, tables_both placed xs ys a.1 b)
+longer_covers : (xs ys : List PlacedBytes) → IsLonger xs ys → Covers xs ys
+longer_covers xs ys longer place w = subst (λ l. IsWithin l place) (sym longer.1) (within_behind longer.0 xs place w)
+
+-- the bytes of a range stay while more comes
+pub run_covers : (x y : ServerRun) → Longer x y → (k : ℕ) → Covers (bytes_of x k) (bytes_of y k)
+run_covers x y l k = covers_both (x.shown k) (x.answered k) (y.shown k) (y.answered k) (longer_covers (x.shown k) (y.shown k) (l.shown k)) (longer_covers (x.answered k) (y.answered k) (l.answered k))
 
 -- ---- steps
 
@@ -68,7 +73,7 @@ module _ (x : ServerRun) (laid : RunLaid x) where
       | inr old ↦ subst AreAscending (sym old.4) (laid.ascending t old.0 old.1 old.2 old.3)
     ]
 
-    like_ranges : (k : ℕ) (r : RangeState) → range_of q.ranges k ≡ Some r → RangeLaid k (x.history t k) r
+    like_ranges : (k : ℕ) (r : RangeState) → range_of q.ranges k ≡ Some r → RangeLaid k (view_at k x t) r
     like_ranges k r held = elim (like t c q there up) [
       | inl none ↦ absurd (let z : None ≡ Some r = sym (ap (λ l. range_of l k) none) ∙ held in cc)
       | inr old ↦ laid.ranges t old.0 old.1 old.2 old.3 k r (sym (ap (λ l. range_of l k) old.4) ∙ held)
@@ -76,8 +81,8 @@ module _ (x : ServerRun) (laid : RunLaid x) where
 
   -- one of them goes to another state
   module _ (s : ℕ) (cell : ServerCell) (st : ServerState) (at : entry_at x.servers s ≡ Some cell) (is : cell.state ≡ Some st) (after : ServerState) (y : ServerRun) (servers_are : y.servers ≡ slice_set x.servers (s - 1) (record cell { state = Some after }))
-      (apart : (t k : ℕ) → (t ≡ s → ⊥) → y.history t k ≡ x.history t k) (ascending : AreAscending after.ranges)
-      (mine : (k : ℕ) (r : RangeState) → range_of after.ranges k ≡ Some r → RangeLaid k (y.history s k) r) where
+      (apart : (t k : ℕ) → (t ≡ s → ⊥) → y.history t k ≡ x.history t k) (bytes : (k : ℕ) → Covers (bytes_of x k) (bytes_of y k)) (ascending : AreAscending after.ranges)
+      (mine : (k : ℕ) (r : RangeState) → range_of after.ranges k ≡ Some r → RangeLaid k (view_at k y s) r) where
     abbrev next_cell : ServerCell
     next_cell = record cell { state = Some after }
 
@@ -103,21 +108,17 @@ module _ (x : ServerRun) (laid : RunLaid x) where
           | inr other ↦ laid.ascending t c q (elsewhere t other c there) up
         ]
 
-        all_ranges : (t : ℕ) (c : ServerCell) (q : ServerState) → entry_at y.servers t ≡ Some c → c.state ≡ Some q → (k : ℕ) (r : RangeState) → range_of q.ranges k ≡ Some r → RangeLaid k (y.history t k) r
+        all_ranges : (t : ℕ) (c : ServerCell) (q : ServerState) → entry_at y.servers t ≡ Some c → c.state ≡ Some q → (k : ℕ) (r : RangeState) → range_of q.ranges k ≡ Some r → RangeLaid k (view_at k y t) r
         all_ranges t c q there up k r held = elim (cases_eq t s) [
           | inl same ↦
               (let e : after ≡ q = at_here c q (subst (λ n. entry_at y.servers n ≡ Some c) same there) up in
-              subst (λ n. RangeLaid k (y.history n k) r) (sym same) (mine k r (ap (λ (z : ServerState). range_of z.ranges k) e ∙ held)))
-          | inr other ↦ subst (λ h. RangeLaid k h r) (sym (apart t k other)) (laid.ranges t c q (elsewhere t other c there) up k r held)
+              subst (λ n. RangeLaid k (view_at k y n) r) (sym same) (mine k r (ap (λ (z : ServerState). range_of z.ranges k) e ∙ held)))
+          | inr other ↦ laid_later k (view_at k x t) (view_at k y t) r (apart t k other) (bytes k) (laid.ranges t c q (elsewhere t other c there) up k r held)
         ]
 
   module _ (s : ℕ) (cell : ServerCell) (st : ServerState) (at : entry_at x.servers s ≡ Some cell) (is : cell.state ≡ Some st) where
     abbrev Next : RangeEffect → ServerOutcome → ServerRun
     Next e o = with_outcome (with_effect s x e) (record { servers = slice_set x.servers (s - 1) (record cell { state = Some o.after }); packets = o.packets; notes = o.notes })
-
-    -- what is left, and what is shown
-    abbrev Leaves : RangeEffect → ServerOutcome → Type 0
-    Leaves e o = RunLaid (Next e o) × TablesWithin (Next e o).shown o.notes
 
     other_place : (t k range : ℕ) → (t ≡ s → ⊥) → ((t == s) && (k == range)) ≡ false
     other_place t k range other = ap (λ b. b && (k == range)) (other_test t s other)
@@ -125,50 +126,45 @@ module _ (x : ServerRun) (laid : RunLaid x) where
     other_range : (k range : ℕ) → (k ≡ range → ⊥) → ((s == s) && (k == range)) ≡ false
     other_range k range other = (λ i. same_test s i && other_test k range other i)
 
-    idles : (next : ServerState) (packets : List Packet) → next.ranges ≡ st.ranges → Leaves Rests (record { after = next; packets = packets; notes = [] })
-    idles next packets same = (
-      one_laid s cell st at is next (Next Rests (record { after = next; packets = packets; notes = [] })) refl (λ t k other. refl)
-          (subst AreAscending (sym same) (laid.ascending s cell st at is))
-          (λ k r held. laid.ranges s cell st at is k r (sym (ap (λ l. range_of l k) same) ∙ held)),
-      tt,
-    )
+    idles : (next : ServerState) (packets : List Packet) → next.ranges ≡ st.ranges → RunLaid (Next Rests (record { after = next; packets = packets; notes = [] }))
+    idles next packets same =
+        one_laid s cell st at is next (Next Rests (record { after = next; packets = packets; notes = [] })) refl (λ t k other. refl) (λ k place w. w)
+        (subst AreAscending (sym same) (laid.ascending s cell st at is))
+        (λ k r held. laid.ranges s cell st at is k r (sym (ap (λ l. range_of l k) same) ∙ held))
 
     opens : (range : ℕ) (d : ServerContext) (generation until : ℕ) (next : ServerState) (packets : List Packet) → next.ranges ≡ insert_entry nat_cmp st.ranges range (new_range d range generation until) →
-        Leaves (Begins range) (record { after = next; packets = packets; notes = [] })
-    opens range d generation until next packets new = (
-      one_laid s cell st at is next y refl
-          (λ t k other. ap (λ b. if b then first_history else x.history t k) (other_place t k range other))
-          (subst AreAscending (sym new) (ascending_inserted st.ranges range (new_range d range generation until) (laid.ascending s cell st at is)))
-          mine,
-      tt,
-    )
+        RunLaid (Next (Begins range) (record { after = next; packets = packets; notes = [] }))
+    opens range d generation until next packets new =
+        one_laid s cell st at is next y refl
+        (λ t k other. ap (λ b. if b then first_history else x.history t k) (other_place t k range other)) (λ k place w. w)
+        (subst AreAscending (sym new) (ascending_inserted st.ranges range (new_range d range generation until) (laid.ascending s cell st at is))) mine
       where
         y : ServerRun
         y = Next (Begins range) (record { after = next; packets = packets; notes = [] })
 
-        mine : (k : ℕ) (r : RangeState) → range_of next.ranges k ≡ Some r → RangeLaid k (y.history s k) r
+        mine : (k : ℕ) (r : RangeState) → range_of next.ranges k ≡ Some r → RangeLaid k (view_at k y s) r
         mine k r held = elim (cases_eq k range) [
           | inl same ↦
               (let found : Some (new_range d range generation until) ≡ Some r =
               sym (inserted_here st.ranges range (new_range d range generation until)) ∙ sym (ap (λ l. range_of l range) new) ∙ subst (λ n. range_of next.ranges n ≡ Some r) same held in
               let is_new : new_range d range generation until ≡ r = cc in
-              subst (λ n. RangeLaid n (y.history s n) r) (sym same) (subst (λ z. RangeLaid range (y.history s range) z) is_new (new_laid range (y.history s range) d generation until)))
+              subst (λ n. RangeLaid n (view_at n y s) r) (sym same) (subst (λ z. RangeLaid range (view_at range y s) z) is_new (new_laid range (view_at range y s) d generation until)))
           | inr other ↦
-              subst (λ h. RangeLaid k h r) (sym (ap (λ b. if b then first_history else x.history s k) (other_range k range other)))
+              laid_later k (view_at k x s) (view_at k y s) r (ap (λ b. if b then first_history else x.history s k) (other_range k range other)) (λ place w. w)
               (laid.ranges s cell st at is k r (sym (inserted_other st.ranges range (new_range d range generation until) k other) ∙ sym (ap (λ l. range_of l k) new) ∙ held))
         ]
 
     acts : (range : ℕ) (r : RangeState) → range_of st.ranges range ≡ Some r → (actions : List StreamAction) (o : RangeOutcome) → IsRule r actions o →
-        (next : ServerState) → next.ranges ≡ set_range st.ranges range o.after → Leaves (Does range r.load.generation actions) (record { after = next; packets = o.packets; notes = o.notes })
-    acts range r held actions o rule next left = (
-      one_laid s cell st at is next y (refl) (λ t k other. actions_apart s range r.load.generation t k (other_place t k range other) x actions)
-          (subst AreAscending (sym left) (ascending_left st.ranges range o.after (laid.ascending s cell st at is)))
-          mine,
-      within_tables range y.shown o.notes (subst (λ (v : RangeView). NotesWithin range v.shown o.notes) (sym here) step.notes),
-    )
+        (next : ServerState) → next.ranges ≡ set_range st.ranges range o.after → RunLaid (Next (Does range r.load.generation actions) (record { after = next; packets = o.packets; notes = o.notes }))
+    acts range r held actions o rule next left =
+        one_laid s cell st at is next y refl (λ t k other. actions_apart s range r.load.generation t k (other_place t k range other) x actions) bytes
+        (subst AreAscending (sym left) (ascending_left st.ranges range o.after (laid.ascending s cell st at is))) mine
       where
         y : ServerRun
         y = Next (Does range r.load.generation actions) (record { after = next; packets = o.packets; notes = o.notes })
+
+        bytes : (k : ℕ) → Covers (bytes_of x k) (bytes_of y k)
+        bytes k = run_covers x (after_actions s range r.load.generation x actions) (actions_longer s range r.load.generation x actions) k
 
         here : view_at range y s ≡ view_after_all r.load.generation (view_at range x s) actions
         here = actions_here s range r.load.generation x actions
@@ -176,34 +172,34 @@ module _ (x : ServerRun) (laid : RunLaid x) where
         step : StepLaid range (view_at range x s) r.load.generation actions o
         step = rule_laid range (view_at range x s) r (laid.ranges s cell st at is range r held) actions o rule
 
-        left_laid : (a : Option RangeState) (z : RangeState) → a ≡ Some z → RangeLaidIf range (y.history s range) a → RangeLaid range (y.history s range) z
+        left_laid : (a : Option RangeState) (z : RangeState) → a ≡ Some z → RangeLaidIf range (view_at range y s) a → RangeLaid range (view_at range y s) z
         left_laid None z e b = absurd cc
-        left_laid (Some w) z e b = let same : w ≡ z = cc in subst (λ u. RangeLaid range (y.history s range) u) same b
+        left_laid (Some w) z e b = let same : w ≡ z = cc in subst (λ u. RangeLaid range (view_at range y s) u) same b
 
-        mine : (k : ℕ) (z : RangeState) → range_of next.ranges k ≡ Some z → RangeLaid k (y.history s k) z
+        mine : (k : ℕ) (z : RangeState) → range_of next.ranges k ≡ Some z → RangeLaid k (view_at k y s) z
         mine k z found = elim (cases_eq k range) [
           | inl same ↦
               (let is_left : o.after ≡ Some z =
               sym (left_here st.ranges range r o.after (laid.ascending s cell st at is) held) ∙ sym (ap (λ l. range_of l range) left) ∙ subst (λ n. range_of next.ranges n ≡ Some z) same found in
-              subst (λ n. RangeLaid n (y.history s n) z) (sym same)
-              (left_laid o.after z is_left (subst (λ (v : RangeView). RangeLaidIf range v.history o.after) (sym here) step.after)))
+              subst (λ n. RangeLaid n (view_at n y s) z) (sym same)
+              (left_laid o.after z is_left (subst (λ (v : RangeView). RangeLaidIf range v o.after) (sym here) step.after)))
           | inr other ↦
-              subst (λ h. RangeLaid k h z) (sym (actions_apart s range r.load.generation s k (other_range k range other) x actions))
+              laid_later k (view_at k x s) (view_at k y s) z (actions_apart s range r.load.generation s k (other_range k range other) x actions) (bytes k)
               (laid.ranges s cell st at is k z (sym (left_other st.ranges range o.after k other) ∙ sym (ap (λ l. range_of l k) left) ∙ found))
         ]
 
-    turn_laid : (e : RangeEffect) (o : ServerOutcome) → Turn IsAny st e o → Leaves e o
+    turn_laid : (e : RangeEffect) (o : ServerOutcome) → Turn IsAny st e o → RunLaid (Next e o)
     turn_laid e o (Idles next packets same) = idles next packets same
     turn_laid e o (Opens range assigned d generation until next packets new) = opens range d generation until next packets new
     turn_laid e o (Acts range r held actions ro rule next left) = acts range r held actions ro rule next left
     turn_laid e o (Calms range r held ro rule next left) = acts range r held [] ro rule next left
 
   -- a step of all
-  step_laid : (notes : List TableNote) (y : ServerRun) → RunStep IsAny x notes y → RunLaid y × TablesWithin y.shown notes
+  step_laid : (notes : List TableNote) (y : ServerRun) → RunStep IsAny x notes y → RunLaid y
   step_laid notes y (Keeps servers packets like) =
-      (record { ascending = λ t c q there up. like_ascending servers like t c q there up; ranges = λ t c q there up k r held. like_ranges servers like t c q there up k r held }, tt)
+      record { ascending = λ t c q there up. like_ascending servers like t c q there up; ranges = λ t c q there up k r held. like_ranges servers like t c q there up k r held }
   step_laid notes y (Passes servers like) =
-      (record { ascending = λ t c q there up. like_ascending servers like t c q there up; ranges = λ t c q there up k r held. like_ranges servers like t c q there up k r held }, tt)
+      record { ascending = λ t c q there up. like_ascending servers like t c q there up; ranges = λ t c q there up k r held. like_ranges servers like t c q there up k r held }
   step_laid notes y (Turns s cell st at is e o turn) = turn_laid s cell st at is e o turn
 
 -- ---- at first
@@ -240,28 +236,13 @@ module _ (batch servers : ℕ) where
   all_laid [] = first_laid batch servers
   all_laid (event ∷ earlier) =
       let x : ServerRun = run_of batch servers earlier in
-      (step_laid x (all_laid earlier) (outcome_of x.servers event).notes (after_event x event) (event_step IsAny x event (any_assigned event))).0
-
-  -- what an event adds to the observations lies within what is shown after it
-  pub event_within : (event : ServerEvent) (earlier : List ServerEvent) → TablesWithin (run_of batch servers (event ∷ earlier)).shown (outcome_of (run_of batch servers earlier).servers event).notes
-  event_within event earlier =
-      let x : ServerRun = run_of batch servers earlier in
-      (step_laid x (all_laid earlier) (outcome_of x.servers event).notes (after_event x event) (event_step IsAny x event (any_assigned event))).1
+      step_laid x (all_laid earlier) (outcome_of x.servers event).notes (after_event x event) (event_step IsAny x event (any_assigned event))
 
   -- what an event adds
   pub event_notes : (x : ServerRun) (event : ServerEvent) → (after_event x event).notes ≡ x.notes ++ (outcome_of x.servers event).notes
   event_notes x (Takes s p) = ap (λ l. l ++ (outcome_of x.servers (Takes s p)).notes) (effect_rests s x (cell_effect p (entry_at x.servers s)))
   event_notes x (GivesUp s range pick) = refl
+  event_notes x (EventCheckpoints s range) = refl
   event_notes x (Stops s call) = refl
   event_notes x (Starts s now batch) = refl
   event_notes x (Moment now) = sym (append-nil x.notes)
-
-  -- each table that was shown as loaded lies within what is shown
-  pub loaded_within : (events : List ServerEvent) → TablesWithin (run_of batch servers events).shown (run_of batch servers events).notes
-  loaded_within [] = tt
-  loaded_within (event ∷ earlier) =
-      let x : ServerRun = run_of batch servers earlier in
-      let y : ServerRun = after_event x event in
-      let l : Longer x y = event_longer x event in
-      let old : TablesWithin y.shown x.notes = tables_later x.shown y.shown l.shown x.notes (loaded_within earlier) in
-      subst (λ notes. TablesWithin y.shown notes) (sym (event_notes x event)) (tables_both y.shown x.notes (outcome_of x.servers event).notes old (event_within event earlier))

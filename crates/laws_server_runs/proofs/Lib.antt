@@ -11,14 +11,20 @@ pub mod LayerCells
 pub mod Replaying
 mod HeldCheckpoints
 mod LoadedRecords
+mod RowAppends
+mod IndexOrder
+mod SeenTables
+mod IndexRead
+mod ClientAnswers
+pub mod NamedIndexes
 mod CheckpointBegins
+mod CheckpointNumbers
 mod CheckpointRows
 mod CheckpointRecorded
 mod CheckpointStreams
 mod CheckpointSteps
 mod CheckpointReplies
 mod CheckpointKept
-mod LiveEntries
 mod LoadedRows
 mod ServedLine
 pub mod HeldLine
@@ -36,12 +42,23 @@ pub mod Worked
 pub mod Unconfirmed
 pub mod NeededPremises
 pub mod RecordSizes
+mod RecordChanges
+mod LaidFits
+mod LaidOffsets
 pub mod LaidLayers
+mod LaidBytes
+mod LaidReplies
+mod LaidStates
+mod LaidCheckpoints
+mod LaidServed
 pub mod LaidSteps
 pub mod RangeLists
 pub mod RunSteps
 pub mod Actions
 pub mod LaidRuns
+mod LaidRecords
+mod LaidTables
+pub mod LoadedWithin
 pub mod OwnNotes
 pub mod Beside
 pub mod Kept

@@ -14,9 +14,9 @@ use Rattle.model_partition.specs.Loading.{Group, open_region, replayed}
 use Rattle.model_partition.specs.Past.{Bytes, Transaction}
 use Rattle.model_partition.specs.Renaming.{renamed_placed, numbered, numbered_if, decoded}
 use Rattle.model_partition.specs.Story.{Placed}
-use Rattle.model_partition.specs.StreamActions.{ExtentRead}
+use Rattle.model_partition.specs.StreamActions.{ExtentRead, PlacedBytes}
 use Rattle.model_partition.specs.StreamMachine.{base}
-use Rattle.model_partition.specs.ServerRun.{PlacedBytes, place_number, placed_from, placed_reads, bytes_read}
+use Rattle.model_partition.specs.ServerRun.{place_number, placed_from, placed_reads, bytes_read}
 use Rattle.model_partition.specs.ServedTables.{AllStand}
 use Rattle.laws_loads.proofs.Renaming.{mapped_both}
 use Rattle.laws_server_runs.specs.RangeInvariant.{groups_read, replayed_all}

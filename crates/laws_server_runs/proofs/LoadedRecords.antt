@@ -1,6 +1,5 @@
--- What a load shows of metadata whose records are those of plain checkpoints: one region without end, and all keys. Where a run has no
--- checkpoint it shows none.
-use Rattle.std.proofs.Common.{◌≡◌, ⊎_elim, ℕ, zero, suc, ◌-◌, false, List, [], ◌∷◌, ◌++◌, map, drop, Some, nat_lt, refl, sym, ap, ◌∙◌, subst}
+-- What a load shows of metadata whose records are those of plain checkpoints: one region without end, and all keys.
+use Rattle.std.proofs.Common.{◌≡◌, ℕ, zero, suc, ◌-◌, false, List, [], ◌∷◌, ◌++◌, map, drop, Some, nat_lt, refl, sym, ap, ◌∙◌, subst}
 use Rattle.std.specs.Prelude.{Contains}
 use Rattle.std.specs.List.{AllByRecursion}
 use Rattle.streams.specs.declared.table.Position.{Position}
@@ -14,89 +13,72 @@ use Rattle.commitlog.specs.Replay.{replayed as replay}
 use Rattle.model_streams.proofs.Tests.{if_elim}
 use Rattle.model_partition.specs.Loading.{Group}
 use Rattle.model_partition.specs.Log.{line_shown}
-use Rattle.model_partition.specs.Renaming.{renamed, renamed_placed, decoded_record}
-use Rattle.model_partition.specs.Story.{Placed, Made, Showed, Story, event_at, Copy, placed, from_place, KeepsOrder}
-use Rattle.laws_loads.proofs.Renaming.{made_at}
-use Rattle.laws_tables.proofs.Range.{event_cases}
-use Rattle.laws_tables.specs.Runs as chains
-use Rattle.laws_tables.specs.Runs.{Run, fold_of}
-use Rattle.laws_server_runs.specs.RangeInvariant.{IsPlain, IsCheckpointRecord, AreCheckpoints}
+use Rattle.model_partition.specs.Renaming.{renamed_placed, decoded_record}
+use Rattle.model_partition.specs.Story.{Placed, Showed, Story, event_at, Copy, placed, from_place, KeepsOrder}
+use Rattle.laws_tables.specs.Runs.{fold_of}
+use Rattle.laws_server_runs.specs.RangeInvariant.{IsCheckpointRecord, AreCheckpoints}
 use Rattle.laws_server_runs.proofs.OneRegion.{KeepsOneRegion, AllKeepOneRegion}
 use Rattle.laws_server_runs.proofs.Order.{first_there, later_there}
 
--- ---- items
+-- the places of whose indexes this is so
+module _ (Holds : Place → Type 0) where
+  -- ---- items
 
--- that of a plain checkpoint's record, at a position
-abbrev pub IsOfCheckpoint : MetaItem → Type 0
-IsOfCheckpoint item = (index : Place) × (position : Position) × (next : ℕ) × (item ≡ Checkpoint false index position next) × IsPosition position
+  -- that of a plain checkpoint's record, at a position
+  abbrev pub IsOfCheckpoint : MetaItem → Type 0
+  IsOfCheckpoint item = (index : Place) × (position : Position) × (next : ℕ) × (item ≡ Checkpoint false index position next) × IsPosition position × Holds index
 
-abbrev pub AreOfCheckpoints : List MetaItem → Type 0
-AreOfCheckpoints items = AllByRecursion IsOfCheckpoint items
+  abbrev pub AreOfCheckpoints : List MetaItem → Type 0
+  AreOfCheckpoints items = AllByRecursion IsOfCheckpoint items
 
-left_of : (n : ℕ) (items : List MetaItem) → AreOfCheckpoints items → AreOfCheckpoints (drop n items)
-left_of zero items all = all
-left_of (suc n) [] all = tt
-left_of (suc n) (item ∷ items) all = left_of n items all.1
+  left_of : (n : ℕ) (items : List MetaItem) → AreOfCheckpoints items → AreOfCheckpoints (drop n items)
+  left_of zero items all = all
+  left_of (suc n) [] all = tt
+  left_of (suc n) (item ∷ items) all = left_of n items all.1
 
-both_of : (xs ys : List MetaItem) → AreOfCheckpoints xs → AreOfCheckpoints ys → AreOfCheckpoints (xs ++ ys)
-both_of [] ys a b = b
-both_of (x ∷ xs) ys a b = (a.0, both_of xs ys a.1 b)
+  both_of : (xs ys : List MetaItem) → AreOfCheckpoints xs → AreOfCheckpoints ys → AreOfCheckpoints (xs ++ ys)
+  both_of [] ys a b = b
+  both_of (x ∷ xs) ys a b = (a.0, both_of xs ys a.1 b)
 
--- groups of such items
-abbrev GroupsOf : List (Numbered MetaItem) → Type 0
-GroupsOf groups = AllByRecursion (λ group. AreOfCheckpoints group.items) groups
+  -- groups of such items
+  abbrev GroupsOf : List (Numbered MetaItem) → Type 0
+  GroupsOf groups = AllByRecursion (λ group. AreOfCheckpoints group.items) groups
 
-replay_of : (groups : List (Numbered MetaItem)) (line : List MetaItem) → AreOfCheckpoints line → GroupsOf groups → AreOfCheckpoints (replay line groups)
-replay_of [] line all each = all
-replay_of (group ∷ groups) line all each = replay_of groups _ (both_of line _ all (left_of (next_of line - group.first) group.items each.0)) each.1
+  replay_of : (groups : List (Numbered MetaItem)) (line : List MetaItem) → AreOfCheckpoints line → GroupsOf groups → AreOfCheckpoints (replay line groups)
+  replay_of [] line all each = all
+  replay_of (group ∷ groups) line all each = replay_of groups _ (both_of line _ all (left_of (next_of line - group.first) group.items each.0)) each.1
 
--- ---- what they say
+  -- ---- what they say
 
-pub checkpoints_keep : (items : List MetaItem) (m : MetadataState) → AreOfCheckpoints items → AllKeepOneRegion m items
-checkpoints_keep [] m all = tt
-checkpoints_keep (item ∷ items) m all = (subst (KeepsOneRegion m) (sym all.0.3) all.0.4.1, checkpoints_keep items (taken m item) all.1)
+  pub checkpoints_keep : (items : List MetaItem) (m : MetadataState) → AreOfCheckpoints items → AllKeepOneRegion m items
+  checkpoints_keep [] m all = tt
+  checkpoints_keep (item ∷ items) m all = (subst (KeepsOneRegion m) (sym all.0.3) all.0.4, checkpoints_keep items (taken m item) all.1)
 
-pub keys_stay : (items : List MetaItem) (m : MetadataState) → AreOfCheckpoints items → (fold_of m items).keys ≡ m.keys
-keys_stay [] m all = refl
-keys_stay (item ∷ items) m all = keys_stay items (taken m item) all.1 ∙ ap (λ i. (taken m i).keys) all.0.3
+  pub keys_stay : (items : List MetaItem) (m : MetadataState) → AreOfCheckpoints items → (fold_of m items).keys ≡ m.keys
+  keys_stay [] m all = refl
+  keys_stay (item ∷ items) m all = keys_stay items (taken m item) all.1 ∙ ap (λ i. (taken m i).keys) all.0.3
 
--- ---- what a load shows
+  -- ---- what a load shows
 
-item_there : (group : Group) → IsCheckpointRecord group → AreOfCheckpoints (decoded_record group).items
-item_there group r = subst (λ (n : Numbered MetaItem). AreOfCheckpoints n.items) (sym r.spells) ((r.index, r.position, r.next, refl, r.fits), tt)
+  item_there : (group : Group) → IsCheckpointRecord Holds group → AreOfCheckpoints (decoded_record group).items
+  item_there group r = subst (λ (n : Numbered MetaItem). AreOfCheckpoints n.items) (sym r.spells) ((r.index, r.position, r.next, refl, r.fits, r.holds), tt)
 
-abbrev Shown : List (Copy Group) → Type 0
-Shown cs = GroupsOf (map (λ p. p.group) (map (renamed_placed decoded_record) (map placed cs)))
+  abbrev Shown : List (Copy Group) → Type 0
+  Shown cs = GroupsOf (map (λ p. p.group) (map (renamed_placed decoded_record) (map placed cs)))
 
-all_shown : (cs : List (Copy Group)) → ((c : Copy Group) → Contains cs c → IsCheckpointRecord c.group) → Shown cs
-all_shown [] all = tt
-all_shown (c ∷ cs) all = (item_there c.group (all c (first_there c cs)), all_shown cs (λ d there. all d (later_there c d cs there)))
+  all_shown : (cs : List (Copy Group)) → ((c : Copy Group) → Contains cs c → IsCheckpointRecord Holds c.group) → Shown cs
+  all_shown [] all = tt
+  all_shown (c ∷ cs) all = (item_there c.group (all c (first_there c cs)), all_shown cs (λ d there. all d (later_there c d cs there)))
 
-from_shown : (start : ℕ) (cs : List (Copy Group)) → ((c : Copy Group) → Contains cs c → IsCheckpointRecord c.group) → Shown (from_place start cs)
-from_shown start [] all = tt
-from_shown start (c ∷ cs) all =
-    if_elim Shown (nat_lt c.from start) (from_place start cs) (c ∷ cs) (λ t. from_shown start cs (λ d there. all d (later_there c d cs there))) (λ f. all_shown (c ∷ cs) all)
+  from_shown : (start : ℕ) (cs : List (Copy Group)) → ((c : Copy Group) → Contains cs c → IsCheckpointRecord Holds c.group) → Shown (from_place start cs)
+  from_shown start [] all = tt
+  from_shown start (c ∷ cs) all =
+      if_elim Shown (nat_lt c.from start) (from_place start cs) (c ∷ cs) (λ t. from_shown start cs (λ d there. all d (later_there c d cs there))) (λ f. all_shown (c ∷ cs) all)
 
--- all that was formed is of checkpoints, and so is what a load shows
-pub shown_of_checkpoints : (story : Story Group) → KeepsOrder story → AreCheckpoints story → (l g start end : ℕ) (groups : List (Placed Group)) → event_at story l ≡ Some (Showed g start end groups) →
-    AreOfCheckpoints (line_shown (map (renamed_placed decoded_record) groups))
-shown_of_checkpoints story k records l g start end groups at =
-    replay_of (map (λ p. p.group) (map (renamed_placed decoded_record) groups)) [] tt
-    (subst (λ (xs : List (Placed Group)). GroupsOf (map (λ p. p.group) (map (renamed_placed decoded_record) xs))) (sym (k.shown l g start end groups at))
-    (from_shown start (k.copies l) (λ c there. let h = k.handed l g start end groups c at there in records c.append h.0 c.group h.1)))
-
--- ---- runs without checkpoints
-
-none_formed : (run : Run) → IsPlain run → (a g : ℕ) (group : Numbered MetaItem) → event_at (chains.meta_of run) a ≡ Some (Made g group) → ⊥
-none_formed [] plain a g group at = absurd cc
-none_formed (chains.Forms h formed ∷ run) plain a g group at = none_formed run plain a g group at
-none_formed (chains.Logged h append from to ∷ run) plain a g group at = none_formed run plain a g group at
-none_formed (chains.Confirms h start end groups metadata_end records ∷ run) plain a g group at =
-    ⊎_elim {C = ⊥} (λ new. let e : Showed h 0 metadata_end records ≡ Made g group = new.1 in absurd cc) (λ old. none_formed run plain.2 a g group old)
-    (event_cases (Numbered MetaItem) (Showed h 0 metadata_end records) (chains.meta_of run) a (Made g group) at)
-none_formed (event ∷ run) plain a g group at = absurd plain
-
--- none was formed of the metadata
-pub plain_unmade : (run : Run) → IsPlain run → (story : Story Group) → chains.meta_of run ≡ renamed decoded_record story → (a g : ℕ) (group : Group) → event_at story a ≡ Some (Made g group) → ⊥
-plain_unmade run plain story same a g group at =
-    none_formed run plain a g (decoded_record group) (ap (λ z. event_at z a) same ∙ made_at decoded_record story a g group at)
+  -- all that was formed is of checkpoints, and so is what a load shows
+  pub shown_of_checkpoints : (story : Story Group) → KeepsOrder story → AreCheckpoints Holds story → (l g start end : ℕ) (groups : List (Placed Group)) → event_at story l ≡ Some (Showed g start end groups) →
+      AreOfCheckpoints (line_shown (map (renamed_placed decoded_record) groups))
+  shown_of_checkpoints story k records l g start end groups at =
+      replay_of (map (λ p. p.group) (map (renamed_placed decoded_record) groups)) [] tt
+      (subst (λ (xs : List (Placed Group)). GroupsOf (map (λ p. p.group) (map (renamed_placed decoded_record) xs))) (sym (k.shown l g start end groups at))
+      (from_shown start (k.copies l) (λ c there. let h = k.handed l g start end groups c at there in records c.append h.0 c.group h.1)))

@@ -1,7 +1,6 @@
 -- What is kept of a range through the rules that show nothing: a Get, giving up, and a load up to its confirmation.
-use Rattle.std.proofs.Common.{◌≡◌, ℕ, List, [], ◌∷◌, ◌++◌, Option, Some, None, refl, sym, ap, subst, inl}
+use Rattle.std.proofs.Common.{◌≡◌, ◌≤◌, ℕ, List, [], ◌∷◌, ◌++◌, Option, Some, None, option_map, ◌∙◌, refl, sym, ap, subst, inl}
 use Rattle.std.proofs.lemmas.List.{append-nil}
-use Rattle.block_types.specs.declared.record.Nodes.{Nodes}
 use Rattle.wire.specs.declared.actor.ActorId.{ActorId}
 use Rattle.wire.specs.declared.actor.ReqNo.{ReqNo}
 use Rattle.wire.specs.declared.body.AppendBody.{AppendBody}
@@ -18,7 +17,7 @@ use Rattle.wire.specs.declared.streams.StreamKind.TheVariants as kinds
 use Rattle.wire.specs.declared.streams.StreamList.{StreamList}
 use Rattle.memtable.specs.declared.cell.Place.{Place}
 use Rattle.client.specs.declared.job.Job.TheVariants as jobs
-use Rattle.client.specs.Client.{ClientState, give_up_job, give_up_rule}
+use Rattle.client.specs.Client.{ClientState}
 use Rattle.model_streams.proofs.Tests.{if_elim}
 use Rattle.model_partition.specs.declared.server_context.ServerContext.{ServerContext}
 use Rattle.model_partition.specs.declared.stage.Stage.{Stage}
@@ -31,24 +30,30 @@ use Rattle.model_partition.specs.Getting.{get_fault, gets, get_rule, read_at, ar
 use Rattle.model_partition.specs.Answering.{load_refused, bytes_reply, gets_reply, give_up_all}
 use Rattle.model_partition.specs.Server.{new_range}
 use Rattle.model_partition.specs.ServerRun.{first_history}
+use Rattle.model_partition.specs.StreamActions.{first_start}
 use Rattle.model_partition.specs.ServedTables.{AreSeenAs}
 use Rattle.laws_loads.proofs.WaitingStays.{new_sound}
 use Rattle.laws_loads.specs.RangeView.{RangeView}
 use Rattle.laws_tables.specs.Runs.{Run, Serving, first_beginning, held as held_by}
-use Rattle.laws_server_runs.specs.RangeInvariant.{ReadsMetadata, ReadsLog, HasNoCheckpoint, Matches, StageIs, RangeKept, StreamsKept, AreObserved, Rests, KeptIf, ServesAnew, StepKept}
+use Rattle.model_partition.specs.CheckpointStates.{CheckpointState}
+use Rattle.laws_server_runs.specs.CheckpointInvariant.{AppendsRows}
+use Rattle.laws_server_runs.proofs.RowAppends.{idle_gives_up, give_up_appends, base_given_up}
+use Rattle.model_partition.specs.PlaceReads.{moved_on}
+use Rattle.laws_server_runs.specs.RangeInvariant.{ReadsMetadata, ReadsLog, Matches, StageIs, RangeKept, StreamsKept, AreObserved, Rests, KeptIf, ServesAnew, StepKept}
 
 -- ---- the same range, but for what nothing is kept of
 
 module _ (texts : ℕ → Bytes) (subject : ℕ) (run : Run) (v : RangeView) (r : RangeState) (until : ℕ) (metadata log : ClientState) (rows : ClientState) (blob_data : StreamList) (reading : Option PlaceRead) (gets : List WaitingGet) (held : List (Place × List ℕ))
-    (metadata_idle : r.metadata.job ≡ jobs.Idle → metadata.job ≡ jobs.Idle) (log_idle : r.log.job ≡ jobs.Idle → log.job ≡ jobs.Idle) where
+    (metadata_idle : r.metadata.job ≡ jobs.Idle → metadata.job ≡ jobs.Idle) (log_idle : r.log.job ≡ jobs.Idle → log.job ≡ jobs.Idle)
+    (log_base : log.base ≡ r.log.base) (rows_same : (control : Option CheckpointState) → AppendsRows r.rows control → AppendsRows rows control) (reading_same : (read : PlaceRead) → r.reading ≡ Some read → (z : PlaceRead) × (reading ≡ Some z) × (z.place ≡ read.place)) where
   abbrev other : RangeState
   other = record r { until = until; metadata = metadata; log = log; rows = rows; blob_data = blob_data; reading = reading; gets = gets; held = held }
 
   metadata_same : ReadsMetadata v.history r → ReadsMetadata v.history other
-  metadata_same h = record { said = h.said; log = h.log; live = h.live; fixed = h.fixed; idle = log_idle h.idle; none = h.none }
+  metadata_same h = record { said = h.said; log = h.log; live = h.live; fixed = h.fixed; idle = log_idle h.idle; none = h.none; indexes = h.indexes; rows = rows_same None h.rows }
 
   log_same : ReadsLog v.history r → ReadsLog v.history other
-  log_same h = record { said = h.said; made = h.made; fixed = h.fixed; idle = metadata_idle h.idle; none = h.none }
+  log_same h = record { said = h.said; made = h.made; fixed = h.fixed; idle = metadata_idle h.idle; none = h.none; rows = rows_same None h.rows; begins = subst (λ n. n ≤ (first_start r.said.regions).index) (sym log_base) h.begins }
 
   matches_same : (s : Serving) → Matches texts v s r → Matches texts v s other
   matches_same s m = record {
@@ -58,20 +63,26 @@ module _ (texts : ℕ → Bytes) (subject : ℕ) (run : Run) (v : RangeView) (r 
     live = m.live;
     checkpoint = m.checkpoint;
     said = m.said;
+    installed = m.installed;
+    ordered = m.ordered;
+    named = m.named;
+    rows = rows_same r.control m.rows;
   }
 
   stage_same : (stage : Stage) → StageIs texts run v r stage → StageIs texts run v other stage
-  stage_same stages.Opening h = record { metadata = h.metadata; log = h.log; live = h.live; fixed = h.fixed; none = h.none }
+  stage_same stages.Opening h = record { metadata = h.metadata; log = h.log; live = h.live; fixed = h.fixed; none = h.none; indexes = h.indexes; rows = rows_same None h.rows }
   stage_same (stages.Checking kinds.Metadata) h = metadata_same h
-  stage_same (stages.Checking kinds.Log) h = log_same h
+  stage_same (stages.Checking kinds.Log) h = (log_same h.0, h.1)
   stage_same (stages.Checking kinds.RowData) h = h
   stage_same (stages.Checking kinds.BlobData) h = h
   stage_same (stages.Reading kinds.Metadata position) h = metadata_same h
-  stage_same (stages.Reading kinds.Log position) h = log_same h
+  stage_same (stages.Reading kinds.Log position) h = (log_same h.0, h.1)
   stage_same (stages.Reading kinds.RowData position) h = h
   stage_same (stages.Reading kinds.BlobData position) h = h
-  stage_same (stages.Indexing position) h = log_same h
-  stage_same stages.Confirming h = log_same h
+  stage_same (stages.Indexing position) h =
+      let z : (z : PlaceRead) × (reading ≡ Some z) × (z.place ≡ h.1.read.place) = reading_same h.1.read h.1.out in
+      (record { log = log_same h.0.log; installed = h.0.installed }, record { read = z.0; named = h.1.named; out = z.1; next = h.1.next; place = z.2 ∙ h.1.place })
+  stage_same stages.Confirming h = record { log = log_same h.log; installed = h.installed }
   stage_same stages.Serving h = record { shown = h.shown; matches = matches_same (held_by first_beginning run r.load.generation) h.matches }
 
   -- the end of the lease, what the clients know, the other streams and the Gets may be others
@@ -80,7 +91,7 @@ module _ (texts : ℕ → Bytes) (subject : ℕ) (run : Run) (v : RangeView) (r 
 
 -- the lease of a range is renewed
 pub renewed_kept : (texts : ℕ → Bytes) (subject : ℕ) (run : Run) (v : RangeView) (r : RangeState) → RangeKept texts subject run v r → (until : ℕ) → RangeKept texts subject run v (record r { until = until })
-renewed_kept texts subject run v r kept until = same_kept texts subject run v r until r.metadata r.log r.rows r.blob_data r.reading r.gets r.held (λ e. e) (λ e. e) kept
+renewed_kept texts subject run v r kept until = same_kept texts subject run v r until r.metadata r.log r.rows r.blob_data r.reading r.gets r.held (λ e. e) (λ e. e) refl (λ control a. a) (λ read e. (read, e, refl)) kept
 
 -- a range whose load begins
 pub new_kept : (texts : ℕ → Bytes) (subject : ℕ) (run : Run) (v : RangeView) (d : ServerContext) → v.history ≡ first_history → (generation until : ℕ) → RangeKept texts subject run v (new_range d subject generation until)
@@ -89,7 +100,7 @@ new_kept texts subject run v d first generation until =
       range = refl;
       phase = (request d, refl);
       sound = new_sound d subject generation until;
-      stage = record { metadata = ap (λ h. h.reads kinds.Metadata) first; log = ap (λ h. h.reads kinds.Log) first; live = refl; fixed = refl; none = refl };
+      stage = record { metadata = ap (λ h. h.reads kinds.Metadata) first; log = ap (λ h. h.reads kinds.Log) first; live = refl; fixed = refl; none = refl; indexes = refl; rows = refl };
     }
 
 -- ---- a step that shows nothing
@@ -101,14 +112,13 @@ silent_seen texts subject run before (note ∷ later) old told = absurd told
 
 -- a step that does nothing with streams and shows nothing
 pub calm_kept : (texts : ℕ → Bytes) (subject : ℕ) (run : Run) (v : RangeView) (r : RangeState) (o : RangeOutcome) → StreamsKept texts run v → o.notes ≡ [] →
-    KeptIf texts subject run v r.load.generation o.after → ServesAnew texts run r o.after → (r.control ≡ None → HasNoCheckpoint o.after) → StepKept texts subject run v r [] o
-calm_kept texts subject run v r o streams quiet kept anew rest = record {
+    KeptIf texts subject run v r.load.generation o.after → ServesAnew texts run r o.after → StepKept texts subject run v r [] o
+calm_kept texts subject run v r o streams quiet kept anew = record {
   next = run;
   goes = Rests;
   alone = inl refl;
   kept = kept;
   streams = streams;
-  plain = λ none p. (p, rest none);
   longer = ([], refl);
   anew = anew;
   seen = λ before later old told. silent_seen texts subject run before later old (subst (λ notes. AreSeenAs texts notes later) quiet told);
@@ -116,18 +126,18 @@ calm_kept texts subject run v r o streams quiet kept anew rest = record {
 
 module _ (texts : ℕ → Bytes) (subject : ℕ) (run : Run) (v : RangeView) (r : RangeState) (kept : RangeKept texts subject run v r) (streams : StreamsKept texts run v) (d : ServerContext) where
   -- nothing is done with a stream, and the range stays at its stage
-  pub rests_kept : (until : ℕ) (metadata log : ClientState) (reading : Option PlaceRead) (gets : List WaitingGet) (held : List (Place × List ℕ)) (count : ℕ) (packets : List Packet) →
-      (r.metadata.job ≡ jobs.Idle → metadata.job ≡ jobs.Idle) → (r.log.job ≡ jobs.Idle → log.job ≡ jobs.Idle) →
+  pub rests_kept : (until : ℕ) (metadata log : ClientState) (gets : List WaitingGet) (held : List (Place × List ℕ)) (count : ℕ) (packets : List Packet) →
+      (r.metadata.job ≡ jobs.Idle → metadata.job ≡ jobs.Idle) → (r.log.job ≡ jobs.Idle → log.job ≡ jobs.Idle) → log.base ≡ r.log.base →
       StepKept texts subject run v r []
-      (record { after = Some (record r { until = until; metadata = metadata; log = log; reading = reading; gets = gets; held = held }); count = count; packets = packets; notes = [] })
-  rests_kept until metadata log reading gets held count packets metadata_idle log_idle =
+      (record { after = Some (record r { until = until; metadata = metadata; log = log; gets = gets; held = held }); count = count; packets = packets; notes = [] })
+  rests_kept until metadata log gets held count packets metadata_idle log_idle log_base =
       calm_kept texts subject run v r
-      (record { after = Some (record r { until = until; metadata = metadata; log = log; reading = reading; gets = gets; held = held }); count = count; packets = packets; notes = [] })
-      streams refl (same_kept texts subject run v r until metadata log r.rows r.blob_data reading gets held metadata_idle log_idle kept, refl) (λ serves. inl serves) (λ none. none)
+      (record { after = Some (record r { until = until; metadata = metadata; log = log; gets = gets; held = held }); count = count; packets = packets; notes = [] })
+      streams refl (same_kept texts subject run v r until metadata log r.rows r.blob_data r.reading gets held metadata_idle log_idle log_base (λ control a. a) (λ read e. (read, e, refl)) kept, refl) (λ serves. inl serves)
 
   gets_kept : (from : ActorId) (q : ReqNo) (key : List ℕ) (fault : Option Refusal) → StepKept texts subject run v r [] (gets d r from q key fault)
-  gets_kept from q key (Some refusal) = rests_kept r.until r.metadata r.log r.reading r.gets r.held _ _ (λ e. e) (λ e. e)
-  gets_kept from q key None = rests_kept r.until r.metadata r.log r.reading _ _ _ _ (λ e. e) (λ e. e)
+  gets_kept from q key (Some refusal) = rests_kept r.until r.metadata r.log r.gets r.held _ _ (λ e. e) (λ e. e) refl
+  gets_kept from q key None = rests_kept r.until r.metadata r.log _ _ _ _ (λ e. e) (λ e. e) refl
 
   -- a Get
   pub get_kept : (from : ActorId) (q : ReqNo) (key : List ℕ) → StepKept texts subject run v r [] (get_rule d r from q key)
@@ -136,34 +146,34 @@ module _ (texts : ℕ → Bytes) (subject : ℕ) (run : Run) (v : RangeView) (r 
   bytes_kept : (w : ReqNo) (body : ReadBody) → StepKept texts subject run v r [] (bytes_reply d r w body)
   bytes_kept w (reads.Bytes n e offset bytes) =
       if_elim (λ o. StepKept texts subject run v r [] o) (are_no_page (read_at r.gets w) bytes) _ _
-      (λ t. rests_kept r.until r.metadata r.log r.reading r.gets r.held _ _ (λ e. e) (λ e. e))
-      (λ f. rests_kept r.until r.metadata r.log r.reading _ _ _ _ (λ e. e) (λ e. e))
-  bytes_kept w body = rests_kept r.until r.metadata r.log r.reading r.gets r.held _ _ (λ e. e) (λ e. e)
+      (λ t. rests_kept r.until r.metadata r.log r.gets r.held _ _ (λ e. e) (λ e. e) refl)
+      (λ f. rests_kept r.until r.metadata r.log _ _ _ _ (λ e. e) (λ e. e) refl)
+  bytes_kept w body = rests_kept r.until r.metadata r.log r.gets r.held _ _ (λ e. e) (λ e. e) refl
 
   -- a range of an old generation is dropped
   pub dropped_kept : StepKept texts subject run v r [] (dropped d r)
-  dropped_kept = calm_kept texts subject run v r (dropped d r) streams refl tt tt (λ none. tt)
+  dropped_kept = calm_kept texts subject run v r (dropped d r) streams refl tt tt
 
   refused_kept : (body : AppendBody) → StepKept texts subject run v r [] (load_refused d r body)
   refused_kept (appends.Refused n refusals.Stale) = dropped_kept
-  refused_kept body = rests_kept r.until r.metadata r.log r.reading r.gets r.held _ _ (λ e. e) (λ e. e)
+  refused_kept body = rests_kept r.until r.metadata r.log r.gets r.held _ _ (λ e. e) (λ e. e) refl
 
   -- an answer to a Get's read
   pub gets_reply_kept : (w : ReqNo) (body : Body) → StepKept texts subject run v r [] (gets_reply d r w body)
   gets_reply_kept w (bodies.Read body) = bytes_kept w body
   gets_reply_kept w (bodies.Append body) = refused_kept body
-  gets_reply_kept w body = rests_kept r.until r.metadata r.log r.reading r.gets r.held _ _ (λ e. e) (λ e. e)
+  gets_reply_kept w body = rests_kept r.until r.metadata r.log r.gets r.held _ _ (λ e. e) (λ e. e) refl
 
-  -- a client that waits for nothing gives nothing up
-  idle_rests : (c : ClientState) (q : ReqNo) (pick : Nodes) → c.job ≡ jobs.Idle → (give_up_rule c q pick).after.job ≡ jobs.Idle
-  idle_rests c q pick idle = subst (λ j. (give_up_job (record c { pick = pick }) q j).after.job ≡ jobs.Idle) (sym idle) idle
+  -- a read that goes to another place is one of the same bytes
+  moved : (reading : Option PlaceRead) (read : PlaceRead) → reading ≡ Some read → (z : PlaceRead) × (option_map moved_on reading ≡ Some z) × (z.place ≡ read.place)
+  moved reading read e = (moved_on read, ap (option_map moved_on) e, refl)
 
   -- the jobs of the range give up
   pub give_up_kept : StepKept texts subject run v r [] (give_up_all d r)
   give_up_kept =
       calm_kept texts subject run v r (give_up_all d r) streams refl (
-        same_kept texts subject run v r r.until _ _ _ r.blob_data _ _ r.held (idle_rests (picking d r.metadata) (request (used d)) d.pick) (idle_rests (picking d r.log) (request d) d.pick)
-            kept,
+        same_kept texts subject run v r r.until _ _ _ r.blob_data _ _ r.held (idle_gives_up (picking d r.metadata) (request (used d)) d.pick) (idle_gives_up (picking d r.log) (request d) d.pick)
+            (base_given_up (picking d r.log) (request d) r.log.job) (give_up_appends (picking d r.rows) (request (used (used d))) d.pick) (moved r.reading) kept,
         refl,
       )
-      (λ serves. inl serves) (λ none. none)
+      (λ serves. inl serves)

@@ -1,19 +1,10 @@
 -- What answers to the clients of a range leave of what is kept, up to its confirmation.
-use Rattle.std.proofs.Common.{◌≡◌, ℕ, suc, ◌+◌, ◌^◌, Bool, List, [], ◌∷◌, ◌++◌, nat_lt, true, false, Option, Some, None, is_some, option_to_list, refl, sym, ap, ◌∙◌, subst}
+use Rattle.std.proofs.Common.{◌≡◌, ◌≤◌, ℕ, suc, ◌+◌, ◌^◌, Bool, List, [], ◌∷◌, ◌++◌, nat_lt, true, false, Option, Some, None, is_some, option_to_list, refl, sym, ap, ◌∙◌, subst}
 use Rattle.std.specs.Prelude.{if◌then◌else◌}
 use Rattle.blocks.specs.Format.{◌>>=◌}
-use Rattle.block_types.specs.declared.record.Nodes.{Nodes}
 use Rattle.wire.specs.declared.actor.ReqNo.{ReqNo}
-use Rattle.wire.specs.declared.body.AppendBody.TheVariants as appends
 use Rattle.wire.specs.declared.body.Body.{Body}
-use Rattle.wire.specs.declared.body.Body.TheVariants as bodies
-use Rattle.wire.specs.declared.body.CheckBody.TheVariants as checks
-use Rattle.wire.specs.declared.body.ReadBody.TheVariants as reads
-use Rattle.wire.specs.declared.body.SealBody.TheVariants as seals
-use Rattle.wire.specs.declared.body.StreamBody.TheVariants as streams
 use Rattle.wire.specs.declared.packet.Packet.{Packet}
-use Rattle.wire.specs.declared.refusal.Refusal.{Refusal}
-use Rattle.wire.specs.declared.refusal.Refusal.TheVariants as refusals
 use Rattle.wire.specs.declared.streams.StreamKind.{StreamKind}
 use Rattle.wire.specs.declared.streams.StreamKind.TheVariants as kinds
 use Rattle.metadata.specs.Fold.{MetadataState, first_metadata, folded}
@@ -21,12 +12,11 @@ use Rattle.metadata.specs.Reading.{group_at}
 use Rattle.metadata.specs.declared.record.MetaRecord.{MetaRecord}
 use Rattle.metadata.specs.declared.record.Region.{Region}
 use Rattle.memtable.specs.Entries.{Entries}
-use Rattle.client.specs.declared.job.Job.{Job}
 use Rattle.client.specs.declared.job.Job.TheVariants as jobs
 use Rattle.client.specs.declared.job.News.{News}
 use Rattle.client.specs.declared.job.News.TheVariants as news
 use Rattle.client.specs.declared.load.LoadPhase.TheVariants as phases
-use Rattle.client.specs.Client.{ClientState, Outcome, waits, awaits, if_awaited, fenced_if, append_refused, refused_job, appended_job, checked_job, sealed_job, groups_job, extended_job, reply_rule}
+use Rattle.client.specs.Client.{ClientState, Outcome, awaits, reply_rule}
 use Rattle.model_streams.proofs.Tests.{if_elim}
 use Rattle.model_partition.specs.declared.server_context.ServerContext.{ServerContext}
 use Rattle.model_partition.specs.declared.stage.Stage.{Stage}
@@ -38,87 +28,18 @@ use Rattle.model_partition.specs.Answering.{groups_of, metadata_reply, serving_n
 use Rattle.model_partition.specs.Checkpoints.{record_told}
 use Rattle.model_partition.specs.ServerRun.{one_more_read}
 use Rattle.model_partition.specs.StreamActions.{ExtentRead, StreamAction, Reads, loading_actions, record_actions, metadata_actions, serving_actions, log_actions}
+use Rattle.model_partition.specs.ServedTables.{AllStand}
+use Rattle.model_partition.specs.StreamActions.{first_start}
 use Rattle.laws_loads.specs.RangeView.{RangeView}
 use Rattle.laws_tables.specs.Runs.{Run}
 use Rattle.laws_server_runs.specs.RangeInvariant.{groups_read, ReadsMetadata, ReadsLog, PhaseIs, StageIs, RangeKept, StreamsKept, StepKept}
 use Rattle.laws_loads.proofs.CheckpointAnswers.{record_news_same}
-use Rattle.laws_server_runs.proofs.CheckpointKept.{leaves_kept, record_none}
+use Rattle.laws_server_runs.proofs.CheckpointKept.{leaves_kept, leaves_queue}
 use Rattle.laws_server_runs.proofs.CheckpointSteps.{metadata_step as record_step}
+use Rattle.laws_server_runs.proofs.ClientAnswers.{IsIdleIf, reply_takes, busy}
 use Rattle.laws_server_runs.proofs.Loads.{rests_kept}
 use Rattle.laws_server_runs.proofs.ServedNotes.{serves_of}
 use Rattle.laws_server_runs.proofs.LoadsSteps.{Left, IsLoading, drops_left, reads_log_left, reads_log_from_left, reads_metadata_left}
-
--- ---- what an answer makes of a client
-
--- where something is told nothing more is waited for
-abbrev pub IsIdleIf : Option News → Job → Type 0
-IsIdleIf None job = Unit {0}
-IsIdleIf (Some told) job = job ≡ jobs.Idle
-
--- an answer leaves the first index of the stream as it was
-pub record Takes (c : ClientState) (o : Outcome) : Type 0 where
-  pub base : o.after.base ≡ c.base
-  pub idle : IsIdleIf o.news o.after.job
-
-module _ (c : ClientState) (q : ReqNo) where
-  still : Takes c (waits c)
-  still = record { base = refl; idle = tt }
-
-  awaited : (w : ReqNo) (o : Outcome) → Takes c o → Takes c (if_awaited c w o)
-  awaited w o h = if_elim (Takes c) (awaits c.job w) o (waits c) (λ t. h) (λ f. still)
-
-  fenced : (refusal : Refusal) → Takes c (fenced_if c refusal)
-  fenced refusals.Stale = record { base = refl; idle = refl }
-  fenced refusal = still
-
-  at_append : (e : ℕ) (refusal : Refusal) → Takes c (append_refused c q e refusal)
-  at_append e refusals.NotOpen = record { base = refl; idle = tt }
-  at_append e refusals.ExtentFull = record { base = refl; idle = tt }
-  at_append e refusal = fenced refusal
-
-  refused : (refusal : Refusal) (job : Job) → Takes c (refused_job c q refusal job)
-  refused refusal (jobs.Sent e w) = at_append e refusal
-  refused refusal job = fenced refusal
-
-  appended : (offset : ℕ) (job : Job) → Takes c (appended_job c offset job)
-  appended offset (jobs.Sent e w) = record { base = refl; idle = refl }
-  appended offset job = still
-
-  checked : (found : Option ℕ) (job : Job) → Takes c (checked_job c q found job)
-  checked (Some found) (jobs.Checking e w) = record { base = refl; idle = refl }
-  checked None (jobs.Checking e w) = record { base = refl; idle = tt }
-  checked found job = still
-
-  sealed : (length : ℕ) (job : Job) → Takes c (sealed_job c q length job)
-  sealed length (jobs.Closing e w) = record { base = refl; idle = tt }
-  sealed length (jobs.Shutting e w) = record { base = refl; idle = refl }
-  sealed length job = still
-
-  came : (job : Job) → Takes c (groups_job c job)
-  came (jobs.Reading e places upto sealed place w) = record { base = refl; idle = refl }
-  came job = still
-
-  extended : (e : ℕ) (places : Nodes) (job : Job) → Takes c (extended_job c q e places job)
-  extended e places (jobs.Growing last w) = record { base = refl; idle = tt }
-  extended e places job = still
-
-  pub reply_takes : (body : Body) → Takes c (reply_rule c q body)
-  reply_takes (bodies.Append (appends.Appended w e offset)) = awaited w _ (appended offset c.job)
-  reply_takes (bodies.Append (appends.Refused w refusal)) = awaited w _ (refused refusal c.job)
-  reply_takes (bodies.Append body) = still
-  reply_takes (bodies.Check (checks.Checked w found)) = awaited w _ (checked found c.job)
-  reply_takes (bodies.Check body) = still
-  reply_takes (bodies.Seal (seals.SealedIs w e length)) = awaited w _ (sealed length c.job)
-  reply_takes (bodies.Seal body) = still
-  reply_takes (bodies.Read (reads.Groups w e groups)) = awaited w _ (came c.job)
-  reply_takes (bodies.Read body) = still
-  reply_takes (bodies.Stream (streams.Extended w e places)) = awaited w _ (extended e places c.job)
-  reply_takes (bodies.Stream body) = still
-  reply_takes body = still
-
--- a job that waits for an answer is not idle
-pub busy : (job : Job) (w : ReqNo) → awaits job w ≡ true → job ≡ jobs.Idle → ⊥
-busy job w waits idle = let none : awaits jobs.Idle w ≡ true = subst (λ j. awaits j w ≡ true) idle waits in absurd cc
 
 -- ---- what is read
 
@@ -142,33 +63,33 @@ said_both m (group ∷ first) more = by_group (λ said. said_both said first mor
 module _ (texts : ℕ → Bytes) (subject : ℕ) (run : Run) (v : RangeView) (r : RangeState) (kept : RangeKept texts subject run v r) (streams : StreamsKept texts run v) (d : ServerContext) where
   -- an extent of a stream was read
   abbrev MoreRead : StreamKind → ExtentRead → RangeOutcome → Type 0
-  MoreRead kind read o = Left texts subject run v r streams d (Reads kind read ∷ []) (one_more_read v.history kind read) refl o
+  MoreRead kind read o = Left texts subject run v r streams d (Reads kind read ∷ []) (one_more_read v.history kind read) v.shown refl o
 
   abbrev NoneRead : RangeOutcome → Type 0
-  NoneRead o = Left texts subject run v r streams d [] v.history refl o
+  NoneRead o = Left texts subject run v r streams d [] v.history v.shown refl o
 
   -- ---- the metadata
 
   module _ (w : ReqNo) (waited : awaits r.metadata.job w ≡ true) (groups : List Group) (packets : List Packet) (c : ClientState) where
     metadata_rests : (count : ℕ) → StepKept texts subject run v r [] (record { after = Some (record r { metadata = c }); count = count; packets = packets; notes = [] })
     metadata_rests count =
-        rests_kept texts subject run v r kept streams d r.until c r.log r.reading r.gets r.held count packets (λ idle. absurd (busy r.metadata.job w waited idle)) (λ idle. idle)
+        rests_kept texts subject run v r kept streams d r.until c r.log r.gets r.held count packets (λ idle. absurd (busy r.metadata.job w waited idle)) (λ idle. idle) refl
 
     -- the next extent is read, or the log
     metadata_next : r.load.phase ≡ phases.Opened → ReadsMetadata v.history r → c.job ≡ jobs.Idle → (position : ℕ) → NoneRead (reads_metadata d (record r { metadata = c }) position)
     metadata_next opened s idle position =
-        reads_metadata_left texts subject run v r streams d [] v.history refl (record r { metadata = c })
+        reads_metadata_left texts subject run v r streams d [] v.history v.shown refl (record r { metadata = c })
         (record { range = kept.range; generation = refl; opened = opened; sound = kept.sound })
-        (record { said = s.said; log = s.log; live = s.live; fixed = s.fixed; idle = s.idle; none = s.none }) idle position
+        (record { said = s.said; log = s.log; live = s.live; fixed = s.fixed; idle = s.idle; none = s.none; indexes = s.indexes; rows = s.rows }) idle position
 
     metadata_read : r.load.phase ≡ phases.Opened → ReadsMetadata v.history r → c.job ≡ jobs.Idle → (position index extent : ℕ) (x : Option MetadataState) → said_after r.said groups ≡ x →
         MoreRead kinds.Metadata (record { index = index; extent = extent; groups = groups }) (says d (record r { metadata = c }) position x)
     metadata_read opened s idle position index extent None e =
         drops_left texts subject run v r streams d (Reads kinds.Metadata (record { index = index; extent = extent; groups = groups }) ∷ [])
-        (one_more_read v.history kinds.Metadata (record { index = index; extent = extent; groups = groups })) refl _ _
+        (one_more_read v.history kinds.Metadata (record { index = index; extent = extent; groups = groups })) v.shown refl _ _
     metadata_read opened s idle position index extent (Some said) e =
         reads_metadata_left texts subject run v r streams d (Reads kinds.Metadata (record { index = index; extent = extent; groups = groups }) ∷ [])
-        (one_more_read v.history kinds.Metadata (record { index = index; extent = extent; groups = groups })) refl
+        (one_more_read v.history kinds.Metadata (record { index = index; extent = extent; groups = groups })) v.shown refl
         (record r { metadata = c; said = said })
         (record { range = kept.range; generation = refl; opened = opened; sound = kept.sound })
         (record {
@@ -178,6 +99,8 @@ module _ (texts : ℕ → Bytes) (subject : ℕ) (run : Run) (v : RangeView) (r 
           fixed = s.fixed;
           idle = s.idle;
           none = s.none;
+          indexes = s.indexes;
+          rows = s.rows;
         })
         idle (suc position)
 
@@ -188,24 +111,24 @@ module _ (texts : ℕ → Bytes) (subject : ℕ) (run : Run) (v : RangeView) (r 
         (metadata_news d (record r { metadata = c }) groups stage told packets)
 
     metadata_step : (stage : Stage) → PhaseIs texts stage r.load.phase → StageIs texts run v r stage → (told : Option News) → IsIdleIf told c.job → MetadataStep stage told
-    metadata_step stage p s (Some news.Fenced) idle = drops_left texts subject run v r streams d [] v.history refl _ _
+    metadata_step stage p s (Some news.Fenced) idle = drops_left texts subject run v r streams d [] v.history v.shown refl _ _
     metadata_step (stages.Checking kinds.Metadata) p s (Some (news.Checked e l)) idle = metadata_next p s idle 0
     metadata_step (stages.Checking kinds.Metadata) p s (Some (news.Sealed e l)) idle = metadata_next p s idle 0
-    metadata_step (stages.Checking kinds.Log) p s told idle = absurd (busy r.metadata.job w waited s.idle)
+    metadata_step (stages.Checking kinds.Log) p s told idle = absurd (busy r.metadata.job w waited s.0.idle)
     metadata_step (stages.Checking kinds.RowData) p s told idle = absurd s
     metadata_step (stages.Checking kinds.BlobData) p s told idle = absurd s
     metadata_step (stages.Reading kinds.Metadata position) p s (Some (news.Sealed e l)) idle = metadata_next p s idle position
     metadata_step (stages.Reading kinds.Metadata position) p s (Some (news.Content e upto)) idle =
         metadata_read p s idle position (r.metadata.base + position) e (said_after r.said groups) refl
-    metadata_step (stages.Reading kinds.Log position) p s told idle = absurd (busy r.metadata.job w waited s.idle)
+    metadata_step (stages.Reading kinds.Log position) p s told idle = absurd (busy r.metadata.job w waited s.0.idle)
     metadata_step (stages.Reading kinds.RowData position) p s told idle = absurd s
     metadata_step (stages.Reading kinds.BlobData position) p s told idle = absurd s
     metadata_step stage p s told idle = metadata_rests (suc d.count)
 
   -- an answer to the metadata's client
-  pub metadata_kept : (w : ReqNo) (body : Body) → awaits r.metadata.job w ≡ true →
+  pub metadata_kept : AllStand texts v.answered → (w : ReqNo) (body : Body) → awaits r.metadata.job w ≡ true →
       StepKept texts subject run v r (if is_some (metadata_reply d r body).after then metadata_actions d r body else []) (metadata_reply d r body)
-  metadata_kept w body waited = at_stage (is_serving r.stage) refl
+  metadata_kept stand w body waited = at_stage (is_serving r.stage) refl
     where
       o : Outcome
       o = reply_rule (picking d r.metadata) (request d) body
@@ -221,34 +144,35 @@ module _ (texts : ℕ → Bytes) (subject : ℕ) (run : Run) (v : RangeView) (r 
           StepKept texts subject run v r
           (if is_some (told b).after then (if b then record_actions r o.news else loading_actions kinds.Metadata r.metadata r.stage (groups_of body) o.news) else []) (told b)
       at_stage true e =
-          leaves_kept texts subject run v r kept streams e (told true) (record_actions r o.news) (record_news_same d r o.after o.news (option_to_list o.packet))
-          (λ none. record_none d r none r.control none o.news (option_to_list o.packet) o.after)
-          (record_step texts subject run v r (serves_of texts subject run v r e kept).matches (serves_of texts subject run v r e kept).shown streams d o.after o.news (option_to_list o.packet))
+          leaves_kept texts subject run v r kept streams e (told true) (record_actions r o.news)
+          (leaves_queue r (told true) (record_news_same d r o.after o.news (option_to_list o.packet)))
+          (λ z there. record_step texts subject run v r (serves_of texts subject run v r e kept).matches (serves_of texts subject run v r e kept).shown streams d o.after stand o.news (option_to_list o.packet))
       at_stage false e =
           metadata_step w waited (groups_of body) (option_to_list o.packet) o.after r.stage kept.phase kept.stage o.news (reply_takes (picking d r.metadata) (request d) body).idle
 
   -- ---- the log
 
   module _ (w : ReqNo) (waited : awaits r.log.job w ≡ true) (groups : List Group) (packets : List Packet) (c : ClientState) where
-    log_rests : (count : ℕ) → StepKept texts subject run v r [] (record { after = Some (record r { log = c }); count = count; packets = packets; notes = [] })
-    log_rests count =
-        rests_kept texts subject run v r kept streams d r.until r.metadata c r.reading r.gets r.held count packets (λ idle. idle) (λ idle. absurd (busy r.log.job w waited idle))
+    log_rests : c.base ≡ r.log.base → (count : ℕ) → StepKept texts subject run v r [] (record { after = Some (record r { log = c }); count = count; packets = packets; notes = [] })
+    log_rests base count =
+        rests_kept texts subject run v r kept streams d r.until r.metadata c r.gets r.held count packets (λ idle. idle) (λ idle. absurd (busy r.log.job w waited idle)) base
 
     abbrev now : RangeState
     now = record r { log = c }
 
-    is_loading : r.load.phase ≡ phases.Opened → IsLoading texts subject run v r streams d [] v.history refl now
+    is_loading : r.load.phase ≡ phases.Opened → IsLoading texts subject run v r streams d [] v.history v.shown refl now
     is_loading opened = record { range = kept.range; generation = refl; opened = opened; sound = kept.sound }
 
-    log_same : ReadsLog v.history r → ReadsLog v.history now
-    log_same s = record { said = s.said; made = s.made; fixed = s.fixed; idle = s.idle; none = s.none }
+    log_same : c.base ≡ r.log.base → ReadsLog v.history r → ReadsLog v.history now
+    log_same base s =
+        record { said = s.said; made = s.made; fixed = s.fixed; idle = s.idle; none = s.none; rows = s.rows; begins = subst (λ n. n ≤ (first_start r.said.regions).index) (sym base) s.begins }
 
     -- the log is read from its first extent on
-    log_begins : r.load.phase ≡ phases.Opened → ReadsLog v.history r → (position : Option ℕ) → NoneRead (reads_log_from d now position)
-    log_begins opened s position = reads_log_from_left texts subject run v r streams d [] v.history refl now (is_loading opened) (log_same s) position
+    log_begins : r.load.phase ≡ phases.Opened → ReadsLog v.history r → r.indexes ≡ [] → c.base ≡ r.log.base → (position : Option ℕ) → NoneRead (reads_log_from d now position)
+    log_begins opened s none base position = reads_log_from_left texts subject run v r streams d [] v.history v.shown refl now (is_loading opened) (log_same base s) none position
 
-    log_next : r.load.phase ≡ phases.Opened → ReadsLog v.history r → (position : ℕ) → NoneRead (reads_log d now position)
-    log_next opened s position = reads_log_left texts subject run v r streams d [] v.history refl now (is_loading opened) (log_same s) position
+    log_next : r.load.phase ≡ phases.Opened → ReadsLog v.history r → r.indexes ≡ [] → c.base ≡ r.log.base → (position : ℕ) → NoneRead (reads_log d now position)
+    log_next opened s none base position = reads_log_left texts subject run v r streams d [] v.history v.shown refl now (is_loading opened) (log_same base s) none position
 
     module _ (position extent : ℕ) where
       abbrev read : ExtentRead
@@ -258,16 +182,16 @@ module _ (texts : ℕ → Bytes) (subject : ℕ) (run : Run) (v : RangeView) (r 
       LogRead o = MoreRead kinds.Log read o
 
       log_dropped : LogRead (dropped d now)
-      log_dropped = drops_left texts subject run v r streams d (Reads kinds.Log read ∷ []) (one_more_read v.history kinds.Log read) refl _ _
+      log_dropped = drops_left texts subject run v r streams d (Reads kinds.Log read ∷ []) (one_more_read v.history kinds.Log read) v.shown refl _ _
 
       abbrev replayed_from : ℕ → List Region × Entries → Option (List Region × Entries)
       replayed_from base z = replayed r.said.keys extent (record { index = base + position; offset = 0 }) z groups
 
-      log_replayed : r.load.phase ≡ phases.Opened → ReadsLog v.history r → c.base ≡ r.log.base → (x : Option (List Region × Entries)) → replayed_from c.base (r.regions, r.live) ≡ x →
+      log_replayed : r.load.phase ≡ phases.Opened → ReadsLog v.history r → r.indexes ≡ [] → c.base ≡ r.log.base → (x : Option (List Region × Entries)) → replayed_from c.base (r.regions, r.live) ≡ x →
           LogRead (replays d now position x)
-      log_replayed opened s base None e = log_dropped
-      log_replayed opened s base (Some x) e =
-          reads_log_left texts subject run v r streams d (Reads kinds.Log read ∷ []) (one_more_read v.history kinds.Log read) refl
+      log_replayed opened s none base None e = log_dropped
+      log_replayed opened s none base (Some x) e =
+          reads_log_left texts subject run v r streams d (Reads kinds.Log read ∷ []) (one_more_read v.history kinds.Log read) v.shown refl
           (record r { log = c; regions = x.0; live = x.1 })
           (record { range = kept.range; generation = refl; opened = opened; sound = kept.sound })
           (record {
@@ -276,13 +200,15 @@ module _ (texts : ℕ → Bytes) (subject : ℕ) (run : Run) (v : RangeView) (r 
             fixed = s.fixed;
             idle = s.idle;
             none = s.none;
+            rows = s.rows;
+            begins = subst (λ n. n ≤ (first_start r.said.regions).index) (sym base) s.begins;
           })
-          (suc position)
+          none (suc position)
 
-      log_came : r.load.phase ≡ phases.Opened → ReadsLog v.history r → c.base ≡ r.log.base → LogRead (log_read d now position extent groups)
-      log_came opened s base =
+      log_came : r.load.phase ≡ phases.Opened → ReadsLog v.history r → r.indexes ≡ [] → c.base ≡ r.log.base → LogRead (log_read d now position extent groups)
+      log_came opened s none base =
           if_elim LogRead (nat_lt (c.base + position) (2 ^ 64)) _ _
-          (λ t. log_replayed opened s base (replayed_from c.base (r.regions, r.live)) refl)
+          (λ t. log_replayed opened s none base (replayed_from c.base (r.regions, r.live)) refl)
           (λ f. log_dropped)
 
     abbrev LogStep : Stage → Option News → Type 0
@@ -292,18 +218,18 @@ module _ (texts : ℕ → Bytes) (subject : ℕ) (run : Run) (v : RangeView) (r 
         (log_news d now groups stage told packets)
 
     log_step : (stage : Stage) → PhaseIs texts stage r.load.phase → StageIs texts run v r stage → (told : Option News) → c.base ≡ r.log.base → LogStep stage told
-    log_step stage p s (Some news.Fenced) base = drops_left texts subject run v r streams d [] v.history refl _ _
+    log_step stage p s (Some news.Fenced) base = drops_left texts subject run v r streams d [] v.history v.shown refl _ _
     log_step (stages.Checking kinds.Metadata) p s told base = absurd (busy r.log.job w waited s.idle)
-    log_step (stages.Checking kinds.Log) p s (Some (news.Checked e l)) base = log_begins p s (first_position now r.regions)
-    log_step (stages.Checking kinds.Log) p s (Some (news.Sealed e l)) base = log_begins p s (first_position now r.regions)
+    log_step (stages.Checking kinds.Log) p s (Some (news.Checked e l)) base = log_begins p s.0 s.1 base (first_position now r.regions)
+    log_step (stages.Checking kinds.Log) p s (Some (news.Sealed e l)) base = log_begins p s.0 s.1 base (first_position now r.regions)
     log_step (stages.Checking kinds.RowData) p s told base = absurd s
     log_step (stages.Checking kinds.BlobData) p s told base = absurd s
     log_step (stages.Reading kinds.Metadata position) p s told base = absurd (busy r.log.job w waited s.idle)
-    log_step (stages.Reading kinds.Log position) p s (Some (news.Sealed e l)) base = log_next p s position
-    log_step (stages.Reading kinds.Log position) p s (Some (news.Content e upto)) base = log_came position e p s base
+    log_step (stages.Reading kinds.Log position) p s (Some (news.Sealed e l)) base = log_next p s.0 s.1 base position
+    log_step (stages.Reading kinds.Log position) p s (Some (news.Content e upto)) base = log_came position e p s.0 s.1 base
     log_step (stages.Reading kinds.RowData position) p s told base = absurd s
     log_step (stages.Reading kinds.BlobData position) p s told base = absurd s
-    log_step stage p s told base = log_rests (suc d.count)
+    log_step stage p s told base = log_rests base (suc d.count)
 
   module _ (w : ReqNo) (body : Body) (waited : awaits r.log.job w ≡ true) where
     abbrev answer : Outcome
@@ -329,7 +255,7 @@ module _ (texts : ℕ → Bytes) (subject : ℕ) (run : Run) (v : RangeView) (r 
 
     replied_kept : is_serving r.stage ≡ false → (t : Bool) → StepKept texts subject run v r (if is_some (replied t).after then (if t then log_actions d r body (replied t) else []) else []) (replied t)
     replied_kept unserved true = taken_kept (is_serving r.stage) unserved
-    replied_kept unserved false = rests_kept texts subject run v r kept streams d r.until r.metadata r.log r.reading r.gets r.held d.count [] (λ idle. idle) (λ idle. idle)
+    replied_kept unserved false = rests_kept texts subject run v r kept streams d r.until r.metadata r.log r.gets r.held d.count [] (λ idle. idle) (λ idle. idle) refl
 
   -- an answer to the log's client of a range that is not served yet
   pub log_loading_kept : is_serving r.stage ≡ false → (w : ReqNo) (body : Body) → awaits r.log.job w ≡ true →

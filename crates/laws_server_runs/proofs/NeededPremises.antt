@@ -92,8 +92,8 @@ second_range =
     ∷ []
 
 second_makes : ((run_of 1 1 second_range).notes ≡ tables.Loaded 2 1 (whole_table []) 1 ∷ []) × ((run_of 1 1 second_range).story (log_name first_range) ≡ []) × ((run_of 1 1 second_range).story (metadata_name first_range) ≡ [])
-    × ((run_of 1 1 second_range).shown first_range ≡ [])
-second_makes = (refl, refl, refl, refl)
+    × ((run_of 1 1 second_range).shown first_range ≡ []) × ((run_of 1 1 second_range).answered first_range ≡ [])
+second_makes = (refl, refl, refl, refl, refl)
 
 -- ---- none of them replays
 
@@ -208,6 +208,7 @@ first_is_needed law = not_second (law 1 1 texts second_range h
       once = subst LoadsOnce (sym second_makes.1) (λ l m g start end start' end' groups groups' one two. absurd cc);
       ends = subst EndsRise (sym second_makes.1) (ends_rise Group [] tt);
       shown = subst (AllStand texts) (sym second_makes.3) tt;
+      answered = subst (AllStand texts) (sym second_makes.4) tt;
     })
     (subst (λ told. AreSeenAs texts told h) (sym second_makes.0) (([], refl, λ key. refl), tt)))
   where

@@ -11,10 +11,9 @@ use Rattle.commitlog.specs.Replay.{Numbered}
 use Rattle.model_partition.specs.Log.{line_shown, begins_of, dones_at}
 use Rattle.model_partition.specs.Past.{Bytes, Transaction, stored, kept}
 use Rattle.model_partition.specs.Story.{Placed, event_at}
-use Rattle.laws_tables.specs.Layers.{Layer, empty_layer, flat, layer_line}
+use Rattle.laws_tables.specs.Layers.{Layer, flat}
 use Rattle.laws_tables.specs.Runs as chains
 use Rattle.laws_tables.specs.Runs.{Run, first_beginning, said, replayed_by, next_loaded, loaded_layer, seen, ShowsLayers}
-use Rattle.laws_tables.proofs.Layers.{kept_all, pick_none}
 use Rattle.laws_checkpoints.specs.IndexLayers.{layer_at}
 use Rattle.laws_server_runs.specs.RangeInvariant.{AreObserved}
 
@@ -26,15 +25,6 @@ AgreeBelow n rows others = (l : ℕ) → l < n → rows l ≡ others l
 abbrev pub SaysLoad : (Place → Layer) → List Row → List (Placed (Numbered Transaction)) → List (Placed (Numbered MetaItem)) → Type 0
 SaysLoad layer_at rows groups records =
     (key : Bytes) → stored rows key ≡ kept (said first_beginning (line_shown records)).keys (λ k. flat (loaded_layer first_beginning layer_at groups records k)) key
-
--- where it shows no records, they are the line that is replayed
-pub plain_load : (layer_at : Place → Layer) (rows : List Row) (groups : List (Placed (Numbered Transaction))) (records : List (Placed (Numbered MetaItem))) → records ≡ [] →
-    ((key : Bytes) → stored rows key ≡ flat (layer_line (replayed_by first_beginning groups records) empty_layer key)) → SaysLoad layer_at rows groups records
-plain_load layer_at rows groups records none says key =
-    says key ∙ ap (λ z. flat (layer_line (replayed_by first_beginning groups z) empty_layer key)) none
-    ∙ sym (pick_none (layer_line (replayed_by first_beginning groups []) empty_layer key))
-    ∙ sym (kept_all (λ k. flat (loaded_layer first_beginning layer_at groups [] k)) key)
-    ∙ ap (λ z. kept (said first_beginning (line_shown z)).keys (λ k. flat (loaded_layer first_beginning layer_at groups z k)) key) (sym none)
 
 module _ (layer_at : Place → Layer) (subject : ℕ) (rows others : ℕ → List Row) where
   seen_same : (run : Run) → AgreeBelow (length (chains.log_of run)) rows others → seen first_beginning rows subject run ≡ seen first_beginning others subject run

@@ -3,6 +3,7 @@ use Rattle.std.proofs.Common.{◌≡◌, ◌<◌, ◌^◌, List, [], ◌∷◌, 
 use Rattle.metadata.specs.declared.record.MetaItem.{MetaItem}
 use Rattle.metadata.specs.declared.record.MetaItem.TheVariants.{Ranges, Checkpoint, Regions, SplitStatus}
 use Rattle.metadata.specs.declared.record.Region.{Region}
+use Rattle.metadata.specs.Record.{IsPosition}
 use Rattle.metadata.specs.Fold.{MetadataState, first_metadata, taken}
 use Rattle.laws_tables.specs.Runs.{IsNarrower, fold_of}
 
@@ -17,7 +18,7 @@ pub record IsOneRegion (m : MetadataState) : Type 0 where
 -- a record that lists no regions, and gives the range no more keys
 abbrev pub KeepsOneRegion : MetadataState → MetaItem → Type 0
 KeepsOneRegion m (Ranges keys) = IsNarrower keys m.keys
-KeepsOneRegion m (Checkpoint combine index position next) = position.offset < 2 ^ 32
+KeepsOneRegion m (Checkpoint combine index position next) = IsPosition position
 KeepsOneRegion m (Regions indexes regions) = ⊥
 KeepsOneRegion m (SplitStatus low high key) = Unit {0}
 
@@ -28,7 +29,7 @@ AllKeepOneRegion m (item ∷ items) = KeepsOneRegion m item × AllKeepOneRegion 
 one_kept : (m : MetadataState) (item : MetaItem) → IsOneRegion m → KeepsOneRegion m item → IsOneRegion (taken m item)
 one_kept m (Ranges keys) one k = record { region = one.region; only = one.only; open_end = one.open_end; short = one.short; inside = λ key there. one.inside key (k key there) }
 one_kept m (Checkpoint combine index position next) one k =
-    record { region = record { start = position; end = None; next = next; keys = m.keys }; only = refl; open_end = refl; short = k; inside = λ key there. there }
+    record { region = record { start = position; end = None; next = next; keys = m.keys }; only = refl; open_end = refl; short = k.1; inside = λ key there. there }
 one_kept m (Regions indexes regions) one k = absurd k
 one_kept m (SplitStatus low high key) one k = record { region = one.region; only = one.only; open_end = one.open_end; short = one.short; inside = one.inside }
 

@@ -1,5 +1,5 @@
 -- What the order of a stream says of the groups that its loads show.
-use Rattle.std.proofs.Common.{◌≡◌, ⊎_elim, ℕ, zero, suc, ◌<◌, ◌≤◌, List, [], ◌∷◌, map, Some, nat_lt, refl, sym, ap, ◌∙◌, subst, arith}
+use Rattle.std.proofs.Common.{◌≡◌, ⊎_elim, ℕ, zero, suc, ◌<◌, ◌≤◌, List, [], ◌∷◌, map, Some, nat_lt, refl, sym, ap, subst, arith}
 use Rattle.std.specs.Prelude.{Contains}
 use Rattle.std.proofs.lemmas.Bool.{ltb-false}
 use Rattle.model_streams.proofs.Tests.{if_elim}
@@ -68,16 +68,6 @@ module _ (texts : ℕ → Bytes) (story : Story Group) (k : KeepsOrder story) wh
   pub shown_behind : (l g start end : ℕ) (groups : List (Placed Group)) → event_at story l ≡ Some (Showed g start end groups) → AreBehind start groups
   shown_behind l g start end groups at =
       subst (AreBehind start) (sym (k.shown l g start end groups at)) (from_place_on start (k.copies l) (k.ascending l) (k.not_empty l))
-
-  -- where no append was begun, a load shows nothing
-  pub unmade_shows_nothing : ((a g : ℕ) (group : Group) → event_at story a ≡ Some (Made g group) → ⊥) → (l g start end : ℕ) (groups : List (Placed Group)) → event_at story l ≡ Some (Showed g start end groups) → groups ≡ []
-  unmade_shows_nothing unmade l g start end groups at = go (k.copies l) refl
-    where
-      go : (cs : List (Copy Group)) → k.copies l ≡ cs → groups ≡ []
-      go [] e = k.shown l g start end groups at ∙ ap (λ (cs : List (Copy Group)). map placed (from_place start cs)) e
-      go (c ∷ cs) e =
-          let h = k.handed l g start end groups c at (subst (λ (x : List (Copy Group)). Contains x c) (sym e) (first_there c cs)) in
-          absurd (unmade c.append h.0 c.group h.1)
 
   -- what a load shows was handed to appends, so it is read back
   pub shown_spelled : AllSpelled texts story → (l g start end : ℕ) (groups : List (Placed Group)) → event_at story l ≡ Some (Showed g start end groups) →

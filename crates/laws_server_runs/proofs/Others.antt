@@ -16,7 +16,7 @@ use Rattle.laws_tables.specs.Runs as chains
 use Rattle.laws_tables.specs.Runs.{Event, Run, Serving, first_beginning, held, IsServing}
 use Rattle.laws_tables.proofs.Range.{older}
 use Rattle.laws_server_runs.specs.CheckpointInvariant.{parts_of, HoldsCheckpoint}
-use Rattle.laws_server_runs.specs.RangeInvariant.{HasReadNothing, ReadsMetadata, ReadsLog, generation_of, GoesOn, Rests, Adds, IsLonger, append_of, Matches, Serves, StageIs, RangeKept, AllSpelled, AreCheckpoints, StreamsKept}
+use Rattle.laws_server_runs.specs.RangeInvariant.{HasReadNothing, ReadsMetadata, ReadsLog, generation_of, GoesOn, Rests, Adds, IsLonger, append_of, Matches, Serves, StageIs, RangeKept, AllSpelled, AreCheckpoints, IsOfPages, ReadsIndexes, HasReadAll, StreamsKept}
 use Rattle.laws_server_runs.proofs.Fronts.{stand_shorter}
 use Rattle.laws_server_runs.proofs.HeldCheckpoints.{longer_holds}
 
@@ -70,7 +70,7 @@ module _ (texts : ℕ → Bytes) where
     chain = k.chain;
     keys = k.keys;
     spelled = subst (λ (z : Story Group). AllSpelled texts z) (sym log) k.spelled;
-    records = subst (λ (z : Story Group). AreCheckpoints z) (sym metadata) k.records;
+    records = subst (λ (z : Story Group). AreCheckpoints (IsOfPages texts) z) (sym metadata) k.records;
   }
 
 module _ (texts : ℕ → Bytes) (subject : ℕ) where
@@ -86,6 +86,10 @@ module _ (texts : ℕ → Bytes) (subject : ℕ) where
       checkpoint = subst (λ n. HoldsCheckpoint texts (record (parts_of v' s u) { append = n }) u.control) (ap (λ (h : RangeHistory). h.append kinds.Metadata) (sym same))
           (longer_holds texts (parts_of v s u) v'.answered longer u.control m.checkpoint);
       said = m.said;
+      installed = m.installed;
+      ordered = m.ordered;
+      named = m.named;
+      rows = m.rows;
     }
 
     still_serves : (u.load.generation ≡ g → ⊥) → Serves texts run v u → Serves texts later v' u
@@ -97,15 +101,15 @@ module _ (texts : ℕ → Bytes) (subject : ℕ) where
     still_at : (stage : Stage) → (is_serving stage ≡ true → u.load.generation ≡ g → ⊥) → StageIs texts run v u stage → StageIs texts later v' u stage
     still_at stages.Opening apart k = subst (λ h. HasReadNothing h u) (sym same) k
     still_at (stages.Checking kinds.Metadata) apart k = subst (λ h. ReadsMetadata h u) (sym same) k
-    still_at (stages.Checking kinds.Log) apart k = subst (λ h. ReadsLog h u) (sym same) k
+    still_at (stages.Checking kinds.Log) apart k = (subst (λ h. ReadsLog h u) (sym same) k.0, k.1)
     still_at (stages.Checking kinds.RowData) apart k = k
     still_at (stages.Checking kinds.BlobData) apart k = k
     still_at (stages.Reading kinds.Metadata position) apart k = subst (λ h. ReadsMetadata h u) (sym same) k
-    still_at (stages.Reading kinds.Log position) apart k = subst (λ h. ReadsLog h u) (sym same) k
+    still_at (stages.Reading kinds.Log position) apart k = (subst (λ h. ReadsLog h u) (sym same) k.0, k.1)
     still_at (stages.Reading kinds.RowData position) apart k = k
     still_at (stages.Reading kinds.BlobData position) apart k = k
-    still_at (stages.Indexing position) apart k = subst (λ h. ReadsLog h u) (sym same) k
-    still_at stages.Confirming apart k = subst (λ h. ReadsLog h u) (sym same) k
+    still_at (stages.Indexing position) apart k = (subst (λ h. ReadsIndexes texts h u position) (sym same) k.0, k.1)
+    still_at stages.Confirming apart k = subst (λ h. HasReadAll texts h u) (sym same) k
     still_at stages.Serving apart k = still_serves (apart refl) k
 
   -- a range that is not served under that generation keeps what it keeps

@@ -6,7 +6,7 @@ use Rattle.model_partition.specs.declared.table_note.TableNote.TheVariants as ta
 use Rattle.model_partition.specs.Log.{is_of, only}
 use Rattle.model_partition.specs.Past.{Bytes}
 use Rattle.model_partition.specs.ServedTables.{IsSeenAs, AreSeenAs}
-use Rattle.model_partition.specs.ServerRun.{PlacedBytes}
+use Rattle.model_partition.specs.StreamActions.{PlacedBytes}
 use Rattle.laws_server_runs.specs.Places.{NoteWithin, NotesWithin}
 use Rattle.laws_server_runs.proofs.Actions.{same_test, other_test}
 

@@ -1,5 +1,5 @@
 -- Each event is a step of all servers, of which at most one takes a turn.
-use Rattle.std.proofs.Common.{◌≡◌, ◌⊎◌, ℕ, suc, ◌-◌, ◌^◌, max, List, [], ◌∷◌, ◌++◌, map, Bool, true, false, ◌==◌, Option, Some, None, option_map, slice_set, nat_lt, refl, sym, ap, ◌∙◌, subst, inl, inr, if◌then◌else◌}
+use Rattle.std.proofs.Common.{◌≡◌, ◌⊎◌, ℕ, suc, ◌-◌, ◌^◌, max, List, [], ◌∷◌, ◌++◌, map, Bool, true, false, ◌==◌, Option, Some, None, is_some, option_map, slice_set, nat_lt, refl, sym, ap, ◌∙◌, subst, inl, inr, if◌then◌else◌}
 use Rattle.std.specs.BTreeMap.{insert_entry}
 use Rattle.std.specs.Ordering.{nat_cmp}
 use Rattle.std.proofs.lemmas.Bool.{cases_eq}
@@ -14,7 +14,9 @@ use Rattle.wire.specs.declared.body.MapBody.TheVariants as maps
 use Rattle.wire.specs.declared.body.TableBody.{TableBody}
 use Rattle.wire.specs.declared.body.TableBody.TheVariants as tables
 use Rattle.wire.specs.declared.packet.Packet.{Packet}
+use Rattle.wire.specs.declared.refusal.Refusal.{Refusal}
 use Rattle.wire.specs.declared.refusal.Refusal.TheVariants as refusals
+use Rattle.model_partition.specs.Checkpoints.{checkpoint_fault, checkpoint_rule}
 use Rattle.wire.specs.declared.transaction.Change.{Change}
 use Rattle.client.specs.Load.{open_packet}
 use Rattle.model_streams.specs.Maps.{entry_at}
@@ -22,12 +24,12 @@ use Rattle.model_partition.specs.Range.{RangeState, request, used, refuses}
 use Rattle.model_partition.specs.Serving.{transact_rule}
 use Rattle.model_partition.specs.Getting.{get_rule}
 use Rattle.model_partition.specs.Answering.{answered_number, is_answerer, answer_rule, give_up_all}
-use Rattle.model_partition.specs.Server.{ServerState, ServerOutcome, range_of, set_range, awaiting, rests, sends_one, stepped, new_range, is_newer, users_of, assign_rule, renew_rule, told_by_map, map_rule, transacts_in, gets_in, table_rule, answer_in, answer_of, numbered_rule, taken_rule, has_numbers, server_rule, moment_rule, gives_up, picked, give_up_rule, started}
-use Rattle.model_partition.specs.Servers.{ServerCell, cell_rests, cell_takes, cell_given_up, cell_gives_up, cell_stops, cell_starts, at_server, first_pick, told_moment}
+use Rattle.model_partition.specs.Server.{ServerState, ServerOutcome, range_of, set_range, awaiting, rests, sends_one, stepped, new_range, is_newer, users_of, assign_rule, renew_rule, told_by_map, map_rule, transacts_in, gets_in, table_rule, answer_in, answer_of, numbered_rule, taken_rule, has_numbers, server_rule, moment_rule, gives_up, picked, give_up_rule, started, checkpoint_refused, checkpoint_refusal, checkpoints_in, server_checkpoint}
+use Rattle.model_partition.specs.Servers.{ServerCell, cell_rests, cell_takes, cell_given_up, cell_gives_up, cell_checkpoints, cell_stops, cell_starts, at_server, first_pick, told_moment}
 use Rattle.model_partition.specs.StreamActions.{transact_actions, answer_actions}
-use Rattle.model_partition.specs.ServerRun.{ServerRun, Begins, Rests as RestsSo, ServerEvent, Takes, GivesUp, Stops, Starts, Moment, with_effect, with_outcome, after_event, told_effect, map_effect, transact_effect, table_effect, answer_effect, awaited_effect, numbered_effect, packet_effect, server_effect, cell_effect}
+use Rattle.model_partition.specs.ServerRun.{ServerRun, Begins, Rests as RestsSo, ServerEvent, Takes, GivesUp, Checkpoints, Stops, Starts, Moment, with_effect, with_outcome, after_event, told_effect, map_effect, transact_effect, table_effect, answer_effect, awaited_effect, numbered_effect, packet_effect, server_effect, cell_effect}
 use Rattle.laws_loads.proofs.Entries.{entry_set, entry_other, entry_unmapped}
-use Rattle.laws_server_runs.specs.Turns.{Transacts, Answers, Gets, Yields, Renews, Turn, Idles, Opens, Acts, Calms, outcome_of, HoldNoMore, RunStep, Keeps, Passes, Turns}
+use Rattle.laws_server_runs.specs.Turns.{Transacts, Answers, Gets, Yields, Checkpoints as BeginsCheckpoint, Renews, Turn, Idles, Opens, Acts, Calms, outcome_of, HoldNoMore, RunStep, Keeps, Passes, Turns}
 
 -- ---- what the map assigns
 
@@ -46,6 +48,7 @@ IsAny range = Unit {0}
 pub any_assigned : (event : ServerEvent) → AllAssigned IsAny event
 any_assigned (Takes s p) = λ range generation until from body. tt
 any_assigned (GivesUp s range pick) = tt
+any_assigned (Checkpoints s range) = tt
 any_assigned (Stops s call) = tt
 any_assigned (Starts s now batch) = tt
 any_assigned (Moment now) = tt
@@ -167,6 +170,19 @@ module _ (IsAssigned : ℕ → Type 0) (st : ServerState) where
           let same : (if has_numbers (picked st pick).context then stepped (picked st pick) range (give_up_all (picked st pick).context r) else rests (picked st pick)) ≡ o = cc in
           subst (λ z. Turn IsAssigned st RestsSo z) same (go r held (has_numbers (picked st pick).context))
 
+  -- told to make a checkpoint
+  checkpoint_turn : (range : ℕ) → Turn IsAssigned st RestsSo (server_checkpoint st range)
+  checkpoint_turn range = by (range_of st.ranges range) refl (checkpoint_refusal st range) refl
+    where
+      begins : (r : RangeState) → range_of st.ranges range ≡ Some r → checkpoint_fault r ≡ None → (b : Bool) → Turn IsAssigned st RestsSo (if b then stepped st range (checkpoint_rule st.context r) else rests st)
+      begins r held may true = Calms range r held (checkpoint_rule st.context r) (BeginsCheckpoint st.context may) (stepped st range (checkpoint_rule st.context r)).after refl
+      begins r held may false = rests_turn
+
+      by : (o : Option RangeState) → range_of st.ranges range ≡ o → (fault : Option Refusal) → checkpoint_refused o ≡ fault → Turn IsAssigned st RestsSo (if is_some fault then rests st else checkpoints_in st range o)
+      by o held (Some why) e = rests_turn
+      by None held None e = rests_turn
+      by (Some r) held None e = begins r held e (has_numbers st.context)
+
 -- ---- all servers
 
 module _ (IsAssigned : ℕ → Type 0) (x : ServerRun) where
@@ -231,6 +247,20 @@ module _ (IsAssigned : ℕ → Type 0) (x : ServerRun) where
       go None at = nobody
       go (Some cell) at = by_state cell at cell.state refl
 
+  checkpoints_step : (s range : ℕ) → RunStep IsAssigned x (outcome_of x.servers (Checkpoints s range)).notes (after_event x (Checkpoints s range))
+  checkpoints_step s range = go (entry_at x.servers s) refl
+    where
+      by_state : (cell : ServerCell) → entry_at x.servers s ≡ Some cell → (o : Option ServerState) → cell.state ≡ o →
+          RunStep IsAssigned x (cell_checkpoints cell range o).notes (with_outcome x
+          (record { servers = slice_set x.servers (s - 1) (cell_checkpoints cell range o).cell; packets = (cell_checkpoints cell range o).packets; notes = (cell_checkpoints cell range o).notes }))
+      by_state cell at None is = one_keeps s cell at cell (same_cell cell)
+      by_state cell at (Some st) is = Turns s cell st at is RestsSo (server_checkpoint st range) (checkpoint_turn IsAssigned st range)
+
+      go : (o : Option ServerCell) → entry_at x.servers s ≡ o →
+          RunStep IsAssigned x (at_server x.servers s (λ cell. cell_checkpoints cell range cell.state) o).notes (with_outcome x (at_server x.servers s (λ cell. cell_checkpoints cell range cell.state) o))
+      go None at = nobody
+      go (Some cell) at = by_state cell at cell.state refl
+
   stops_step : (s call : ℕ) → RunStep IsAssigned x (outcome_of x.servers (Stops s call)).notes (after_event x (Stops s call))
   stops_step s call = go (entry_at x.servers s) refl
     where
@@ -277,6 +307,7 @@ module _ (IsAssigned : ℕ → Type 0) (x : ServerRun) where
   pub event_step : (event : ServerEvent) → AllAssigned IsAssigned event → RunStep IsAssigned x (outcome_of x.servers event).notes (after_event x event)
   event_step (Takes s p) assigned = takes_step s p assigned
   event_step (GivesUp s range pick) assigned = gives_up_step s range pick
+  event_step (Checkpoints s range) assigned = checkpoints_step s range
   event_step (Stops s call) assigned = stops_step s call
   event_step (Starts s now batch) assigned = starts_step s now batch
   event_step (Moment now) assigned = Passes (map (told_moment now) x.servers) (moment_like now)

@@ -153,17 +153,17 @@ module _ (texts : ℕ → Bytes) (subject : ℕ) (run : Run) (v : RangeView) (r 
         let serving : is_serving r.stage ≡ true = taken_served d r changes e in
         let s : StepKept texts subject run v pushed (formed (forms d pushed).after) (forms d pushed) =
         forms_kept texts subject run v pushed d (pushed_kept e) kept_streams serving (pushed_serves serving) none in
-        record { next = s.next; goes = s.goes; alone = s.alone; kept = s.kept; streams = s.streams; plain = s.plain; longer = s.longer; anew = s.anew; seen = s.seen }
+        record { next = s.next; goes = s.goes; alone = s.alone; kept = s.kept; streams = s.streams; longer = s.longer; anew = s.anew; seen = s.seen }
     taken_kept (Some out) there e =
         if_elim (λ (o : RangeOutcome). StepKept texts subject run v r [] o) (not (is_some pushed.out) && (nat_lt 0 (group_count d pushed) && nat_lt (pushed.next + group_count d pushed) (2 ^ 64)))
         (appending d pushed (group_count d pushed)) (goes d pushed [] [])
         (λ t. absurd (let z : Some out ≡ None = sym there ∙ (is_next d pushed (pushed_sound d r from q changes e kept.sound) t).none in cc))
-        (λ f. calm_kept texts subject run v r (goes d pushed [] []) kept_streams refl (pushed_kept e, refl) (λ s. inl s) (λ none. none))
+        (λ f. calm_kept texts subject run v r (goes d pushed [] []) kept_streams refl (pushed_kept e, refl) (λ s. inl s))
 
     by_fault : (fault : Option Refusal) → transact_fault d r changes ≡ fault → StepKept texts subject run v r (transact_actions r (transacts d r from q changes fault)) (transacts d r from q changes fault)
     by_fault (Some refusal) e =
         subst (λ (actions : List StreamAction). StepKept texts subject run v r actions (transacts d r from q changes (Some refusal))) (sym (no_group r.out))
-        (calm_kept texts subject run v r (transacts d r from q changes (Some refusal)) kept_streams refl (kept, refl) (λ s. inl s) (λ none. none))
+        (calm_kept texts subject run v r (transacts d r from q changes (Some refusal)) kept_streams refl (kept, refl) (λ s. inl s))
     by_fault None e = taken_kept r.out refl e
 
   -- a transaction
@@ -181,7 +181,7 @@ module _ (texts : ℕ → Bytes) (subject : ℕ) (run : Run) (v : RangeView) (r 
 
     -- news that tell nothing of the group
     still_kept : (packets : List Packet) → StepKept texts subject run v r [] (goes d now packets [])
-    still_kept packets = calm_kept texts subject run v r (goes d now packets []) kept_streams refl (now_kept, refl) (λ s. inl s) (λ none. none)
+    still_kept packets = calm_kept texts subject run v r (goes d now packets []) kept_streams refl (now_kept, refl) (λ s. inl s)
 
     -- the group that is out stands, and the next one is formed
     applied_kept : (out : OutGroup) → r.out ≡ Some out → (c.base ≡ r.log.base) → (length c.extents ≡ length r.log.extents) → (e offset : ℕ) →
@@ -198,7 +198,7 @@ module _ (texts : ℕ → Bytes) (subject : ℕ) (run : Run) (v : RangeView) (r 
         forms_kept texts subject stands.next seen after d stands.kept.0 stands.streams serving (serves_of texts subject stands.next seen after serving stands.kept.0) refl in
         let both : StepKept texts subject run v r (formed (forms d after).after ++ Stands kinds.Log e (last_position r.log offset) (group_of out) ∷ []) (applies d now out e offset) =
         then_kept texts subject run v r after (Stands kinds.Log e (last_position r.log offset) (group_of out) ∷ []) (formed (forms d after).after) (committed d out.first out.transactions)
-        (stood_outcome texts subject run v r k out there fits c based counted e offset) (forms d after) serving refl (λ none. none) stands forming in
+        (stood_outcome texts subject run v r k out there fits c based counted e offset) (forms d after) serving refl stands forming in
         subst
         (λ b. StepKept texts subject run v r (if b then formed (forms d after).after ++ Stands kinds.Log e (last_position r.log offset) (group_of out) ∷ [] else []) (applies d now out e offset))
         (sym (there_after d after)) both
@@ -210,7 +210,7 @@ module _ (texts : ℕ → Bytes) (subject : ℕ) (run : Run) (v : RangeView) (r 
 
     news_kept : (told : Option News) (packets : List Packet) → EndsAsBefore r.log.base (length r.log.extents) c told →
         StepKept texts subject run v r (if is_some (serving_news d now told packets).after then serving_actions r told (serving_news d now told packets) else []) (serving_news d now told packets)
-    news_kept (Some news.Fenced) packets ends = calm_kept texts subject run v r (dropped d now) kept_streams refl tt tt (λ none. tt)
+    news_kept (Some news.Fenced) packets ends = calm_kept texts subject run v r (dropped d now) kept_streams refl tt tt
     news_kept (Some (news.Appended e offset)) packets ends = done_kept r.out refl ends.0 ends.1 e offset
     news_kept told packets ends = still_kept packets
 
@@ -232,7 +232,8 @@ module _ (texts : ℕ → Bytes) (subject : ℕ) (run : Run) (v : RangeView) (r 
         then (if b then serving_actions r answer.news (at_stage b) else loading_actions kinds.Log r.log r.stage (groups_of body) answer.news)
         else [])
         (at_stage b)
-    by_stage true e = news_kept serving answer.after answer.news (option_to_list answer.packet) (reply_ends (request d) (picking d r.log) body)
+    by_stage true e =
+        news_kept serving answer.after answer.news (option_to_list answer.packet) (reply_ends (request d) (picking d r.log) body)
     by_stage false e = absurd cc
 
     abbrev if_taken : Bool → RangeOutcome
@@ -240,7 +241,7 @@ module _ (texts : ℕ → Bytes) (subject : ℕ) (run : Run) (v : RangeView) (r 
 
     by_place : (b : Bool) → StepKept texts subject run v r (if is_some (if_taken b).after then (if b then log_actions d r body (if_taken b) else []) else []) (if_taken b)
     by_place true = by_stage (is_serving r.stage) serving
-    by_place false = calm_kept texts subject run v r (answers d r []) kept_streams refl (kept, refl) (λ s. inl s) (λ none. none)
+    by_place false = calm_kept texts subject run v r (answers d r []) kept_streams refl (kept, refl) (λ s. inl s)
 
   -- an answer to the log
   pub log_serving_kept : is_serving r.stage ≡ true → (w : ReqNo) (body : Body) → awaits r.log.job w ≡ true →

@@ -99,6 +99,10 @@ module _ (texts : ℕ → Bytes) (subject : ℕ) where
       live = k.matches.live;
       checkpoint = k.matches.checkpoint;
       said = k.matches.said;
+      installed = k.matches.installed;
+      ordered = k.matches.ordered;
+      named = k.matches.named;
+      rows = k.matches.rows;
     }
 
     formed_serves : StreamsKept texts run v → Serves texts formed_run formed_view formed_range
@@ -131,7 +135,6 @@ module _ (texts : ℕ → Bytes) (subject : ℕ) where
           refl,
         );
         streams = formed_streams run v r k n is c streams;
-        plain = λ none p. (p, none);
         longer = ([], refl);
         anew = λ s. inl serving;
         seen = formed_seen run v r k n is c kept.range;
@@ -144,4 +147,4 @@ module _ (texts : ℕ → Bytes) (subject : ℕ) where
       if_elim (λ (o : RangeOutcome). StepKept texts subject run v r (formed o.after) o) (not (is_some r.out) && (nat_lt 0 (group_count d r) && nat_lt (r.next + group_count d r) (2 ^ 64))) _ _
       (λ t. appends_kept run v r d kept streams serving k (group_count d r) (is_next d r kept.sound t))
       (λ f. subst (λ (x : Option OutGroup). StepKept texts subject run v r (map (λ out. Forms kinds.Log (group_of out)) (if_there x)) (goes d r [] [])) (sym none)
-      (calm_kept texts subject run v r (goes d r [] []) streams refl (kept, refl) (λ s. inl serving) (λ none. none)))
+      (calm_kept texts subject run v r (goes d r [] []) streams refl (kept, refl) (λ s. inl serving)))

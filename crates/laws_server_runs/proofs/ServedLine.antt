@@ -1,6 +1,6 @@
 -- The tables of a range that is served are those of a line that its generation has come to, whatever checkpoint is under way: its memory
 -- table over its fixed layer, and this over what its indexes say.
-use Rattle.std.proofs.Common.{◌≡◌, ℕ, suc, length, true, List, map, Option, Some, None, sym, ap, ◌∙◌}
+use Rattle.std.proofs.Common.{◌≡◌, ℕ, suc, ◌+◌, arith, length, true, List, map, Option, Some, None, sym, ap, ◌∙◌}
 use Rattle.std.specs.Prelude.{if◌then◌else◌, is_some}
 use Rattle.wire.specs.declared.rows.Row.{Row}
 use Rattle.wire.specs.declared.streams.StreamKind.TheVariants as kinds
@@ -15,18 +15,18 @@ use Rattle.model_partition.specs.Past.{Bytes, Transaction, after_line, empty_tab
 use Rattle.model_partition.specs.Range.{RangeState}
 use Rattle.model_partition.specs.ServedTables.{AllStand}
 use Rattle.model_partition.specs.ServerRun.{place_number}
-use Rattle.model_partition.specs.Story.{Copy, EndsRise, KeepsOrder, placed}
+use Rattle.model_partition.specs.Story.{Copy, EndsRise, KeepsOrder, placed, whole}
 use Rattle.laws_loads.specs.MemoryLayers.{layer_in}
 use Rattle.laws_loads.specs.RangeView.{RangeView}
 use Rattle.laws_loads.specs.Sound.{OutFits}
 use Rattle.laws_tables.specs.Layers.{Layer, over, flat, indexed}
 use Rattle.laws_tables.specs.Runs as chains
-use Rattle.laws_tables.specs.Runs.{NotedPosition, Run, Serving, first_beginning, held, noted_next, noting, said, ShowsLayers, IsServing}
+use Rattle.laws_tables.specs.Runs.{NotedPosition, Run, Serving, items_out, first_beginning, held, noted_next, noting, said, ShowsLayers, IsServing}
 use Rattle.laws_tables.specs.Through.{OutAppend, HasLine}
 use Rattle.laws_tables.proofs.Final.{first_begins, first_behind}
 use Rattle.laws_tables.proofs.Holds.{HoldsRightly, NumberIs}
 use Rattle.laws_tables.proofs.Machine.{Inv, inv_of}
-use Rattle.laws_tables.proofs.Whole.{whole, to_shown}
+use Rattle.laws_tables.proofs.Whole.{to_shown}
 use Rattle.laws_checkpoints.specs.IndexLayers.{layer_at}
 use Rattle.laws_checkpoints.proofs.Checkpoints.{newer_layer}
 use Rattle.laws_checkpoints.proofs.CheckpointRecords.{job_notes}
@@ -79,6 +79,7 @@ module _ (texts : ℕ → Bytes) where
     pub line : List Transaction
     pub of_generation : HasLine (whole (Numbered Transaction) order (chains.log_of run)) r.load.generation line s.out
     pub number : number_to_apply r.out r.next ≡ suc (length line)
+    pub next : s.next ≡ suc (length line) + length (items_out s.out)
     pub table : (key : Bytes) → within r.said.keys key ≡ true → flat (known_at r key) ≡ after_line line empty_table key
 
   module _ (run : Run) (v : RangeView) (r : RangeState) (m : Matches texts v (held first_beginning run r.load.generation) r) (serving : IsServing run r.load.generation) (fits : OutFits r.out) where
@@ -103,6 +104,10 @@ module _ (texts : ℕ → Bytes) where
     by_number None next line h = h
     by_number (Some out) next line h = h.0
 
+    next_behind : (out : Option (OutAppend Transaction)) (next : ℕ) (line : List Transaction) → NumberIs out next line → next ≡ suc (length line) + length (items_out out)
+    next_behind None next line h = omega (arith, h)
+    next_behind (Some out) next line h = let first = h.0 in let more : next ≡ out.group.first + length out.group.items = h.1 in omega (arith, first, more)
+
     -- where its streams keep their order, and its loads show what their layers say
     pub at_own_line : (rows : ℕ → List Row) → chains.IsChainRun (layer_at texts) first_beginning run → ShowsLayers (layer_at texts) first_beginning rows run →
         (order : KeepsOrder (chains.log_of run)) → EndsRise (chains.log_of run) → KeepsOrder (chains.meta_of run) → AllStand texts v.answered → IsAtOwnLine order.copies run s r
@@ -115,5 +120,6 @@ module _ (texts : ℕ → Bytes) where
           line = h.line;
           of_generation = h.has_line;
           number = sym next_number ∙ by_number s.out s.next h.line h.number;
+          next = next_behind s.out s.next h.line h.number;
           table = λ key there. ap flat (known_is v s r m all key) ∙ h.table key (ap (λ (z : MetadataState). within z.keys key) (sym m.said) ∙ there);
         }

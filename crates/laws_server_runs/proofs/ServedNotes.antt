@@ -102,6 +102,10 @@ module _ (texts : ℕ → Bytes) (subject : ℕ) where
           live = m.live;
           checkpoint = m.checkpoint;
           said = m.said;
+          installed = m.installed;
+          ordered = m.ordered;
+          named = m.named;
+          rows = m.rows;
         };
       }
 
@@ -115,14 +119,14 @@ module _ (texts : ℕ → Bytes) (subject : ℕ) where
   goes_both g run mid later one Rests = one
   goes_both g run mid later one (Adds e earlier on under) = Adds e earlier (goes_both g run mid earlier one on) under
 
-  view_both : (g : ℕ) (v : RangeView) (xs ys : List StreamAction) → view_after_all g v (xs ++ ys) ≡ view_after_all g (view_after_all g v ys) xs
+  pub view_both : (g : ℕ) (v : RangeView) (xs ys : List StreamAction) → view_after_all g v (xs ++ ys) ≡ view_after_all g (view_after_all g v ys) xs
   view_both g v [] ys = refl
   view_both g v (x ∷ xs) ys = ap (λ w. view_after g w x) (view_both g v xs ys)
 
   -- one step after another
-  pub then_kept : (run : Run) (v : RangeView) (r r1 : RangeState) (xs ys : List StreamAction) (packets : List Packet) (o1 o2 : RangeOutcome) → is_serving r.stage ≡ true → r1.load.generation ≡ r.load.generation → (r.control ≡ None → r1.control ≡ None) →
+  pub then_kept : (run : Run) (v : RangeView) (r r1 : RangeState) (xs ys : List StreamAction) (packets : List Packet) (o1 o2 : RangeOutcome) → is_serving r.stage ≡ true → r1.load.generation ≡ r.load.generation →
       (s1 : StepKept texts subject run v r xs o1) → StepKept texts subject s1.next (view_after_all r.load.generation v xs) r1 ys o2 → StepKept texts subject run v r (ys ++ xs) (after_these packets o1.notes o2)
-  then_kept run v r r1 xs ys packets o1 o2 serving same rest s1 s2 =
+  then_kept run v r r1 xs ys packets o1 o2 serving same s1 s2 =
       let g : ℕ = r.load.generation in
       let mid : RangeView = view_after_all g v xs in
       let last : RangeView = view_after_all r1.load.generation mid ys in
@@ -133,7 +137,6 @@ module _ (texts : ℕ → Bytes) (subject : ℕ) where
         alone = inr (inl serving);
         kept = subst (λ w. KeptIf texts subject s2.next w g o2.after) whole (subst (λ k. KeptIf texts subject s2.next last k o2.after) same s2.kept);
         streams = subst (StreamsKept texts s2.next) whole s2.streams;
-        plain = λ none p. s2.plain (rest none) (s1.plain none p).0;
         longer = (
           s2.longer.0 ++ s1.longer.0,
           ap (λ (w : RangeView). w.answered) (sym whole) ∙ s2.longer.1 ∙ ap (λ l. s2.longer.0 ++ l) s1.longer.1 ∙ sym (append_assoc s2.longer.0 s1.longer.0 v.answered),

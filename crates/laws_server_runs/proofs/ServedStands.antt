@@ -25,6 +25,7 @@ use Rattle.model_partition.specs.ServerRun.{place_number}
 use Rattle.model_partition.specs.ServedTables.{AllStand, AreSeenAs}
 use Rattle.laws_loads.specs.Sound.{IsSound, OutFits}
 use Rattle.laws_tables.proofs.Range.{event_cases}
+use Rattle.laws_loads.proofs.Rows.{ordered_put}
 use Rattle.laws_loads.specs.RangeView.{RangeView, view_after, log_of}
 use Rattle.laws_tables.specs.Layers.{layer_line}
 use Rattle.laws_tables.specs.Runs as chains
@@ -115,6 +116,10 @@ module _ (texts : ℕ → Bytes) (subject : ℕ) (run : Run) (v : RangeView) (r 
       live = live_is;
       checkpoint = longer_holds texts (parts_of v old_held r) stood_view.answered (record { extent = extent; offset = at.offset; bytes = joined (group_of out) } ∷ [], refl) r.control k.matches.checkpoint;
       said = k.matches.said;
+      installed = k.matches.installed;
+      ordered = ordered_put r.live (flat_map (λ changes. changes) (kept (record_of out.first out.transactions) extent offset)) k.matches.ordered;
+      named = k.matches.named;
+      rows = k.matches.rows;
     }
 
     -- what was made is as before
@@ -159,7 +164,6 @@ module _ (texts : ℕ → Bytes) (subject : ℕ) (run : Run) (v : RangeView) (r 
       alone = inr (inl serving);
       kept = (kept_served texts subject run stood_run v stood_view r stood_range before serving refl refl sound stood_serves, refl);
       streams = stood_streams streams;
-      plain = λ none p. (p, none);
       longer = (record { extent = extent; offset = at.offset; bytes = joined (group_of out) } ∷ [], refl);
       anew = λ s. inl serving;
       seen = stood_seen before.range;

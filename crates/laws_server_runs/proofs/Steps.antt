@@ -1,5 +1,5 @@
 -- A step of a range at one server keeps what is kept of it at all servers.
-use Rattle.std.proofs.Common.{◌≡◌, ⊎_elim, ℕ, suc, ◌-◌, List, ◌++◌, true, ◌&&◌, ◌==◌, Some, None, slice_set, refl, sym, ap, ◌∙◌, subst, inl, inr, arith}
+use Rattle.std.proofs.Common.{◌≡◌, ⊎_elim, ℕ, suc, ◌-◌, List, ◌++◌, true, ◌&&◌, ◌==◌, Some, slice_set, refl, sym, ap, ◌∙◌, subst, inl, inr, arith}
 use Rattle.std.proofs.lemmas.Bool.{cases_eq}
 use Rattle.wire.specs.declared.note.Note.{Note}
 use Rattle.wire.specs.declared.packet.Packet.{Packet}
@@ -17,7 +17,7 @@ use Rattle.model_partition.specs.ServedTables.{AreSeenAs, ServesAt}
 use Rattle.laws_loads.proofs.Entries.{entry_set, entry_other}
 use Rattle.laws_loads.specs.RangeView.{RangeView, view_after_all}
 use Rattle.laws_tables.specs.Runs.{Run, IsServing}
-use Rattle.laws_server_runs.specs.RangeInvariant.{HasNoCheckpoint, IsPlain, StageIs, RangeKept, StreamsKept, AreObserved, GoesOn, Rests, IsLonger, IsAlone, KeptIf, ServesAnew, StepKept}
+use Rattle.laws_server_runs.specs.RangeInvariant.{StageIs, RangeKept, StreamsKept, AreObserved, GoesOn, Rests, IsLonger, IsAlone, KeptIf, ServesAnew, StepKept}
 use Rattle.laws_server_runs.specs.RunInvariant.{view_at, RunKept}
 use Rattle.laws_server_runs.proofs.Actions.{other_test, actions_here, actions_apart, actions_rest}
 use Rattle.laws_server_runs.proofs.Fronts.{SeenBoth, seen_both}
@@ -40,9 +40,6 @@ module _ (texts : ℕ → Bytes) (subject : ℕ) where
   -- the range that is served at a server, and what is kept of it
   pub kept_at : (x : ServerRun) (k : RunKept texts subject x) (t : ℕ) (u : RangeState) → ServesAt x t subject u → RangeKept texts subject k.run (view_at subject x t) u
   kept_at x k t u at = k.ranges t at.cell at.state at.there at.runs u at.held
-
-  pub calm_at : (x : ServerRun) (k : RunKept texts subject x) (t : ℕ) (u : RangeState) → ServesAt x t subject u → u.control ≡ None
-  calm_at x k t u at = k.calm t at.cell at.state at.there at.runs u at.held
 
   module _ (x : ServerRun) (k : RunKept texts subject x) (s : ℕ) (cell : ServerCell) (st : ServerState) (at : entry_at x.servers s ≡ Some cell) (is : cell.state ≡ Some st)
       (r : RangeState) (held : range_of st.ranges subject ≡ Some r) (actions : List StreamAction) (o : RangeOutcome)
@@ -173,26 +170,11 @@ module _ (texts : ℕ → Bytes) (subject : ℕ) where
         let all : only subject notes ≡ only subject b.before ++ b.later = ap (only subject) b.is ∙ only_both subject b.before b.later ∙ ap (λ l. only subject b.before ++ l) (own_seen b.later b.second_seen) in
         subst (λ l. AreObserved texts subject step.next l) (sym all) new
 
-    -- ---- no checkpoint
-
-    own_plain : IsPlain step.next × HasNoCheckpoint o.after
-    own_plain = step.plain (k.calm s cell st at is r held) k.plain
-
-    all_calm : (t : ℕ) (c : ServerCell) (q : ServerState) → entry_at next_run.servers t ≡ Some c → c.state ≡ Some q → (u : RangeState) → range_of q.ranges subject ≡ Some u → u.control ≡ None
-    all_calm t c q there up u found = elim (cases_eq t s) [
-      | inl same ↦
-          (let e : after ≡ q = at_here c q (subst (λ n. entry_at next_run.servers n ≡ Some c) same there) up in
-          subst HasNoCheckpoint (sym left ∙ ap (λ (z : ServerState). range_of z.ranges subject) e ∙ found) own_plain.1)
-      | inr apart ↦ k.calm t c q (there_before t apart c there) up u found
-    ]
-
     pub stepped_kept : RunKept texts subject next_run
     stepped_kept = record {
       run = step.next;
       ranges = all_ranges;
       own = own_one;
       streams = streams_same texts step.next (view_at subject next_run s) (view_at subject next_run 0) refl refl (subst (λ v. StreamsKept texts step.next v) (sym here) step.streams);
-      plain = own_plain.0;
-      calm = all_calm;
       seen = all_seen;
     }

@@ -9,7 +9,7 @@ use Rattle.model_partition.specs.Renaming.{decoded, decoded_record}
 use Rattle.model_partition.specs.Server.{range_of}
 use Rattle.model_partition.specs.Story.{KeepsOrder, EndsRise}
 use Rattle.model_partition.specs.ServerRun.{ServerRun, ServerEvent, after_event, first_run, run_of, log_name, metadata_name}
-use Rattle.model_partition.specs.ServedTables.{AreFirst, AreSeenAs, AllStand, StreamsInOrder, IsAtLine, ServesAt}
+use Rattle.model_partition.specs.ServedTables.{AreFirst, AreSeenAs, StreamsInOrder, IsAtLine, ServesAt}
 use Rattle.laws_loads.proofs.Renaming.{renamed_keeps}
 use Rattle.laws_tables.proofs.Ends.{renamed_ends_rise}
 use Rattle.laws_tables.proofs.Final.{tables_of_first_range_replay}
@@ -25,22 +25,24 @@ use Rattle.laws_server_runs.proofs.Kept.{step_kept}
 use Rattle.laws_server_runs.proofs.LaidRuns.{bare, all_laid}
 use Rattle.laws_server_runs.proofs.Others.{streams_same}
 use Rattle.laws_server_runs.proofs.RunSteps.{IsAny, any_assigned, event_step}
+use Rattle.laws_server_runs.proofs.SeenTables.{seen_as, all_seen}
 use Rattle.laws_server_runs.proofs.ServedNotes.{serves_of}
-use Rattle.laws_server_runs.proofs.Steps.{kept_at, calm_at}
+use Rattle.laws_server_runs.proofs.Steps.{kept_at}
 
 module _ (texts : ℕ → Bytes) (subject : ℕ) where
   -- what is premised of a run was so before its last event
-  before : (x y : ServerRun) → Longer x y → StreamsInOrder texts subject y → StreamsInOrder texts subject x
+  pub before : (x y : ServerRun) → Longer x y → StreamsInOrder texts subject y → StreamsInOrder texts subject x
   before x y l o = record {
     metadata = order_shorter Group (x.story (metadata_name subject)) (y.story (metadata_name subject)) (l.story (metadata_name subject)) o.metadata;
     log = order_shorter Group (x.story (log_name subject)) (y.story (log_name subject)) (l.story (log_name subject)) o.log;
     once = once_shorter Group (x.story (log_name subject)) (y.story (log_name subject)) (l.story (log_name subject)) o.once;
     ends = ends_shorter Group (x.story (log_name subject)) (y.story (log_name subject)) (l.story (log_name subject)) o.ends;
     shown = stand_shorter texts (x.shown subject) (y.shown subject) (l.shown subject) o.shown;
+    answered = stand_shorter texts (x.answered subject) (y.answered subject) (l.answered subject) o.answered;
   }
 
   of_view : (x : ServerRun) → StreamsInOrder texts subject x → InOrder texts (view_at subject x 0)
-  of_view x o = record { log = o.log; metadata = o.metadata; once = o.once; ends = o.ends; shown = o.shown }
+  of_view x o = record { log = o.log; metadata = o.metadata; once = o.once; ends = o.ends; shown = o.shown; answered = o.answered }
 
   first_kept : (batch servers : ℕ) → RunKept texts subject (first_run batch servers)
   first_kept batch servers = record {
@@ -48,8 +50,6 @@ module _ (texts : ℕ → Bytes) (subject : ℕ) where
     ranges = λ s cell st at up r held. absurd (let z : None ≡ Some r = sym (ap (λ l. range_of l subject) (bare batch servers s cell st at up)) ∙ held in cc);
     own = λ s t r u one two e. absurd (none s r one);
     streams = record { log = refl; metadata = refl; chain = tt; keys = tt; spelled = λ a g group e. absurd cc; records = λ a g group e. absurd cc };
-    plain = tt;
-    calm = λ s cell st at up r held. absurd (let z : None ≡ Some r = sym (ap (λ l. range_of l subject) (bare batch servers s cell st at up)) ∙ held in cc);
     seen = nothing_seen;
   }
     where
@@ -82,12 +82,19 @@ module _ (texts : ℕ → Bytes) (batch servers : ℕ) where
       (subst (λ z. KeepsOrder z) (sym k.streams.metadata) (renamed_keeps decoded_record (x.story (metadata_name first_range)) order.metadata))
       (sym (only_first texts batch servers events first (table_notes h) seen) ∙ o.2)
 
-  -- a range that is served is at its line
-  pub run_at_line : (events : List ServerEvent) (s range : ℕ) (r : RangeState) → StreamsInOrder texts range (run_of batch servers events) →
-      AllStand texts ((run_of batch servers events).answered range) → ServesAt (run_of batch servers events) s range r → IsAtLine texts ((run_of batch servers events).story (log_name range)) r
-  run_at_line events s range r order stand at =
-      let k : RunKept texts range (run_of batch servers events) = all_kept texts range batch servers events order in
-      let h : RangeKept texts range k.run (view_at range (run_of batch servers events) s) r = kept_at texts range (run_of batch servers events) k s r at in
-      at_line texts k.run (view_at range (run_of batch servers events) s) r
-      (streams_same texts k.run (view_at range (run_of batch servers events) 0) (view_at range (run_of batch servers events) s) refl refl k.streams) k.plain
-      (serves_of texts range k.run (view_at range (run_of batch servers events) s) r at.serves h) (calm_at texts range (run_of batch servers events) k s r at) h.sound.out_fits stand
+  -- A range that is served is at its line, whichever copies belong to its loads by the order of its log.
+  pub served_at_line : (events : List ServerEvent) (s range : ℕ) (r : RangeState) → StreamsInOrder texts range (run_of batch servers events) →
+      ServesAt (run_of batch servers events) s range r → (log : KeepsOrder ((run_of batch servers events).story (log_name range))) →
+      IsAtLine texts ((run_of batch servers events).story (log_name range)) log.copies r
+  served_at_line events s range r order at log =
+      let x : ServerRun = run_of batch servers events in
+      let k : RunKept texts range x = all_kept texts range batch servers events order in
+      let h : RangeKept texts range k.run (view_at range x s) r = kept_at texts range x k s r at in
+      let o : AreObserved texts range k.run (only range (seen_as texts x.notes)) = k.seen (seen_as texts x.notes) (all_seen texts x.notes) in
+      at_line texts k.run (view_at range x s) r (streams_same texts k.run (view_at range x 0) (view_at range x s) refl refl k.streams) (serves_of texts range k.run (view_at range x s) r at.serves h)
+      o.0 o.1 log order.ends order.metadata h.sound.out_fits order.answered
+
+  -- and so by those that its streams are premised to have
+  pub run_at_line : (events : List ServerEvent) (s range : ℕ) (r : RangeState) (p : StreamsInOrder texts range (run_of batch servers events)) →
+      ServesAt (run_of batch servers events) s range r → IsAtLine texts ((run_of batch servers events).story (log_name range)) p.log.copies r
+  run_at_line events s range r p at = served_at_line events s range r p at p.log

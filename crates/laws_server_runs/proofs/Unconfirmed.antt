@@ -65,12 +65,12 @@ module _ (found : List Group) where
 
   -- it shows nothing, and tells no story
   pub quiet : ((run_of 1 1 unconfirmed).notes ≡ []) × ((run_of 1 1 unconfirmed).story (log_name first_range) ≡ []) × ((run_of 1 1 unconfirmed).story (metadata_name first_range) ≡ [])
-      × ((run_of 1 1 unconfirmed).shown first_range ≡ [])
+      × ((run_of 1 1 unconfirmed).shown first_range ≡ []) × ((run_of 1 1 unconfirmed).answered first_range ≡ [])
   quiet = by made
     where
-      by : (x : Replayed) → ((after x).notes ++ (replays context is_read 0 x).notes ≡ []) × ((after x).story (log_name first_range) ≡ []) × ((after x).story (metadata_name first_range) ≡ []) × ((after x).shown first_range ≡ [])
-      by None = (refl, refl, refl, refl)
-      by (Some x) = (refl, refl, refl, refl)
+      by : (x : Replayed) → ((after x).notes ++ (replays context is_read 0 x).notes ≡ []) × ((after x).story (log_name first_range) ≡ []) × ((after x).story (metadata_name first_range) ≡ []) × ((after x).shown first_range ≡ []) × ((after x).answered first_range ≡ [])
+      by None = (refl, refl, refl, refl, refl)
+      by (Some x) = (refl, refl, refl, refl, refl)
 
   -- so nothing is owed: no story, and no table
   pub owes_nothing : (texts : ℕ → Bytes) → StreamsInOrder texts first_range (run_of 1 1 unconfirmed)
@@ -80,4 +80,5 @@ module _ (found : List Group) where
     once = subst LoadsOnce (sym quiet.1) (λ l m g start end start' end' groups groups' one two. absurd cc);
     ends = subst EndsRise (sym quiet.1) (ends_rise Group [] tt);
     shown = subst (AllStand texts) (sym quiet.3) tt;
+    answered = subst (AllStand texts) (sym quiet.4) tt;
   }

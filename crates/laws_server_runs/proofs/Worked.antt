@@ -1,5 +1,5 @@
 -- A worked example: a server forms a group that is answered, a second one loads it, and a late answer changes nothing.
-use Rattle.std.proofs.Common.{◌≡◌, ◌⊎◌, ℕ, List, [], ◌∷◌, refl, sym, subst, Option, Some, None, inl, inr, arith}
+use Rattle.std.proofs.Common.{◌≡◌, ◌⊎◌, ℕ, List, [], ◌∷◌, map, refl, sym, ap, ◌∙◌, subst, Option, Some, None, inl, inr, arith}
 use Rattle.std.proofs.lemmas.List.{append-nil}
 use Rattle.blocks.specs.Record as numbers
 use Rattle.wire.specs.declared.actor.ActorId.{ActorId}
@@ -37,18 +37,22 @@ use Rattle.model_partition.specs.declared.table_note.TableNote.TheVariants as ta
 use Rattle.model_partition.specs.Past.{Bytes, Transaction, Replays, after_line, empty_table, table_notes, first_range}
 use Rattle.model_partition.specs.Loading.{Group}
 use Rattle.model_partition.specs.Range.{RangeState}
-use Rattle.model_partition.specs.Getting.{standing}
 use Rattle.model_partition.specs.Server.{ServerState, started}
 use Rattle.model_partition.specs.Servers.{first_pick}
-use Rattle.model_partition.specs.Story.{Placed, StreamEvent, Made, Answered, Showed, Story, Copy, placed, event_at, KeepsOrder, EndsRise}
-use Rattle.model_partition.specs.ServerRun.{PlacedBytes, ServerRun, ServerEvent, Takes, run_of, log_name, metadata_name}
-use Rattle.model_partition.specs.TableContents.{StandsAt, value_of}
-use Rattle.model_partition.specs.ServedTables.{AreFirst, AreSeenAs, AllStand, LoadsOnce, StreamsInOrder, IsAtLine, ServesAt}
+use Rattle.model_partition.specs.Story.{Placed, StreamEvent, Made, Answered, Showed, Story, Copy, placed, whole, event_at, KeepsOrder, EndsRise}
+use Rattle.model_partition.specs.ServerRun.{ServerRun, ServerEvent, Takes, run_of, log_name, metadata_name}
+use Rattle.model_partition.specs.StreamActions.{PlacedBytes}
+use Rattle.model_partition.specs.Log.{line_shown}
+use Rattle.model_partition.specs.Renaming.{renamed, renamed_placed, decoded}
+use Rattle.laws_tables.proofs.Whole.{from_first}
+use Rattle.model_partition.specs.TableContents.{StandsAt, table_in}
+use Rattle.model_partition.specs.ServedTables.{line_to, AreFirst, AreSeenAs, AllStand, LoadsOnce, StreamsInOrder, IsAtLine, ServesAt}
 use Rattle.laws_tables.specs.Fenced.{Seen, Landed, Fenced, LogRun, IsLogRun, visible}
 use Rattle.laws_tables.proofs.Fenced.{keeps_order, ends_rise}
 use Rattle.laws_tables.proofs.Range.{event_cases}
 use Rattle.laws_loads.proofs.Rows.{rows_say}
-use Rattle.laws_server_runs.proofs.Theorem.{run_replays, run_at_line}
+use Rattle.laws_server_runs.proofs.Theorem.{run_replays, served_at_line}
+use Rattle.model_partition.specs.IndexContents.{served_entries}
 
 -- ---- what comes
 
@@ -80,21 +84,39 @@ extent = record { extent = 7; places = first_pick; length = None }
 abbrev appended : ServerEvent
 appended = comes 1 (Node 1) (bodies.Append (appends.Appended (asked 1 5) 7 0))
 
--- the newest first
-abbrev on_time : List ServerEvent
-on_time =
-    comes 2 Manager (bodies.Stream (streams.Confirmed (asked 2 4)))
-    ∷ comes 2 (Node 1) (bodies.Read (reads.Groups (asked 2 3) 7 (group ∷ [])))
-    ∷ comes 2 (Node 1) (bodies.Check (checks.Checked (asked 2 2) (Some 24)))
-    ∷ comes 2 Manager (bodies.Stream (streams.Opened (asked 2 1) (lists (extent ∷ []))))
-    ∷ comes 2 Map (bodies.Map (maps.Assign 1 2 100))
-    ∷ appended
-    ∷ comes 1 Manager (bodies.Stream (streams.Extended (asked 1 4) 7 first_pick))
-    ∷ comes 1 (User 1) (bodies.Table (bodies_of_tables.Transact 1 put (requests.User 1 1)))
-    ∷ comes 1 Manager (bodies.Stream (streams.Confirmed (asked 1 2)))
-    ∷ comes 1 Manager (bodies.Stream (streams.Opened (asked 1 1) (lists [])))
-    ∷ comes 1 Map (bodies.Map (maps.Assign 1 1 100))
-    ∷ []
+-- one after the other, the newest first
+abbrev pub assigned_first : List ServerEvent
+assigned_first = comes 1 Map (bodies.Map (maps.Assign 1 1 100)) ∷ []
+
+abbrev pub opened_first : List ServerEvent
+opened_first = comes 1 Manager (bodies.Stream (streams.Opened (asked 1 1) (lists []))) ∷ assigned_first
+
+abbrev pub served_first : List ServerEvent
+served_first = comes 1 Manager (bodies.Stream (streams.Confirmed (asked 1 2))) ∷ opened_first
+
+abbrev pub formed_first : List ServerEvent
+formed_first = comes 1 (User 1) (bodies.Table (bodies_of_tables.Transact 1 put (requests.User 1 1))) ∷ served_first
+
+abbrev pub grown_first : List ServerEvent
+grown_first = comes 1 Manager (bodies.Stream (streams.Extended (asked 1 4) 7 first_pick)) ∷ formed_first
+
+abbrev pub answered_first : List ServerEvent
+answered_first = appended ∷ grown_first
+
+abbrev pub assigned_second : List ServerEvent
+assigned_second = comes 2 Map (bodies.Map (maps.Assign 1 2 100)) ∷ answered_first
+
+abbrev pub opened_second : List ServerEvent
+opened_second = comes 2 Manager (bodies.Stream (streams.Opened (asked 2 1) (lists (extent ∷ [])))) ∷ assigned_second
+
+abbrev pub checked_second : List ServerEvent
+checked_second = comes 2 (Node 1) (bodies.Check (checks.Checked (asked 2 2) (Some 24))) ∷ opened_second
+
+abbrev pub read_second : List ServerEvent
+read_second = comes 2 (Node 1) (bodies.Read (reads.Groups (asked 2 3) 7 (group ∷ []))) ∷ checked_second
+
+abbrev pub on_time : List ServerEvent
+on_time = comes 2 Manager (bodies.Stream (streams.Confirmed (asked 2 4))) ∷ read_second
 
 abbrev pub events : List ServerEvent
 events = appended ∷ on_time
@@ -249,18 +271,26 @@ module _ (texts : ℕ → Bytes) (there : StandsAt (texts 7) 0 (joined group)) w
     once = subst LoadsOnce (sym makes.0) (once Group group);
     ends = subst EndsRise (sym makes.0) (log_ends Group group);
     shown = subst (AllStand texts) (sym makes.3) (there, tt);
+    answered = subst (AllStand texts) (sym makes.4) (there, tt);
   }
 
   pub both_replay : (h : List Note) → AreSeenAs texts told (table_notes h) → Replays h
   both_replay h seen = run_replays texts 1 2 events h are_first in_order (subst (λ z. AreSeenAs texts z (table_notes h)) (sym makes.2) seen)
 
-  at_line : IsAtLine texts log served
-  at_line = subst (λ z. IsAtLine texts z served) makes.0 (run_at_line texts 1 2 events 2 first_range served in_order (subst (AllStand texts) (sym makes.4) (there, tt)) serves)
+  -- the range at the second server is at its line, by any copies that belong to its loads
+  pub at_line : (order : KeepsOrder log) → IsAtLine texts log order.copies served
+  at_line = subst (λ (z : Story Group). (order : KeepsOrder z) → IsAtLine texts z order.copies served) makes.0 (λ order. served_at_line texts 1 2 events 2 first_range served in_order serves order)
 
-  -- the table of the range at the second server is that of the line with the one transaction
-  pub table_is : (key : Bytes) → value_of texts (standing served key) ≡ after_line (put ∷ []) empty_table key
+  -- its line has the one transaction
+  line_is : (order : KeepsOrder log) → line_to (renamed decoded (whole Group order.copies log)) 2 ≡ put ∷ []
   unfolding numbers.number reading.record_at reading.joined_at reading.text_at reading.body_at reading.transactions_at reading.transaction_at reading.change_at reading.counted_at reading.cell_at reading.fields_at reading.transactions_of
-  table_is key = at_line.table key
+  line_is order =
+      ap (λ (groups : List (Placed Group)). line_shown (map (renamed_placed decoded) groups))
+      (sym (order.shown 3 2 0 24 (record { from = 0; to = 24; group = group } ∷ []) refl ∙ ap (map placed) (from_first Group (order.copies 3))))
+
+  -- and its table is that of this line
+  pub table_is : KeepsOrder log → (key : Bytes) → table_in texts (served_entries texts served) key ≡ after_line (put ∷ []) empty_table key
+  table_is order key = (at_line order).table key ∙ ap (λ l. after_line l empty_table key) (line_is order)
 
 -- what is seen of it
 abbrev seen : List Note

@@ -1,5 +1,5 @@
 -- A worked example: a server serves two ranges, and each of them is at its line. The law of what is loaded does not speak of it.
-use Rattle.std.proofs.Common.{◌≡◌, ℕ, List, [], ◌∷◌, refl, sym, subst, Some}
+use Rattle.std.proofs.Common.{◌≡◌, ℕ, List, [], ◌∷◌, arith, refl, sym, subst, Some}
 use Rattle.blocks.specs.Record as numbers
 use Rattle.commitlog.specs.Reading as reading
 use Rattle.metadata.specs.Fold.{first_metadata}
@@ -21,15 +21,17 @@ use Rattle.model_partition.specs.ServedTables.{AreFirst, AllStand, LoadsOnce, St
 use Rattle.model_partition.specs.TableContents.{StandsAt}
 use Rattle.laws_server_runs.proofs.NeededPremises.{one_keeps, one_once, one_ends}
 use Rattle.laws_server_runs.proofs.Theorem.{run_at_line}
-use Rattle.laws_server_runs.proofs.Worked.{comes, asked, lists, group, events, log, metadata, stands, served, log_keeps, log_ends, metadata_keeps, once}
+use Rattle.laws_server_runs.proofs.Worked.{assigned_first, opened_first, served_first, formed_first, grown_first, answered_first, assigned_second, opened_second, checked_second, read_second, on_time, comes, asked, lists, group, events, log, metadata, stands, served, log_keeps, log_ends, metadata_keeps, once}
 
 -- the second server takes another range as well
+abbrev assigned_other : List ServerEvent
+assigned_other = comes 2 Map (bodies.Map (maps.Assign 2 1 100)) ∷ events
+
+abbrev opened_other : List ServerEvent
+opened_other = comes 2 Manager (bodies.Stream (streams.Opened (asked 2 6) (lists []))) ∷ assigned_other
+
 abbrev both : List ServerEvent
-both =
-    comes 2 Manager (bodies.Stream (streams.Confirmed (asked 2 7)))
-    ∷ comes 2 Manager (bodies.Stream (streams.Opened (asked 2 6) (lists [])))
-    ∷ comes 2 Map (bodies.Map (maps.Assign 2 1 100))
-    ∷ events
+both = comes 2 Manager (bodies.Stream (streams.Confirmed (asked 2 7))) ∷ opened_other
 
 abbrev run : ServerRun
 run = run_of 1 2 both
@@ -69,28 +71,30 @@ not_first first = let other_is_first : 2 ≡ first_range = first.1.1.0 in absurd
 
 module _ (texts : ℕ → Bytes) where
   -- whatever stands in the extents, the other range is at its line
-  other_in_order : StreamsInOrder texts 2 run
+  pub other_in_order : StreamsInOrder texts 2 run
   other_in_order = record {
     metadata = subst KeepsOrder (sym makes.3) (one_keeps Group);
     log = subst KeepsOrder (sym makes.2) (one_keeps Group);
     once = subst LoadsOnce (sym makes.2) (one_once Group (Showed 1 0 0 []));
     ends = subst EndsRise (sym makes.2) (one_ends Group (Showed 1 0 0 []));
     shown = subst (AllStand texts) (sym makes.6) tt;
+    answered = subst (AllStand texts) (sym makes.7) tt;
   }
 
-  pub other_at_line : IsAtLine texts (run.story (log_name 2)) other
-  other_at_line = run_at_line texts 1 2 both 2 2 other other_in_order (subst (AllStand texts) (sym makes.7) tt) serves_other
+  pub other_at_line : IsAtLine texts (run.story (log_name 2)) other_in_order.log.copies other
+  other_at_line = run_at_line texts 1 2 both 2 2 other other_in_order serves_other
 
   -- and the first is, where the group stands at the begin of its extent
   module _ (there : StandsAt (texts 7) 0 (joined group)) where
-    first_in_order : StreamsInOrder texts first_range run
+    pub first_in_order : StreamsInOrder texts first_range run
     first_in_order = record {
       metadata = subst KeepsOrder (sym makes.1) (metadata_keeps Group group);
       log = subst KeepsOrder (sym makes.0) (log_keeps Group group);
       once = subst LoadsOnce (sym makes.0) (once Group group);
       ends = subst EndsRise (sym makes.0) (log_ends Group group);
       shown = subst (AllStand texts) (sym makes.4) (there, tt);
+      answered = subst (AllStand texts) (sym makes.5) (there, tt);
     }
 
-    pub first_at_line : IsAtLine texts (run.story (log_name first_range)) served
-    first_at_line = run_at_line texts 1 2 both 2 first_range served first_in_order (subst (AllStand texts) (sym makes.5) (there, tt)) serves_first
+    pub first_at_line : IsAtLine texts (run.story (log_name first_range)) first_in_order.log.copies served
+    first_at_line = run_at_line texts 1 2 both 2 first_range served first_in_order serves_first

@@ -1,23 +1,27 @@
 -- What is held of the checkpoint of a range that is served, by what it waits for: what the run of the range has noted, what stands of its
 -- pages and of its index, and its record that is out.
-use Rattle.std.specs.Prelude.{◌≡◌, ℕ, suc, ◌^◌, true, false, nat_lt, List, Option, Some, None}
+use Rattle.std.specs.Prelude.{◌≡◌, ◌⊎◌, ℕ, suc, ◌^◌, true, false, nat_lt, List, Option, Some, None}
 use Rattle.wire.specs.declared.streams.StreamKind.TheVariants as kinds
+use Rattle.client.specs.declared.job.Job.TheVariants as jobs
+use Rattle.client.specs.Client.{ClientState}
 use Rattle.memtable.specs.declared.cell.Place.{Place}
 use Rattle.memtable.specs.Entries.{Entries}
 use Rattle.metadata.specs.declared.record.MetaItem.{MetaItem}
 use Rattle.metadata.specs.declared.record.MetaItem.TheVariants.{Checkpoint}
 use Rattle.metadata.specs.Record.{IsNext, IsPosition}
+use Rattle.checkpoint_format.specs.Index.{index_group}
 use Rattle.checkpoint_format.specs.Page.{pages_of}
 use Rattle.checkpoint.specs.Contents.{AreEntries}
 use Rattle.checkpoint.specs.Pages.{AreFiled}
-use Rattle.checkpoint.specs.PageGroups.{next_group}
+use Rattle.checkpoint.specs.PageGroups.{next_group, next_pages, page_group}
 use Rattle.model_partition.specs.declared.checkpoint_job.CheckpointPhase.{CheckpointPhase}
 use Rattle.model_partition.specs.declared.checkpoint_job.CheckpointPhase.TheVariants as checkpoints
 use Rattle.model_partition.specs.CheckpointStates.{CheckpointState}
 use Rattle.model_partition.specs.Past.{Bytes}
 use Rattle.model_partition.specs.Range.{RangeState}
 use Rattle.model_partition.specs.ServedTables.{AllStand}
-use Rattle.model_partition.specs.ServerRun.{PlacedBytes, place_number}
+use Rattle.model_partition.specs.ServerRun.{place_number}
+use Rattle.model_partition.specs.StreamActions.{PlacedBytes}
 use Rattle.laws_loads.specs.MemoryLayers.{layer_in}
 use Rattle.laws_loads.specs.RangeView.{RangeView}
 use Rattle.laws_tables.specs.Layers.{Layer, empty_layer}
@@ -59,6 +63,25 @@ pub record HoldsNone (c : CheckpointParts) : Type 0 where
 -- the item of a plain checkpoint's record
 abbrev pub item_of : CheckpointState → Place → MetaItem
 item_of job index = Checkpoint false index job.position job.next
+
+-- ---- what is appended to row data
+
+-- the group is out, or none is
+abbrev pub Appends : ClientState → List (List ℕ) → Type 0
+Appends c group = (c.job ≡ jobs.Idle) ⊎ (c.group ≡ group)
+
+abbrev pub AppendsPhase : ClientState → CheckpointState → CheckpointPhase → Type 0
+AppendsPhase c job checkpoints.Pages = Appends c (page_group (next_pages job.pages))
+AppendsPhase c job checkpoints.Index = Appends c (index_group job.pages.index)
+AppendsPhase c job (checkpoints.Record index) = c.job ≡ jobs.Idle
+AppendsPhase c job (checkpoints.Trim before to_blob q) = c.job ≡ jobs.Idle
+
+-- by what a checkpoint waits for
+abbrev pub AppendsRows : ClientState → Option CheckpointState → Type 0
+AppendsRows c None = c.job ≡ jobs.Idle
+AppendsRows c (Some job) = AppendsPhase c job job.phase
+
+-- ---- what it holds
 
 module _ (texts : ℕ → Bytes) where
   -- its position and its next number are noted, and its pages are written of the fixed layer

@@ -1,4 +1,5 @@
 pub mod CheckpointInvariant
+pub mod NamedIndexes
 pub mod RangeInvariant
 pub mod RunInvariant
 pub mod Places

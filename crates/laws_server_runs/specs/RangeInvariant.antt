@@ -1,11 +1,12 @@
 -- What is kept of a range at a server: while it loads, what it made of what it read; while it is served, that it holds what a run of
 -- its servers says that its generation holds.
-use Rattle.std.specs.Prelude.{◌≡◌, ◌⊎◌, ℕ, true, false, List, [], ◌∷◌, ◌++◌, Option, Some, None, option_map}
+use Rattle.std.specs.Prelude.{◌≡◌, ◌⊎◌, ℕ, ◌-◌, ◌<◌, ◌≤◌, ◌^◌, true, false, List, [], ◌∷◌, ◌++◌, length, drop, Option, Some, None, option_map}
 use Rattle.blocks.specs.Format.{◌>>=◌}
 use Rattle.wire.specs.declared.actor.ReqNo.{ReqNo}
 use Rattle.wire.specs.declared.note.Note.{Note}
 use Rattle.wire.specs.declared.rows.Row.{Row}
 use Rattle.wire.specs.declared.streams.StreamKind.TheVariants as kinds
+use Rattle.wire.specs.declared.streams.StreamExtent.{StreamExtent}
 use Rattle.streams.specs.declared.table.Position.{Position}
 use Rattle.memtable.specs.declared.cell.Place.{Place}
 use Rattle.memtable.specs.Entries.{Entries}
@@ -13,11 +14,16 @@ use Rattle.metadata.specs.declared.record.KeyRange.{KeyRange}
 use Rattle.metadata.specs.declared.record.Region.{Region}
 use Rattle.metadata.specs.declared.record.MetaItem.TheVariants.{Checkpoint}
 use Rattle.metadata.specs.Fold.{first_metadata}
+use Rattle.metadata.specs.declared.record.IndexRange.{IndexRange}
 use Rattle.metadata.specs.Record.{IsPosition}
+use Rattle.checkpoint_format.specs.declared.index.Index.{Index}
+use Rattle.checkpoint_format.specs.Page.{pages_of}
+use Rattle.checkpoint.specs.Pages.{AreFiled}
 use Rattle.commitlog.specs.declared.log_record.LogRecord.{LogRecord}
 use Rattle.commitlog.specs.Reading.{record_at}
 use Rattle.commitlog.specs.Record.{spelling}
 use Rattle.client.specs.declared.job.Job.TheVariants as jobs
+use Rattle.client.specs.Client.{ClientState, last_extent}
 use Rattle.client.specs.declared.load.LoadPhase.{LoadPhase}
 use Rattle.client.specs.declared.load.LoadPhase.TheVariants as phases
 use Rattle.model_partition.specs.declared.stage.Stage.{Stage}
@@ -25,9 +31,10 @@ use Rattle.model_partition.specs.declared.stage.Stage.TheVariants as stages
 use Rattle.model_partition.specs.Past.{Bytes, Transaction}
 use Rattle.model_partition.specs.Story.{Made, Story, event_at, KeepsOrder, EndsRise}
 use Rattle.model_partition.specs.Range.{OutGroup, RangeState, RangeOutcome, is_serving}
-use Rattle.model_partition.specs.Loading.{Group, said_after, replayed}
+use Rattle.model_partition.specs.declared.waiting.PlaceRead.{PlaceRead}
+use Rattle.model_partition.specs.Loading.{Group, said_after, replayed, index_named, length_or}
 use Rattle.model_partition.specs.Renaming.{renamed, decoded, decoded_record}
-use Rattle.model_partition.specs.StreamActions.{ExtentRead, StreamAction, group_of}
+use Rattle.model_partition.specs.StreamActions.{ExtentRead, StreamAction, group_of, first_start}
 use Rattle.model_partition.specs.ServerRun.{RangeHistory, place_number}
 use Rattle.model_partition.specs.ServedTables.{AllStand, AreSeenAs, LoadsOnce}
 use Rattle.laws_loads.specs.Sound.{IsSound}
@@ -36,8 +43,11 @@ use Rattle.laws_loads.specs.RangeView.{RangeView, view_after_all, log_of, metada
 use Rattle.laws_tables.specs.Runs as chains
 use Rattle.laws_tables.specs.Runs.{Event, Run, Serving, first_beginning, record_group, said, held, seen, IsServing, IsChainRun, ShowsLayers, KeepsKeys}
 use Rattle.laws_tables.specs.Through.{OutAppend}
-use Rattle.laws_checkpoints.specs.IndexLayers.{layer_at}
-use Rattle.laws_server_runs.specs.CheckpointInvariant.{parts_of, HoldsCheckpoint}
+use Rattle.laws_checkpoints.specs.IndexLayers.{layer_at, IsWritten}
+use Rattle.laws_checkpoints.specs.ShownTables.{AreInstalled}
+use Rattle.laws_loads.proofs.Rows.{Ordered}
+use Rattle.laws_server_runs.specs.NamedIndexes.{NamesSuch}
+use Rattle.laws_server_runs.specs.CheckpointInvariant.{parts_of, HoldsCheckpoint, AppendsRows}
 
 -- ---- what a load makes of what it reads
 
@@ -51,11 +61,6 @@ abbrev pub replayed_all : KeyRange → List ExtentRead → List Region × Entrie
 replayed_all keys [] z = Some z
 replayed_all keys (x ∷ older) z = replayed_all keys older z >>= λ y. replayed keys x.extent (record { index = x.index; offset = 0 }) y x.groups
 
--- no checkpoint is under way, or the range is dropped
-abbrev pub HasNoCheckpoint : Option RangeState → Type 0
-HasNoCheckpoint None = Unit {0}
-HasNoCheckpoint (Some r) = r.control ≡ None
-
 -- nothing is read yet
 pub record HasReadNothing (h : RangeHistory) (r : RangeState) : Type 0 where
   pub metadata : h.reads kinds.Metadata ≡ []
@@ -63,6 +68,8 @@ pub record HasReadNothing (h : RangeHistory) (r : RangeState) : Type 0 where
   pub live : r.live ≡ []
   pub fixed : r.fixed ≡ None
   pub none : r.control ≡ None
+  pub indexes : r.indexes ≡ []
+  pub rows : r.rows.job ≡ jobs.Idle
 
 -- the metadata is being read
 pub record ReadsMetadata (h : RangeHistory) (r : RangeState) : Type 0 where
@@ -72,6 +79,8 @@ pub record ReadsMetadata (h : RangeHistory) (r : RangeState) : Type 0 where
   pub fixed : r.fixed ≡ None
   pub idle : r.log.job ≡ jobs.Idle
   pub none : r.control ≡ None
+  pub indexes : r.indexes ≡ []
+  pub rows : r.rows.job ≡ jobs.Idle
 
 -- all of the metadata is read, and the log is being read, or the indexes after it
 pub record ReadsLog (h : RangeHistory) (r : RangeState) : Type 0 where
@@ -80,16 +89,11 @@ pub record ReadsLog (h : RangeHistory) (r : RangeState) : Type 0 where
   pub fixed : r.fixed ≡ None
   pub idle : r.metadata.job ≡ jobs.Idle
   pub none : r.control ≡ None
+  pub rows : r.rows.job ≡ jobs.Idle
+  -- the log that is applied begins in the stream
+  pub begins : r.log.base ≤ (first_start r.said.regions).index
 
 -- ---- the run of a range
-
--- no checkpoint, no split and no Trim: a load shows the log from its first place on, and no records
-abbrev pub IsPlain : Run → Type 0
-IsPlain [] = Unit {0}
-IsPlain (chains.Forms g group ∷ earlier) = IsPlain earlier
-IsPlain (chains.Logged g append from to ∷ earlier) = IsPlain earlier
-IsPlain (chains.Confirms g start end groups metadata_end records ∷ earlier) = (start ≡ 0) × (records ≡ []) × IsPlain earlier
-IsPlain (event ∷ earlier) = ⊥
 
 -- the generation under which this is done
 abbrev pub generation_of : Event → ℕ
@@ -101,18 +105,19 @@ generation_of (chains.Recorded g append from to) = g
 generation_of (chains.Trims g place) = g
 generation_of (chains.Confirms g start end groups metadata_end records) = g
 
--- the group of a plain checkpoint's record, at a position
-pub record IsCheckpointRecord (group : Group) : Type 0 where
+-- the group of a plain checkpoint's record, at a position; its index is one of which this is so
+pub record IsCheckpointRecord (Holds : Place → Type 0) (group : Group) : Type 0 where
   pub number : ℕ
   pub index : Place
   pub position : Position
   pub next : ℕ
   pub spells : decoded_record group ≡ record_group number (Checkpoint false index position next)
   pub fits : IsPosition position
+  pub holds : Holds index
 
 -- each group that was formed is one
-abbrev pub AreCheckpoints : Story Group → Type 0
-AreCheckpoints story = (a g : ℕ) (group : Group) → event_at story a ≡ Some (Made g group) → IsCheckpointRecord group
+abbrev pub AreCheckpoints : (Place → Type 0) → Story Group → Type 0
+AreCheckpoints Holds story = (a g : ℕ) (group : Group) → event_at story a ≡ Some (Made g group) → IsCheckpointRecord Holds group
 
 -- a run goes on with events of this generation alone
 pub data GoesOn (g : ℕ) (run : Run) : Run → Type 0 where
@@ -125,11 +130,41 @@ pub data GoesOn (g : ℕ) (run : Run) : Run → Type 0 where
 abbrev pub IsLonger : {A : Type 0} → List A → List A → Type 0
 IsLonger {A} old new = (more : List A) × (new ≡ more ++ old)
 
+-- the length of a stream's last extent has 32 bits
+abbrev pub LengthFits : Option ℕ → Option StreamExtent → Type 0
+LengthFits checked None = Unit {0}
+LengthFits checked (Some x) = length_or x.length checked < 2 ^ 32
+
+abbrev pub EndFits : ClientState → Type 0
+EndFits c = LengthFits c.checked (last_extent c.extents)
+
 -- the append of a group that is out, which began with this event
 abbrev pub append_of : ℕ → Option OutGroup → Option (OutAppend Transaction)
 append_of event out = option_map (λ o. record { append = event; group = decoded (group_of o) }) out
 
 module _ (texts : ℕ → Bytes) where
+  -- at the place stands an index of the pages of some entries, each under its first key
+  abbrev pub IsOfPages : Place → Type 0
+  IsOfPages place = (index : Index) × (entries : Entries) × IsWritten texts index entries place × AreFiled index.pages (pages_of entries)
+
+  -- the indexes before a position are read, from the oldest on; the metadata names the newest first
+  pub record ReadsIndexes (h : RangeHistory) (r : RangeState) (position : ℕ) : Type 0 where
+    pub log : ReadsLog h r
+    pub installed : AreInstalled texts r.indexes (drop (length r.said.indexes - position) r.said.indexes)
+
+  -- the next of them is asked for
+  pub record AsksIndex (r : RangeState) (position : ℕ) : Type 0 where
+    pub read : PlaceRead
+    pub named : IndexRange
+    pub out : r.reading ≡ Some read
+    pub next : index_named r.said.indexes position ≡ Some named
+    pub place : read.place ≡ named.place
+
+  -- all is read
+  pub record HasReadAll (h : RangeHistory) (r : RangeState) : Type 0 where
+    pub log : ReadsLog h r
+    pub installed : AreInstalled texts r.indexes r.said.indexes
+
   -- what a range holds is what its run says that its generation holds
   pub record Matches (v : RangeView) (s : Serving) (r : RangeState) : Type 0 where
     pub position : place_number r.position ≡ s.position
@@ -137,8 +172,15 @@ module _ (texts : ℕ → Bytes) where
     pub out : s.out ≡ append_of (v.history.append kinds.Log) r.out
     pub live : AllStand texts v.answered → (key : Bytes) → layer_in texts r.live key ≡ s.live key
     pub checkpoint : HoldsCheckpoint texts (parts_of v s r) r.control
-    -- the metadata says what its records say
+    -- the metadata says what its records say, and the indexes that it names are installed
     pub said : r.said ≡ said first_beginning s.records
+    pub installed : AreInstalled texts r.indexes r.said.indexes
+    -- each is one of pages, under all keys
+    pub named : NamesSuch IsOfPages r.said
+    -- what its client of row data appends is what the checkpoint waits for
+    pub rows : AppendsRows r.rows r.control
+    -- its memory table is in the order of its keys
+    pub ordered : Ordered r.live
 
   pub record Serves (run : Run) (v : RangeView) (r : RangeState) : Type 0 where
     pub shown : IsServing run r.load.generation
@@ -157,15 +199,15 @@ module _ (texts : ℕ → Bytes) where
   abbrev pub StageIs : Run → RangeView → RangeState → Stage → Type 0
   StageIs run v r stages.Opening = HasReadNothing v.history r
   StageIs run v r (stages.Checking kinds.Metadata) = ReadsMetadata v.history r
-  StageIs run v r (stages.Checking kinds.Log) = ReadsLog v.history r
+  StageIs run v r (stages.Checking kinds.Log) = ReadsLog v.history r × (r.indexes ≡ [])
   StageIs run v r (stages.Checking kinds.RowData) = ⊥
   StageIs run v r (stages.Checking kinds.BlobData) = ⊥
   StageIs run v r (stages.Reading kinds.Metadata position) = ReadsMetadata v.history r
-  StageIs run v r (stages.Reading kinds.Log position) = ReadsLog v.history r
+  StageIs run v r (stages.Reading kinds.Log position) = ReadsLog v.history r × (r.indexes ≡ [])
   StageIs run v r (stages.Reading kinds.RowData position) = ⊥
   StageIs run v r (stages.Reading kinds.BlobData position) = ⊥
-  StageIs run v r (stages.Indexing position) = ReadsLog v.history r
-  StageIs run v r stages.Confirming = ReadsLog v.history r
+  StageIs run v r (stages.Indexing position) = ReadsIndexes v.history r position × AsksIndex r position
+  StageIs run v r stages.Confirming = HasReadAll v.history r
   StageIs run v r stages.Serving = Serves run v r
 
   -- what is kept of a range of this number at a server
@@ -192,7 +234,7 @@ module _ (texts : ℕ → Bytes) where
     pub chain : IsChainRun (layer_at texts) first_beginning run
     pub keys : KeepsKeys run
     pub spelled : AllSpelled (log_of v)
-    pub records : AreCheckpoints (metadata_of v)
+    pub records : AreCheckpoints IsOfPages (metadata_of v)
 
   -- what is premised of them
   pub record InOrder (v : RangeView) : Type 0 where
@@ -201,6 +243,7 @@ module _ (texts : ℕ → Bytes) where
     pub once : LoadsOnce (log_of v)
     pub ends : EndsRise (log_of v)
     pub shown : AllStand texts v.shown
+    pub answered : AllStand texts v.answered
 
   -- ---- one step of a range
 
@@ -225,8 +268,6 @@ module _ (texts : ℕ → Bytes) where
     pub alone : (next ≡ run) ⊎ IsAlone run r
     pub kept : KeptIf subject next (view_after_all r.load.generation v actions) r.load.generation o.after
     pub streams : StreamsKept next (view_after_all r.load.generation v actions)
-    -- where no checkpoint was under way, none is then, and the run has none more
-    pub plain : r.control ≡ None → IsPlain run → IsPlain next × HasNoCheckpoint o.after
     pub longer : IsLonger v.answered (view_after_all r.load.generation v actions).answered
     pub anew : ServesAnew run r o.after
     pub seen : (before later : List Note) → AreObserved subject run before → AreSeenAs texts o.notes later → AreObserved subject next (before ++ later)

@@ -21,12 +21,12 @@ use Rattle.model_partition.specs.declared.range_entry.RangeEntry.{RangeEntry}
 use Rattle.model_partition.specs.Map.{MapState, range_at, range_of_key, assign_fault, assign_rule, renew_fault, renew_rule, route_rule, told as map_told, map_rule}
 use Rattle.model_partition.specs.declared.table_note.TableNote.{TableNote}
 use Rattle.model_partition.specs.declared.table_note.TableNote.TheVariants.{Began, Done, Loaded}
-use Rattle.model_partition.specs.Servers.{ServersOutcome, told, noted, with_told, server_takes, server_gives_up, server_stops, server_starts}
+use Rattle.model_partition.specs.Servers.{ServersOutcome, told, noted, with_told, server_takes, server_gives_up, server_checkpoints, server_stops, server_starts}
 use Rattle.model_partition.specs.Cluster.{Cluster, map_performs, map_performs_if, map_takes, delivered_to, delivers, stops, restarts, cluster_after, assigns, renews, shows_moment, cluster_after_all}
 use Rattle.laws_streams.proofs.Invariant.{agree_in_moves, kept_in_moves}
 use Rattle.laws_streams.proofs.RisingFences.{run_more}
 use Rattle.laws_servers.specs.Sending.{MaySend, MaySendAll, ByMoves}
-use Rattle.laws_servers.proofs.ServerSteps.{IsStill, server_takes_shows, server_gives_up_tidy, server_stops_still, server_starts_still}
+use Rattle.laws_servers.proofs.ServerSteps.{IsStill, server_takes_shows, server_gives_up_tidy, server_checkpoints_tidy, server_stops_still, server_starts_still}
 
 -- ---- moves one after the other
 
@@ -173,7 +173,9 @@ comes_by c (GiveUp server range pick) =
 comes_by c (Assign range server until) = assigns_by c range server until
 comes_by c (Renew range server until) = renews_by c range server until
 comes_by c (Moment now) = moment_by c now
-comes_by c (Checkpoint server range combine) = one c.stream_layer (Happens (Checkpoint server range combine))
+comes_by c (Checkpoint server range combine) =
+    let o : ServersOutcome = server_checkpoints c.servers server range in
+    told_by c.stream_layer o.packets o.notes (server_checkpoints_tidy c.servers server range).0
 comes_by c (Split server range key) = one c.stream_layer (Happens (Split server range key))
 comes_by c (Merge server left right) = one c.stream_layer (Happens (Merge server left right))
 

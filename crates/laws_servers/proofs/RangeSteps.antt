@@ -48,12 +48,12 @@ use Rattle.model_partition.specs.declared.waiting.WaitingTransaction.{WaitingTra
 use Rattle.model_partition.specs.Range.{OutGroup, RangeState, RangeOutcome, request, used, refuses, waiting_out, refused_users, dropped, given, picking, is_serving}
 use Rattle.model_partition.specs.Serving.{record_of, group_count, began, appends as appends_next, forms, transact_fault, lease_ended, transacts, transact_rule, dones, committed, out_size, after_these, applies, log_done}
 use Rattle.model_partition.specs.PlaceReads.{is_place, place_of, places_of, reads_under, moved_on, asks_again}
-use Rattle.model_partition.specs.Loading.{Group, said_after, replayed, read_by, read_of, asks_index, index_named, reads_named, reads_index, installs, index_read, index_bytes, reads_log, first_position, reads_log_from, checks_log, begins_log, reads_metadata, begins_metadata, opens, says, metadata_news, replays, log_read, log_news, open_region, serves_from, serves, shown_table, are_counted}
+use Rattle.model_partition.specs.Loading.{Group, said_after, replayed, read_by, read_of, asks_index, index_named, reads_named, reads_index, installs, index_read, index_bytes, reads_log, first_position, reads_log_from, checks_log, begins_log, reads_metadata, begins_metadata, opens, says, metadata_news, replays, log_read, log_news, open_region, serves_from, serves, shown_table, has_position}
 use Rattle.model_partition.specs.Getting.{Lookup, Is, Needs, Tried, asks_place, answered, try, try_all, get_fault, gets, get_rule, are_no_page, bytes_rule, came, gives_up_read, gives_up_get, look, read_at, standing, without}
 use Rattle.model_partition.specs.CheckpointStates.{CheckpointState}
 use Rattle.model_partition.specs.declared.checkpoint_job.CheckpointPhase.{CheckpointPhase}
 use Rattle.model_partition.specs.declared.checkpoint_job.CheckpointPhase.TheVariants as checkpoints
-use Rattle.model_partition.specs.Checkpoints.{new_job, rows_go, writes_pages, checkpoint_rule, pages_stand, checkpoint_record, has_record_number, may_record, index_place, records, index_stands, rows_stand, rows_told, rows_may_stand, rows_reply, record_stands, record_told, trim_awaits, trim_told, trim_reply_in, phase_again, trim_again}
+use Rattle.model_partition.specs.Checkpoints.{number_to_apply, have_bytes, new_job, rows_go, writes_pages, checkpoint_rule, pages_stand, checkpoint_record, has_record_number, may_record, index_place, records, index_stands, rows_stand, rows_told, rows_may_stand, rows_reply, record_stands, record_told, trim_awaits, trim_told, trim_reply_in, phase_again, trim_again}
 use Rattle.model_partition.specs.Answering.{load_refused, load_told, load_reply, metadata_reply, serving_news, is_taken, log_taken, log_reply, index_told, index_reply, trim_reply, bytes_reply, gets_reply, answer_rule, gives_up_job, gives_up_reading, give_up_all, groups_of}
 use Rattle.model_partition.specs.Servers.{ArePlain, ShowsLoad}
 use Rattle.laws_servers.specs.Sending.{AllFromServers}
@@ -284,7 +284,7 @@ serves_from_shows d r (Some region) =
 
 serves_shows : (d : ServerContext) (r : RangeState) → ShowsFrom (Some (shown_table r)) (serves d r)
 serves_shows d r =
-    if_elim (ShowsFrom (Some (shown_table r))) (are_counted r.log) _ _
+    if_elim (ShowsFrom (Some (shown_table r))) (has_position r.log) _ _
     (λ t. serves_from_shows d r (open_region r.regions))
     (λ f. tidy_shows (Some (shown_table r)) (dropped d r) (dropped_tidy d r))
 
@@ -309,7 +309,9 @@ writes_pages_tidy : (d : ServerContext) (r : RangeState) (job : CheckpointState)
 writes_pages_tidy d r job = rows_go_tidy d r _
 
 pub checkpoint_tidy : (d : ServerContext) (r : RangeState) → IsTidy (checkpoint_rule d r)
-checkpoint_tidy d r = writes_pages_tidy d (record r { live = []; fixed = Some r.live }) (new_job r)
+checkpoint_tidy d r =
+    if_elim IsTidy (have_bytes r.live r.position (number_to_apply r.out r.next)) _ _
+    (λ t. writes_pages_tidy d (record r { live = []; fixed = Some r.live }) (new_job r)) (λ f. (tt, tt))
 
 records_tidy : (d : ServerContext) (r : RangeState) (job : CheckpointState) (index : Place) → IsTidy (records d r job index)
 records_tidy d r job index =
@@ -328,7 +330,7 @@ rows_stand_tidy d r job phase e offset = (tt, tt)
 
 rows_told_tidy : (d : ServerContext) (r : RangeState) (job : Option CheckpointState) (told : Option News) (packets : List Packet) → AllFromServers packets → IsTidy (rows_told d r job told packets)
 rows_told_tidy d r job (Some news.Fenced) packets h = dropped_tidy d r
-rows_told_tidy d r (Some job) (Some (news.Appended e offset)) packets h = rows_stand_tidy d r job job.phase e offset
+rows_told_tidy d r (Some job) (Some (news.Appended e offset)) packets h = if_elim IsTidy (nat_lt e (2 ^ 64)) _ _ (λ t. rows_stand_tidy d r job job.phase e offset) (λ f. (tt, tt))
 rows_told_tidy d r job told packets h = (h, tt)
 
 rows_reply_tidy : (d : ServerContext) (r : RangeState) (body : Body) → IsTidy (rows_reply d r body)

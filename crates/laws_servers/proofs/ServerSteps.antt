@@ -22,7 +22,7 @@ use Rattle.model_partition.specs.declared.shown_table.ShownTable.{ShownTable}
 use Rattle.model_partition.specs.Range.{RangeState}
 use Rattle.model_partition.specs.Answering.{answered_number, is_answerer, answer_rule, give_up_all}
 use Rattle.model_partition.specs.Server.{ServerState, ServerOutcome, range_of, awaiting, users_of, is_newer, assign_rule, renew_rule, told_by_map, map_rule, transacts_in, gets_in, table_rule, answer_in, answer_of, numbered_rule, taken_rule, has_numbers, server_rule, gives_up, picked, checkpoint_refusal, checkpoints_in, server_checkpoint}
-use Rattle.model_partition.specs.Servers.{ArePlain, ShowsLoad, ServerCell, ServersOutcome, range_table, table_at, loads, cell_loads, server_loads, cell_takes, cell_given_up, cell_gives_up, cell_stops, cell_starts, at_server, server_takes, server_gives_up, server_stops, server_starts}
+use Rattle.model_partition.specs.Servers.{ArePlain, ShowsLoad, ServerCell, ServersOutcome, range_table, table_at, loads, cell_loads, server_loads, cell_takes, cell_given_up, cell_gives_up, cell_checkpoints, cell_stops, cell_starts, at_server, server_takes, server_gives_up, server_checkpoints, server_stops, server_starts}
 use Rattle.laws_servers.specs.Sending.{MaySendAll, AllFromServers}
 use Rattle.laws_servers.proofs.ClientPackets.{all_both, may_send_all}
 use Rattle.laws_servers.proofs.RangeSteps.{ShowsFrom, table_with, refused_all, transact_tidy, get_tidy, checkpoint_tidy, answer_shows, give_up_tidy}
@@ -179,6 +179,19 @@ given_up_tidy servers n range pick (Some cell) = cell_gives_up_tidy cell range p
 
 pub server_gives_up_tidy : (servers : List ServerCell) (n range : ℕ) (pick : Nodes) → AllTidy (server_gives_up servers n range pick)
 server_gives_up_tidy servers n range pick = given_up_tidy servers n range pick (entry_at servers n)
+
+cell_checkpoints_tidy : (cell : ServerCell) (range : ℕ) (state : Option ServerState) →
+    MaySendAll (cell_checkpoints cell range state).packets × ArePlain (cell_checkpoints cell range state).notes
+cell_checkpoints_tidy cell range None = (tt, tt)
+cell_checkpoints_tidy cell range (Some s) = let h = server_checkpoint_tidy s range in (may_send_all (server_checkpoint s range).packets h.0, h.1)
+
+checkpoints_of_tidy : (servers : List ServerCell) (n range : ℕ) (cell : Option ServerCell) →
+    AllTidy (at_server servers n (λ x. cell_checkpoints x range x.state) cell)
+checkpoints_of_tidy servers n range None = (tt, tt)
+checkpoints_of_tidy servers n range (Some cell) = cell_checkpoints_tidy cell range cell.state
+
+pub server_checkpoints_tidy : (servers : List ServerCell) (n range : ℕ) → AllTidy (server_checkpoints servers n range)
+server_checkpoints_tidy servers n range = checkpoints_of_tidy servers n range (entry_at servers n)
 
 -- a stop and a start neither send nor show
 abbrev pub IsStill : ServersOutcome → Type 0

@@ -11,7 +11,7 @@ use Rattle.metadata.specs.declared.record.MetaItem.TheVariants.{Ranges, Checkpoi
 use Rattle.metadata.specs.Fold.{MetadataState, all_keys, taken}
 use Rattle.model_partition.specs.Log.{line_shown, begins_of, dones_at}
 use Rattle.model_partition.specs.Past.{Transaction, empty_table, after_line, kept, Replays, table_notes, first_range}
-use Rattle.model_partition.specs.Story.{Placed, StreamEvent, Made, Answered, Showed, event_at, Copy, placed, KeepsOrder, EndsRise}
+use Rattle.model_partition.specs.Story.{Placed, StreamEvent, Made, Answered, Showed, event_at, Copy, placed, KeepsOrder, EndsRise, whole}
 use Rattle.laws_tables.specs.Ends.{StandsBehind}
 use Rattle.laws_tables.specs.Layers.{Layer}
 use Rattle.laws_tables.specs.Runs.{Event, Forms, Logged, Notes, Records, Recorded, Trims, Confirms, Run, log_of, record_group, meta_of, Beginning, first_beginning, IsBeginning, fold_of, ShownLoad, said, next_loaded, shown_at, seen, IsChainRun, ShowsLayers, KeepsKeys}
@@ -23,7 +23,7 @@ use Rattle.laws_tables.proofs.Machine.{Inv, inv_of}
 use Rattle.laws_tables.proofs.Others.{with_others}
 use Rattle.laws_tables.proofs.Range.{IsMadeAt, IsShownAt, older, newest, bound, eq_test, ne_test, made_cases, made_shown, answered_made, answered_shown, showed_made, shown_cases}
 use Rattle.laws_tables.proofs.Theorem.{replays}
-use Rattle.laws_tables.proofs.Whole.{whole, whole_at, as_whole, whole_length, back_shown, whole_order, order_before}
+use Rattle.laws_tables.proofs.Whole.{whole_at, as_whole, whole_length, back_shown, whole_order, order_before}
 
 -- ---- what is observed
 

@@ -9,7 +9,7 @@ use Rattle.metadata.specs.declared.record.MetaItem.{MetaItem}
 use Rattle.metadata.specs.Fold.{MetadataState}
 use Rattle.model_partition.specs.Log.{line_shown}
 use Rattle.model_partition.specs.Past.{Bytes, Transaction, after_line, stored, kept}
-use Rattle.model_partition.specs.Story.{Placed, StreamEvent, Made, Answered, Showed, event_at, Copy, placed, from_place, KeepsOrder, EndsRise}
+use Rattle.model_partition.specs.Story.{Placed, StreamEvent, Made, Answered, Showed, event_at, Copy, placed, from_place, KeepsOrder, EndsRise, whole}
 use Rattle.model_partition.specs.StreamMachine.{In}
 use Rattle.laws_tables.specs.Ends.{StandsBehind}
 use Rattle.laws_tables.specs.Layers.{Layer, flat}
@@ -23,7 +23,7 @@ use Rattle.laws_tables.proofs.Loads.{ItemFrom, item_from, holds_confirmed, base_
 use Rattle.laws_tables.proofs.Members.{in_contains}
 use Rattle.laws_tables.proofs.Range.{IsMadeAt, IsShownAt, older, newest, bound, eq_test, ne_test, made_cases, made_shown, answered_made, answered_shown, showed_made, shown_cases}
 use Rattle.laws_tables.proofs.Through.{had_line_later, lines_begin, answered_stands}
-use Rattle.laws_tables.proofs.Whole.{whole, whole_length, back_made, back_shown, to_made, to_answered, to_shown, whole_order, order_before, ends_before, ends_whole}
+use Rattle.laws_tables.proofs.Whole.{whole_length, back_made, back_shown, to_made, to_answered, to_shown, whole_order, order_before, ends_before, ends_whole}
 
 -- a confirmed load is seen in both stories
 pub loaded_in_log : (run : Run) (g : ℕ) → IsLoaded (meta_of run) g → IsLoaded (log_of run) g

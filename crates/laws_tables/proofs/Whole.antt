@@ -3,46 +3,40 @@ use Rattle.std.proofs.Common.{◌≡◌, ℕ, suc, ◌<◌, ◌≤◌, List, [],
 use Rattle.std.specs.Prelude.{Contains}
 use Rattle.std.proofs.lemmas.Bool.{cases_eq}
 use Rattle.std.proofs.lemmas.Bool.Decides.{nat_tests}
-use Rattle.model_partition.specs.Story.{Placed, StreamEvent, Made, Answered, Showed, Story, event_at, Copy, placed, from_place, KeepsOrder, EndsRise}
+use Rattle.model_partition.specs.Story.{Placed, StreamEvent, Made, Answered, Showed, Story, event_at, Copy, placed, from_place, KeepsOrder, EndsRise, whole}
 use Rattle.laws_tables.proofs.Range.{bound, older, event_cases, ne_test, newest}
 
 module _ (A : Type 0) where
-  abbrev pub whole : (ℕ → List (Copy A)) → Story A → Story A
-  whole copies [] = []
-  whole copies (Made g x ∷ earlier) = Made g x ∷ whole copies earlier
-  whole copies (Answered a from to ∷ earlier) = Answered a from to ∷ whole copies earlier
-  whole copies (Showed g start end groups ∷ earlier) = Showed g 0 end (map placed (copies (length earlier))) ∷ whole copies earlier
-
   abbrev pub as_whole : List (Copy A) → Option (StreamEvent A) → Option (StreamEvent A)
   as_whole copies None = None
   as_whole copies (Some (Made g x)) = Some (Made g x)
   as_whole copies (Some (Answered a from to)) = Some (Answered a from to)
   as_whole copies (Some (Showed g start end groups)) = Some (Showed g 0 end (map placed copies))
 
-  pub whole_length : (copies : ℕ → List (Copy A)) (story : Story A) → length (whole copies story) ≡ length story
+  pub whole_length : (copies : ℕ → List (Copy A)) (story : Story A) → length (whole A copies story) ≡ length story
   whole_length copies [] = refl
   whole_length copies (Made g x ∷ earlier) = ap suc (whole_length copies earlier)
   whole_length copies (Answered a from to ∷ earlier) = ap suc (whole_length copies earlier)
   whole_length copies (Showed g start end groups ∷ earlier) = ap suc (whole_length copies earlier)
 
   step_at : (copies : ℕ → List (Copy A)) (e e' : StreamEvent A) (earlier : Story A) (n : ℕ) →
-      Some e' ≡ as_whole (copies (length earlier)) (Some e) → (event_at (whole copies earlier) n ≡ as_whole (copies n) (event_at earlier n)) →
-      event_at (e' ∷ whole copies earlier) n ≡ as_whole (copies n) (event_at (e ∷ earlier) n)
+      Some e' ≡ as_whole (copies (length earlier)) (Some e) → (event_at (whole A copies earlier) n ≡ as_whole (copies n) (event_at earlier n)) →
+      event_at (e' ∷ whole A copies earlier) n ≡ as_whole (copies n) (event_at (e ∷ earlier) n)
   step_at copies e e' earlier n same ih =
-      let len : length (whole copies earlier) ≡ length earlier = whole_length copies earlier in
-      ⊎_elim {C = event_at (e' ∷ whole copies earlier) n ≡ as_whole (copies n) (event_at (e ∷ earlier) n)}
+      let len : length (whole A copies earlier) ≡ length earlier = whole_length copies earlier in
+      ⊎_elim {C = event_at (e' ∷ whole A copies earlier) n ≡ as_whole (copies n) (event_at (e ∷ earlier) n)}
       (λ (q : n ≡ length earlier).
-      let left : event_at (e' ∷ whole copies earlier) n ≡ Some e' = ap (event_at (e' ∷ whole copies earlier)) (q ∙ sym len) ∙ newest A e' (whole copies earlier) in
+      let left : event_at (e' ∷ whole A copies earlier) n ≡ Some e' = ap (event_at (e' ∷ whole A copies earlier)) (q ∙ sym len) ∙ newest A e' (whole A copies earlier) in
       let right : event_at (e ∷ earlier) n ≡ Some e = ap (event_at (e ∷ earlier)) q ∙ newest A e earlier in
       left ∙ same ∙ ap (λ z. as_whole (copies z) (Some e)) (sym q) ∙ ap (as_whole (copies n)) (sym right))
       (λ (q : n ≡ length earlier → ⊥).
-      let left : event_at (e' ∷ whole copies earlier) n ≡ event_at (whole copies earlier) n =
-      ap (λ b. cond b (Some e') (event_at (whole copies earlier) n)) (ne_test A n (length (whole copies earlier)) (λ (w : n ≡ length (whole copies earlier)). q (w ∙ len))) in
+      let left : event_at (e' ∷ whole A copies earlier) n ≡ event_at (whole A copies earlier) n =
+      ap (λ b. cond b (Some e') (event_at (whole A copies earlier) n)) (ne_test A n (length (whole A copies earlier)) (λ (w : n ≡ length (whole A copies earlier)). q (w ∙ len))) in
       let right : event_at (e ∷ earlier) n ≡ event_at earlier n = ap (λ b. cond b (Some e) (event_at earlier n)) (ne_test A n (length earlier) q) in
       left ∙ ih ∙ ap (as_whole (copies n)) (sym right))
       (cases_eq n (length earlier))
 
-  pub whole_at : (copies : ℕ → List (Copy A)) (story : Story A) (n : ℕ) → event_at (whole copies story) n ≡ as_whole (copies n) (event_at story n)
+  pub whole_at : (copies : ℕ → List (Copy A)) (story : Story A) (n : ℕ) → event_at (whole A copies story) n ≡ as_whole (copies n) (event_at story n)
   whole_at copies [] n = refl
   whole_at copies (Made g x ∷ earlier) n = step_at copies (Made g x) (Made g x) earlier n refl (whole_at copies earlier n)
   whole_at copies (Answered a from to ∷ earlier) n = step_at copies (Answered a from to) (Answered a from to) earlier n refl (whole_at copies earlier n)
@@ -74,24 +68,24 @@ module _ (A : Type 0) where
       let r : Some (Showed g' s' e' xs') ≡ Some (Showed g s' e xs') = cc (eg, ee) in
       (s', xs', r, sym es, sym ex)
 
-  pub back_made : (copies : ℕ → List (Copy A)) (story : Story A) (n g : ℕ) (x : A) → event_at (whole copies story) n ≡ Some (Made g x) → event_at story n ≡ Some (Made g x)
+  pub back_made : (copies : ℕ → List (Copy A)) (story : Story A) (n g : ℕ) (x : A) → event_at (whole A copies story) n ≡ Some (Made g x) → event_at story n ≡ Some (Made g x)
   back_made copies story n g x h = un_made (copies n) (event_at story n) g x (sym (whole_at copies story n) ∙ h)
 
-  pub back_answered : (copies : ℕ → List (Copy A)) (story : Story A) (n a f t : ℕ) → event_at (whole copies story) n ≡ Some (Answered a f t) → event_at story n ≡ Some (Answered a f t)
+  pub back_answered : (copies : ℕ → List (Copy A)) (story : Story A) (n a f t : ℕ) → event_at (whole A copies story) n ≡ Some (Answered a f t) → event_at story n ≡ Some (Answered a f t)
   back_answered copies story n a f t h = un_answered (copies n) (event_at story n) a f t (sym (whole_at copies story n) ∙ h)
 
-  pub back_shown : (copies : ℕ → List (Copy A)) (story : Story A) (n g s e : ℕ) (xs : List (Placed A)) → event_at (whole copies story) n ≡ Some (Showed g s e xs) →
+  pub back_shown : (copies : ℕ → List (Copy A)) (story : Story A) (n g s e : ℕ) (xs : List (Placed A)) → event_at (whole A copies story) n ≡ Some (Showed g s e xs) →
       (s' : ℕ) × (xs' : List (Placed A)) × (event_at story n ≡ Some (Showed g s' e xs')) × (s ≡ 0) × (xs ≡ map placed (copies n))
   back_shown copies story n g s e xs h = un_shown (copies n) (event_at story n) g s e xs (sym (whole_at copies story n) ∙ h)
 
-  pub to_made : (copies : ℕ → List (Copy A)) (story : Story A) (n g : ℕ) (x : A) → event_at story n ≡ Some (Made g x) → event_at (whole copies story) n ≡ Some (Made g x)
+  pub to_made : (copies : ℕ → List (Copy A)) (story : Story A) (n g : ℕ) (x : A) → event_at story n ≡ Some (Made g x) → event_at (whole A copies story) n ≡ Some (Made g x)
   to_made copies story n g x h = whole_at copies story n ∙ ap (as_whole (copies n)) h
 
-  pub to_answered : (copies : ℕ → List (Copy A)) (story : Story A) (n a f t : ℕ) → event_at story n ≡ Some (Answered a f t) → event_at (whole copies story) n ≡ Some (Answered a f t)
+  pub to_answered : (copies : ℕ → List (Copy A)) (story : Story A) (n a f t : ℕ) → event_at story n ≡ Some (Answered a f t) → event_at (whole A copies story) n ≡ Some (Answered a f t)
   to_answered copies story n a f t h = whole_at copies story n ∙ ap (as_whole (copies n)) h
 
   pub to_shown : (copies : ℕ → List (Copy A)) (story : Story A) (n g s e : ℕ) (xs : List (Placed A)) → event_at story n ≡ Some (Showed g s e xs) →
-      event_at (whole copies story) n ≡ Some (Showed g 0 e (map placed (copies n)))
+      event_at (whole A copies story) n ≡ Some (Showed g 0 e (map placed (copies n)))
   to_shown copies story n g s e xs h = whole_at copies story n ∙ ap (as_whole (copies n)) h
 
   -- the first place is 0
@@ -102,7 +96,7 @@ module _ (A : Type 0) where
       ap (λ b. cond b (from_place 0 copies) (c ∷ copies)) t
 
   -- it keeps its order
-  unfoldable pub whole_order : (story : Story A) (order : KeepsOrder story) → KeepsOrder (whole order.copies story)
+  unfoldable pub whole_order : (story : Story A) (order : KeepsOrder story) → KeepsOrder (whole A order.copies story)
   whole_order story order =
       let cs : ℕ → List (Copy A) = order.copies in
       record {
@@ -165,7 +159,7 @@ module _ (A : Type 0) where
   ends_before e story h l m g k s e' s' e'' xs ys hl hm lt =
       h l m g k s e' s' e'' xs ys (older A e story l (Showed g s e' xs) hl) (older A e story m (Showed k s' e'' ys) hm) lt
 
-  pub ends_whole : (copies : ℕ → List (Copy A)) (story : Story A) → EndsRise story → EndsRise (whole copies story)
+  pub ends_whole : (copies : ℕ → List (Copy A)) (story : Story A) → EndsRise story → EndsRise (whole A copies story)
   ends_whole copies story h l m g k s e s' e' xs ys hl hm lt =
       let b : (z : ℕ) × (zs : List (Placed A)) × (event_at story l ≡ Some (Showed g z e zs)) × (s ≡ 0) × (xs ≡ map placed (copies l)) = back_shown copies story l g s e xs hl in
       let d : (z : ℕ) × (zs : List (Placed A)) × (event_at story m ≡ Some (Showed k z e' zs)) × (s' ≡ 0) × (ys ≡ map placed (copies m)) = back_shown copies story m k s' e' ys hm in

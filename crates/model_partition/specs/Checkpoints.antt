@@ -16,7 +16,10 @@ use Rattle.wire.specs.declared.streams.StreamExtent.{StreamExtent}
 use Rattle.wire.specs.declared.streams.StreamList.{StreamList}
 use Rattle.streams.specs.declared.table.Position.{Position}
 use Rattle.model_streams.specs.Outcome.{first_met}
+use Rattle.memtable.specs.declared.cell.Cell.{Cell}
+use Rattle.memtable.specs.declared.cell.Cell.TheVariants.{Placed}
 use Rattle.memtable.specs.declared.cell.Place.{Place}
+use Rattle.memtable.specs.Entries.{Entries}
 use Rattle.client.specs.declared.job.News.{News}
 use Rattle.client.specs.declared.job.News.TheVariants as news
 use Rattle.client.specs.Client.{ClientState, Outcome, append_rule, reply_rule}
@@ -48,6 +51,20 @@ abbrev pub number_to_apply : Option OutGroup → ℕ → ℕ
 number_to_apply None next = next
 number_to_apply (Some out) next = out.first
 
+-- whether the number of the extent that a cell names, if it names one, has 64 bits
+abbrev pub is_numbered : Cell → Bool
+is_numbered (Placed place) = nat_lt place.extent (2 ^ 64)
+is_numbered cell = true
+
+abbrev pub are_numbered : Entries → Bool
+are_numbered [] = true
+are_numbered (e ∷ entries) = is_numbered e.1 && are_numbered entries
+
+-- whether all numbers of a checkpoint have their bytes: those of extents, of its position, and the one to be applied next
+abbrev pub have_bytes : Entries → Position → ℕ → Bool
+have_bytes entries position next =
+    are_numbered entries && (nat_lt position.index (2 ^ 64) && (nat_lt position.offset (2 ^ 32) && nat_lt next (2 ^ 64)))
+
 -- the checkpoint of the live layer, none of whose pages is written yet
 abbrev pub new_job : RangeState → CheckpointState
 new_job r = record { position = r.position; next = number_to_apply r.out r.next; pages = pages_to_write r.live; phase = phases.Pages }
@@ -77,8 +94,12 @@ abbrev pub writes_pages : ServerContext → RangeState → CheckpointState → R
 writes_pages d r job = rows_go d r (next_append job (next_group job.pages))
 
 -- The live layer becomes the fixed one, and what comes later goes into a new one.
+abbrev pub begins_pages : ServerContext → RangeState → RangeOutcome
+begins_pages d r = writes_pages d (record r { live = []; fixed = Some r.live }) (new_job r)
+
+-- what cannot be written is not begun
 abbrev pub checkpoint_rule : ServerContext → RangeState → RangeOutcome
-checkpoint_rule d r = writes_pages d (record r { live = []; fixed = Some r.live }) (new_job r)
+checkpoint_rule d r = if have_bytes r.live r.position (number_to_apply r.out r.next) then begins_pages d r else goes d r [] []
 
 -- ---- what stands in row data
 
@@ -115,10 +136,14 @@ rows_stand d r job phases.Pages e offset = writes_pages d r (pages_stand job e o
 rows_stand d r job phases.Index e offset = index_stands d r job e offset
 rows_stand d r job phase e offset = goes d r [] []
 
+-- no place is written whose extent has a number of more than 64 bits
+abbrev pub rows_stand_at : ServerContext → RangeState → CheckpointState → ℕ → ℕ → RangeOutcome
+rows_stand_at d r job e offset = if nat_lt e (2 ^ 64) then rows_stand d r job job.phase e offset else goes d r [] []
+
 -- news of the client of row data
 abbrev pub rows_told : ServerContext → RangeState → Option CheckpointState → Option News → List Packet → RangeOutcome
 rows_told d r job (Some news.Fenced) packets = dropped d r
-rows_told d r (Some job) (Some (news.Appended e offset)) packets = rows_stand d r job job.phase e offset
+rows_told d r (Some job) (Some (news.Appended e offset)) packets = rows_stand_at d r job e offset
 rows_told d r job told packets = goes d r packets []
 
 -- whether the group that is out may stand there

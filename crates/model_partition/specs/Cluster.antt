@@ -5,11 +5,11 @@ use Rattle.wire.specs.declared.actor.ActorId.TheVariants.{Map, Server}
 use Rattle.wire.specs.declared.packet.Packet.{Packet}
 use Rattle.wire.specs.declared.refusal.Refusal.{Refusal}
 use Rattle.model_streams.specs.declared.event.Event.{Event}
-use Rattle.model_streams.specs.declared.event.Event.TheVariants.{Deliver, Stop, Restart, GiveUp, Assign, Renew, Moment}
+use Rattle.model_streams.specs.declared.event.Event.TheVariants.{Deliver, Stop, Restart, GiveUp, Checkpoint, Assign, Renew, Moment}
 use Rattle.model_streams.specs.Outcome.{Outcome}
 use Rattle.model_streams.specs.StreamSystem.{StreamSystem, ActorCell, running, down, armed, stops_in, stands_in, burnt, happens, sent_more, delivered, start}
 use Rattle.model_partition.specs.Map.{MapState, first_map, range_at, assign_fault, assign_rule, renew_fault, renew_rule, map_rule}
-use Rattle.model_partition.specs.Servers.{ServerCell, ServersOutcome, with_told, server_takes, server_gives_up, server_stops, server_starts, told_moment, first_servers}
+use Rattle.model_partition.specs.Servers.{ServerCell, ServersOutcome, with_told, server_takes, server_gives_up, server_checkpoints, server_stops, server_starts, told_moment, first_servers}
 
 -- the stream layer, with all packets and observations; the servers, numbered from 1; the map, which of one that has stopped is
 -- what its records make, and whether it runs; the last moment; and how many transactions a group may hold
@@ -99,6 +99,7 @@ cluster_after c (Deliver number) = delivers c (slice_get c.stream_layer.post num
 cluster_after c (Stop actor call keep) = stops c actor call keep
 cluster_after c (Restart actor) = restarts c actor
 cluster_after c (GiveUp server range pick) = servers_perform c (server_gives_up c.servers server range pick)
+cluster_after c (Checkpoint server range combine) = servers_perform c (server_checkpoints c.servers server range)
 cluster_after c (Assign range server until) = assigns c range server until
 cluster_after c (Renew range server until) = renews c range server until
 cluster_after c (Moment now) = shows_moment c now

@@ -21,6 +21,7 @@ pub mod Replay
 pub mod Cluster
 pub mod Renaming
 pub mod TableContents
+pub mod IndexContents
 pub mod StreamActions
 pub mod ServerRun
 pub mod ServedTables

@@ -242,6 +242,15 @@ length_or (Some sealed) checked = sealed
 length_or None (Some checked) = checked
 length_or None None = 0
 
+-- whether the end of a stream's last extent, as it was told, has 32 bits
+abbrev pub has_end : Option StreamExtent → Option ℕ → Bool
+has_end None checked = true
+has_end (Some x) checked = nat_lt (length_or x.length checked) (2 ^ 32)
+
+-- whether the end of a stream is a position
+abbrev pub has_position : ClientState → Bool
+has_position c = are_counted c && has_end (last_extent c.extents) c.checked
+
 -- the end of what was read of the log
 abbrev pub log_end : ClientState → Option StreamExtent → Position → Position
 log_end c None start = start
@@ -273,4 +282,4 @@ serves_from d r None = dropped d r
 serves_from d r (Some region) = if nat_lt 0 region.next then serves_region d r region else dropped d r
 
 abbrev pub serves : ServerContext → RangeState → RangeOutcome
-serves d r = if are_counted r.log then serves_from d r (open_region r.regions) else dropped d r
+serves d r = if has_position r.log then serves_from d r (open_region r.regions) else dropped d r

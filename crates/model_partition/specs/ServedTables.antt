@@ -15,15 +15,16 @@ use Rattle.model_partition.specs.declared.table_note.TableNote.{TableNote}
 use Rattle.model_partition.specs.declared.table_note.TableNote.TheVariants as tables
 use Rattle.model_partition.specs.Log.{line_shown}
 use Rattle.model_partition.specs.Past.{Bytes, stored, after_line, empty_table, first_range}
-use Rattle.model_partition.specs.Story.{Placed, StreamEvent, Made, Answered, Showed, Story, event_at, KeepsOrder, EndsRise}
+use Rattle.model_partition.specs.Story.{Copy, Placed, StreamEvent, Made, Answered, Showed, Story, event_at, whole, KeepsOrder, EndsRise}
 use Rattle.model_partition.specs.Range.{RangeState, waiting_out, is_serving}
 use Rattle.model_partition.specs.Loading.{Group}
-use Rattle.model_partition.specs.Getting.{standing}
+use Rattle.model_partition.specs.IndexContents.{entries_in, served_entries}
 use Rattle.model_partition.specs.Server.{ServerState, range_of}
 use Rattle.model_partition.specs.Servers.{ServerCell}
 use Rattle.model_partition.specs.Renaming.{renamed, decoded}
-use Rattle.model_partition.specs.TableContents.{StandsAt, value_of, table_in}
-use Rattle.model_partition.specs.ServerRun.{PlacedBytes, ServerRun, ServerEvent, Takes, log_name, metadata_name, place_number}
+use Rattle.model_partition.specs.TableContents.{StandsAt, table_in}
+use Rattle.model_partition.specs.StreamActions.{PlacedBytes}
+use Rattle.model_partition.specs.ServerRun.{ServerRun, ServerEvent, Takes, log_name, metadata_name, place_number}
 
 -- ---- premises
 
@@ -51,23 +52,24 @@ AllStand texts [] = Unit {0}
 AllStand texts (p ∷ placed) = StandsAt (texts p.extent) p.offset p.bytes × AllStand texts placed
 
 -- What is premised of the streams of a range, as their servers see them: the stories of its metadata and of its log keep their
--- order, no generation is confirmed twice, loads of the log end in the order of their generations, and what was shown of it keeps its
--- bytes.
+-- order, no generation is confirmed twice, loads of the log end in the order of their generations, and what loads were shown and appends
+-- were answered for keeps its bytes.
 pub record StreamsInOrder (texts : ℕ → Bytes) (range : ℕ) (x : ServerRun) : Type 0 where
   pub metadata : KeepsOrder (x.story (metadata_name range))
   pub log : KeepsOrder (x.story (log_name range))
   pub once : LoadsOnce (x.story (log_name range))
   pub ends : EndsRise (x.story (log_name range))
   pub shown : AllStand texts (x.shown range)
+  pub answered : AllStand texts (x.answered range)
 
 -- ---- what servers show
 
--- An observation of a server as it is seen: a loaded table shows what its memory table says over these texts.
+-- An observation of a server as it is seen: a loaded table shows what its memory table and its indexes have over these texts.
 abbrev pub IsSeenAs : (ℕ → Bytes) → TableNote → Note → Type 0
 IsSeenAs texts (tables.Began range generation number changes) note = note ≡ Began range generation number changes
 IsSeenAs texts (tables.Done range generation number) note = note ≡ Done range generation number
 IsSeenAs texts (tables.Loaded range generation table next) note =
-    (rows : List Row) × (note ≡ Loaded range generation rows next) × ((key : Bytes) → stored rows key ≡ table_in texts table.live key)
+    (rows : List Row) × (note ≡ Loaded range generation rows next) × ((key : Bytes) → stored rows key ≡ table_in texts (entries_in texts table) key)
 
 -- one by one
 abbrev pub AreSeenAs : (ℕ → Bytes) → List TableNote → List Note → Type 0
@@ -100,12 +102,12 @@ end_to (Made g' group ∷ earlier) g = end_to earlier g
 end_to (Answered append from to ∷ earlier) g = if is_under g (event_at earlier append) then to else end_to earlier g
 end_to (Showed g' start end groups ∷ earlier) g = if g == g' then max start end else end_to earlier g
 
--- The tables of a range together are the table of the line that ends at its log position, and the next number is the one after
--- that line and what is out.
-pub record IsAtLine (texts : ℕ → Bytes) (log : Story Group) (r : RangeState) : Type 0 where
+-- The tables of a range together, its indexes among them, are the table of the line that ends at its log position, and the next number
+-- is the one after that line and what is out. Each load is taken for all of its copies, also those before the place that it began at.
+pub record IsAtLine (texts : ℕ → Bytes) (log : Story Group) (copies : ℕ → List (Copy Group)) (r : RangeState) : Type 0 where
   pub position : place_number r.position ≡ end_to log r.load.generation
-  pub next : r.next ≡ suc (length (line_to (renamed decoded log) r.load.generation)) + length (waiting_out r.out)
-  pub table : (key : Bytes) → value_of texts (standing r key) ≡ after_line (line_to (renamed decoded log) r.load.generation) empty_table key
+  pub next : r.next ≡ suc (length (line_to (renamed decoded (whole Group copies log)) r.load.generation)) + length (waiting_out r.out)
+  pub table : (key : Bytes) → table_in texts (served_entries texts r) key ≡ after_line (line_to (renamed decoded (whole Group copies log)) r.load.generation) empty_table key
 
 -- a server that runs serves a range
 pub record ServesAt (x : ServerRun) (server range : ℕ) (r : RangeState) : Type 0 where

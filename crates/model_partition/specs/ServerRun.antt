@@ -29,8 +29,8 @@ use Rattle.model_partition.specs.Loading.{Group}
 use Rattle.model_partition.specs.Serving.{transact_rule}
 use Rattle.model_partition.specs.Answering.{answered_number, is_answerer, answer_rule}
 use Rattle.model_partition.specs.Server.{ServerState, range_of, is_newer, awaiting, has_numbers}
-use Rattle.model_partition.specs.Servers.{ServerCell, ServersOutcome, server_takes, server_gives_up, server_stops, server_starts, told_moment, first_servers}
-use Rattle.model_partition.specs.StreamActions.{ExtentRead, StreamAction, Reads, Forms, Stands, Shows, transact_actions, answer_actions}
+use Rattle.model_partition.specs.Servers.{ServerCell, ServersOutcome, server_takes, server_gives_up, server_checkpoints, server_stops, server_starts, told_moment, first_servers}
+use Rattle.model_partition.specs.StreamActions.{PlacedBytes, ExtentRead, StreamAction, Reads, Forms, Stands, Shows, Finds, Stores, transact_actions, answer_actions}
 
 -- ---- places
 
@@ -53,12 +53,6 @@ abbrev pub placed_behind : ℕ → List (Placed Group) → List (Placed Group)
 placed_behind start [] = []
 placed_behind start (p ∷ placed) = if nat_lt p.from start then placed_behind start placed else p ∷ placed
 
--- bytes that stand in an extent from an offset on
-pub record PlacedBytes : Type 0 where
-  pub extent : ℕ
-  pub offset : ℕ
-  pub bytes : List ℕ
-
 -- what was read of each extent
 abbrev pub bytes_read : List ExtentRead → List PlacedBytes
 bytes_read reads = map (λ (x : ExtentRead). record { extent = x.extent; offset = 0; bytes = text x.groups }) reads
@@ -71,8 +65,8 @@ pub record RangeHistory : Type 0 where
   -- the event of a stream's story with which the append that is out began
   pub append : StreamKind → ℕ
 
--- The servers, the history of each range at each server, the story of each stream, the bytes that confirmed loads showed of the
--- log of each range and those that its appends were answered for, the newest first; and what servers showed, in order.
+-- The servers, the history of each range at each server, the story of each stream, the bytes that loads of each range were shown of its
+-- log and of its indexes and those that its appends were answered for, the newest first; and what servers showed, in order.
 pub record ServerRun : Type 0 where
   pub servers : List ServerCell
   pub history : (server range : ℕ) → RangeHistory
@@ -127,6 +121,8 @@ module _ (server range generation : ℕ) where
             (Showed generation (place_number start) (place_number log_end) (placed_behind (place_number start) (placed_reads (h.reads kinds.Log))));
         shown = changed range (bytes_read (h.reads kinds.Log) ++ x.shown range) x.shown;
       }
+  after_action x (Finds found) = record x { shown = changed range (found ∷ x.shown range) x.shown }
+  after_action x (Stores stored) = record x { answered = changed range (stored ∷ x.answered range) x.answered }
 
   -- after some, of which the last was done first
   abbrev pub after_actions : ServerRun → List StreamAction → ServerRun
@@ -186,11 +182,12 @@ cell_effect p (Some cell) = server_effect p cell.state
 
 -- ---- lists of events
 
--- A packet comes to a server; it is told to give up; it stops, or stops later; it starts again at a moment, for groups of at most
--- so many transactions; a moment comes to all.
+-- A packet comes to a server; it is told to give up, or to make a checkpoint of a range; it stops, or stops later; it starts again at a
+-- moment, for groups of at most so many transactions; a moment comes to all.
 pub data ServerEvent : Type 0 where
   Takes : (server : ℕ) (p : Packet) → ServerEvent
   GivesUp : (server range : ℕ) (pick : Nodes) → ServerEvent
+  Checkpoints : (server range : ℕ) → ServerEvent
   Stops : (server call : ℕ) → ServerEvent
   Starts : (server now batch : ℕ) → ServerEvent
   Moment : (now : ℕ) → ServerEvent
@@ -207,6 +204,7 @@ with_outcome x o = record x { servers = o.servers; notes = x.notes ++ o.notes }
 abbrev pub after_event : ServerRun → ServerEvent → ServerRun
 after_event x (Takes server p) = with_outcome (with_effect server x (cell_effect p (entry_at x.servers server))) (server_takes x.servers server p)
 after_event x (GivesUp server range pick) = with_outcome x (server_gives_up x.servers server range pick)
+after_event x (Checkpoints server range) = with_outcome x (server_checkpoints x.servers server range)
 after_event x (Stops server call) = with_outcome x (server_stops x.servers server call)
 after_event x (Starts server now batch) = with_outcome x (server_starts x.servers server now batch)
 after_event x (Moment now) = record x { servers = map (told_moment now) x.servers }

@@ -28,7 +28,7 @@ use Rattle.model_partition.specs.declared.table_note.TableNote.{TableNote}
 use Rattle.model_partition.specs.declared.table_note.TableNote.TheVariants as tables
 use Rattle.model_partition.specs.Loading.{shown_table}
 use Rattle.model_partition.specs.Range.{RangeState}
-use Rattle.model_partition.specs.Server.{ServerState, ServerOutcome, range_of, awaiting, server_rule, moment_rule, give_up_rule, started}
+use Rattle.model_partition.specs.Server.{ServerState, ServerOutcome, range_of, awaiting, server_rule, moment_rule, give_up_rule, checkpoint_refusal, server_checkpoint, started}
 
 -- a server: how often it was started, and its state while it runs
 pub record ServerCell : Type 0 where
@@ -188,6 +188,15 @@ abbrev pub give_up_fault : ℕ → Nodes → Option ServerState → Option Refus
 give_up_fault range pick None = None
 give_up_fault range pick (Some server) = if is_some (give_up_rule server range pick) then None else Some NotOwner
 
+abbrev pub cell_checkpoints : ServerCell → ℕ → Option ServerState → CellOutcome
+cell_checkpoints cell range None = cell_rests cell
+cell_checkpoints cell range (Some server) = cell_performs cell (server_checkpoint server range)
+
+-- why a server makes no checkpoint of a range
+abbrev pub checkpoint_fault_of : ℕ → Option ServerState → Option Refusal
+checkpoint_fault_of range None = None
+checkpoint_fault_of range (Some server) = checkpoint_refusal server range
+
 -- a server has no device: it stops at once, or not at all
 abbrev pub cell_stops : ℕ → ServerCell → ServerCell
 cell_stops call cell = if call == 0 then record cell { state = None } else cell
@@ -222,6 +231,9 @@ server_takes servers s p = at_server servers s (λ cell. cell_takes cell p cell.
 abbrev pub server_gives_up : List ServerCell → ℕ → ℕ → Nodes → ServersOutcome
 server_gives_up servers s range pick = at_server servers s (λ cell. cell_gives_up cell range pick cell.state) (entry_at servers s)
 
+abbrev pub server_checkpoints : List ServerCell → ℕ → ℕ → ServersOutcome
+server_checkpoints servers s range = at_server servers s (λ cell. cell_checkpoints cell range cell.state) (entry_at servers s)
+
 abbrev pub server_stops : List ServerCell → ℕ → ℕ → ServersOutcome
 server_stops servers s call = at_server servers s (λ cell. cell_rests (cell_stops call cell)) (entry_at servers s)
 
@@ -240,6 +252,10 @@ told_moment now cell = record cell { state = option_map (λ server. moment_rule 
 abbrev pub give_up_refusal : ℕ → Nodes → Option ServerCell → Option Refusal
 give_up_refusal range pick None = None
 give_up_refusal range pick (Some cell) = give_up_fault range pick cell.state
+
+abbrev pub checkpoint_refusal_at : ℕ → Option ServerCell → Option Refusal
+checkpoint_refusal_at range None = None
+checkpoint_refusal_at range (Some cell) = checkpoint_fault_of range cell.state
 
 -- a server that runs, at its first start
 abbrev pub first_server : ℕ → ℕ → ServerCell

@@ -1,13 +1,16 @@
 -- What a step of a range does with its streams: the extents that its load reads, the groups that it forms and that come to stand,
 -- and what its confirmed load shows. Said of the range before the step and of what the step leaves, beside the rules.
-use Rattle.std.specs.Prelude.{ℕ, ◌+◌, ◌-◌, is_some, List, [], ◌∷◌, ◌++◌, length, map, Option, Some, None, if◌then◌else◌}
+use Rattle.std.specs.Prelude.{ℕ, ◌+◌, ◌-◌, ◌^◌, nat_lt, is_some, List, [], ◌∷◌, ◌++◌, length, map, Option, Some, None, if◌then◌else◌}
 use Rattle.wire.specs.declared.actor.ReqNo.{ReqNo}
 use Rattle.wire.specs.declared.body.Body.{Body}
 use Rattle.wire.specs.declared.body.Body.TheVariants as bodies
+use Rattle.wire.specs.declared.body.ReadBody.{ReadBody}
+use Rattle.wire.specs.declared.body.ReadBody.TheVariants as reads
 use Rattle.wire.specs.declared.body.StreamBody.{StreamBody}
 use Rattle.wire.specs.declared.body.StreamBody.TheVariants as streams
 use Rattle.wire.specs.declared.streams.StreamKind.{StreamKind}
 use Rattle.wire.specs.declared.streams.StreamKind.TheVariants as kinds
+use Rattle.replica.specs.Groups.{joined}
 use Rattle.streams.specs.declared.table.Position.{Position}
 use Rattle.metadata.specs.declared.record.Region.{Region}
 use Rattle.memtable.specs.declared.cell.Place.{Place}
@@ -27,9 +30,16 @@ use Rattle.model_partition.specs.declared.stage.Stage.{Stage}
 use Rattle.model_partition.specs.declared.stage.Stage.TheVariants as stages
 use Rattle.model_partition.specs.Range.{OutGroup, RangeState, RangeOutcome, request, picking, if_there, is_serving}
 use Rattle.model_partition.specs.Loading.{Group, log_end}
+use Rattle.model_partition.specs.PlaceReads.{reads_under}
 use Rattle.model_partition.specs.Serving.{record_of}
 use Rattle.model_partition.specs.Checkpoints.{checkpoint_record, may_record, index_place, rows_may_stand}
 use Rattle.model_partition.specs.Answering.{groups_of, is_taken}
+
+-- bytes that stand in an extent from an offset on
+pub record PlacedBytes : Type 0 where
+  pub extent : ℕ
+  pub offset : ℕ
+  pub bytes : List ℕ
 
 -- an extent that a load has read: its index in the stream, and the groups that were found there
 pub record ExtentRead : Type 0 where
@@ -46,6 +56,10 @@ pub data StreamAction : Type 0 where
   Stands : (kind : StreamKind) (extent : ℕ) (at : Position) (group : Group) → StreamAction
   -- the generation is confirmed: the log is shown from a position on up to an end, and the metadata up to an end of its own
   Shows : (start log_end metadata_end : Position) → StreamAction
+  -- the load has read an index
+  Finds : (found : PlacedBytes) → StreamAction
+  -- an append to row data ends: these bytes stand
+  Stores : (stored : PlacedBytes) → StreamAction
 
 -- ---- groups
 
@@ -94,7 +108,7 @@ read_end c start = log_end c (last_extent c.extents) start
 
 abbrev pub confirmed_actions : RangeState → LoadPhase → StreamBody → List StreamAction
 confirmed_actions r (phases.Confirming q) (streams.Confirmed w) =
-    Shows (first_start r.said.regions) (read_end r.log (first_start r.said.regions)) (read_end r.metadata (record { index = r.metadata.base; offset = 0 })) ∷ []
+    Shows (first_start r.said.regions) (read_end r.log (record { index = r.log.base; offset = 0 })) (read_end r.metadata (record { index = r.metadata.base; offset = 0 })) ∷ []
 confirmed_actions r phase body = []
 
 abbrev pub load_actions : RangeState → Body → List StreamAction
@@ -135,14 +149,24 @@ abbrev pub index_stood : RangeState → Option CheckpointState → ℕ → ℕ �
 index_stood r None extent offset = []
 index_stood r (Some job) extent offset = index_stood_in r job job.phase extent offset
 
--- what news of the client of row data leads to
+-- what news of the client of row data leads to; the newest comes first
 abbrev pub rows_told_actions : RangeState → Option News → List StreamAction
-rows_told_actions r (Some (news.Appended extent offset)) = index_stood r r.control extent offset
+rows_told_actions r (Some (news.Appended extent offset)) =
+    (if nat_lt extent (2 ^ 64) then index_stood r r.control extent offset else []) ++ Stores (record { extent = extent; offset = offset; bytes = joined r.rows.group }) ∷ []
 rows_told_actions r told = []
 
 abbrev pub rows_actions : ServerContext → RangeState → Body → List StreamAction
 rows_actions d r body =
     if rows_may_stand r.control body then rows_told_actions r (reply_rule (picking d r.rows) (request d) body).news else []
+
+-- what the answer to the read of an index brings
+abbrev pub index_told_actions : ReadBody → List StreamAction
+index_told_actions (reads.Bytes w e offset bytes) = Finds (record { extent = e; offset = offset; bytes = bytes }) ∷ []
+index_told_actions body = []
+
+abbrev pub index_actions : Body → List StreamAction
+index_actions (bodies.Read body) = index_told_actions body
+index_actions body = []
 
 abbrev pub log_actions : ServerContext → RangeState → Body → RangeOutcome → List StreamAction
 log_actions d r body o =
@@ -156,6 +180,7 @@ answered_actions d r w body o =
     else if awaits r.metadata.job w then metadata_actions d r body
     else if awaits r.log.job w then (if is_taken r body then log_actions d r body o else [])
     else if awaits r.rows.job w then rows_actions d r body
+    else if reads_under r.reading w then index_actions body
     else []
 
 -- a range that is dropped does nothing

@@ -62,8 +62,8 @@ pub enum Event {
     Moment {
         now: u64,
     },
-    /// The operator has a server write down what a range keeps in memory, and combine its indexes. No server does it yet, and
-    /// nothing comes of it.
+    /// The operator has a server write down what a range keeps in memory, as a checkpoint; `combine` asks that its indexes be
+    /// combined into one.
     Checkpoint {
         server: ServerNo,
         range: RangeId,

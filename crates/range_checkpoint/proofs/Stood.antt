@@ -80,10 +80,10 @@ phase_stands d r job phases.Index e o is =
 phase_stands d r job (phases.Record index) e o is = ap (λ (c : Option CheckpointState). goes d (record r { control = c }) [] []) is
 phase_stands d r job (phases.Trim before to_blob q) e o is = ap (λ (c : Option CheckpointState). goes d (record r { control = c }) [] []) is
 
-control_goes : (d : ServerContext) (r : RangeState) (job : Option CheckpointState) (e o : ℕ) → r.control ≡ job →
+control_goes : (d : ServerContext) (r : RangeState) (job : Option CheckpointState) (e o : ℕ) → r.control ≡ job → nat_lt e (2 ^ 64) ≡ true →
     rows_told d r job (Some (news.Appended e o)) [] ≡ goes_on d (record r { control = (control_stands d r job e o).0 }) (control_stands d r job e o).1
-control_goes d r None e o is = ap (λ (c : Option CheckpointState). goes d (record r { control = c }) [] []) is
-control_goes d r (Some job) e o is = phase_stands d r job job.phase e o is
+control_goes d r None e o is known = ap (λ (c : Option CheckpointState). goes d (record r { control = c }) [] []) is
+control_goes d r (Some job) e o is known = rw known (phase_stands d r job job.phase e o is)
 
 abbrev offset_or : ℕ → Option (ℕ × ℕ) → ℕ
 offset_or other None = other
@@ -114,15 +114,15 @@ job_stands_so c (bodies.Append body) e o job is may = absurd cc
 job_stands_so c body e o job is may = absurd cc
 
 -- the job goes on, and what is next is given to its client
-pub rows_stood : (d : ServerContext) (r : RangeState) (body : Body) (e o : ℕ) (y : Outcome) (x : Option CheckpointState × NextStep) → appended r.rows body ≡ Some (e, o) → job_may_stand r.control o ≡ true →
+pub rows_stood : (d : ServerContext) (r : RangeState) (body : Body) (e o : ℕ) (y : Outcome) (x : Option CheckpointState × NextStep) → appended r.rows body ≡ Some (e, o) → job_may_stand r.control o ≡ true → nat_lt e (2 ^ 64) ≡ true →
     reply_rule (picking d r.rows) (request d) body ≡ y → control_stands d (record r { rows = y.after }) r.control e o ≡ x →
     rows_reply d r body ≡ goes_on d (record r { rows = y.after; control = x.0 }) x.1
-rows_stood d r body e o y x is may told next =
+rows_stood d r body e o y x is may known told next =
     let so : rows_may_stand r.control body ≡ true = may_stand_so r.rows body e o r.control is may in
     let ended : y ≡ ends (picking d r.rows) (news.Appended e o) = sym told ∙ stood (picking d r.rows) (request d) body e o is in
     rw so (ap (λ (z : Outcome). rows_told d (record r { rows = z.after }) r.control z.news (option_to_list z.packet)) told
     ∙ ap (λ (z : Outcome). rows_told d (record r { rows = y.after }) r.control z.news (option_to_list z.packet)) ended
-    ∙ control_goes d (record r { rows = y.after }) r.control e o refl
+    ∙ control_goes d (record r { rows = y.after }) r.control e o refl known
     ∙ ap (λ (z : Option CheckpointState × NextStep). goes_on d (record r { rows = y.after; control = z.0 }) z.1) next)
 
 -- ---- of the metadata

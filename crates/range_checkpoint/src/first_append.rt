@@ -5,6 +5,7 @@ ghost use Rattle.model_partition.specs.Range.{RangeState};
 ghost use Rattle.model_partition.specs.RangeSteps.{outcome, put};
 
 use crate::appends::{NextAppend, append_of, send};
+use crate::numbers::have_bytes;
 use checkpoint::CheckpointPages;
 use model_partition::{CheckpointJob, Progress, RangeContent, ServerContext, Stage};
 use std::alloc::{AllocError, Global};
@@ -26,7 +27,7 @@ pub fn checkpoint_fault(content: &RangeContent) -> Option<Refusal>
 
 /// A checkpoint begins: the live layer becomes the fixed one, and its first pages are appended to row data, or where it has no
 /// entry its index. The position is that up to which the layer has the log, and `next` the number that a load from there applies
-/// next. Where memory runs out (22) nothing has changed.
+/// next. One whose numbers had no bytes is not begun. Where memory runs out (22) nothing has changed.
 pub fn begin(
     content: &mut RangeContent,
     alloc: Global,
@@ -39,6 +40,9 @@ pub fn begin(
         → rules.checkpoint_rule context.now (put content.old r) ≡ outcome context.now (put content.new r) p) }
     ensures err { OnErr result (content.new ≡ content.old) }
 {
+    if !have_bytes(content.table.live(), position.index, position.offset, next) {
+        return Ok(Progress::Goes(None));
+    }
     let pages = CheckpointPages::of(alloc, content.table.live())?;
     let group = pages.next_group(alloc)?;
     let NextAppend { phase, blocks } = append_of(alloc, group, pages.index())?;

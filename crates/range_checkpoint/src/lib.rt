@@ -17,6 +17,7 @@ mod appended;
 mod appends;
 mod first_append;
 mod giving_up;
+mod numbers;
 mod record_answers;
 mod row_answers;
 mod trim;

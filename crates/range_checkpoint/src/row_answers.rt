@@ -241,7 +241,7 @@ fn rows_stand(
     alloc: Global,
     context: &ServerContext,
     packet: &Packet,
-    extent: ExtentId,
+    extent: u64,
     offset: u32,
 ) -> Result<Progress, AllocError>
     requires appended { specs.appended content.old.rows packet.now.body ≡ Some (extent, offset) }
@@ -249,7 +249,7 @@ fn rows_stand(
     ensures ok { IfOk result (λ p. RangePerforms context.now (λ r. rules.rows_reply context.now r packet.now.body) content.old content.new p) }
     ensures err { OnErr result (content.new ≡ content.old) }
 {
-    let next = content_stands(content, alloc, extent, offset)?;
+    let next = content_stands(content, alloc, ExtentId(extent), offset)?;
     // The answer to an append takes no memory.
     let Ok(reaction) = take_answer(&mut content.rows, alloc, context, packet) else {
         unreachable!()
@@ -303,7 +303,7 @@ pub fn rows_reply(
         return Ok(Progress::Rests);
     }
     match appended(&content.rows, &packet.body) {
-        Some((extent, offset)) => rows_stand(content, alloc, context, packet, extent, offset),
+        Some((extent, offset)) => rows_stand(content, alloc, context, packet, extent.0, offset),
         None => rows_told(content, alloc, context, packet),
     }
 }

@@ -1,5 +1,5 @@
 //! All is read: the generation is confirmed, and the range is served.
-ghost use Rattle.std.specs.Prelude.{◌≡◌, ◌+◌, ◌<◌, length, true, None, IfOk, OnErr};
+ghost use Rattle.std.specs.Prelude.{◌≡◌, ◌+◌, ◌<◌, ◌^◌, length, nat_lt, true, None, IfOk, OnErr};
 ghost use Rattle.client.specs.declared.load.LoadPhase.TheVariants as phases;
 ghost use Rattle.client.specs.Client.{last_extent};
 ghost use Rattle.client.specs.Load.{is_open, reply_phase};
@@ -26,6 +26,16 @@ fn is_not_behind(one: &Position, other: &Position) -> bool
     one.index < other.index || (one.index == other.index && one.offset <= other.offset)
 }
 
+/// The end of an extent that is sealed or was checked.
+fn end_of(sealed: Option<u32>, checked: Option<u32>) -> u32
+    ensures { result ≡ rows.length_or sealed checked }
+{
+    match sealed {
+        Some(length) => length,
+        None => checked.unwrap_or(0),
+    }
+}
+
 /// The end of what was read of the log, from the start of its last region on.
 fn log_end(log: &StreamClient, start: &Position) -> Position
     requires { rows.are_counted log.now ≡ true }
@@ -34,10 +44,7 @@ fn log_end(log: &StreamClient, start: &Position) -> Position
     match log.last_extent() {
         None => *start,
         Some(extent) => {
-            let offset = match extent.length {
-                Some(sealed) => sealed,
-                None => log.checked.unwrap_or(0),
-            };
+            let offset = end_of(extent.length, log.checked);
             let index = log.base + log.extents.len() as u64 - 1;
             let end = Position { index, offset };
             if is_not_behind(&end, start) {
@@ -54,6 +61,27 @@ fn are_counted(log: &StreamClient) -> bool
     ensures { result ≡ rows.are_counted log.now }
 {
     log.base.checked_add(log.extents.len() as u64).is_some()
+}
+
+/// Whether an end has 32 bits, which it has.
+fn has_32_bits(end: u32) -> bool
+    ensures { result ≡ nat_lt end (2 ^ 32) }
+{
+    let _has = end;
+    true
+}
+
+/// Whether the end of the log is a position.
+fn has_position(log: &StreamClient) -> bool
+    ensures { result ≡ rows.has_position log.now }
+{
+    if !are_counted(log) {
+        return false;
+    }
+    match log.last_extent() {
+        None => true,
+        Some(extent) => has_32_bits(end_of(extent.length, log.checked)),
+    }
 }
 
 /// The manager is asked whether the generation is still the fence.
@@ -94,7 +122,7 @@ pub(crate) fn serves(
     ensures ok { IfOk result (λ p. (d : ServerContext) → RangePerforms d (λ r. rows.serves d r) content.old content.new p) }
     ensures err { OnErr result (content.new ≡ content.old) }
 {
-    if !are_counted(&content.log) {
+    if !has_position(&content.log) {
         return Ok(Progress::Dropped);
     }
     let (next, start) = match open_region(&content.regions) {

@@ -49,7 +49,7 @@ verb_for (lines.Happens (events.GiveUp server range pick)) word words h = (verbs
 verb_for (lines.Happens (events.Assign range server until)) word words h = (verbs.Assign, h.0)
 verb_for (lines.Happens (events.Renew range server until)) word words h = (verbs.Renew, h.0)
 verb_for (lines.Happens (events.Moment now)) word words h = (verbs.Moment, h.0)
-verb_for (lines.Happens (events.Checkpoint server range combine)) word words h = absurd h
+verb_for (lines.Happens (events.Checkpoint server range combine)) word words h = (verbs.Checkpoint, h.0)
 verb_for (lines.Happens (events.Split server range key)) word words h = absurd h
 verb_for (lines.Happens (events.Merge server left right)) word words h = absurd h
 

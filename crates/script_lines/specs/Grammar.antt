@@ -6,7 +6,7 @@ use Rattle.model_streams.specs.declared.event.Event.{Event}
 use Rattle.model_streams.specs.declared.event.Event.TheVariants as events
 use Rattle.script_lines.specs.Sequences.{◌then◌, each, end, says}
 use Rattle.script_lines.specs.Values.{IsValue}
-use Rattle.script_lines.specs.Words.{Denotes, IsActor, IsChange, IsFate, IsKey, IsKind, IsLast, IsNode, IsPlace, IsServer}
+use Rattle.script_lines.specs.Words.{Denotes, IsActor, IsChange, IsFate, IsKey, IsKind, IsLast, IsManner, IsNode, IsPlace, IsServer}
 use Rattle.script_lines.specs.declared.line.Line.{Line}
 use Rattle.script_lines.specs.declared.line.Line.TheVariants as lines
 use Rattle.script_lines.specs.declared.line.Request.{Request}
@@ -33,7 +33,7 @@ Asks (requests.Get server range key) =
     says (codes "get") then IsServer server then Denotes range then IsKey key then end
 Asks (requests.Route key) = says (codes "route") then IsKey key then end
 
--- an event of its own; no line submits or delivers so, and none has a server write a checkpoint, split or merge yet
+-- an event of its own; no line submits or delivers so, and none has a server combine indexes, split or merge yet
 abbrev pub SpellsEvent : Event → List (List ℕ) → Type 0
 SpellsEvent (events.Assign range server until) =
     says (codes "assign") then Denotes range then IsServer server then Denotes until then end
@@ -48,7 +48,8 @@ SpellsEvent (events.Stop actor call keep) =
 SpellsEvent (events.Restart actor) = says (codes "restart") then IsActor actor then end
 SpellsEvent (events.Submit user to body) = λ words. ⊥
 SpellsEvent (events.Deliver number) = λ words. ⊥
-SpellsEvent (events.Checkpoint server range combine) = λ words. ⊥
+SpellsEvent (events.Checkpoint server range combine) =
+    says (codes "checkpoint") then IsServer server then Denotes range then IsManner combine then end
 SpellsEvent (events.Split server range key) = λ words. ⊥
 SpellsEvent (events.Merge server left right) = λ words. ⊥
 

@@ -10,7 +10,7 @@ use crate::line::Line;
 use crate::requesting::{nodes, request};
 use crate::spelling::number;
 use crate::verb::{Verb, verb_of};
-use crate::word::{actor, fate, numbers, server};
+use crate::word::{actor, fate, manner, numbers, server};
 use model_streams::Event;
 use std::alloc::{AllocError, Global};
 use wire::{ExtentId, RangeId};
@@ -57,6 +57,7 @@ fn line_behind(alloc: Global, verb: Verb, words: &[&str]) -> Result<Option<Line>
         Verb::Restart => Ok(restart(words)),
         Verb::Decide => Ok(decide(words)),
         Verb::GiveUp => Ok(give_up(words)),
+        Verb::Checkpoint => Ok(checkpoint(words)),
         Verb::Assign => Ok(assign(words)),
         Verb::Renew => Ok(renew(words)),
         Verb::Moment => Ok(moment(words)),
@@ -174,6 +175,20 @@ fn give_up(words: &[&str]) -> Option<Line>
         server: server(by),
         range: RangeId(range),
         pick: nodes(primary, second, third),
+    }))
+}
+
+/// A checkpoint of a range at a server.
+fn checkpoint(words: &[&str]) -> Option<Line>
+    ensures { Reads HasForm result (codes "checkpoint" ∷ map (λ w. w.now) words.now) }
+{
+    let [by, range, kind] = words else {
+        return None;
+    };
+    Some(Line::Happens(Event::Checkpoint {
+        server: server(number(by)?),
+        range: RangeId(number(range)?),
+        combine: manner(kind)?,
     }))
 }
 

@@ -3,7 +3,7 @@ ghost use Rattle.std.specs.Prelude.{◌≡◌, ◌<◌, map, min, length, IfNone
 ghost use Rattle.std.specs.List.{AllByRecursion};
 ghost use Rattle.script_lines.specs.Sequences.{Reads, each};
 ghost use Rattle.script_lines.specs.Values.{IsNumber, IsValue};
-ghost use Rattle.script_lines.specs.Words.{Denotes, DenotesUpTo, IsActor, IsChange, IsFate, IsLast, kind_number};
+ghost use Rattle.script_lines.specs.Words.{Denotes, DenotesUpTo, IsActor, IsChange, IsFate, IsManner, IsLast, kind_number};
 
 use crate::spelling::{key, number, value};
 use bytes::Bytes;
@@ -80,6 +80,16 @@ pub fn fate(word: &str) -> Option<bool>
     match word {
         "keep" => Some(true),
         "drop" => Some(false),
+        _ => None,
+    }
+}
+
+/// Whether a checkpoint combines the indexes. No line asks for that yet.
+pub fn manner(word: &str) -> Option<bool>
+    ensures { Reads IsManner result word.now }
+{
+    match word {
+        "plain" => Some(false),
         _ => None,
     }
 }

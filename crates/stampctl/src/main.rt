@@ -55,9 +55,15 @@
 #[cfg(test)]
 mod checkpoint_runs;
 #[cfg(test)]
+mod checkpoint_scripts;
+#[cfg(test)]
 mod clients;
 #[cfg(test)]
+mod drives;
+#[cfg(test)]
 mod failover;
+#[cfg(test)]
+mod many_values;
 #[cfg(test)]
 mod maps;
 #[cfg(test)]

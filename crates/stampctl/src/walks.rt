@@ -19,6 +19,11 @@ const WALKS: &[(&str, &str)] = &[
         "setup 3 2 4096 8\nmoment 1\nassign 1 1 100\nsettle\nuser 1 tx 1 1 +a=1 +b=2\nsettle\nuser 1 tx 1 1 +a=3\ndeliver last\ncut n1\nsettle\nheal n1\nassign 1 2 200\nmoment 100\nassign 1 2 200\nsettle\nuser 1 get 2 1 a\nsettle\ndeliver 19\nsettle\nuser 1 tx 2 1 -b\nsettle\nuser 1 get 1 1 b\nuser 1 get 2 1 b\nuser 1 route b\nsettle\n",
         "loaded 1 1 1 0\nbegan 1 1 1\nacked 1 0 33\ndone 1 1 1\nuser 1 0 committed 1\nbegan 1 1 2\nrefused 31 LeaseHeld\nseen 1 1 0 33\nloaded 1 2 2 2\nuser 1 2 value 31\nuser 1 1 refused 30 NotOwner\nbegan 1 2 2\nacked 1 33 19\ndone 1 2 2\nuser 1 3 committed 2\nuser 1 4 refused 30 NotOwner\nuser 1 5 value none\nuser 1 6 route 1 2\n",
     ),
+    // How a checkpoint bounds a load.
+    (
+        "setup 3 1 4096 8\nmoment 1\nassign 1 1 100\nsettle\nuser 1 tx 1 1 +a=1 +b=2\nsettle\ncheckpoint 1 1 plain\ncheckpoint 1 1 plain\nuser 1 tx 1 1 +b=3\nsettle\nstop s1 0 drop\nrestart s1\nassign 1 1 100\nsettle\nuser 1 get 1 1 a\nuser 1 get 1 1 b\nsettle\n",
+        "loaded 1 1 1 0\nbegan 1 1 1\nacked 1 0 33\ndone 1 1 1\nuser 1 0 committed 1\nrefused 35 Busy\nbegan 1 1 2\nacked 1 33 24\nacked 2 0 20\ndone 1 1 2\nuser 1 1 committed 2\nacked 2 20 28\nacked 3 0 46\nseen 3 1 0 46\nseen 1 1 0 57\nseen 2 1 20 28\nloaded 1 2 3 2\nseen 2 1 0 20\nuser 1 3 value 33\nuser 1 2 value 31\n",
+    ),
 ];
 
 #[test]

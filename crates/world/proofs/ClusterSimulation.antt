@@ -7,10 +7,10 @@ use Rattle.wire.specs.declared.actor.ActorId.TheVariants.{Node, Manager, Map, Se
 use Rattle.wire.specs.declared.body.Body.{Body}
 use Rattle.wire.specs.declared.packet.Packet.{Packet}
 use Rattle.model_streams.specs.declared.event.Event.{Event}
-use Rattle.model_streams.specs.declared.event.Event.TheVariants.{Submit, Deliver, Stop, Restart, Decide, GiveUp, Assign, Renew, Moment}
+use Rattle.model_streams.specs.declared.event.Event.TheVariants.{Submit, Deliver, Stop, Restart, Decide, GiveUp, Checkpoint, Assign, Renew, Moment}
 use Rattle.model_streams.specs.StreamSystem.{StreamSystem, happens, delivered, delivered_if, sent_more}
 use Rattle.model_streams.proofs.Tests.{if_elim}
-use Rattle.model_partition.specs.Servers.{ServerCell, ServersOutcome, told_moment, with_told, server_takes, server_gives_up, server_stops, server_starts}
+use Rattle.model_partition.specs.Servers.{ServerCell, ServersOutcome, told_moment, with_told, server_takes, server_gives_up, server_checkpoints, server_stops, server_starts}
 use Rattle.model_partition.specs.Cluster.{Cluster, delivered_to, delivers, servers_perform, stops, restarts, assigns, renews, map_takes, map_stops, map_starts}
 use Rattle.world_map.specs.Seen.{MapSeen, MapSteps, MapSimulates, moment_shown}
 use Rattle.world_servers.specs.Servers.{ServersSeen, all_shown}
@@ -150,6 +150,12 @@ pub give_up_came : (x : ClusterState) (l : StreamLayerState) (servers : List Ser
 give_up_came x l servers s range pick t = λ c m.
     subst (λ (cells : List ServerCell). ClusterMirrors (record x { stream_layer = l; servers = servers }) (servers_perform c (server_gives_up cells s range pick))) m.servers
     (does_mirrors x l servers (server_gives_up x.servers s range pick) t c m)
+
+pub checkpoint_came : (x : ClusterState) (l : StreamLayerState) (servers : List ServerCell) (s range : ℕ) (combine : Bool) → AfterServers x.stream_layer l servers (server_checkpoints x.servers s range) →
+    ClusterSimulates x (record x { stream_layer = l; servers = servers }) (Checkpoint s range combine)
+checkpoint_came x l servers s range combine t = λ c m.
+    subst (λ (cells : List ServerCell). ClusterMirrors (record x { stream_layer = l; servers = servers }) (servers_perform c (server_checkpoints cells s range))) m.servers
+    (does_mirrors x l servers (server_checkpoints x.servers s range) t c m)
 
 -- nothing is sent and shown
 rests : (x : ClusterState) (servers : List ServerCell) (o : ServersOutcome) → o ≡ record { servers = servers; packets = []; notes = [] } → AfterServers x.stream_layer x.stream_layer servers o

@@ -2,7 +2,7 @@
 ghost use Rattle.std.specs.Prelude.{◌≡◌, [], None, Some, IfOk, IfSome, OnOk, OnErr, option_map, slice_get};
 ghost use Rattle.model_streams.specs.declared.event.Event.TheVariants as events;
 ghost use Rattle.model_streams.specs.Maps.{entry_at};
-ghost use Rattle.model_partition.specs.Servers.{give_up_refusal};
+ghost use Rattle.model_partition.specs.Servers.{checkpoint_refusal_at, give_up_refusal};
 ghost use Rattle.model_partition.specs.Cluster.{first_cluster};
 ghost use Rattle.world_manager.specs.Seen.{decision_refusal};
 ghost use Rattle.world_nodes.specs.Seen.{seen_of};
@@ -220,6 +220,21 @@ impl Cluster {
             .give_up(alloc, &mut self.servers, server, range, pick)
     }
 
+    fn checkpoint(
+        &mut self,
+        alloc: Global,
+        server: ServerNo,
+        range: RangeId,
+        combine: bool,
+    ) -> Result<Option<Refusal>, WorldFault>
+        ensures refusal { IfOk result (λ refusal. refusal ≡ checkpoint_refusal_at range (entry_at self.old.servers server)) }
+        ensures ok { OnOk result (ClusterSimulates self.old self.new (events.Checkpoint server range combine)) }
+        ensures err { OnErr result (self.new ≡ self.old) }
+    {
+        self.stream_layer
+            .checkpoint(alloc, &mut self.servers, server, range)
+    }
+
     fn assign(
         &mut self,
         alloc: Global,
@@ -257,8 +272,8 @@ impl Cluster {
         self.map.moment(moment);
     }
 
-    /// The next event. It answers why an event is refused: a decision 1 or 10, giving up and a renewal 30, and an assignment 30
-    /// or 31; nothing else is. An error is out of memory (22), and nothing has changed.
+    /// The next event. It answers why an event is refused: a decision 1 or 10, giving up and a renewal 30, a checkpoint 30, 38 or 35,
+    /// and an assignment 30 or 31; nothing else is. An error is out of memory (22), and nothing has changed.
     pub(crate) fn step(
         &mut self,
         alloc: Global,
@@ -299,7 +314,12 @@ impl Cluster {
                 self.show_moment(*now);
                 Ok(None)
             }
-            Event::Checkpoint { .. } | Event::Split { .. } | Event::Merge { .. } => Ok(None),
+            Event::Checkpoint {
+                server,
+                range,
+                combine,
+            } => self.checkpoint(alloc, *server, *range, *combine),
+            Event::Split { .. } | Event::Merge { .. } => Ok(None),
         }
     }
 

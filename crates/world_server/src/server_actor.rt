@@ -1,6 +1,6 @@
 //! One server, over its starts and stops.
 ghost use Rattle.std.specs.Prelude.{◌≡◌, [], None, option_map, IfOk, OnErr};
-ghost use Rattle.model_partition.specs.Servers.{cell_gives_up, cell_stops, cell_starts, cell_takes, give_up_fault, cell_loads, table_of_view};
+ghost use Rattle.model_partition.specs.Servers.{cell_checkpoints, cell_gives_up, cell_stops, cell_starts, cell_takes, checkpoint_fault_of, give_up_fault, cell_loads, table_of_view};
 ghost use Rattle.world_server.specs.Seen.{cell_outcome, moment_shown, new_server};
 ghost use Rattle.world_steps.specs.ActorStep.{IsFew, table_step};
 
@@ -121,6 +121,29 @@ impl ServerActor {
                 Err(fault) => match fault.refusal() {
                     None => Err(AllocError),
                     Some(refusal) => Ok(ActorStep::refused(alloc, refusal)),
+                },
+            },
+        }
+    }
+
+    /// Has it begin a checkpoint of a range. It answers why it does not: it does not hold the range (30), the range is not served
+    /// yet (38), or a checkpoint of it is under way (35). Nothing comes of it where it has stopped. An error is out of memory (22),
+    /// and nothing has changed.
+    pub fn checkpoint(&mut self, alloc: Global, range: RangeId) -> Result<ActorStep, AllocError>
+        ensures ok { IfOk result (λ step. cell_checkpoints self.old.cell range self.old.cell.state ≡ cell_outcome self.new.cell step) }
+        ensures same { self.new ≡ record self.old { cell = self.new.cell } }
+        ensures plain { IfOk result (λ step. step.notes ≡ []) }
+        ensures refusal { IfOk result (λ step. step.refusal ≡ checkpoint_fault_of range self.old.cell.state) }
+        ensures err { OnErr result (self.new ≡ self.old) }
+        ensures few { IfOk result IsFew }
+    {
+        match &mut self.server {
+            None => Ok(ActorStep::silent(alloc)),
+            Some(server) => match server.checkpoint(alloc, range) {
+                Ok(sent) => Ok(performed(alloc, sent)),
+                Err(fault) => match fault.refusal() {
+                    None => Err(AllocError),
+                    Some(why) => Ok(ActorStep::refused(alloc, why)),
                 },
             },
         }

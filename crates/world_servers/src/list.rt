@@ -1,7 +1,7 @@
 //! The servers of a run.
 ghost use Rattle.std.specs.Prelude.{◌≡◌, ◌<◌, ℕ, suc, [], None, length, map, option_map, IfOk, OnErr, IfSome, IfNone};
 ghost use Rattle.model_streams.specs.Maps.{entry_at};
-ghost use Rattle.model_partition.specs.Servers.{first_servers, give_up_refusal, server_gives_up, server_loads, server_stops, server_starts, server_takes, table_of_view};
+ghost use Rattle.model_partition.specs.Servers.{checkpoint_refusal_at, first_servers, give_up_refusal, server_checkpoints, server_gives_up, server_loads, server_stops, server_starts, server_takes, table_of_view};
 ghost use Rattle.world_server.specs.Seen.{moment_shown};
 ghost use Rattle.world_steps.specs.ActorStep.{IsFew};
 ghost use Rattle.world_servers.specs.Servers.{AreServers, StayServers, all_shown, cells_of, new_servers, outcome};
@@ -112,6 +112,27 @@ fn give_up_at(
     }
 }
 
+#[tactic(auto, using(crate::proofs::ServerList::one_stepped, crate::proofs::ServerList::one_stays, crate::proofs::ServerList::set_same))]
+fn checkpoint_at(
+    actors: &mut Vec<ServerActor>,
+    at: usize,
+    alloc: Global,
+    range: RangeId,
+) -> Result<ActorStep, AllocError>
+    requires { at < length actors.old.items }
+    ensures ok { IfOk result (λ step. server_checkpoints (cells_of actors.old.items) (suc at) range ≡ outcome (cells_of actors.new.items) step) }
+    ensures stay { StayServers actors.old.items actors.new.items }
+    ensures plain { IfOk result (λ step. step.notes ≡ []) }
+    ensures refusal { IfOk result (λ step. step.refusal ≡ checkpoint_refusal_at range (entry_at (cells_of actors.old.items) (suc at))) }
+    ensures err { OnErr result (actors.new.items ≡ actors.old.items) }
+    ensures few { IfOk result IsFew }
+{
+    match actors[at].checkpoint(alloc, range) {
+        Ok(step) => Ok(step),
+        Err(full) => Err(full),
+    }
+}
+
 #[tactic(auto, using(crate::proofs::ServerList::one_stopped, crate::proofs::ServerList::one_stays))]
 fn stop_at(actors: &mut Vec<ServerActor>, at: usize, call: u64)
     requires { at < length actors.old.items }
@@ -205,6 +226,27 @@ impl Servers {
         match place(self.actors.as_slice(), server) {
             None => Ok(ActorStep::silent(alloc)),
             Some(at) => give_up_at(&mut self.actors, at, alloc, range, pick),
+        }
+    }
+
+    /// Has the server of a number begin a checkpoint of a range. It answers why it does not (30, 38, 35). Nothing comes of it where
+    /// the server is absent or has stopped. An error is out of memory (22), and nothing has changed.
+    pub fn checkpoint(
+        &mut self,
+        alloc: Global,
+        server: ServerNo,
+        range: RangeId,
+    ) -> Result<ActorStep, AllocError>
+        ensures ok { IfOk result (λ step. server_checkpoints self.old.cells server range ≡ outcome self.new.cells step) }
+        ensures same { (self.new.moment ≡ self.old.moment) × (self.new.batch ≡ self.old.batch) }
+        ensures plain { IfOk result (λ step. step.notes ≡ []) }
+        ensures refusal { IfOk result (λ step. step.refusal ≡ checkpoint_refusal_at range (entry_at self.old.cells server)) }
+        ensures err { OnErr result (self.new ≡ self.old) }
+        ensures few { IfOk result IsFew }
+    {
+        match place(self.actors.as_slice(), server) {
+            None => Ok(ActorStep::silent(alloc)),
+            Some(at) => checkpoint_at(&mut self.actors, at, alloc, range),
         }
     }
 

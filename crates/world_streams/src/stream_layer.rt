@@ -7,7 +7,7 @@ ghost use Rattle.model_streams.specs.StreamSystem.{StreamSystem, happens, moved,
 ghost use Rattle.model_streams.specs.StreamSystem.Move.{Asks};
 ghost use Rattle.model_streams.specs.declared.event.Event.TheVariants as events;
 ghost use Rattle.model_streams.specs.Outcome.{packet};
-ghost use Rattle.model_partition.specs.Servers.{give_up_refusal, server_gives_up, server_takes};
+ghost use Rattle.model_partition.specs.Servers.{checkpoint_refusal_at, give_up_refusal, server_checkpoints, server_gives_up, server_takes};
 ghost use Rattle.world_steps.specs.ActorStep.{IsFew, nothing};
 ghost use Rattle.world_nodes.specs.Seen.{seen_of};
 ghost use Rattle.world_manager.specs.Seen.{ManagerMirrors, ManagerSimulates, decision_refusal};
@@ -429,6 +429,46 @@ impl StreamLayer {
                     ..
                 } = step;
                 move_in(&mut self.post, again.into_vec());
+                show(
+                    alloc,
+                    &mut self.notes,
+                    told,
+                    Rows {
+                        items: Vec::new(alloc),
+                    },
+                );
+                Ok(refusal)
+            }
+            Err(_full) => Err(WorldFault::Memory),
+        }
+    }
+
+    /// A server begins a checkpoint of a range. It answers why it does not: it does not hold the range (30), the range is not served
+    /// yet (38), or a checkpoint of it is under way (35). An error is out of memory (22), and nothing has changed.
+    pub fn checkpoint(
+        &mut self,
+        alloc: Global,
+        servers: &mut Servers,
+        server: ServerNo,
+        range: RangeId,
+    ) -> Result<Option<Refusal>, WorldFault>
+        ensures ok { OnOk result (AfterServers self.old self.new servers.new.cells (server_checkpoints servers.old.cells server range)) }
+        ensures refusal { IfOk result (λ refusal. refusal ≡ checkpoint_refusal_at range (entry_at servers.old.cells server)) }
+        ensures err { OnErr result (self.new ≡ self.old) }
+        ensures servers_err { OnErr result (servers.new ≡ servers.old) }
+        ensures servers_same { (servers.new.moment ≡ servers.old.moment) × (servers.new.batch ≡ servers.old.batch) }
+    {
+        make_room(&mut self.post)?;
+        self.notes.make_room()?;
+        match servers.checkpoint(alloc, server, range) {
+            Ok(step) => {
+                let ActorStep {
+                    packets: asked,
+                    tables: told,
+                    refusal,
+                    ..
+                } = step;
+                move_in(&mut self.post, asked.into_vec());
                 show(
                     alloc,
                     &mut self.notes,

@@ -1,0 +1,202 @@
+-- A step of all servers: the indexes that the metadata of each range names stay laid within what was shown and answered, and so are the tables
+-- that the step shows as loaded.
+use Rattle.std.proofs.Common.{◌≡◌, ℕ, ◌-◌, List, [], ◌∷◌, ◌++◌, Option, Some, None, slice_set, refl, sym, ap, ◌∙◌, subst, inl, inr}
+use Rattle.std.proofs.lemmas.Bool.{cases_eq}
+use Rattle.wire.specs.declared.streams.StreamKind.TheVariants as kinds
+use Rattle.memtable.specs.declared.cell.Place.{Place}
+use Rattle.checkpoint.specs.declared.installed_index.InstalledIndex.{InstalledIndex}
+use Rattle.model_streams.specs.Maps.{entry_at}
+use Rattle.model_partition.specs.declared.table_note.TableNote.{TableNote}
+use Rattle.model_partition.specs.declared.table_note.TableNote.TheVariants as tables
+use Rattle.model_partition.specs.declared.shown_table.ShownTable.{ShownTable}
+use Rattle.model_partition.specs.IndexContents.{entries_in}
+use Rattle.model_partition.specs.Loading.{Group}
+use Rattle.model_partition.specs.Past.{Bytes}
+use Rattle.model_partition.specs.Range.{RangeState, RangeOutcome}
+use Rattle.model_partition.specs.Server.{ServerState, ServerOutcome, range_of, set_range}
+use Rattle.model_partition.specs.Servers.{ServerCell}
+use Rattle.model_partition.specs.ServedTables.{AllStand}
+use Rattle.model_partition.specs.Story.{Made, Story, event_at, KeepsOrder}
+use Rattle.model_partition.specs.StreamActions.{StreamAction, Forms, Shows, PlacedBytes}
+use Rattle.model_partition.specs.ServerRun.{ServerRun, RangeEffect, Does, with_effect, with_outcome, after_actions, metadata_name}
+use Rattle.laws_loads.proofs.Entries.{entry_set}
+use Rattle.laws_loads.specs.RangeView.{RangeView, view_after, view_after_all, metadata_of}
+use Rattle.laws_tables.proofs.Range.{newest, event_cases}
+use Rattle.laws_server_runs.specs.Places.{IsLaid, IndexesWithin, NotesWithin, placed_of, bytes_of, IndexLaid, TableLaid, TablesWithin, RangeLaid, IsRecording, FormsRecords, Quiet, OfRecord, IsConfirmed, TablesAre, RuleLaid, RunLaid}
+use Rattle.laws_server_runs.specs.RangeInvariant.{IsCheckpointRecord, AreCheckpoints, RangeKept, StreamsKept}
+use Rattle.laws_server_runs.specs.RunInvariant.{view_at, RunKept}
+use Rattle.laws_server_runs.specs.Turns.{IsRule, Turn, Idles, Opens, Acts, Calms, RunStep, Keeps, Passes, Turns}
+use Rattle.laws_server_runs.proofs.Actions.{other_test, actions_here, actions_beside, actions_longer}
+use Rattle.laws_server_runs.proofs.LaidBytes.{Covers, entries_on, laid_on, pages_on}
+use Rattle.laws_server_runs.proofs.LaidLayers.{laid_front}
+use Rattle.laws_server_runs.proofs.LaidRecords.{records_on, index_on, quiet_made, record_laid, confirmed_laid}
+use Rattle.laws_server_runs.proofs.LaidRuns.{rule_left, run_covers}
+use Rattle.laws_server_runs.proofs.Others.{streams_same}
+use Rattle.laws_server_runs.proofs.RangeLists.{left_here}
+use Rattle.laws_server_runs.proofs.RunSteps.{IsAny}
+
+-- ---- more bytes
+
+module _ (texts : ℕ → Bytes) (old new : List PlacedBytes) (on : Covers old new) where
+  indexes_on : (indexes : List InstalledIndex) → IndexesWithin old indexes → IndexesWithin new indexes
+  indexes_on [] w = tt
+  indexes_on (x ∷ indexes) w = (pages_on old new on x.index.pages w.0, indexes_on indexes w.1)
+
+  table_on : (table : ShownTable) → TableLaid texts old table → TableLaid texts new table
+  table_on table t = record { live = laid_on old new on table.live t.live; pages = indexes_on table.indexes t.pages; entries = entries_on old new on (entries_in texts table) t.entries }
+
+module _ (texts : ℕ → Bytes) where
+  pub tables_later : (old new : ℕ → List PlacedBytes) → ((k : ℕ) → Covers (old k) (new k)) → (notes : List TableNote) → TablesWithin texts old notes → TablesWithin texts new notes
+  tables_later old new on [] w = tt
+  tables_later old new on (tables.Began range generation number changes ∷ notes) w = tables_later old new on notes w
+  tables_later old new on (tables.Done range generation number ∷ notes) w = tables_later old new on notes w
+  tables_later old new on (tables.Loaded range generation table next ∷ notes) w = (table_on texts (old range) (new range) (on range) table w.0, tables_later old new on notes w.1)
+
+  pub tables_both : (placed : ℕ → List PlacedBytes) (xs ys : List TableNote) → TablesWithin texts placed xs → TablesWithin texts placed ys → TablesWithin texts placed (xs ++ ys)
+  tables_both placed [] ys a b = b
+  tables_both placed (tables.Began range generation number changes ∷ xs) ys a b = tables_both placed xs ys a b
+  tables_both placed (tables.Done range generation number ∷ xs) ys a b = tables_both placed xs ys a b
+  tables_both placed (tables.Loaded range generation table next ∷ xs) ys a b = (a.0, tables_both placed xs ys a.1 b)
+
+  -- observations of one range, each of whose tables is laid
+  told_within : (k : ℕ) (placed : ℕ → List PlacedBytes) (shown : List PlacedBytes) (Is : ShownTable → Type 0) → ((table : ShownTable) → Is table → IsLaid shown table.live → TableLaid texts (placed k) table) →
+      (notes : List TableNote) → NotesWithin k shown notes → TablesAre Is notes → TablesWithin texts placed notes
+  told_within k placed shown Is by [] within all = tt
+  told_within k placed shown Is by (tables.Began range generation number changes ∷ notes) within all = told_within k placed shown Is by notes within.1 all
+  told_within k placed shown Is by (tables.Done range generation number ∷ notes) within all = told_within k placed shown Is by notes within.1 all
+  told_within k placed shown Is by (tables.Loaded range generation table next ∷ notes) within all =
+      (subst (λ n. TableLaid texts (placed n) table) (sym within.0.0) (by table all.0 within.0.1), told_within k placed shown Is by notes within.1 all.1)
+
+  -- ---- the indexes of a range
+
+  -- each record of its metadata names one that is laid so
+  abbrev pub RecordsLaid : ServerRun → ℕ → Type 0
+  RecordsLaid x k = AreCheckpoints (IndexLaid texts (bytes_of x k)) (x.story (metadata_name k))
+
+  records_later : (x y : ServerRun) (k : ℕ) → y.story (metadata_name k) ≡ x.story (metadata_name k) → Covers (bytes_of x k) (bytes_of y k) → RecordsLaid x k → RecordsLaid y k
+  records_later x y k same on all =
+      subst (λ (story : Story Group). AreCheckpoints (IndexLaid texts (bytes_of y k)) story) (sym same)
+      (records_on (IndexLaid texts (bytes_of x k)) (IndexLaid texts (bytes_of y k)) (index_on texts (bytes_of x k) (bytes_of y k) on) (x.story (metadata_name k)) all)
+
+  module _ (x : ServerRun) (laid : RunLaid x) where
+    -- ---- a server takes a turn
+
+    module _ (s : ℕ) (cell : ServerCell) (st : ServerState) (at : entry_at x.servers s ≡ Some cell) (is : cell.state ≡ Some st) where
+      abbrev Next : RangeEffect → ServerOutcome → ServerRun
+      Next e o = with_outcome (with_effect s x e) (record { servers = slice_set x.servers (s - 1) (record cell { state = Some o.after }); packets = o.packets; notes = o.notes })
+
+      module _ (range : ℕ) (r : RangeState) (held : range_of st.ranges range ≡ Some r) (actions : List StreamAction) (o : RangeOutcome) (rule : IsRule r actions o) (next : ServerState)
+          (left : next.ranges ≡ set_range st.ranges range o.after) where
+        abbrev g : ℕ
+        g = r.load.generation
+
+        abbrev y : ServerRun
+        y = Next (Does range g actions) (record { after = next; packets = o.packets; notes = o.notes })
+
+        abbrev v : RangeView
+        v = view_at range x s
+
+        abbrev w : RangeView
+        w = view_at range y s
+
+        here : w ≡ view_after_all g v actions
+        here = actions_here s range g x actions
+
+        bytes : (k : ℕ) → Covers (bytes_of x k) (bytes_of y k)
+        bytes k = run_covers x (after_actions s range g x actions) (actions_longer s range g x actions) k
+
+        ruled : RuleLaid range v r actions o
+        ruled = rule_left range v r (laid.ranges s cell st at is range r held) actions o rule
+
+        -- what the server has then
+        there : entry_at y.servers s ≡ Some (record cell { state = Some next })
+        there = entry_set x.servers s cell (record cell { state = Some next }) at
+
+        found : range_of next.ranges range ≡ o.after
+        found = ap (λ z. range_of z range) left ∙ left_here st.ranges range r o.after (laid.ascending s cell st at is) held
+
+        -- ---- its own records
+
+        module _ (laid_now : RunLaid y) (kept_now : RunKept texts range y) (answered : AllStand texts (y.answered range)) (all : RecordsLaid x range) where
+          abbrev Now : Place → Type 0
+          Now place = IndexLaid texts (bytes_of y range) place
+
+          before : AreCheckpoints Now (metadata_of v)
+          before = records_on (IndexLaid texts (bytes_of x range)) Now (index_on texts (bytes_of x range) (bytes_of y range) (bytes range)) (metadata_of v) all
+
+          record_now : (group : Group) (earlier : List StreamAction) → actions ≡ Forms kinds.Metadata group ∷ earlier → (a : Option RangeState) → o.after ≡ a → IsRecording a → IsCheckpointRecord Now group
+          record_now group earlier done None e none = absurd none
+          record_now group earlier done (Some z) e (job, index, control, phase) =
+              let mine : range_of next.ranges range ≡ Some z = found ∙ e in
+              let kept : RangeKept texts range kept_now.run w z = kept_now.ranges s (record cell { state = Some next }) next there refl z mine in
+              let laid : RangeLaid range w z = laid_now.ranges s (record cell { state = Some next }) next there refl range z mine in
+              let streams : StreamsKept texts kept_now.run w = streams_same texts kept_now.run (view_at range y 0) w refl refl kept_now.streams in
+              let same : w ≡ view_after g (view_after_all g v earlier) (Forms kinds.Metadata group) = here ∙ ap (view_after_all g v) done in
+              record_laid texts range kept_now.run w z kept laid streams answered job index control phase g group
+              (subst (λ (u : RangeView). event_at (metadata_of u) (u.history.append kinds.Metadata) ≡ Some (Made g group)) (sym same)
+              (newest Group (Made g group) (metadata_of (view_after_all g v earlier))))
+
+          after_forms : (done : List StreamAction) → actions ≡ done → FormsRecords o.after done → AreCheckpoints Now (metadata_of (view_after_all g v done))
+          after_forms done e (Quiet actions quiet) a h group at = before a h group (quiet_made g v done quiet a h group at)
+          after_forms done e (OfRecord group earlier quiet recording) a h other at =
+              elim (event_cases Group (Made g group) (metadata_of (view_after_all g v earlier)) a (Made h other) at) [
+                | inl new ↦
+                    (let made : Made g group ≡ Made h other = new.1 in
+                    let same : group ≡ other = cc in
+                    subst (IsCheckpointRecord Now) same (record_now group earlier e o.after refl recording))
+                | inr old ↦ before a h other (quiet_made g v earlier quiet a h other old)
+              ]
+
+          acts_records : RecordsLaid y range
+          acts_records = subst (λ (u : RangeView). AreCheckpoints Now (metadata_of u)) (sym here) (after_forms actions refl ruled.forms)
+
+        -- ---- what it shows
+
+        module _ (kept : RunKept texts range x) (order : KeepsOrder (y.story (metadata_name range))) (all : RecordsLaid y range) where
+          table_now : (table : ShownTable) → IsConfirmed r actions table → IsLaid (view_after_all g v actions).shown table.live → TableLaid texts (bytes_of y range) table
+          table_now table c live =
+              let same : w ≡ view_after g v (Shows c.start c.log_end c.metadata_end) = here ∙ ap (view_after_all g v) c.shows in
+              let u : RangeView = view_after g v (Shows c.start c.log_end c.metadata_end) in
+              let shown : IsLaid u.shown table.live = subst (λ (done : List StreamAction). IsLaid (view_after_all g v done).shown table.live) c.shows live in
+              subst (λ (z : RangeView). TableLaid texts (placed_of z) table) (sym same)
+              (confirmed_laid texts range kept.run v r (kept.ranges s cell st at is r held) c.start c.log_end c.metadata_end
+              (subst (λ (z : RangeView). KeepsOrder (metadata_of z)) same order) (subst (λ (z : RangeView). AreCheckpoints (IndexLaid texts (placed_of z)) (metadata_of z)) same all)
+              c.request c.phase table c.indexes (laid_front u.answered u.shown table.live shown))
+
+          acts_tables : TablesWithin texts (bytes_of y) o.notes
+          acts_tables = told_within range (bytes_of y) (view_after_all g v actions).shown (IsConfirmed r actions) table_now o.notes ruled.step.notes ruled.tables
+
+        -- ---- any range
+
+        pub any_records : RunLaid y → (k : ℕ) → RunKept texts k y → AllStand texts (y.answered k) → RecordsLaid x k → RecordsLaid y k
+        any_records laid_now k kept_now answered all = elim (cases_eq k range) [
+          | inl same ↦
+              subst (λ n. RunKept texts n y → AllStand texts (y.answered n) → RecordsLaid x n → RecordsLaid y n) (sym same) (λ k a l. acts_records laid_now k a l) kept_now answered all
+          | inr other ↦ records_later x y k (actions_beside s range g (metadata_name k) (other_test k range other) x actions) (bytes k) all
+        ]
+
+      turn_records : (e : RangeEffect) (o : ServerOutcome) → Turn IsAny st e o → RunLaid (Next e o) → (k : ℕ) → RunKept texts k (Next e o) → AllStand texts ((Next e o).answered k) → RecordsLaid x k → RecordsLaid (Next e o) k
+      turn_records e o (Idles next packets same) laid_now k kept answered all = all
+      turn_records e o (Opens range assigned d generation until next packets new) laid_now k kept answered all = all
+      turn_records e o (Acts range r held actions ro rule next left) laid_now k kept answered all = any_records range r held actions ro rule next left laid_now k kept answered all
+      turn_records e o (Calms range r held ro rule next left) laid_now k kept answered all = any_records range r held [] ro rule next left laid_now k kept answered all
+
+      turn_tables : (e : RangeEffect) (o : ServerOutcome) → Turn IsAny st e o → ((k : ℕ) → RunKept texts k x) → ((k : ℕ) → KeepsOrder ((Next e o).story (metadata_name k))) → ((k : ℕ) → RecordsLaid (Next e o) k) →
+          TablesWithin texts (bytes_of (Next e o)) o.notes
+      turn_tables e o (Idles next packets same) kept order all = tt
+      turn_tables e o (Opens range assigned d generation until next packets new) kept order all = tt
+      turn_tables e o (Acts range r held actions ro rule next left) kept order all = acts_tables range r held actions ro rule next left (kept range) (order range) (all range)
+      turn_tables e o (Calms range r held ro rule next left) kept order all = acts_tables range r held [] ro rule next left (kept range) (order range) (all range)
+
+    -- ---- a step of all
+
+    pub step_records : (notes : List TableNote) (y : ServerRun) → RunStep IsAny x notes y → RunLaid y → (k : ℕ) → RunKept texts k y → AllStand texts (y.answered k) → RecordsLaid x k → RecordsLaid y k
+    step_records notes y (Keeps servers packets like) laid_now k kept answered all = all
+    step_records notes y (Passes servers like) laid_now k kept answered all = all
+    step_records notes y (Turns s cell st at is e o turn) laid_now k kept answered all = turn_records s cell st at is e o turn laid_now k kept answered all
+
+    pub step_tables : (notes : List TableNote) (y : ServerRun) → RunStep IsAny x notes y → ((k : ℕ) → RunKept texts k x) → ((k : ℕ) → KeepsOrder (y.story (metadata_name k))) → ((k : ℕ) → RecordsLaid y k) →
+        TablesWithin texts (bytes_of y) notes
+    step_tables notes y (Keeps servers packets like) kept order all = tt
+    step_tables notes y (Passes servers like) kept order all = tt
+    step_tables notes y (Turns s cell st at is e o turn) kept order all = turn_tables s cell st at is e o turn kept order all

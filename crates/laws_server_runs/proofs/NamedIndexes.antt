@@ -1,0 +1,39 @@
+-- The indexes that metadata names where its records are those of plain checkpoints: each is one of a record that was formed, and has all
+-- keys.
+use Rattle.std.proofs.Common.{◌≡◌, ℕ, List, [], ◌∷◌, map, Some, refl, sym, subst}
+use Rattle.std.specs.List.{AllByRecursion}
+use Rattle.memtable.specs.declared.cell.Place.{Place}
+use Rattle.metadata.specs.declared.record.IndexRange.{IndexRange}
+use Rattle.metadata.specs.declared.record.MetaItem.{MetaItem}
+use Rattle.metadata.specs.Fold.{MetadataState, first_metadata, taken}
+use Rattle.model_partition.specs.Loading.{Group}
+use Rattle.model_partition.specs.Log.{line_shown}
+use Rattle.model_partition.specs.Renaming.{renamed_placed, decoded_record}
+use Rattle.model_partition.specs.Story.{Placed, Showed, Story, event_at, KeepsOrder}
+use Rattle.laws_tables.specs.Runs.{first_beginning, fold_of, said}
+use Rattle.laws_server_runs.specs.NamedIndexes.{AreNamed, NamesSuch}
+use Rattle.laws_server_runs.specs.RangeInvariant.{AreCheckpoints}
+use Rattle.laws_server_runs.proofs.LoadedRecords.{AreOfCheckpoints, shown_of_checkpoints}
+
+-- the places of whose indexes this is so
+module _ (Holds : Place → Type 0) where
+  pub one_more_named : (m : MetadataState) (item : MetaItem) (all : AreOfCheckpoints Holds (item ∷ [])) → NamesSuch Holds m → NamesSuch Holds (taken m item)
+  one_more_named m item all n = subst (λ i. NamesSuch Holds (taken m i)) (sym all.0.3) (record { keys = n.keys; indexes = (record { holds = all.0.5; keys = n.keys }, n.indexes) })
+
+  pub all_named : (items : List MetaItem) (m : MetadataState) → AreOfCheckpoints Holds items → NamesSuch Holds m → NamesSuch Holds (fold_of m items)
+  all_named [] m all n = n
+  all_named (item ∷ items) m all n = all_named items (taken m item) all.1 (one_more_named m item (all.0, tt) n)
+
+  pub first_named : NamesSuch Holds first_metadata
+  first_named = record { keys = refl; indexes = tt }
+
+  -- the places of such indexes
+  pub places_of : (indexes : List IndexRange) → AreNamed Holds indexes → AllByRecursion (λ x. Holds x.place) indexes
+  places_of [] all = tt
+  places_of (x ∷ indexes) all = (all.0.holds, places_of indexes all.1)
+
+  -- what a load shows of the metadata names such indexes alone
+  pub named_by_load : (story : Story Group) → KeepsOrder story → AreCheckpoints Holds story → (l g start end : ℕ) (groups : List (Placed Group)) → event_at story l ≡ Some (Showed g start end groups) →
+      (m : MetadataState) → m ≡ said first_beginning (line_shown (map (renamed_placed decoded_record) groups)) → NamesSuch Holds m
+  named_by_load story k records l g start end groups at m is =
+      subst (NamesSuch Holds) (sym is) (all_named (line_shown (map (renamed_placed decoded_record) groups)) first_metadata (shown_of_checkpoints Holds story k records l g start end groups at) first_named)
