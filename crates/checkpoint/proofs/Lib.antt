@@ -4,3 +4,4 @@ pub mod Merging
 pub mod Fitting
 pub mod Finding
 pub mod PageGroups
+pub mod Changes

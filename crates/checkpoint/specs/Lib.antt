@@ -2,3 +2,4 @@ pub mod Lookup
 pub mod Pages
 pub mod Contents
 pub mod PageGroups
+pub mod Merges

@@ -1,5 +1,5 @@
 -- The pages of a checkpoint while they are written: a group of them at a time is appended, one page behind the other.
-use Rattle.std.specs.Prelude.{ℕ, ◌+◌, ◌==◌, ◌^◌, Bool, false, nat_lt, List, [], ◌∷◌, ◌++◌, length, map, take, drop, Option, Some, None, if◌then◌else◌}
+use Rattle.std.specs.Prelude.{ℕ, ◌+◌, ◌==◌, ◌^◌, Bool, false, nat_lt, nat_le, List, [], ◌∷◌, ◌++◌, length, map, take, drop, Option, Some, None, if◌then◌else◌}
 use Rattle.std.specs.List.{AllByRecursion, sum_by}
 use Rattle.std.specs.List.Sorted.{IsStrictlySortedBy}
 use Rattle.block_types.specs.Limits.{IsBlock}
@@ -8,6 +8,7 @@ use Rattle.memtable.specs.Limits.{IsKey}
 use Rattle.checkpoint_format.specs.declared.index.Index.{Index}
 use Rattle.checkpoint_format.specs.declared.index.PageAt.{PageAt}
 use Rattle.checkpoint_format.specs.declared.page.Page.{Page}
+use Rattle.checkpoint_format.specs.Index.{index_size}
 use Rattle.checkpoint_format.specs.Page.{page_of, pages_of}
 use Rattle.checkpoint.specs.Pages.{has_place}
 
@@ -58,6 +59,20 @@ placed_pages extent offset (page ∷ pages) =
 abbrev pub with_next_placed : PagesState → ℕ → ℕ → PagesState
 with_next_placed p extent offset =
     record { index = record p.index { pages = p.index.pages ++ placed_pages extent offset (next_pages p) }; unwritten = drop 64 p.unwritten }
+
+-- ---- the whole index
+
+-- how many bytes a page has in the index
+abbrev pub entry_size : Page → ℕ
+entry_size page = 18 + length page.first
+
+-- how many bytes the index has once all pages stand
+abbrev pub whole_size : PagesState → ℕ
+whole_size p = index_size p.index + sum_by entry_size p.unwritten
+
+-- whether it fits a group then
+abbrev pub will_fit : PagesState → Bool
+will_fit p = nat_le (whole_size p) 4194304
 
 -- ---- what holds of them
 

@@ -1,6 +1,6 @@
 //! The pages of a checkpoint while they are written.
 ghost use Rattle.std.specs.Prelude.{◌≡◌, ℕ, ◌+◌, ◌≤◌, ◌<◌, ◌^◌, ◌++◌, ◌∷◌, [], true, nat_le, length, take, drop, IfOk, OnOk, OnErr};
-ghost use Rattle.std.specs.List.{AllByRecursion};
+ghost use Rattle.std.specs.List.{AllByRecursion, sum_by};
 ghost use Rattle.memtable.specs.Entries.{IsFit};
 ghost use Rattle.checkpoint_format.specs.Index.{IsIndex, fits_a_group};
 ghost use Rattle.checkpoint.specs.PageGroups as specs;
@@ -111,6 +111,24 @@ fn has_room(room: u64, pages: &[Page]) -> bool
     true
 }
 
+/// The most bytes of an index, those of a group of 64 blocks.
+const MAX_INDEX: u64 = 4_194_304;
+
+/// Whether so many bytes have room for all of these pages in an index.
+fn have_room(room: u64, pages: &[Page]) -> bool
+    ensures { result ≡ nat_le (sum_by specs.entry_size pages.now) room }
+{
+    let mut left = room;
+    for page in pages {
+        let size = 18 + page.first.len() as u64;
+        if left < size {
+            return false;
+        }
+        left -= size;
+    }
+    true
+}
+
 /// These pages where they stand, one behind the other from an offset of an extent on. They share their first keys.
 fn placed_pages(
     alloc: Global,
@@ -174,6 +192,16 @@ impl CheckpointPages {
             pages,
             standing: 0,
         })
+    }
+
+    /// Whether the index fits a group once all pages stand.
+    pub fn will_fit(&self) -> bool
+        ensures { result ≡ specs.will_fit self.now }
+    {
+        if !self.index.fits_a_group() {
+            return false;
+        }
+        have_room(MAX_INDEX - self.index.size(), self.unwritten())
     }
 
     /// Those that do not stand.

@@ -1,13 +1,15 @@
 //! Combining what the pages of several checkpoints say.
-ghost use Rattle.std.specs.Prelude.{◌≡◌, ◌++◌, List, [], IfOk, OnOk, OnErr, map, option_map};
+ghost use Rattle.std.specs.Prelude.{◌≡◌, ◌++◌, Some, IfOk, OnOk, OnErr};
 ghost use Rattle.std.specs.List.{AllByRecursion};
-ghost use Rattle.memtable.specs.Entries.{IsFit, AllFit, put_all};
-ghost use Rattle.checkpoint_format.specs.Page.{entries_at, page_of, pages_of};
+ghost use Rattle.memtable.specs.Entries.{IsFit, put_all};
+ghost use Rattle.checkpoint_format.specs.Page.{entries_at};
+ghost use Rattle.checkpoint.specs.PageGroups.{pages_to_write};
 ghost use Rattle.checkpoint.specs.Pages as specs;
 
+use crate::checkpoint_pages::CheckpointPages;
 use block_types::BlockFault;
 use bytes::Bytes;
-use checkpoint_format::{Page, entries_of, write_pages};
+use checkpoint_format::entries_of;
 use memtable::{Cell, CellMap};
 use metadata::KeyRange;
 use std::alloc::{AllocError, Global};
@@ -84,46 +86,57 @@ fn put_copies(
     Ok(())
 }
 
+/// Puts changes over the entries that are there, from left to right, and shares their keys and values.
+fn put_changes(all: &mut BTreeMap<Bytes, Cell>, changes: &[(Bytes, Cell)]) -> Result<(), AllocError>
+    ensures { OnOk result (all.new.entries ≡ put_all all.old.entries changes.now) }
+{
+    for change in changes {
+        all.insert(change.0.clone()?, change.1.copy()?)?;
+    }
+    Ok(())
+}
+
 fn is_deleted(cell: &Cell) -> bool
     ensures { result ≡ specs.is_deleted cell.now }
 {
     matches!(cell, Cell::Deleted)
 }
 
-/// The entries of a combined checkpoint: the newer ones, if there are some, over the merged ones, without the keys that have no
-/// value. They share the keys and values of both. An error is out of memory (22).
-pub fn combined_entries(
+/// The entries of a combined checkpoint: changes over the older entries, and the newer ones over both, without the keys that have
+/// no value. They share the keys and values of all three.
+fn combined_entries(
     alloc: Global,
-    merged: &CellMap,
-    newer: Option<&BTreeMap<Bytes, Cell>>,
+    older: &BTreeMap<Bytes, Cell>,
+    changes: &[(Bytes, Cell)],
+    newer: &BTreeMap<Bytes, Cell>,
 ) -> Result<BTreeMap<Bytes, Cell>, AllocError>
-    ensures { IfOk result (λ all. all.entries ≡ specs.combined merged.now (option_map (λ layer. layer.now.entries) newer.entry)) }
+    ensures { IfOk result (λ all. all.entries ≡ specs.combined (put_all older.now.entries changes.now) (Some newer.now.entries)) }
 {
-    let mut all = copied(alloc, merged.entries())?;
-    match newer {
-        None => {}
-        Some(newer) => put_copies(&mut all, newer)?,
-    }
+    let mut all = copied(alloc, older)?;
+    put_changes(&mut all, changes)?;
+    put_copies(&mut all, newer)?;
     all.retain(|_key, cell| !is_deleted(cell));
     Ok(all)
 }
 
-/// The pages of a combined checkpoint, in the order of their keys, each as full as it can be. A key and a value beside it are
-/// copied once, into the page. An error is out of memory (22).
+/// The pages of a combined checkpoint, none of which stands yet: they have what was merged, changes over it, from left to right,
+/// and the newer entries over both, without the keys that have no value. A key and a value beside it are copied once, into the
+/// page. An error is out of memory (22).
 ///
-/// That the entries are in range is the caller's condition.
+/// That the changes and the newer entries are in range is the caller's condition.
 pub fn combine(
     alloc: Global,
     merged: &CellMap,
-    newer: Option<&BTreeMap<Bytes, Cell>>,
-) -> Result<Vec<Page>, AllocError>
-    requires merged { AllByRecursion IsFit merged.now }
-    requires newer { AllFit (option_map (λ layer. layer.now.entries) newer) }
-    ensures { IfOk result (λ pages. pages.items
-        ≡ map page_of (pages_of (specs.combined merged.now (option_map (λ layer. layer.now.entries) newer.entry)))) }
+    changes: &[(Bytes, Cell)],
+    newer: &BTreeMap<Bytes, Cell>,
+) -> Result<CheckpointPages, AllocError>
+    requires changes { AllByRecursion IsFit changes.now }
+    requires newer { AllByRecursion IsFit newer.now.entries }
+    ensures { IfOk result (λ pages. pages ≡ pages_to_write (specs.combined (put_all merged.now changes.now) (Some newer.now.entries))) }
 {
-    let entries = combined_entries(alloc, merged, newer)?;
-    write_pages(alloc, &entries)
+    let older = merged.entries();
+    let entries = combined_entries(alloc, older, changes, newer)?;
+    CheckpointPages::of(alloc, &entries)
 }
 
 /// Whether a value of the entries stands outside of their pages, as their index says.

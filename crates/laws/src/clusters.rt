@@ -1,6 +1,6 @@
 //! The laws of whole runs with servers and the map.
 
-ghost use Rattle.std.specs.Prelude.{ℕ, List};
+ghost use Rattle.std.specs.Prelude.{ℕ, Bool, List};
 ghost use Rattle.block_types.specs.declared.record.Nodes.{Nodes};
 ghost use Rattle.wire.specs.declared.packet.Packet.{Packet};
 ghost use Rattle.model_streams.specs.Maps.{entry_at};
@@ -28,8 +28,8 @@ pub fn servers_take_steps()
         ShowsLoad (server_loads (entry_at servers s) p.body) (server_takes servers s p).notes }
     ensures sent_again { (servers : List ServerCell) (s range : ℕ) (pick : Nodes) → MaySendAll (server_gives_up servers s range pick).packets }
     ensures shown_again { (servers : List ServerCell) (s range : ℕ) (pick : Nodes) → ArePlain (server_gives_up servers s range pick).notes }
-    ensures sent_by_checkpoints { (servers : List ServerCell) (s range : ℕ) → MaySendAll (server_checkpoints servers s range).packets }
-    ensures shown_of_checkpoints { (servers : List ServerCell) (s range : ℕ) → ArePlain (server_checkpoints servers s range).notes }
+    ensures sent_by_checkpoints { (servers : List ServerCell) (s range : ℕ) (combine : Bool) → MaySendAll (server_checkpoints servers s range combine).packets }
+    ensures shown_of_checkpoints { (servers : List ServerCell) (s range : ℕ) (combine : Bool) → ArePlain (server_checkpoints servers s range combine).notes }
 {}
 
 /// Whatever servers and the map do, each event is some moves of the stream layer.

@@ -35,7 +35,7 @@ pub fn tables_replay()
 
 /// Whatever comes to servers, from whomever and however often, wherever they stop, start, give up or make checkpoints: if what they see
 /// of the metadata and the log of a range keeps its order, no generation is confirmed twice, loads of that log end in the order of
-/// their generations, and what loads were shown and appends were answered for keeps its bytes, then what they load replays, where the
+/// their generations, and what reads were shown and appends were answered for keeps its bytes, then what they load replays, where the
 /// map assigns the first range alone (`law`). The tables of any range that is served, its indexes among them, are at any moment the
 /// table of the line that ends at its log position, whatever other ranges its server holds (`steps`), and whichever copies of the log
 /// each load is taken for (`served`). Nothing is said of who answers them: any streams, of any number of any machines, are allowed that

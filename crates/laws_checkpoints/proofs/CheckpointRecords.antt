@@ -8,6 +8,7 @@ use Rattle.memtable.specs.declared.cell.Place.{Place}
 use Rattle.memtable.specs.Entries.{Entries}
 use Rattle.metadata.specs.declared.record.MetaItem.{MetaItem}
 use Rattle.metadata.specs.Fold.{MetadataState, taken, folded}
+use Rattle.metadata.specs.Keys.{within}
 use Rattle.metadata.specs.Record.{IsNext, IsPlace, IsPosition}
 use Rattle.metadata.proofs.Laws.{record_again}
 use Rattle.commitlog.specs.declared.log_record.LogRecord.{LogRecord}
@@ -21,7 +22,7 @@ use Rattle.checkpoint.specs.Pages.{AreFiled}
 use Rattle.checkpoint.specs.PageGroups.{next_group}
 use Rattle.client.specs.Client.{ClientState}
 use Rattle.model_partition.specs.CheckpointStates.{CheckpointState}
-use Rattle.model_partition.specs.Checkpoints.{number_to_apply, new_job, checkpoint_record, has_record_number, may_record, index_place, trim_index, recorded}
+use Rattle.model_partition.specs.Checkpoints.{number_to_apply, new_job, checkpoint_record, has_record_number, may_record, index_place, trim_index, indexes_below, recorded}
 use Rattle.model_partition.specs.Past.{Bytes}
 use Rattle.model_partition.specs.Range.{OutGroup, RangeState}
 use Rattle.model_partition.specs.Renaming.{decoded, numbered_if, decoded_record, one_record}
@@ -31,13 +32,16 @@ use Rattle.model_partition.specs.ServerRun.{place_number}
 use Rattle.model_partition.specs.StreamActions.{group_of, record_group}
 use Rattle.model_partition.specs.TableContents.{StandsAt}
 use Rattle.laws_tables.specs.Runs as chains
-use Rattle.laws_tables.specs.Runs.{Beginning, NotedPosition, Serving, noted_next, noting, fold_of, said, start_number, MayCheckpoint}
-use Rattle.laws_tables.proofs.Layers.{fold_last}
+use Rattle.laws_tables.specs.Runs.{Beginning, Serving, noted_next, noting, fold_of, said, start_number, Covers, MayCheckpoint}
+use Rattle.laws_tables.specs.Layers.{over, flat, indexed}
+use Rattle.laws_tables.proofs.Layers.{pick, fold_last}
 use Rattle.laws_loads.specs.MemoryLayers.{layer_in}
-use Rattle.laws_checkpoints.specs.IndexLayers.{layer_at, IsWritten}
+use Rattle.laws_checkpoints.specs.CombinedLayers.{written_entries}
+use Rattle.laws_checkpoints.specs.IndexLayers.{layer_at, IsWritten, AreWritten}
 use Rattle.laws_checkpoints.specs.ShownTables.{AreInstalled, AreWrittenByKey}
 use Rattle.laws_checkpoints.proofs.Checkpoints.{plain_covers}
-use Rattle.laws_checkpoints.proofs.WrittenIndexes.{index_read}
+use Rattle.laws_checkpoints.proofs.CombinedLayers.{combined_layer}
+use Rattle.laws_checkpoints.proofs.WrittenIndexes.{index_read, layer_says}
 use Rattle.laws_checkpoints.specs.WritingPages.{WritesPages}
 use Rattle.laws_checkpoints.proofs.WrittenPages.{writing_ends, writing_files, none_unwritten}
 
@@ -107,49 +111,63 @@ job_notes event r s position next out fits = (λ i. Some (record { place = sym p
 -- ---- the guard
 
 module _ (texts : ℕ → Bytes) where
-  -- A plain checkpoint may be recorded where its index was written of what the fixed layer has, and it has the position and the next
-  -- number that were noted.
+  -- A checkpoint may be recorded where its index was written of what the fixed layer has, where it combines over what all older indexes
+  -- say, and it has the position and the next number that were noted.
   pub may_checkpoint : (b : Beginning) (s : Serving) (r : RangeState) (job : CheckpointState) (fixed : Entries) (index : Place) →
-      IsWritten texts job.pages.index fixed index → ((key : Bytes) → layer_in texts fixed key ≡ s.fixed key) →
+      r.said ≡ said b s.records → AreInstalled texts r.indexes r.said.indexes → AreWritten texts r.said.indexes → AreEntries fixed →
+      IsWritten texts job.pages.index (written_entries texts job.combine r.said.keys r.indexes fixed) index → ((key : Bytes) → layer_in texts fixed key ≡ s.fixed key) →
       s.noted ≡ Some (record { place = place_number job.position; next = job.next }) →
       MayCheckpoint (layer_at texts) b s (checkpoint_record r job index).item
-  may_checkpoint b s r job fixed index written layer noted = (
+  may_checkpoint b s r job fixed index said_is installed written are stands layer noted = (
     record { place = place_number job.position; next = job.next },
     noted,
-    false,
+    job.combine,
     index,
     job.position,
     refl,
     refl,
-    plain_covers texts b s job.pages.index index fixed written layer,
+    by job.combine stands,
   )
+    where
+      by : (combine : Bool) → IsWritten texts job.pages.index (written_entries texts combine r.said.keys r.indexes fixed) index → Covers (layer_at texts) b s combine (layer_at texts index)
+      by false stood = plain_covers texts b s job.pages.index index fixed stood layer
+      by true stood =
+          subst (λ (m : MetadataState). (key : Bytes) → within m.keys key ≡ true → flat (layer_at texts index key) ≡ flat (over s.fixed (indexed (layer_at texts) m.indexes) key)) said_is
+          (λ key inside.
+          ap flat (layer_says texts job.pages.index (written_entries texts true r.said.keys r.indexes fixed) index stood key)
+          ∙ combined_layer texts r.said.keys r.indexes r.said.indexes fixed key installed written are inside
+          ∙ ap (λ o. flat (pick o (indexed (layer_at texts) r.said.indexes key))) (layer key))
 
-  module _ (r : RangeState) (job : CheckpointState) (fixed : Entries) (writes : WritesPages texts fixed job.pages) (none : next_group job.pages ≡ None) (are : AreEntries fixed) (may : may_record r job ≡ true)
+  module _ (r : RangeState) (job : CheckpointState) (entries : Entries) (writes : WritesPages texts entries job.pages) (none : next_group job.pages ≡ None) (are : AreEntries entries) (may : may_record r job ≡ true)
       (e offset : ℕ) (stands : StandsAt (texts e) offset (groups.joined (index_group job.pages.index))) where
-    -- where all pages stand, and then the index, the index is one of the fixed layer's entries
-    pub index_written : IsWritten texts job.pages.index fixed (index_place job e offset)
+    -- where all pages stand, and then the index, the index is one of these entries
+    pub index_written : IsWritten texts job.pages.index entries (index_place job e offset)
     index_written =
-        writing_ends texts fixed job.pages writes (none_unwritten job.pages none) are (may_parts r job may).0 e offset stands
+        writing_ends texts entries job.pages writes (none_unwritten job.pages none) are (may_parts r job may).0 e offset stands
 
-    pub index_filed : AreFiled job.pages.index.pages (pages_of fixed)
-    index_filed = writing_files texts fixed job.pages writes (none_unwritten job.pages none)
-
-    -- so its record may be written
-    pub index_may : (b : Beginning) (s : Serving) → ((key : Bytes) → layer_in texts fixed key ≡ s.fixed key) → s.noted ≡ Some (record { place = place_number job.position; next = job.next }) →
-        MayCheckpoint (layer_at texts) b s (checkpoint_record r job (index_place job e offset)).item
-    index_may b s layer noted = may_checkpoint b s r job fixed (index_place job e offset) index_written layer noted
+    pub index_filed : AreFiled job.pages.index.pages (pages_of entries)
+    index_filed = writing_files texts entries job.pages writes (none_unwritten job.pages none)
 
   -- ---- the record stands
 
   -- the newest index is installed, as the metadata then names it
-  pub recorded_installed : (r : RangeState) (job : CheckpointState) (fixed : Entries) (index : Place) → IsWritten texts job.pages.index fixed index → AreInstalled texts r.indexes r.said.indexes →
+  pub recorded_installed : (r : RangeState) (job : CheckpointState) (entries : Entries) (index : Place) → IsWritten texts job.pages.index entries index → AreInstalled texts r.indexes r.said.indexes →
       AreInstalled texts (recorded r job index).indexes (recorded r job index).said.indexes
-  recorded_installed r job fixed index written installed = (record { place = refl; keys = refl; index = index_read texts job.pages.index fixed index written }, installed)
+  recorded_installed r job entries index written installed =
+      (record { place = refl; keys = refl; index = index_read texts job.pages.index entries index written }, below job.combine)
+    where
+      below : (combine : Bool) → AreInstalled texts (indexes_below combine r.indexes) (if combine then [] else r.said.indexes)
+      below true = tt
+      below false = installed
 
   -- and it was written by key
-  pub recorded_by_key : (r : RangeState) (job : CheckpointState) (fixed : Entries) (index : Place) → IsWritten texts job.pages.index fixed index → AreFiled job.pages.index.pages (pages_of fixed) →
+  pub recorded_by_key : (r : RangeState) (job : CheckpointState) (entries : Entries) (index : Place) → IsWritten texts job.pages.index entries index → AreFiled job.pages.index.pages (pages_of entries) →
       AreWrittenByKey texts r.said.indexes → AreWrittenByKey texts (recorded r job index).said.indexes
-  recorded_by_key r job fixed index written filed others = ((job.pages.index, fixed, written, filed), others)
+  recorded_by_key r job entries index written filed others = ((job.pages.index, entries, written, filed), below job.combine)
+    where
+      below : (combine : Bool) → AreWrittenByKey texts (if combine then [] else r.said.indexes)
+      below true = tt
+      below false = others
 
 -- ---- the Trim
 

@@ -65,7 +65,7 @@ module _ (texts : ℕ → Bytes) where
 
   -- ---- what is held
 
-  held_rightly : (held : Held) (place : Place) (bytes : Bytes) → HoldsBytes texts held → held_at held place ≡ Some bytes → bytes_in texts place ≡ bytes
+  pub held_rightly : (held : Held) (place : Place) (bytes : Bytes) → HoldsBytes texts held → held_at held place ≡ Some bytes → bytes_in texts place ≡ bytes
   held_rightly [] place bytes right is = absurd cc
   held_rightly (x ∷ held) place bytes right is = by (is_place place x.0) refl is (λ later. held_rightly held place bytes right.1 later)
     where

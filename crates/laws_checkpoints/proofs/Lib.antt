@@ -7,3 +7,4 @@ pub mod TableLayers
 pub mod HeldPages
 pub mod WrittenPages
 pub mod CheckpointRecords
+pub mod CombinedLayers

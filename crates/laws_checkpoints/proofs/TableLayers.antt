@@ -1,5 +1,5 @@
 -- The entries of a loaded table, and those of a served range, are their layers, one over the other.
-use Rattle.std.proofs.Common.{◌≡◌, ℕ, true, List, [], ◌∷◌, map, Option, Some, None, refl, sym, ap, ◌∙◌}
+use Rattle.std.proofs.Common.{◌≡◌, ℕ, true, List, [], ◌∷◌, map, Option, refl, sym, ap, ◌∙◌}
 use Rattle.memtable.specs.declared.cell.Cell.{Cell}
 use Rattle.memtable.specs.Entries.{Entries, found, put_all}
 use Rattle.metadata.specs.declared.record.IndexRange.{IndexRange}
@@ -40,7 +40,7 @@ module _ (texts : ℕ → Bytes) where
       let entries : pages_in texts x.index.pages ≡ index_entries texts named.place = sym (ap (indexed_entries texts) is.index) ∙ ap (index_entries texts) is.place in
       (λ i. record { keys = is.keys i; entries = entries i })
 
-  contents_say : (xs : List InstalledIndex) (named : List IndexRange) → AreInstalled texts xs named → map (index_in texts) xs ≡ contents_of texts named
+  pub contents_say : (xs : List InstalledIndex) (named : List IndexRange) → AreInstalled texts xs named → map (index_in texts) xs ≡ contents_of texts named
   contents_say [] [] are = refl
   contents_say [] (x ∷ named) are = absurd are
   contents_say (x ∷ xs) [] are = absurd are

@@ -1,3 +1,4 @@
 pub mod IndexLayers
 pub mod ShownTables
 pub mod WritingPages
+pub mod CombinedLayers

@@ -64,4 +64,4 @@ record_read n fields r less e =
 pub record_says : (r : RangeState) (job : CheckpointState) (index : Place) → has_record_number r ≡ true → SaysCheckpoint (record_group r job index)
 record_says r job index has x read =
     let below : suc r.said.next < 2 ^ 64 = ltb-true (suc r.said.next) (2 ^ 64) has in
-    record_read r.said.next (flag false ++ (place index ++ (position job.position ++ number 8 job.next))) x (omega (arith, below)) read
+    record_read r.said.next (flag job.combine ++ (place index ++ (position job.position ++ number 8 job.next))) x (omega (arith, below)) read

@@ -157,7 +157,7 @@ module _ (generation : ℕ → ℕ) (nodes target : ℕ) where
     pub stories : SeesAll y (λ range. (after_all Group generation (machines range).m).state.story) (λ range. (after_all Group generation (machines range).l).state.story)
     -- what was formed of a metadata says checkpoints
     pub says : (range : ℕ) → AllSay (y.story (stream_named range kinds.Metadata))
-    -- what loads showed of logs and what appends were answered for was observed, and what servers showed is what is seen of tables
+    -- what reads were shown and what appends were answered for was observed, and what servers showed is what is seen of tables
     pub observed : (range : ℕ) → AreObserved c.stream_layer.notes (y.shown range)
     pub acked : (range : ℕ) → AreObserved c.stream_layer.notes (y.answered range)
     pub told : (texts : ℕ → Bytes) → AllTellRightly texts c.stream_layer.notes → AreSeenAs texts y.notes (table_notes c.stream_layer.notes)

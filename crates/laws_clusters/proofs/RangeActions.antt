@@ -30,13 +30,13 @@ use Rattle.model_partition.specs.Answering.{groups_of, is_taken}
 use Rattle.model_partition.specs.CheckpointStates.{CheckpointState}
 use Rattle.model_partition.specs.declared.checkpoint_job.CheckpointPhase.{CheckpointPhase}
 use Rattle.model_partition.specs.declared.checkpoint_job.CheckpointPhase.TheVariants as checkpoints
-use Rattle.model_partition.specs.Checkpoints.{may_record, has_record_number, index_place, rows_may_stand}
+use Rattle.model_partition.specs.Checkpoints.{may_record, has_record_number, index_place, rows_may_stand, trim_awaits}
 use Rattle.model_partition.specs.PlaceReads.{reads_under}
 use Rattle.checkpoint_format.specs.Index.{fits_a_group}
 use Rattle.model_partition.specs.Range.{OutGroup, RangeState, RangeOutcome, request, picking, if_there, is_serving}
 use Rattle.model_partition.specs.ServerRun.{RangeHistory, ServerRun, place_number, placed_reads, placed_behind, with_event, is_kind, is_stream, stream_named, bytes_read, after_action, after_actions}
 use Rattle.model_partition.specs.Story.{Story, StreamEvent, Made, Showed, event_at}
-use Rattle.model_partition.specs.StreamActions.{ExtentRead, StreamAction, Reads, Forms, Stands, Shows, Finds, Stores, group_of, formed, transact_actions, last_position, stood, serving_actions, loading_actions, confirmed_actions, load_actions, record_group, record_stood_in, record_stood, record_actions, metadata_actions, index_stood_in, index_stood, rows_told_actions, rows_actions, index_told_actions, index_actions, answer_actions, PlacedBytes}
+use Rattle.model_partition.specs.StreamActions.{ExtentRead, StreamAction, Reads, Forms, Stands, Shows, Finds, Stores, group_of, formed, transact_actions, last_position, stood, serving_actions, loading_actions, confirmed_actions, load_actions, record_group, record_stood_in, record_stood, record_actions, metadata_actions, index_stood_in, index_stood, rows_told_actions, rows_actions, bytes_told_actions, bytes_actions, answer_actions, PlacedBytes}
 use Rattle.laws_loads.specs.RangeView.{RangeView, view_after, view_after_all}
 use Rattle.laws_log_reads.specs.Reads.{SaysCheckpoint, IsShown, AllShown}
 use Rattle.laws_clusters.proofs.CheckpointRecords.{record_says}
@@ -164,13 +164,13 @@ rows_told_on r told = tt
 rows_on : (d : ServerContext) (r : RangeState) (body : Body) → AreOnEither (rows_actions d r body)
 rows_on d r body = if_elim AreOnEither (rows_may_stand r.control body) _ _ (λ t. rows_told_on r (reply_rule (picking d r.rows) (request d) body).news) (λ f. tt)
 
-index_told_on : (body : ReadBody) → AreOnEither (index_told_actions body)
-index_told_on (answers.Bytes w e offset bytes) = (tt, tt)
-index_told_on body = tt
+bytes_told_on : (body : ReadBody) → AreOnEither (bytes_told_actions body)
+bytes_told_on (answers.Bytes w e offset bytes) = (tt, tt)
+bytes_told_on body = tt
 
-index_on : (body : Body) → AreOnEither (index_actions body)
-index_on (bodies.Read body) = index_told_on body
-index_on body = tt
+bytes_on : (body : Body) → AreOnEither (bytes_actions body)
+bytes_on (bodies.Read body) = bytes_told_on body
+bytes_on body = tt
 
 pub answer_on : (d : ServerContext) (r : RangeState) (w : ReqNo) (body : Body) (o : RangeOutcome) → AreOnEither (answer_actions d r w body o)
 answer_on d r w body o =
@@ -183,7 +183,8 @@ answer_on d r w body o =
     (λ h. loading_on kinds.Log r.log r.stage (groups_of body) (reply_rule (picking d r.log) (request d) body).news))
     (λ g. tt))
     (λ f. if_elim AreOnEither (awaits r.rows.job w) _ _ (λ g. rows_on d r body)
-    (λ g. if_elim AreOnEither (reads_under r.reading w) _ _ (λ h. index_on body) (λ h. tt))))))
+    (λ g. if_elim AreOnEither (reads_under r.reading w) _ _ (λ h. bytes_on body)
+    (λ h. if_elim AreOnEither (trim_awaits r.control w) _ _ (λ j. tt) (λ j. bytes_on body)))))))
     (λ a. tt)
 
 -- such actions add nothing to the story of a stream that is not of the range
@@ -254,7 +255,7 @@ reads_seen w (x ∷ older) shown = (one x shown.0, reads_seen w older shown.1)
     one x (n, inl there) = AsContent n x.groups there refl refl
     one x (n, inr there) = AsSeen n there
 
--- what loads showed and what appends were answered for was observed
+-- what reads were shown and what appends were answered for was observed
 pub record SeesBytes (notes : List Note) (shown answered : List PlacedBytes) : Type 0 where
   pub shown_there : AreObserved notes shown
   pub answered_there : AreObserved notes answered
@@ -359,15 +360,15 @@ module _ (generation : ℕ) (notes : List Note) (v : RangeView) (old : SeesBytes
     rows_seen : (d : ServerContext) (body : Body) → RowsAcked (reply_rule (picking d r.rows) (request d) body).news → Observed (rows_actions d r body)
     rows_seen d body acked = if_elim Observed (rows_may_stand r.control body) _ _ (λ t. rows_told_seen (reply_rule (picking d r.rows) (request d) body).news acked) (λ f. old)
 
-    -- ---- indexes
+    -- ---- indexes, pages and values
 
-    index_told_seen : (body : ReadBody) → BytesSeen notes (bodies.Read body) → Observed (index_told_actions body)
-    index_told_seen (answers.Bytes w e offset bytes) seen = record { shown_there = (AsSeen seen.0 seen.1, old.shown_there); answered_there = old.answered_there }
-    index_told_seen body seen = old
+    found_told_seen : (body : ReadBody) → BytesSeen notes (bodies.Read body) → Observed (bytes_told_actions body)
+    found_told_seen (answers.Bytes w e offset bytes) seen = record { shown_there = (AsSeen seen.0 seen.1, old.shown_there); answered_there = old.answered_there }
+    found_told_seen body seen = old
 
-    index_seen : (body : Body) → BytesSeen notes body → Observed (index_actions body)
-    index_seen (bodies.Read body) seen = index_told_seen body seen
-    index_seen body seen = old
+    found_seen : (body : Body) → BytesSeen notes body → Observed (bytes_actions body)
+    found_seen (bodies.Read body) seen = found_told_seen body seen
+    found_seen body seen = old
 
     -- ---- answers
 
@@ -394,5 +395,6 @@ module _ (generation : ℕ) (notes : List Note) (v : RangeView) (old : SeesBytes
           (λ h. loading_seen kinds.Log r.log r.stage (groups_of body) (reply_rule (picking d r.log) (request d) body).news))
           (λ g. old))
           (λ f. if_elim Observed (awaits r.rows.job w) _ _ (λ g. rows_seen d body stored)
-          (λ g. if_elim Observed (reads_under r.reading w) _ _ (λ h. index_seen body found) (λ h. old))))))
+          (λ g. if_elim Observed (reads_under r.reading w) _ _ (λ h. found_seen body found)
+          (λ h. if_elim Observed (trim_awaits r.control w) _ _ (λ j. old) (λ j. found_seen body found)))))))
           (λ a. old)

@@ -1,6 +1,6 @@
 -- What a range at a server does, as a cluster that stands has it: each rule goes on in the streams as servers see them, and what
 -- it leaves has read what servers say.
-use Rattle.std.proofs.Common.{◌≡◌, ℕ, ◌≤◌, true, List, [], Option, Some, None, Contains, slice_get, refl, sym, ap, ◌∙◌, subst}
+use Rattle.std.proofs.Common.{◌≡◌, ℕ, ◌≤◌, Bool, true, List, [], Option, Some, None, Contains, slice_get, refl, sym, ap, ◌∙◌, subst}
 use Rattle.wire.specs.declared.actor.ActorId.{ActorId}
 use Rattle.wire.specs.declared.actor.ActorId.TheVariants.{Server}
 use Rattle.wire.specs.declared.actor.ReqNo.{ReqNo}
@@ -142,10 +142,10 @@ module _ (generation : ℕ → ℕ) (nodes target : ℕ) (c : Cluster) (y : Serv
           observed = seen;
         }
 
-        pub checkpoint_done : checkpoint_fault r ≡ None → Done v (checkpoint_rule d r) []
-        checkpoint_done may = record {
-          rule = checkpoint_sees generation range w i both m l d by v r h.follows may;
-          read = checkpoint_left generation range w i m l v d r h.read may;
+        pub checkpoint_done : (combine : Bool) → checkpoint_fault r ≡ None → Done v (checkpoint_rule d r combine) []
+        checkpoint_done combine may = record {
+          rule = checkpoint_sees generation range w i both m l d by v r h.follows combine may;
+          read = checkpoint_left generation range w i m l v d r h.read combine may;
           on_either = tt;
           observed = seen;
         }

@@ -35,6 +35,8 @@ use Rattle.commitlog.specs.Places.{kept}
 use Rattle.memtable.specs.Entries.{Entries, put_all}
 use Rattle.checkpoint_format.specs.declared.index.Index.{Index}
 use Rattle.checkpoint_format.specs.Index.{index_at}
+use Rattle.checkpoint_format.specs.Page.{entries_at}
+use Rattle.checkpoint.specs.Merges.{MergeState, next_place, with_at_hand, with_page}
 use Rattle.metadata.specs.Fold.{MetadataState, first_metadata}
 use Rattle.metadata.specs.declared.record.IndexRange.{IndexRange}
 use Rattle.metadata.specs.declared.record.Region.{Region}
@@ -48,14 +50,14 @@ use Rattle.model_partition.specs.declared.waiting.WaitingTransaction.{WaitingTra
 use Rattle.model_partition.specs.Range.{OutGroup, RangeState, RangeOutcome, request, used, refuses, waiting_out, refused_users, dropped, given, picking, is_serving}
 use Rattle.model_partition.specs.Serving.{record_of, group_count, appends as appends_next, forms, transact_fault, lease_ended, transacts, transact_rule, committed, out_size, after_these, applies, log_done}
 use Rattle.model_partition.specs.Server.{users_of}
-use Rattle.model_partition.specs.PlaceReads.{is_place, place_of, places_of, reads_under, moved_on, asks_again}
+use Rattle.model_partition.specs.PlaceReads.{is_place, place_of, places_of, reads_under, reads_page, moved_on, asks_again}
 use Rattle.model_partition.specs.Loading.{Group, said_after, replayed, read_by, read_of, asks_index, index_named, reads_named, reads_index, installs, index_read, index_bytes, reads_log, first_position, reads_log_from, checks_log, begins_log, reads_metadata, begins_metadata, opens, says, metadata_news, replays, log_read, log_news, open_region, serves_from, serves, has_position}
-use Rattle.model_partition.specs.Getting.{Lookup, Is, Needs, Tried, asks_place, answered, try, try_all, get_fault, gets, get_rule, are_no_page, bytes_rule, came, used_for, gives_up_read, gives_up_get, look, read_at, standing, without}
+use Rattle.model_partition.specs.Getting.{Lookup, Is, Needs, Tried, asks_place, answered, try, try_all, get_fault, gets, get_rule, are_no_page, bytes_rule, came, used_for, held_at, gives_up_read, gives_up_get, look, read_at, standing, without}
 use Rattle.model_partition.specs.CheckpointStates.{CheckpointState}
 use Rattle.model_partition.specs.declared.checkpoint_job.CheckpointPhase.{CheckpointPhase}
 use Rattle.model_partition.specs.declared.checkpoint_job.CheckpointPhase.TheVariants as checkpoints
-use Rattle.model_partition.specs.Checkpoints.{number_to_apply, have_bytes, new_job, with_phase, rows_go, writes_pages, checkpoint_rule, pages_stand, checkpoint_record, has_record_number, may_record, index_place, records, index_stands, rows_stand, rows_stand_at, rows_told, rows_may_stand, rows_reply, record_stands, record_told, trim_awaits, trim_told, trim_reply_in, phase_again, trim_again}
-use Rattle.model_partition.specs.Answering.{load_refused, load_told, load_reply, metadata_reply, serving_news, is_taken, log_taken, log_reply, index_told, index_reply, trim_reply, bytes_reply, gets_reply, answer_rule, gives_up_job, gives_up_reading, give_up_all, groups_of}
+use Rattle.model_partition.specs.Checkpoints.{number_to_apply, have_bytes, new_job, new_combining_job, combines, with_fixed, with_phase, rows_go, writes_pages, combined_job, writes_combined, asks_page, merges_next, merges, page_comes, page_read, page_bytes, page_told, checkpoint_rule, pages_stand, checkpoint_record, has_record_number, may_record, index_place, records, index_stands, rows_stand, rows_stand_at, rows_told, rows_may_stand, rows_reply, record_stands, record_told, trim_awaits, trim_told, trim_reply_in, phase_again, trim_again}
+use Rattle.model_partition.specs.Answering.{load_refused, load_told, load_reply, metadata_reply, serving_news, is_taken, log_taken, log_reply, index_told, index_reply, page_reply, trim_reply, bytes_reply, gets_reply, answer_rule, gives_up_job, gives_up_reading, give_up_all, groups_of}
 use Rattle.laws_clusters.proofs.ClientJobs.{AsksBy, AskedIf, IsUnder, JobFrom, ReadsNothing, given_asks, given_steps, append_steps, check_asks, read_sealed_asks, read_checked_asks, reply_steps, appended_idle, give_up_asks, give_up_from}
 
 -- ---- what is sent
@@ -380,6 +382,24 @@ module _ (d : ServerContext) where
   writes_left : (c : ClientState) (r : RangeState) (job : CheckpointState) → IsOld c r.rows → LeavesRows d c (writes_pages d r job)
   writes_left c r job old = rows_go_left c r _ old
 
+  -- a page is asked for, or what all pages come to is written
+  writes_combined_left : (c : ClientState) (r : RangeState) (job : CheckpointState) (newer : Option Entries) → IsOld c r.rows → LeavesRows d c (writes_combined d r job newer)
+  writes_combined_left c r job None old = (inl old, tt)
+  writes_combined_left c r job (Some newer) old = writes_left c r (combined_job job newer) old
+
+  asks_page_left : (c : ClientState) (r : RangeState) (place : Place) (places : Option Nodes) → IsOld c r.rows → LeavesRows d c (asks_page d r place places)
+  asks_page_left c r place None old = (inl old, tt)
+  asks_page_left c r place (Some places) old = (inl old, (inl tt, tt))
+
+  merges_next_left : (c : ClientState) (r : RangeState) (job : CheckpointState) (place : Option Place) → IsOld c r.rows → LeavesRows d c (merges_next d r job place)
+  merges_next_left c r job None old = writes_combined_left c r job r.fixed old
+  merges_next_left c r job (Some place) old = asks_page_left c (record r { control = Some job }) place (places_of r place.extent) old
+
+  merges_left : (c : ClientState) (r : RangeState) (job : CheckpointState) → IsOld c r.rows → LeavesRows d c (merges d r job)
+  merges_left c r job old =
+      let merge : MergeState = with_at_hand (held_at r.held) r.said.keys job.merge in
+      merges_next_left c (record r { reading = None }) (record job { merge = merge }) (next_place merge) old
+
   records_left : (c : ClientState) (r : RangeState) (job : CheckpointState) (index : Place) → IsOld c r.rows → LeavesRows d c (records d r job index)
   records_left c r job index old =
       let m : ClientState = picking d r.metadata in
@@ -479,6 +499,29 @@ module _ (d : ServerContext) where
   index_reply_left r (bodies.Append body) = load_refused_left r.rows r body (inr (refl, refl))
   index_reply_left r body = (inl (inr (refl, refl)), tt)
 
+  page_comes_left : (r : RangeState) (job : CheckpointState) (place : Option Place) (entries : Entries) → LeavesRows d r.rows (page_comes d r job place entries)
+  page_comes_left r job None entries = (inl (inr (refl, refl)), tt)
+  page_comes_left r job (Some place) entries = merges_left r.rows r (record job { merge = with_page r.said.keys job.merge entries }) (inr (refl, refl))
+
+  page_read_left : (r : RangeState) (job : Option CheckpointState) (entries : Option Entries) → LeavesRows d r.rows (page_read d r job entries)
+  page_read_left r None entries = (inl (inr (refl, refl)), tt)
+  page_read_left r (Some job) None = (inl (inr (refl, refl)), tt)
+  page_read_left r (Some job) (Some entries) = page_comes_left r job (next_place job.merge) entries
+
+  page_bytes_left : (r : RangeState) (reading : Option PlaceRead) (place : Place) (bytes : List ℕ) → LeavesRows d r.rows (page_bytes d r reading place bytes)
+  page_bytes_left r None place bytes = (inl (inr (refl, refl)), tt)
+  page_bytes_left r (Some read) place bytes =
+      if_elim (LeavesRows d r.rows) (is_place read.place place) _ _ (λ t. page_read_left r r.control (entries_at bytes)) (λ f. (inl (inr (refl, refl)), tt))
+
+  page_told_left : (r : RangeState) (body : ReadBody) → LeavesRows d r.rows (page_told d r body)
+  page_told_left r (reads.Bytes w e offset bytes) = page_bytes_left r r.reading (place_of e offset bytes) bytes
+  page_told_left r body = (inl (inr (refl, refl)), tt)
+
+  page_reply_left : (r : RangeState) (body : Body) → LeavesRows d r.rows (page_reply d r body)
+  page_reply_left r (bodies.Read body) = page_told_left r body
+  page_reply_left r (bodies.Append body) = load_refused_left r.rows r body (inr (refl, refl))
+  page_reply_left r body = (inl (inr (refl, refl)), tt)
+
   trim_reply_left : (r : RangeState) (body : Body) → LeavesRows d r.rows (trim_reply d r body)
   trim_reply_left r (bodies.Stream body) = trim_reply_in_left r r.control body
   trim_reply_left r (bodies.Append body) = load_refused_left r.rows r body (inr (refl, refl))
@@ -495,7 +538,7 @@ module _ (d : ServerContext) where
       (λ h. if_elim (LeavesRows d r.rows) (awaits r.rows.job w) _ _
       (λ t. rows_reply_left r body)
       (λ i. if_elim (LeavesRows d r.rows) (reads_under r.reading w) _ _
-      (λ t. index_reply_left r body)
+      (λ t. if_elim (LeavesRows d r.rows) (reads_page r.reading) _ _ (λ k. page_reply_left r body) (λ k. index_reply_left r body))
       (λ j. if_elim (LeavesRows d r.rows) (trim_awaits r.control w) _ _
       (λ t. trim_reply_left r body)
       (λ k. gets_reply_left r w body))))))
@@ -506,10 +549,12 @@ module _ (d : ServerContext) where
   pub get_leaves : (r : RangeState) (from : ActorId) (q : ReqNo) (key : List ℕ) → LeavesRows d r.rows (get_rule d r from q key)
   get_leaves r from q key = gets_left r from q key (get_fault d r key)
 
-  pub checkpoint_leaves : (r : RangeState) → LeavesRows d r.rows (checkpoint_rule d r)
-  checkpoint_leaves r =
+  pub checkpoint_leaves : (r : RangeState) (combine : Bool) → LeavesRows d r.rows (checkpoint_rule d r combine)
+  checkpoint_leaves r combine =
       if_elim (LeavesRows d r.rows) (have_bytes r.live r.position (number_to_apply r.out r.next)) _ _
-      (λ t. writes_left r.rows (record r { live = []; fixed = Some r.live }) (new_job r) (inr (refl, refl)))
+      (λ t. if_elim (LeavesRows d r.rows) (combines combine r.indexes) _ _
+      (λ k. merges_left r.rows (with_fixed r) (new_combining_job r) (inr (refl, refl)))
+      (λ k. writes_left r.rows (with_fixed r) (new_job r) (inr (refl, refl))))
       (λ f. (inl (inr (refl, refl)), tt))
 
   -- ---- giving up

@@ -283,13 +283,13 @@ module _ (generation : ℕ → ℕ) (plenty : (g n : ℕ) → (i : ℕ) × (n �
           go false = rests_good
 
       -- a checkpoint begins
-      checkpoint_held : checkpoint_fault r ≡ None → Good Rests (checkpoints_in st range (Some r))
-      checkpoint_held may = go (has_numbers st.context)
+      checkpoint_held : (combine : Bool) → checkpoint_fault r ≡ None → Good Rests (checkpoints_in st range combine (Some r))
+      checkpoint_held combine may = go (has_numbers st.context)
         where
-          go : (b : Bool) → Good Rests (if b then stepped st range (checkpoint_rule st.context r) else rests st)
+          go : (b : Bool) → Good Rests (if b then stepped st range (checkpoint_rule st.context r combine) else rests st)
           go true =
-              step_good (checkpoint_rule st.context r) [] (checkpoint_done generation nodes target c y x range held.counted i st.context (by range held.counted) (view_at range y s) (seen_here range) r h past may)
-              (checkpoint_tidy st.context r).0 (checkpoint_leaves st.context r)
+              step_good (checkpoint_rule st.context r combine) [] (checkpoint_done generation nodes target c y x range held.counted i st.context (by range held.counted) (view_at range y s) (seen_here range) r h past combine may)
+              (checkpoint_tidy st.context r combine).0 (checkpoint_leaves st.context r combine)
           go false = rests_good
 
     -- ---- what a server takes
@@ -376,14 +376,14 @@ module _ (generation : ℕ → ℕ) (plenty : (g n : ℕ) → (i : ℕ) × (n �
         go None found is_it = absurd cc
         go (Some r) found is_it = give_up_held range r found o is_it
 
-    checkpoint_good : (range : ℕ) → Good Rests (server_checkpoint st range)
-    checkpoint_good range = by_range (range_of st.ranges range) refl
+    checkpoint_good : (range : ℕ) (combine : Bool) → Good Rests (server_checkpoint st range combine)
+    checkpoint_good range combine = by_range (range_of st.ranges range) refl
       where
-        by_fault : (r : RangeState) → range_of st.ranges range ≡ Some r → (fault : Option Refusal) → checkpoint_fault r ≡ fault → Good Rests (if is_some fault then rests st else checkpoints_in st range (Some r))
-        by_fault r found None may = checkpoint_held range r found may
+        by_fault : (r : RangeState) → range_of st.ranges range ≡ Some r → (fault : Option Refusal) → checkpoint_fault r ≡ fault → Good Rests (if is_some fault then rests st else checkpoints_in st range combine (Some r))
+        by_fault r found None may = checkpoint_held range r found combine may
         by_fault r found (Some why) refused = rests_good
 
-        by_range : (known : Option RangeState) → range_of st.ranges range ≡ known → Good Rests (if is_some (checkpoint_refused known) then rests st else checkpoints_in st range known)
+        by_range : (known : Option RangeState) → range_of st.ranges range ≡ known → Good Rests (if is_some (checkpoint_refused known) then rests st else checkpoints_in st range combine known)
         by_range None found = rests_good
         by_range (Some r) found = by_fault r found (checkpoint_fault r) refl
 
@@ -465,22 +465,27 @@ module _ (generation : ℕ → ℕ) (plenty : (g n : ℕ) → (i : ℕ) × (n �
     gives_up_stands = subst (λ l. GaveUp (server_gives_up c.servers s range pick) (server_gives_up l s range pick)) x.cells (cell_gives (entry_at c.servers s) refl)
 
   -- a server is told to make a checkpoint
-  module _ (c : Cluster) (y : ServerRun) (x : Standing generation nodes target c y) (s range : ℕ) where
+  module _ (c : Cluster) (y : ServerRun) (x : Standing generation nodes target c y) (s range : ℕ) (combine : Bool) where
     abbrev Made : ServersOutcome → ServersOutcome → Type 0
     Made o seen = IsLaid (with_outcome y seen) → Standing generation nodes target (servers_perform c o) (with_outcome y seen)
 
     abbrev made_after : ServerCell → Option ServerState → ServersOutcome
-    made_after cell o = record { servers = slice_set c.servers (s - 1) (cell_checkpoints cell range o).cell; packets = (cell_checkpoints cell range o).packets; notes = (cell_checkpoints cell range o).notes }
+    made_after cell o =
+        record {
+          servers = slice_set c.servers (s - 1) (cell_checkpoints cell range combine o).cell;
+          packets = (cell_checkpoints cell range combine o).packets;
+          notes = (cell_checkpoints cell range combine o).notes;
+        }
 
     state_makes : (cell : ServerCell) → entry_at c.servers s ≡ Some cell → (o : Option ServerState) → cell.state ≡ o → Made (made_after cell o) (made_after cell o)
     state_makes cell at None is = λ laid. stopped c y x s cell at
-    state_makes cell at (Some st) is = checkpoint_good c y x s cell st at is range
+    state_makes cell at (Some st) is = checkpoint_good c y x s cell st at is range combine
 
     cell_makes : (o : Option ServerCell) → entry_at c.servers s ≡ o →
-        Made (at_server c.servers s (λ cell. cell_checkpoints cell range cell.state) o) (at_server c.servers s (λ cell. cell_checkpoints cell range cell.state) o)
+        Made (at_server c.servers s (λ cell. cell_checkpoints cell range combine cell.state) o) (at_server c.servers s (λ cell. cell_checkpoints cell range combine cell.state) o)
     cell_makes None at = λ laid. nobody_stands generation nodes target c y x
     cell_makes (Some cell) at = state_makes cell at cell.state refl
 
-    pub checkpoints_stand : IsLaid (after_event y (Checkpoints s range)) →
-        Standing generation nodes target (servers_perform c (server_checkpoints c.servers s range)) (after_event y (Checkpoints s range))
-    checkpoints_stand = subst (λ l. Made (server_checkpoints c.servers s range) (server_checkpoints l s range)) x.cells (cell_makes (entry_at c.servers s) refl)
+    pub checkpoints_stand : IsLaid (after_event y (Checkpoints s range combine)) →
+        Standing generation nodes target (servers_perform c (server_checkpoints c.servers s range combine)) (after_event y (Checkpoints s range combine))
+    checkpoints_stand = subst (λ l. Made (server_checkpoints c.servers s range combine) (server_checkpoints l s range combine)) x.cells (cell_makes (entry_at c.servers s) refl)

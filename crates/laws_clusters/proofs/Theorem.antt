@@ -232,10 +232,10 @@ module _ (nodes target batch count : ℕ) where
         let first : AreFirst (GivesUp s range pick ∷ coming) = (tt, x.first) in
         record { stands = gives_up_stands generation_at plenty nodes target c y x.stands s range pick (run_laid (GivesUp s range pick ∷ coming)); first = first }
 
-    checkpoints_all : (s range : ℕ) (combine : Bool) → StandsWith (cluster_after c (Checkpoint s range combine)) (Checkpoints s range ∷ coming)
+    checkpoints_all : (s range : ℕ) (combine : Bool) → StandsWith (cluster_after c (Checkpoint s range combine)) (Checkpoints s range combine ∷ coming)
     checkpoints_all s range combine =
-        let first : AreFirst (Checkpoints s range ∷ coming) = (tt, x.first) in
-        record { stands = checkpoints_stand generation_at plenty nodes target c y x.stands s range (run_laid (Checkpoints s range ∷ coming)); first = first }
+        let first : AreFirst (Checkpoints s range combine ∷ coming) = (tt, x.first) in
+        record { stands = checkpoints_stand generation_at plenty nodes target c y x.stands s range combine (run_laid (Checkpoints s range combine ∷ coming)); first = first }
 
     -- whatever comes
     comes_stands : (event : Event) → StandsWith (cluster_after c event) (server_events c event ++ coming)

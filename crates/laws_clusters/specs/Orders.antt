@@ -10,7 +10,7 @@ use Rattle.model_partition.specs.TableContents.{AllTellRightly}
 
 -- The servers of this cluster are those of this run of servers. The story of each stream, as they see it, keeps its order, no
 -- generation is confirmed twice, and confirmed loads end in the order of their generations. There are texts of extents that have all
--- that was observed of them. Over any such texts, what loads showed of logs and what appends were answered for stands there, and what
+-- that was observed of them. Over any such texts, what reads were shown and what appends were answered for stands there, and what
 -- is observed of tables is what the servers show.
 pub record ComesOfStreams (c : Cluster) (x : ServerRun) : Type 0 where
   pub servers : c.servers ≡ x.servers

@@ -30,7 +30,7 @@ server_events c (Deliver number) = delivery_events (slice_get c.stream_layer.pos
 server_events c (Stop actor call keep) = stop_events actor call
 server_events c (Restart actor) = start_events c actor
 server_events c (GiveUp server range pick) = GivesUp server range pick ∷ []
-server_events c (Checkpoint server range combine) = Checkpoints server range ∷ []
+server_events c (Checkpoint server range combine) = Checkpoints server range combine ∷ []
 server_events c (MomentTold now) = if nat_lt now c.now then [] else Moment now ∷ []
 server_events c event = []
 

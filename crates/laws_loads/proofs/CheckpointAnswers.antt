@@ -12,6 +12,7 @@ use Rattle.wire.specs.declared.refusal.Refusal.TheVariants as refusals
 use Rattle.client.specs.declared.job.News.{News}
 use Rattle.client.specs.declared.job.News.TheVariants as news
 use Rattle.client.specs.Client.{ClientState, Outcome, reply_rule}
+use Rattle.checkpoint.specs.Merges.{with_page}
 use Rattle.checkpoint.specs.PageGroups.{next_group}
 use Rattle.model_streams.proofs.Tests.{if_elim}
 use Rattle.model_partition.specs.CheckpointStates.{CheckpointState}
@@ -20,9 +21,10 @@ use Rattle.model_partition.specs.declared.checkpoint_job.CheckpointPhase.TheVari
 use Rattle.model_partition.specs.declared.server_context.ServerContext.{ServerContext}
 use Rattle.model_partition.specs.Range.{RangeState, request, dropped, picking}
 use Rattle.model_partition.specs.Loading.{Group}
-use Rattle.model_partition.specs.Checkpoints.{next_append, rows_go, writes_pages, pages_stand, may_record, index_stands, rows_stand, rows_told, rows_may_stand, rows_reply, has_record_number, record_stands, record_told, trim_told, trim_reply_in}
-use Rattle.model_partition.specs.Answering.{load_refused, trim_reply}
+use Rattle.model_partition.specs.Checkpoints.{combined_job, merges, next_append, rows_go, writes_pages, pages_stand, may_record, index_stands, rows_stand, rows_told, rows_may_stand, rows_reply, has_record_number, record_stands, record_told, trim_told, trim_reply_in}
+use Rattle.model_partition.specs.Answering.{load_refused, page_reply, trim_reply}
 use Rattle.laws_loads.specs.StaysLoading.{IsAsBefore, LeavesAsBefore}
+use Rattle.laws_loads.proofs.PageAnswers.{unread, merged, merges_elim, page_reply_elim}
 
 module _ (d : ServerContext) (r : RangeState) where
   gone : (s : RangeState) → LeavesAsBefore r (dropped d s)
@@ -34,8 +36,8 @@ module _ (d : ServerContext) (r : RangeState) where
   -- ---- row data
 
   rows_go_same : (s : RangeState) → IsAsBefore r s → (x : CheckpointState × Option Group) → LeavesAsBefore r (rows_go d s x)
-  rows_go_same s b (job, None) = calm _ (record { load = b.load; stage = b.stage; live = b.live; next = b.next; queue = b.queue; out = b.out }) _ _
-  rows_go_same s b (job, Some group) = calm _ (record { load = b.load; stage = b.stage; live = b.live; next = b.next; queue = b.queue; out = b.out }) _ _
+  rows_go_same s b (job, None) = calm _ (record { load = b.load; stage = b.stage; live = b.live; next = b.next; queue = b.queue; out = b.out; held = b.held }) _ _
+  rows_go_same s b (job, Some group) = calm _ (record { load = b.load; stage = b.stage; live = b.live; next = b.next; queue = b.queue; out = b.out; held = b.held }) _ _
 
   writes_pages_same : (s : RangeState) → IsAsBefore r s → (job : CheckpointState) → LeavesAsBefore r (writes_pages d s job)
   writes_pages_same s b job = rows_go_same s b (next_append job (next_group job.pages))
@@ -43,7 +45,7 @@ module _ (d : ServerContext) (r : RangeState) where
   index_stands_same : (s : RangeState) → IsAsBefore r s → (job : CheckpointState) (e offset : ℕ) → LeavesAsBefore r (index_stands d s job e offset)
   index_stands_same s b job e offset =
       if_elim (LeavesAsBefore r) (may_record s job) _ _
-      (λ t. calm _ (record { load = b.load; stage = b.stage; live = b.live; next = b.next; queue = b.queue; out = b.out }) _ _) (λ f. calm s b _ _)
+      (λ t. calm _ (record { load = b.load; stage = b.stage; live = b.live; next = b.next; queue = b.queue; out = b.out; held = b.held }) _ _) (λ f. calm s b _ _)
 
   rows_stand_same : (s : RangeState) → IsAsBefore r s → (job : CheckpointState) (phase : CheckpointPhase) (e offset : ℕ) → LeavesAsBefore r (rows_stand d s job phase e offset)
   rows_stand_same s b job phases.Pages e offset = writes_pages_same s b (pages_stand job e offset)
@@ -61,15 +63,15 @@ module _ (d : ServerContext) (r : RangeState) where
   rows_reply_same body =
       let o : Outcome = reply_rule (picking d r.rows) (request d) body in
       if_elim (LeavesAsBefore r) (rows_may_stand r.control body) _ _
-      (λ t. rows_told_same (record r { rows = o.after }) (record { load = refl; stage = refl; live = refl; next = refl; queue = refl; out = refl }) r.control o.news (option_to_list o.packet))
-      (λ f. calm r (record { load = refl; stage = refl; live = refl; next = refl; queue = refl; out = refl }) _ _)
+      (λ t. rows_told_same (record r { rows = o.after }) (record { load = refl; stage = refl; live = refl; next = refl; queue = refl; out = refl; held = refl }) r.control o.news (option_to_list o.packet))
+      (λ f. calm r (record { load = refl; stage = refl; live = refl; next = refl; queue = refl; out = refl; held = refl }) _ _)
 
   -- ---- the record
 
   record_stands_same : (s : RangeState) → IsAsBefore r s → (job : CheckpointState) (phase : CheckpointPhase) → LeavesAsBefore r (record_stands d s job phase)
   record_stands_same s b job (phases.Record index) =
       if_elim (LeavesAsBefore r) (has_record_number s) _ _
-      (λ t. calm _ (record { load = b.load; stage = b.stage; live = b.live; next = b.next; queue = b.queue; out = b.out }) _ _) (λ f. calm s b _ _)
+      (λ t. calm _ (record { load = b.load; stage = b.stage; live = b.live; next = b.next; queue = b.queue; out = b.out; held = b.held }) _ _) (λ f. calm s b _ _)
   record_stands_same s b job phase = calm s b _ _
 
   record_told_same : (s : RangeState) → IsAsBefore r s → (job : Option CheckpointState) (told : Option News) (packets : List Packet) → LeavesAsBefore r (record_told d s job told packets)
@@ -80,15 +82,28 @@ module _ (d : ServerContext) (r : RangeState) where
   -- news of the metadata's client, which is now as it was told, while the range is served
   pub record_news_same : (c : ClientState) (told : Option News) (packets : List Packet) → LeavesAsBefore r (record_told d (record r { metadata = c }) r.control told packets)
   record_news_same c told packets =
-      record_told_same (record r { metadata = c }) (record { load = refl; stage = refl; live = refl; next = refl; queue = refl; out = refl }) r.control told packets
+      record_told_same (record r { metadata = c }) (record { load = refl; stage = refl; live = refl; next = refl; queue = refl; out = refl; held = refl }) r.control told packets
+
+  unchanged : (count : ℕ) (packets : List Packet) → LeavesAsBefore r (record { after = Some r; count = count; packets = packets; notes = [] })
+  unchanged count packets = calm r (record { load = refl; stage = refl; live = refl; next = refl; queue = refl; out = refl; held = refl }) count packets
+
+  -- ---- pages are merged
+
+  merges_same : (job : CheckpointState) → LeavesAsBefore r (merges d r job)
+  merges_same job =
+      merges_elim (LeavesAsBefore r) d r job (calm _ (record { load = refl; stage = refl; live = refl; next = refl; queue = refl; out = refl; held = refl }) _ _)
+      (λ merge. calm _ (record { load = refl; stage = refl; live = refl; next = refl; queue = refl; out = refl; held = refl }) _ _)
+      (λ merge place places is told. calm _ (record { load = refl; stage = refl; live = refl; next = refl; queue = refl; out = refl; held = refl }) _ _)
+      (λ merge newer is fixed. writes_pages_same (unread r) (record { load = refl; stage = refl; live = refl; next = refl; queue = refl; out = refl; held = refl }) (combined_job (merged job merge) newer))
+
+  -- an answer to the read of a page
+  pub page_reply_same : (body : Body) → LeavesAsBefore r (page_reply d r body)
+  page_reply_same body = page_reply_elim (LeavesAsBefore r) d r (unchanged _ _) (gone r) (λ job place entries is next. merges_same (merged job (with_page r.said.keys job.merge entries))) body
 
   -- ---- the Trim
 
-  unchanged : (count : ℕ) (packets : List Packet) → LeavesAsBefore r (record { after = Some r; count = count; packets = packets; notes = [] })
-  unchanged count packets = calm r (record { load = refl; stage = refl; live = refl; next = refl; queue = refl; out = refl }) count packets
-
   trim_told_same : (phase : CheckpointPhase) (body : StreamBody) → LeavesAsBefore r (trim_told d r phase body)
-  trim_told_same (phases.Trim before to_blob q) (streams.Trimmed w) = calm _ (record { load = refl; stage = refl; live = refl; next = refl; queue = refl; out = refl }) _ _
+  trim_told_same (phases.Trim before to_blob q) (streams.Trimmed w) = calm _ (record { load = refl; stage = refl; live = refl; next = refl; queue = refl; out = refl; held = refl }) _ _
   trim_told_same phase body = unchanged _ _
 
   trim_answer_same : (job : Option CheckpointState) (body : StreamBody) → LeavesAsBefore r (trim_reply_in d r job body)

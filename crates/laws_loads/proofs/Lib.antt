@@ -6,3 +6,4 @@ pub mod WaitingStays
 pub mod IndexAnswers
 pub mod Entries
 pub mod CheckpointAnswers
+pub mod PageAnswers

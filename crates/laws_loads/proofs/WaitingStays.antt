@@ -34,14 +34,14 @@ use Rattle.model_partition.specs.declared.stage.Stage.{Stage}
 use Rattle.model_partition.specs.declared.stage.Stage.TheVariants as stages
 use Rattle.model_partition.specs.Range.{RangeState, RangeOutcome, request, goes, dropped, picking, is_serving}
 use Rattle.model_partition.specs.declared.waiting.PlaceRead.{PlaceRead}
-use Rattle.model_partition.specs.PlaceReads.{is_place, place_of, places_of, reads_under}
+use Rattle.model_partition.specs.PlaceReads.{is_place, place_of, places_of, reads_under, reads_page}
 use Rattle.model_partition.specs.Getting.{are_no_page, read_at}
 use Rattle.model_partition.specs.Loading.{Group, said_after, replayed, asks_index, index_named, reads_named, reads_index, installs, index_read, index_bytes, reads_log, first_position, reads_log_from, checks_log, begins_log, reads_metadata, begins_metadata, opens, says, metadata_news, replays, log_read, log_news, open_region}
 use Rattle.model_partition.specs.Answering.{load_refused, load_told, load_reply, metadata_reply, is_taken, log_reply, index_told, index_reply, bytes_reply, gets_reply, answer_rule, give_up_all, groups_of}
 use Rattle.model_partition.specs.Server.{new_range}
 use Rattle.laws_loads.specs.Sound.{IsSound}
 use Rattle.model_partition.specs.Checkpoints.{trim_awaits}
-use Rattle.laws_loads.proofs.CheckpointAnswers.{rows_reply_same, record_news_same, trim_reply_same}
+use Rattle.laws_loads.proofs.CheckpointAnswers.{rows_reply_same, record_news_same, page_reply_same, trim_reply_same}
 use Rattle.laws_loads.specs.StaysLoading.{StaysIf, Stays, IsAsBeforeIf, LeavesAsBefore, IsUnserved, IsConfirmation}
 
 -- ---- the load
@@ -228,7 +228,8 @@ answer_stays d r v body unserved =
     (λ f. inl (if_elim (Stays r) (awaits r.metadata.job v) _ _ (λ t. metadata_reply_stays d r body)
     (λ f. if_elim (Stays r) (awaits r.log.job v) _ _ (λ t. log_reply_stays d r body unserved)
     (λ f. if_elim (Stays r) (awaits r.rows.job v) _ _ (λ t. same_stays r _ (rows_reply_same d r body))
-    (λ f. if_elim (Stays r) (reads_under r.reading v) _ _ (λ t. index_reply_stays d r body)
+    (λ f. if_elim (Stays r) (reads_under r.reading v) _ _
+    (λ t. if_elim (Stays r) (reads_page r.reading) _ _ (λ p. same_stays r _ (page_reply_same d r body)) (λ p. index_reply_stays d r body))
     (λ f. if_elim (Stays r) (trim_awaits r.control v) _ _ (λ t. same_stays r _ (trim_reply_same d r body)) (λ f. gets_reply_stays d r v body)))))))
 
 -- ---- what is not served stays so

@@ -9,7 +9,7 @@ use Rattle.model_partition.specs.Loading.{Group}
 use Rattle.model_partition.specs.StreamActions.{PlacedBytes, StreamAction, Reads, Forms, Stands, Shows, Finds, Stores}
 use Rattle.model_partition.specs.ServerRun.{RangeHistory, is_kind, one_more_read, begun_at, place_number, placed_reads, placed_behind, bytes_read}
 
--- the history of the range at the server, the stories of the range's streams, and the bytes that loads were shown and those that
+-- the history of the range at the server, the stories of the range's streams, and the bytes that reads were shown and those that
 -- appends were answered for
 pub record RangeView : Type 0 where
   pub history : RangeHistory

@@ -20,7 +20,7 @@ StaysIf stage (Some r) = (is_serving r.stage ≡ false) ⊎ (r.stage ≡ stage)
 abbrev pub Stays : RangeState → RangeOutcome → Type 0
 Stays r o = StaysIf r.stage o.after
 
--- its load, its stage, its live layer and what waits at it are as they were
+-- its load, its stage, its live layer, what waits at it and its cache are as they were
 pub record IsAsBefore (r s : RangeState) : Type 0 where
   pub load : s.load ≡ r.load
   pub stage : s.stage ≡ r.stage
@@ -28,6 +28,7 @@ pub record IsAsBefore (r s : RangeState) : Type 0 where
   pub next : s.next ≡ r.next
   pub queue : s.queue ≡ r.queue
   pub out : s.out ≡ r.out
+  pub held : s.held ≡ r.held
 
 abbrev pub IsAsBeforeIf : RangeState → Option RangeState → Type 0
 IsAsBeforeIf r None = Unit {0}

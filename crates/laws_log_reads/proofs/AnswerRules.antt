@@ -24,23 +24,24 @@ use Rattle.model_partition.specs.declared.stage.Stage.{Stage}
 use Rattle.model_partition.specs.declared.stage.Stage.TheVariants as stages
 use Rattle.model_partition.specs.Range.{RangeState, RangeOutcome, request, answers, dropped, picking, is_serving}
 use Rattle.model_partition.specs.ServerRun.{RangeHistory}
-use Rattle.model_partition.specs.StreamActions.{StreamAction, serving_actions, loading_actions, confirmed_actions, load_actions, metadata_actions, log_actions, rows_actions, index_told_actions, index_actions, answered_actions, answer_actions}
+use Rattle.model_partition.specs.StreamActions.{StreamAction, serving_actions, loading_actions, confirmed_actions, load_actions, metadata_actions, log_actions, rows_actions, bytes_told_actions, bytes_actions, answered_actions, answer_actions}
 use Rattle.checkpoint_format.specs.Index.{index_at}
-use Rattle.model_partition.specs.PlaceReads.{place_of, reads_under}
+use Rattle.model_partition.specs.PlaceReads.{place_of, reads_under, reads_page}
 use Rattle.model_partition.specs.Loading.{open_region, opens, has_position, serves_region, serves_from, serves, log_news, index_named, index_read}
 use Rattle.model_partition.specs.Checkpoints.{rows_reply, trim_awaits}
-use Rattle.model_partition.specs.Answering.{answered_number, stream_number, groups_of, load_refused, load_told, load_reply, metadata_reply, serving_news, is_taken, log_taken, log_reply, index_reply, trim_reply, bytes_reply, gets_reply, answer_rule}
+use Rattle.model_partition.specs.Answering.{answered_number, stream_number, groups_of, load_refused, load_told, load_reply, metadata_reply, serving_news, is_taken, log_taken, log_reply, page_reply, index_reply, trim_reply, bytes_reply, gets_reply, answer_rule}
 use Rattle.laws_loads.specs.RangeView.{RangeView, view_after_all}
 use Rattle.laws_stream_machine.specs.Refinement.{Opens, purpose_of, Means, StreamMeans}
 use Rattle.laws_stream_machine.proofs.ServerRequests.{same_request}
 use Rattle.laws_ranges.specs.Serves.{Side, metadata_of, log_of, HasNoCheckpoint, IsOpening, StageIs, Follows, BothListed}
 use Rattle.laws_log_reads.specs.Reads.{HasReadAt, HasRead, HasReadIf, Shows, RuleReads}
 use Rattle.laws_loads.proofs.IndexAnswers.{index_reply_elim}
+use Rattle.laws_loads.proofs.PageAnswers.{page_reply_elim}
 use Rattle.laws_log_reads.proofs.LoadBegins.{Left, opens_left, installs_left}
 use Rattle.laws_log_reads.proofs.MetadataAnswers.{metadata_reply_left}
 use Rattle.laws_log_reads.proofs.LogAnswers.{log_by_stage}
 use Rattle.laws_log_reads.proofs.OtherRules.{bytes_keep, serving_left, is_served}
-use Rattle.laws_log_reads.proofs.CheckpointRules.{rows_reply_left, trim_reply_left}
+use Rattle.laws_log_reads.proofs.CheckpointRules.{rows_reply_left, page_reply_left, trim_reply_left}
 
 module _ (generation : ℕ → ℕ) (range : ℕ) (w : StreamSystem) (i : ℕ) (both : BothListed w range) (m l : Side) (d : ServerContext) where
   -- a range that is served from now on, or is dropped
@@ -160,26 +161,42 @@ module _ (generation : ℕ → ℕ) (range : ℕ) (w : StreamSystem) (i : ℕ) (
             go true = taken_by r.stage refl f.stage h.at
             go false = h
 
-      -- ---- the read of an index
+      -- what a checkpoint waits for, a range that is served waits for
+      serves_or_calm : (t : Bool) → is_serving r.stage ≡ t → (r.stage ≡ stages.Serving) ⊎ HasNoCheckpoint r
+      serves_or_calm true e = inl (is_served r (ap not e))
+      serves_or_calm false e = inr (f.calm e)
+
+      -- ---- the read of an index, of a page or of a value
 
       index_read_left : (stage : Stage) → ReadAt r stage → (bytes : List ℕ) → Leaves (index_read d r stage bytes) []
       index_read_left (stages.Indexing position) a bytes =
           installs_left generation range w i m l d v.history r a position (index_named r.said.indexes position) (index_at bytes)
       index_read_left stage a bytes = h
 
-      -- an index adds to what is shown, and not to what was read of a stream
-      told_history : (body : ReadBody) → v.history ≡ (view_after_all (generation i) v (index_told_actions body)).history
+      -- what is read by place adds to what is shown, and not to what was read of a stream
+      told_history : (body : ReadBody) → v.history ≡ (view_after_all (generation i) v (bytes_told_actions body)).history
       told_history (reads.Bytes k e offset bytes) = refl
       told_history body = refl
 
-      index_history : (body : Body) → v.history ≡ (view_after_all (generation i) v (index_actions body)).history
-      index_history (bodies.Read body) = told_history body
-      index_history body = refl
+      bytes_history : (body : Body) → v.history ≡ (view_after_all (generation i) v (bytes_actions body)).history
+      bytes_history (bodies.Read body) = told_history body
+      bytes_history body = refl
 
-      index_reply_left : (body : Body) → Leaves (index_reply d r body) (index_actions body)
-      index_reply_left body =
-          subst (λ z. HasReadIf range w i m.stand.state l.stand.state z (index_reply d r body).after) (index_history body)
-          (index_reply_elim (λ o. Leaves o []) d r h tt (index_read_left r.stage h.at) body)
+      -- what leaves what was read leaves it with the bytes that have come
+      bytes_left : (o : RangeOutcome) (body : Body) → Leaves o [] → Leaves o (bytes_actions body)
+      bytes_left o body left = subst (λ z. HasReadIf range w i m.stand.state l.stand.state z o.after) (bytes_history body) left
+
+      index_reply_left : (body : Body) → Leaves (index_reply d r body) (bytes_actions body)
+      index_reply_left body = bytes_left (index_reply d r body) body (index_reply_elim (λ o. Leaves o []) d r h tt (index_read_left r.stage h.at) body)
+
+      page_reply_by : (r.stage ≡ stages.Serving) ⊎ HasNoCheckpoint r → (body : Body) → Leaves (page_reply d r body) []
+      page_reply_by (inl serves) body = page_reply_left range w i m.stand.state l.stand.state v.history d r serves body
+      page_reply_by (inr calm) body =
+          page_reply_elim (λ o. Leaves o []) d r h tt (λ job place entries control next. absurd (let z : None ≡ Some job = sym calm.1 ∙ control in cc)) body
+
+      place_reply_left : (t : Bool) (body : Body) → Leaves (if t then page_reply d r body else index_reply d r body) (bytes_actions body)
+      place_reply_left true body = bytes_left (page_reply d r body) body (page_reply_by (serves_or_calm (is_serving r.stage) refl) body)
+      place_reply_left false body = index_reply_left body
 
       -- ---- any answer
 
@@ -200,14 +217,20 @@ module _ (generation : ℕ → ℕ) (range : ℕ) (w : StreamSystem) (i : ℕ) (
             log_part : List StreamAction
             log_part = if is_taken r body then log_actions d r body whole else []
 
+            trim_part : List StreamAction
+            trim_part = if trim_awaits r.control u then [] else bytes_actions body
+
             index_part : List StreamAction
-            index_part = if reads_under r.reading u then index_actions body else []
+            index_part = if reads_under r.reading u then bytes_actions body else trim_part
 
             rows_part : List StreamAction
             rows_part = if awaits r.rows.job u then rows_actions d r body else index_part
 
+            place_reply : RangeOutcome
+            place_reply = if reads_page r.reading then page_reply d r body else index_reply d r body
+
             index_or_later : RangeOutcome
-            index_or_later = if reads_under r.reading u then index_reply d r body else if trim_awaits r.control u then trim_reply d r body else gets_reply d r u body
+            index_or_later = if reads_under r.reading u then place_reply else if trim_awaits r.control u then trim_reply d r body else gets_reply d r u body
 
             rows_or_later : RangeOutcome
             rows_or_later = if awaits r.rows.job u then rows_reply d r body else index_or_later
@@ -215,19 +238,14 @@ module _ (generation : ℕ → ℕ) (range : ℕ) (w : StreamSystem) (i : ℕ) (
             log_or_later : RangeOutcome
             log_or_later = if awaits r.log.job u then log_reply d r body else rows_or_later
 
-            -- what a checkpoint waits for, a range that is served waits for
-            serves_or_calm : (t : Bool) → is_serving r.stage ≡ t → (r.stage ≡ stages.Serving) ⊎ HasNoCheckpoint r
-            serves_or_calm true e = inl (is_served r (ap not e))
-            serves_or_calm false e = inr (f.calm e)
-
-            sixth : (t : Bool) → trim_awaits r.control u ≡ t → Leaves (if t then trim_reply d r body else gets_reply d r u body) []
+            sixth : (t : Bool) → trim_awaits r.control u ≡ t → Leaves (if t then trim_reply d r body else gets_reply d r u body) (if t then [] else bytes_actions body)
             sixth true e = ⊎_elim {C = Leaves (trim_reply d r body) []}
                 (λ serves. trim_reply_left range w i m.stand.state l.stand.state v.history d r serves body)
                 (λ calm. absurd (let z : false ≡ true = subst (λ c. trim_awaits c u ≡ true) calm.1 e in cc)) (serves_or_calm (is_serving r.stage) refl)
-            sixth false e = gets_reply_left u body
+            sixth false e = bytes_left (gets_reply d r u body) body (gets_reply_left u body)
 
-            fifth : (t : Bool) → Leaves (if t then index_reply d r body else if trim_awaits r.control u then trim_reply d r body else gets_reply d r u body) (if t then index_actions body else [])
-            fifth true = index_reply_left body
+            fifth : (t : Bool) → Leaves (if t then place_reply else if trim_awaits r.control u then trim_reply d r body else gets_reply d r u body) (if t then bytes_actions body else trim_part)
+            fifth true = place_reply_left (reads_page r.reading) body
             fifth false = sixth (trim_awaits r.control u) refl
 
             fourth : (t : Bool) → awaits r.rows.job u ≡ t → Leaves (if t then rows_reply d r body else index_or_later) (if t then rows_actions d r body else index_part)

@@ -1,5 +1,5 @@
 -- What spells the record of a checkpoint is read as that of a checkpoint, whatever its numbers are.
-use Rattle.std.proofs.Common.{◌≡◌, ℕ, Bool, false, List, ◌++◌, length, drop, Some, None, nat_le, ltb, ◌==◌, sym, ap, ◌∙◌, subst, arith, if◌then◌else◌}
+use Rattle.std.proofs.Common.{◌≡◌, ℕ, Bool, List, ◌++◌, length, drop, Some, None, nat_le, ltb, ◌==◌, sym, ap, ◌∙◌, subst, arith, if◌then◌else◌}
 use Rattle.std.proofs.lemmas.List.{drop_at}
 use Rattle.blocks.specs.Format.{◌>>=◌, number_at, pair_at, whole}
 use Rattle.blocks.specs.Record.{number}
@@ -53,4 +53,4 @@ module _ (n : ℕ) (combine : Bool) (at : Place) (start : Position) (next : ℕ)
 
 -- the group of a checkpoint's record says a checkpoint
 pub group_says : (r : RangeState) (job : CheckpointState) (index : Place) → SaysCheckpoint (record_group r job index)
-group_says r job index = λ z e. record_read r.said.next false index job.position job.next z e
+group_says r job index = λ z e. record_read r.said.next job.combine index job.position job.next z e

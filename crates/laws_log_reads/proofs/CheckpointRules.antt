@@ -12,6 +12,7 @@ use Rattle.replica.specs.Groups.{Group}
 use Rattle.client.specs.declared.job.News.{News}
 use Rattle.client.specs.declared.job.News.TheVariants as news
 use Rattle.client.specs.Client.{Outcome, reply_rule}
+use Rattle.checkpoint.specs.Merges.{with_page}
 use Rattle.model_streams.specs.StreamSystem.{StreamSystem}
 use Rattle.model_partition.specs.CheckpointStates.{CheckpointState}
 use Rattle.model_partition.specs.declared.checkpoint_job.CheckpointPhase.{CheckpointPhase}
@@ -21,8 +22,9 @@ use Rattle.model_partition.specs.declared.stage.Stage.TheVariants as stages
 use Rattle.model_partition.specs.Range.{RangeState, RangeOutcome, request, goes, answers, picking}
 use Rattle.model_partition.specs.ServerRun.{RangeHistory}
 use Rattle.model_partition.specs.StreamMachine as machine
-use Rattle.model_partition.specs.Checkpoints.{number_to_apply, have_bytes, new_job, rows_go, writes_pages, begins_pages, checkpoint_rule, pages_stand, may_record, index_place, records, index_stands, rows_stand, rows_stand_at, rows_told, rows_may_stand, rows_reply, has_record_number, recorded, trims, record_stands, record_told, trim_told, trim_reply_in}
-use Rattle.model_partition.specs.Answering.{load_refused, trim_reply}
+use Rattle.model_partition.specs.Checkpoints.{number_to_apply, have_bytes, combines, new_job, new_combining_job, rows_go, writes_pages, combined_job, merges, with_fixed, begins_pages, begins_combining, begins, checkpoint_rule, pages_stand, may_record, index_place, records, index_stands, rows_stand, rows_stand_at, rows_told, rows_may_stand, rows_reply, has_record_number, recorded, trims, record_stands, record_told, trim_told, trim_reply_in}
+use Rattle.model_partition.specs.Answering.{load_refused, page_reply, trim_reply}
+use Rattle.laws_loads.proofs.PageAnswers.{merged, unread, merges_elim, page_reply_elim}
 use Rattle.laws_log_reads.specs.Reads.{HasReadIf}
 use Rattle.laws_log_reads.proofs.UntouchedReads.{served}
 
@@ -42,12 +44,27 @@ module _ (range : ℕ) (w : StreamSystem) (i : ℕ) (m l : machine.MachineState 
   writes_left : (r : RangeState) → Serves r → (job : CheckpointState) → Leaves (writes_pages d r job)
   writes_left r e job = rows_go_left r e _
 
-  -- the first page is written
-  pub layer_left : (r : RangeState) → Serves r → Leaves (checkpoint_rule d r)
-  layer_left r e = go (have_bytes r.live r.position (number_to_apply r.out r.next))
+  -- pages of older indexes are merged
+  merges_left : (r : RangeState) → Serves r → (job : CheckpointState) → Leaves (merges d r job)
+  merges_left r e job =
+      merges_elim Leaves d r job (served range w i m l h _ e) (λ merge. served range w i m l h _ e) (λ merge place places is told. served range w i m l h _ e)
+      (λ merge newer is fixed. writes_left (unread r) e (combined_job (merged job merge) newer))
+
+  -- an answer to the read of a page
+  pub page_reply_left : (r : RangeState) → Serves r → (body : Body) → Leaves (page_reply d r body)
+  page_reply_left r e body =
+      page_reply_elim Leaves d r (served range w i m l h r e) tt (λ job place entries is next. merges_left r e (merged job (with_page r.said.keys job.merge entries))) body
+
+  -- the first page is written, or an older one is read
+  pub layer_left : (r : RangeState) → Serves r → (combine : Bool) → Leaves (checkpoint_rule d r combine)
+  layer_left r e combine = go (have_bytes r.live r.position (number_to_apply r.out r.next))
     where
-      go : (t : Bool) → Leaves (if t then begins_pages d r else goes d r [] [])
-      go true = writes_left (record r { live = []; fixed = Some r.live }) e (new_job r)
+      begun : (t : Bool) → Leaves (if t then begins_combining d r else begins_pages d r)
+      begun true = merges_left (with_fixed r) e (new_combining_job r)
+      begun false = writes_left (with_fixed r) e (new_job r)
+
+      go : (t : Bool) → Leaves (if t then begins d r combine else goes d r [] [])
+      go true = begun (combines combine r.indexes)
       go false = served range w i m l h r e
 
   index_left : (r : RangeState) → Serves r → (job : CheckpointState) (n offset : ℕ) → Leaves (index_stands d r job n offset)

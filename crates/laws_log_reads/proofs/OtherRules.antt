@@ -168,8 +168,8 @@ module _ (generation : ℕ → ℕ) (range : ℕ) (w : StreamSystem) (i : ℕ) (
           (record r { queue = r.queue ++ record { from = from; request = q; changes = changes } ∷ [] }) (is_served r (none_met (tests d r changes) e).0)
 
   -- a checkpoint is made of a range that is served
-  pub checkpoint_left : checkpoint_fault r ≡ None → RuleReads generation range w i m l v (checkpoint_rule d r) []
-  checkpoint_left e = layer_left range w i m.stand.state l.stand.state v.history d r (is_served r (none_met faults e).0)
+  pub checkpoint_left : (combine : Bool) → checkpoint_fault r ≡ None → RuleReads generation range w i m l v (checkpoint_rule d r combine) []
+  checkpoint_left combine e = layer_left range w i m.stand.state l.stand.state v.history d r (is_served r (none_met faults e).0) combine
     where
       faults : List (Refusal × Bool)
       faults = (refusals.Loading, not (is_serving r.stage)) ∷ (refusals.Busy, is_some r.control || is_some r.fixed) ∷ []

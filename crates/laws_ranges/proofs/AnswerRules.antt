@@ -8,8 +8,8 @@ use Rattle.model_streams.specs.StreamSystem.{StreamSystem}
 use Rattle.model_partition.specs.declared.server_context.ServerContext.{ServerContext}
 use Rattle.model_partition.specs.declared.stage.Stage.TheVariants as stages
 use Rattle.model_partition.specs.Range.{RangeState, RangeOutcome, is_serving}
-use Rattle.model_partition.specs.PlaceReads.{reads_under}
-use Rattle.model_partition.specs.Answering.{answered_number, load_reply, metadata_reply, log_reply, index_reply, trim_reply, gets_reply, answer_rule}
+use Rattle.model_partition.specs.PlaceReads.{reads_under, reads_page}
+use Rattle.model_partition.specs.Answering.{answered_number, load_reply, metadata_reply, log_reply, page_reply, index_reply, trim_reply, gets_reply, answer_rule}
 use Rattle.model_partition.specs.Checkpoints.{rows_reply, trim_awaits}
 use Rattle.laws_stream_machine.specs.Refinement.{Means}
 use Rattle.laws_ranges.specs.Serves.{IsConfirming, BeginsRightly, RowsTold, Side, metadata_of, log_of, Follows, BothListed, IsSentBy, RuleGoes}
@@ -17,6 +17,7 @@ use Rattle.laws_ranges.proofs.Confirmed.{confirmed_all}
 use Rattle.laws_ranges.proofs.LoadNews.{metadata_news_by, log_news_by}
 use Rattle.laws_ranges.proofs.OpenedOrConfirmed.{load_reply_by}
 use Rattle.laws_ranges.proofs.ReadIndexes.{index_reply_both}
+use Rattle.laws_ranges.proofs.ReadPages.{page_reply_both}
 use Rattle.laws_ranges.proofs.Gets.{gets_reply_quietly}
 
 module _ (generation : ℕ → ℕ) (range : ℕ) (w : StreamSystem) (i : ℕ) (both : BothListed w range) (m l : Side) (d : ServerContext) (by : IsSentBy d d.count m.sent l.sent)
@@ -31,9 +32,13 @@ module _ (generation : ℕ → ℕ) (range : ℕ) (w : StreamSystem) (i : ℕ) (
       load_reply_by generation range w i both m l d by r f (λ b u same a z. (confirmed_all generation range w i both m l d by r b f.range_is f.under (f.calm unserved) f.rows (begins b) u same a z).0) v waits body number one two told
 
   module _ (v : ReqNo) (body : Body) where
+    -- the bytes of a page or of an index
+    abbrev place_reply : RangeOutcome
+    place_reply = if reads_page r.reading then page_reply d r body else index_reply d r body
+
     -- what an answer to none of both clients leads to
     abbrev index_or_later : RangeOutcome
-    index_or_later = if reads_under r.reading v then index_reply d r body else if trim_awaits r.control v then trim_reply d r body else gets_reply d r v body
+    index_or_later = if reads_under r.reading v then place_reply else if trim_awaits r.control v then trim_reply d r body else gets_reply d r v body
 
     abbrev rows_or_later : RangeOutcome
     rows_or_later = if awaits r.rows.job v then rows_reply d r body else index_or_later
@@ -47,8 +52,12 @@ module _ (generation : ℕ → ℕ) (range : ℕ) (w : StreamSystem) (i : ℕ) (
       trim_sixth true e = absurd (let z : false ≡ true = subst (λ c. trim_awaits c v ≡ true) (f.calm unserved).1 e in cc)
       trim_sixth false e = (gets_reply_quietly generation range w i both m l d by r f v body).goes
 
-      index_fifth : (t : Bool) → RuleGoes generation range w i m l d (if t then index_reply d r body else if trim_awaits r.control v then trim_reply d r body else gets_reply d r v body)
-      index_fifth true = index_reply_both generation range w i both m l d by r f body
+      page_or_index : (t : Bool) → RuleGoes generation range w i m l d (if t then page_reply d r body else index_reply d r body)
+      page_or_index true = page_reply_both generation range w i both m l d by r f (f.calm unserved) body
+      page_or_index false = index_reply_both generation range w i both m l d by r f body
+
+      index_fifth : (t : Bool) → RuleGoes generation range w i m l d (if t then place_reply v body else if trim_awaits r.control v then trim_reply d r body else gets_reply d r v body)
+      index_fifth true = page_or_index (reads_page r.reading)
       index_fifth false = trim_sixth (trim_awaits r.control v) refl
 
       rows_fourth : (t : Bool) → awaits r.rows.job v ≡ t → RuleGoes generation range w i m l d (if t then rows_reply d r body else index_or_later v body)

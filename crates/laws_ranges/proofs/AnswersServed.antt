@@ -8,10 +8,10 @@ use Rattle.model_streams.specs.StreamSystem.{StreamSystem}
 use Rattle.model_partition.specs.declared.server_context.ServerContext.{ServerContext}
 use Rattle.model_partition.specs.declared.stage.Stage.TheVariants as stages
 use Rattle.model_partition.specs.Range.{RangeState, RangeOutcome}
-use Rattle.model_partition.specs.PlaceReads.{reads_under}
+use Rattle.model_partition.specs.PlaceReads.{reads_under, reads_page}
 use Rattle.model_partition.specs.Checkpoints.{rows_reply, trim_awaits}
-use Rattle.model_partition.specs.Answering.{load_reply, metadata_reply, log_reply, is_taken, index_reply, trim_reply, gets_reply, answer_rule}
-use Rattle.model_partition.specs.StreamActions.{StreamAction, load_actions, metadata_actions, log_actions, rows_actions, index_actions, answer_actions}
+use Rattle.model_partition.specs.Answering.{load_reply, metadata_reply, log_reply, is_taken, page_reply, index_reply, trim_reply, gets_reply, answer_rule}
+use Rattle.model_partition.specs.StreamActions.{StreamAction, load_actions, metadata_actions, log_actions, rows_actions, bytes_actions, answer_actions}
 use Rattle.laws_stream_machine.specs.Refinement.{Means}
 use Rattle.laws_loads.specs.RangeView.{RangeView}
 use Rattle.laws_ranges.specs.Serves.{Side, metadata_of, log_of, IsCounted, IsPastRows, RowsTold, IsServing, Follows, BothListed, IsSentBy}
@@ -19,9 +19,10 @@ use Rattle.laws_ranges.specs.Quiet.{GoesQuietly, AreReads}
 use Rattle.laws_ranges.specs.Seen.{RuleSees}
 use Rattle.laws_ranges.specs.Records.{ServesBoth, ServedRule}
 use Rattle.laws_ranges.proofs.SeenTurns.{quiet_sees}
-use Rattle.laws_ranges.proofs.SeenLoads.{kept_reads, index_quiet}
+use Rattle.laws_ranges.proofs.SeenLoads.{kept_reads, bytes_quiet}
 use Rattle.laws_ranges.proofs.BothServed.{log_reply_both, metadata_reply_both}
 use Rattle.laws_ranges.proofs.ReadIndexes.{index_reply_quietly}
+use Rattle.laws_ranges.proofs.ReadPages.{page_reply_quietly}
 use Rattle.laws_ranges.proofs.Gets.{gets_reply_quietly}
 use Rattle.laws_ranges.proofs.TrimAnswers.{trim_reply_served}
 use Rattle.laws_ranges.proofs.KeptRows.{KeepsRowsIf, log_keeps_rows, metadata_keeps_rows, trim_keeps_rows}
@@ -59,8 +60,12 @@ module _ (generation : ℕ → ℕ) (range : ℕ) (w : StreamSystem) (i : ℕ) (
     abbrev trim_or_later : RangeOutcome
     trim_or_later = if trim_awaits r.control u then trim_reply d r body else gets_reply d r u body
 
+    -- the bytes of a page or of an index
+    abbrev place_reply : RangeOutcome
+    place_reply = if reads_page r.reading then page_reply d r body else index_reply d r body
+
     abbrev index_or_later : RangeOutcome
-    index_or_later = if reads_under r.reading u then index_reply d r body else trim_or_later
+    index_or_later = if reads_under r.reading u then place_reply else trim_or_later
 
     abbrev rows_or_later : RangeOutcome
     rows_or_later = if awaits r.rows.job u then rows_reply d r body else index_or_later
@@ -68,20 +73,27 @@ module _ (generation : ℕ → ℕ) (range : ℕ) (w : StreamSystem) (i : ℕ) (
     abbrev log_or_later : RangeOutcome
     log_or_later = if awaits r.log.job u then log_reply d r body else rows_or_later
 
+    abbrev trim_part : List StreamAction
+    trim_part = if trim_awaits r.control u then [] else bytes_actions body
+
     abbrev index_part : List StreamAction
-    index_part = if reads_under r.reading u then index_actions body else []
+    index_part = if reads_under r.reading u then bytes_actions body else trim_part
 
     abbrev rows_part : List StreamAction
     rows_part = if awaits r.rows.job u then rows_actions d r body else index_part
 
-    trim_sixth : (t : Bool) → DoesIf (if t then trim_reply d r body else gets_reply d r u body) []
+    trim_sixth : (t : Bool) → DoesIf (if t then trim_reply d r body else gets_reply d r u body) (if t then [] else bytes_actions body)
     trim_sixth true =
         subst (λ done. Does (trim_reply d r body) done) (none_done (trim_reply d r body).after)
         (kept (trim_reply d r body) [] (trim_reply_served generation range w i both m l d by v r b s.trims body) (trim_keeps_rows d r s.position s.trims body))
-    trim_sixth false = quiet (gets_reply d r u body) [] (gets_reply_quietly generation range w i both m l d by r f u body) tt
+    trim_sixth false = quiet (gets_reply d r u body) (bytes_actions body) (gets_reply_quietly generation range w i both m l d by r f u body) (bytes_quiet body)
 
-    index_fifth : (t : Bool) → DoesIf (if t then index_reply d r body else trim_or_later) (if t then index_actions body else [])
-    index_fifth true = quiet (index_reply d r body) (index_actions body) (index_reply_quietly generation range w i both m l d by r f stage body) (index_quiet body)
+    page_or_index : (t : Bool) → DoesIf (if t then page_reply d r body else index_reply d r body) (bytes_actions body)
+    page_or_index true = quiet (page_reply d r body) (bytes_actions body) (page_reply_quietly generation range w i both m l d by r f stage body) (bytes_quiet body)
+    page_or_index false = quiet (index_reply d r body) (bytes_actions body) (index_reply_quietly generation range w i both m l d by r f stage body) (bytes_quiet body)
+
+    index_fifth : (t : Bool) → DoesIf (if t then place_reply else trim_or_later) (if t then bytes_actions body else trim_part)
+    index_fifth true = page_or_index (reads_page r.reading)
     index_fifth false = trim_sixth (trim_awaits r.control u)
 
     rows_fourth : (t : Bool) → DoesIf (if t then rows_reply d r body else index_or_later) (if t then rows_actions d r body else index_part)

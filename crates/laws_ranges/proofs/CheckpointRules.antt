@@ -1,6 +1,6 @@
--- The rules of a checkpoint that write row data: a range that is served begins one, and its row data is answered. Its metadata turns where
--- the index stands and its record can be written, and else neither stream.
-use Rattle.std.proofs.Common.{◌≡◌, ℕ, suc, ◌^◌, nat_lt, List, [], ◌∷◌, ◌++◌, false, not, ◌||◌, Option, Some, None, is_some, option_to_list, refl, sym, ap, ◌∙◌, subst, arith, if◌then◌else◌}
+-- The rules of a checkpoint that write row data: a range that is served begins one, which may merge the pages of older indexes first, and
+-- its row data is answered. Its metadata turns where the index stands and its record can be written, and else neither stream.
+use Rattle.std.proofs.Common.{◌≡◌, ℕ, suc, ◌^◌, nat_lt, List, [], ◌∷◌, ◌++◌, Bool, false, not, ◌||◌, Option, Some, None, is_some, option_to_list, refl, sym, ap, ◌∙◌, subst, arith, if◌then◌else◌}
 use Rattle.std.proofs.lemmas.Bool.{not-false, or_parts}
 use Rattle.wire.specs.declared.body.Body.{Body}
 use Rattle.wire.specs.declared.body.Body.TheVariants as bodies
@@ -9,12 +9,14 @@ use Rattle.wire.specs.declared.packet.Packet.{Packet}
 use Rattle.wire.specs.declared.refusal.Refusal.TheVariants as refusals
 use Rattle.wire.specs.declared.streams.StreamKind.TheVariants as kinds
 use Rattle.replica.specs.Groups.{Group, joined}
+use Rattle.memtable.specs.Entries.{Entries}
 use Rattle.client.specs.declared.job.Job.{Job}
 use Rattle.client.specs.declared.job.Job.TheVariants as jobs
 use Rattle.client.specs.declared.job.News.{News}
 use Rattle.client.specs.declared.job.News.TheVariants as news
 use Rattle.client.specs.Client.{Outcome, append_rule, reply_rule}
-use Rattle.checkpoint.specs.PageGroups.{next_group}
+use Rattle.checkpoint.specs.Merges.{MergeState, next_place}
+use Rattle.checkpoint.specs.PageGroups.{next_group, will_fit}
 use Rattle.model_streams.proofs.Tests.{if_elim, both_elim, none_met}
 use Rattle.model_streams.specs.StreamSystem.{StreamSystem}
 use Rattle.model_partition.specs.CheckpointStates.{CheckpointState, is_recording}
@@ -22,12 +24,15 @@ use Rattle.model_partition.specs.declared.checkpoint_job.CheckpointPhase.{Checkp
 use Rattle.model_partition.specs.declared.checkpoint_job.CheckpointPhase.TheVariants as checkpoints
 use Rattle.model_partition.specs.declared.server_context.ServerContext.{ServerContext}
 use Rattle.model_partition.specs.declared.stage.Stage.TheVariants as stages
+use Rattle.model_partition.specs.declared.waiting.PlaceRead.{PlaceRead}
 use Rattle.model_partition.specs.Range.{RangeState, RangeOutcome, request, given, picking, goes, answers, dropped, is_serving}
-use Rattle.model_partition.specs.Checkpoints.{checkpoint_fault, number_to_apply, have_bytes, begins_pages, checkpoint_rule, new_job, next_append, index_if_fit, with_phase, writes_pages, rows_go, pages_stand, index_stands, rows_stand, rows_told, rows_may_stand, rows_reply, may_record}
+use Rattle.model_partition.specs.PlaceReads.{reads_place}
+use Rattle.model_partition.specs.Checkpoints.{checkpoint_fault, number_to_apply, have_bytes, combines, with_fixed, begins_pages, begins_combining, checkpoint_rule, new_job, new_combining_job, combined_pages, combined_job, merges, next_append, index_if_fit, with_phase, writes_pages, rows_go, pages_stand, index_stands, rows_stand, rows_told, rows_may_stand, rows_reply, may_record}
 use Rattle.model_partition.specs.StreamActions.{StreamAction, Stores, index_stood_in, index_stood, rows_told_actions, rows_actions}
 use Rattle.laws_stream_machine.specs.Refinement.{Sent}
 use Rattle.laws_loads.specs.RangeView.{RangeView, view_after_all}
-use Rattle.laws_ranges.specs.Serves.{Side, after_turns, JobIs, IsRecord, is_recording_in, RecordIs, IsAside, RowsJob, RowsStand, RowsTold, BeginsInLog, TrimsJob, Follows, BothListed, IsSentBy}
+use Rattle.laws_loads.proofs.PageAnswers.{read_of, merged, unread, merges_elim}
+use Rattle.laws_ranges.specs.Serves.{Side, after_turns, JobIs, IsRecord, is_recording_in, RecordIs, IsAside, RowsJob, RowsStand, RowsTold, BeginsInLog, TrimsPhase, MergesPhase, TrimsJob, Follows, BothListed, IsSentBy, AskedOfBoth}
 use Rattle.laws_ranges.specs.Quiet.{GoesQuietly, AreReads}
 use Rattle.laws_ranges.specs.Seen.{SeesStory, RuleSees}
 use Rattle.laws_ranges.specs.Records.{ServesBoth, ServedRule}
@@ -83,12 +88,65 @@ module _ (generation : ℕ → ℕ) (range : ℕ) (w : StreamSystem) (i : ℕ) (
         after : RangeState
         after = record r { rows = o.after; control = Some job }
 
-    pub writes_quietly : (job : CheckpointState) → BeginsInLog r.log job.position → GoesQuietly generation range w i m l d (writes_pages d r job)
-    writes_quietly job begins = go (next_group job.pages)
+    pub writes_quietly : (job : CheckpointState) → BeginsInLog r.log job.position → next_place job.merge ≡ None → GoesQuietly generation range w i m l d (writes_pages d r job)
+    writes_quietly job begins merged_all = go (next_group job.pages)
       where
         go : (group : Option Group) → GoesQuietly generation range w i m l d (rows_go d r (next_append job group))
-        go (Some group) = rows_go_quietly (with_phase job checkpoints.Pages) (Some group) refl (begins, tt)
-        go None = rows_go_quietly (with_phase job checkpoints.Index) (index_if_fit job.pages.index) refl (begins, tt)
+        go (Some group) = rows_go_quietly (with_phase job checkpoints.Pages) (Some group) refl (begins, tt, merged_all)
+        go None = rows_go_quietly (with_phase job checkpoints.Index) (index_if_fit job.pages.index) refl (begins, tt, merged_all)
+
+    -- ---- pages of older indexes are merged
+
+    -- what is read, and the checkpoint, do not matter to both streams
+    aside_both : (reading : Option PlaceRead) (control : Option CheckpointState) → is_recording_in control ≡ false → ServesBoth generation range w i m l (record r { reading = reading; control = control })
+    aside_both reading control none = record {
+      phase = b.phase;
+      metadata = record { range_is = b.metadata.range_is; under = b.metadata.under; client = b.metadata.client; record_is = record_waits (record r { reading = reading; control = control }) refl none; stage = b.metadata.stage };
+      log = record { range_is = b.log.range_is; under = b.log.under; client = b.log.client; out = b.log.out; stage = b.log.stage };
+    }
+
+    aside_quietly : (reading : Option PlaceRead) (control : Option CheckpointState) (packets : List Packet) → is_recording_in control ≡ false → TrimsJob r.log control →
+        AskedOfBoth generation range w i (Some (record r { reading = reading; control = control })) m l packets → GoesQuietly generation range w i m l d (goes d (record r { reading = reading; control = control }) packets [])
+    aside_quietly reading control packets none trims asked =
+        still_whole generation range w i m l d both by (record r { reading = reading; control = control }) (suc d.count) packets (aside_both reading control none)
+        (record { rows = rest.rows; position = rest.position; trims = trims }) (omega arith) asked
+
+  -- a range whose checkpoint combines
+  module _ (r : RangeState) (b : ServesBoth generation range w i m l r) (rest : RestStands generation range w i m.sent l.sent r) (none : is_recording_in r.control ≡ false) where
+    unread_both : ServesBoth generation range w i m l (unread r)
+    unread_both = record {
+      phase = b.phase;
+      metadata = record { range_is = b.metadata.range_is; under = b.metadata.under; client = b.metadata.client; record_is = b.metadata.record_is; stage = b.metadata.stage };
+      log = record { range_is = b.log.range_is; under = b.log.under; client = b.log.client; out = b.log.out; stage = b.log.stage };
+    }
+
+    unread_rest : RestStands generation range w i m.sent l.sent (unread r)
+    unread_rest = record { rows = rest.rows; position = rest.position; trims = rest.trims }
+
+    metadata_idle : r.metadata.job ≡ jobs.Idle
+    metadata_idle = unrecorded_idle r r.metadata.job r.metadata.group b.metadata.record_is none
+
+    module _ (job : CheckpointState) (phase : job.phase ≡ checkpoints.Combining) (begins : BeginsInLog r.log job.position) where
+      merging : (merge : MergeState) → TrimsJob r.log (Some (merged job merge))
+      merging merge = (begins, subst (λ p. TrimsPhase r.log p) (sym phase) tt, subst (λ p. MergesPhase p (next_place merge)) (sym phase) tt)
+
+      unrecorded : (merge : MergeState) → is_recording_in (Some (merged job merge)) ≡ false
+      unrecorded merge = ap is_recording phase
+
+      combined_begins : (j : CheckpointState) (newer : Entries) → BeginsInLog r.log j.position → BeginsInLog r.log (combined_job j newer).position
+      combined_begins j newer at =
+          if_elim {A = CheckpointState} (λ z. BeginsInLog r.log z.position) (will_fit (combined_pages j.merge newer)) _ _ (λ t. at) (λ f. at)
+
+      combined_merged : (j : CheckpointState) (newer : Entries) → next_place (combined_job j newer).merge ≡ None
+      combined_merged j newer = if_elim {A = CheckpointState} (λ z. next_place z.merge ≡ None) (will_fit (combined_pages j.merge newer)) _ _ (λ t. refl) (λ f. refl)
+
+      pub merges_quietly : GoesQuietly generation range w i m l d (merges d r job)
+      merges_quietly =
+          merges_elim (λ o. GoesQuietly generation range w i m l d o) d r job
+          (aside_quietly r b rest metadata_idle None r.control [] none rest.trims tt)
+          (λ merge. aside_quietly r b rest metadata_idle None (Some (merged job merge)) [] (unrecorded merge) (merging merge) tt)
+          (λ merge place places is told. aside_quietly r b rest metadata_idle (Some (read_of d place)) (Some (merged job merge)) (reads_place d places (read_of d place) ∷ []) (unrecorded merge) (merging merge) ((tt, tt, λ q e. absurd cc), tt))
+          (λ merge newer is fixed. writes_quietly (unread r) unread_both unread_rest metadata_idle (combined_job (merged job merge) newer) (combined_begins (merged job merge) newer begins) (combined_merged (merged job merge) newer))
 
   -- ---- a checkpoint begins
 
@@ -97,10 +155,10 @@ module _ (generation : ℕ → ℕ) (range : ℕ) (w : StreamSystem) (i : ℕ) (
     none_there {A} None e = refl
     none_there {A} (Some x) e = absurd cc
 
-    pub checkpoint_quietly : checkpoint_fault r ≡ None → GoesQuietly generation range w i m l d (checkpoint_rule d r)
-    checkpoint_quietly may =
+    pub checkpoint_quietly : (combine : Bool) → checkpoint_fault r ≡ None → GoesQuietly generation range w i m l d (checkpoint_rule d r combine)
+    checkpoint_quietly combine may =
         if_elim (GoesQuietly generation range w i m l d) (have_bytes r.live r.position (number_to_apply r.out r.next)) _ _
-        (λ t. begins_quietly) (λ f. still_whole generation range w i m l d both by r (suc d.count) [] b rest (omega arith) tt)
+        (λ t. if_elim (GoesQuietly generation range w i m l d) (combines combine r.indexes) _ _ (λ c. combining_quietly) (λ c. begins_quietly)) (λ f. still_whole generation range w i m l d both by r (suc d.count) [] b rest (omega arith) tt)
       where
         unmet : (not (is_serving r.stage) ≡ false) × (((is_some r.control || is_some r.fixed) ≡ false) × Unit {0})
         unmet = none_met ((refusals.Loading, not (is_serving r.stage)) ∷ (refusals.Busy, is_some r.control || is_some r.fixed) ∷ []) may
@@ -117,17 +175,23 @@ module _ (generation : ℕ → ℕ) (range : ℕ) (w : StreamSystem) (i : ℕ) (
         rest : RestStands generation range w i m.sent l.sent r
         rest = served_rest generation range w i m l r f stage
 
+        fixed_both : ServesBoth generation range w i m l (with_fixed r)
+        fixed_both = record {
+          phase = b.phase;
+          metadata = record { range_is = b.metadata.range_is; under = b.metadata.under; client = b.metadata.client; record_is = b.metadata.record_is; stage = b.metadata.stage };
+          log = record { range_is = b.log.range_is; under = b.log.under; client = b.log.client; out = b.log.out; stage = b.log.stage };
+        }
+
+        fixed_rest : RestStands generation range w i m.sent l.sent (with_fixed r)
+        fixed_rest = record { rows = rest.rows; position = rest.position; trims = rest.trims }
+
         begins_quietly : GoesQuietly generation range w i m l d (begins_pages d r)
         begins_quietly =
-            writes_quietly (record r { live = []; fixed = Some r.live })
-            (record {
-              phase = b.phase;
-              metadata = record { range_is = b.metadata.range_is; under = b.metadata.under; client = b.metadata.client; record_is = b.metadata.record_is; stage = b.metadata.stage };
-              log = record { range_is = b.log.range_is; under = b.log.under; client = b.log.client; out = b.log.out; stage = b.log.stage };
-            })
-            (record { rows = rest.rows; position = rest.position; trims = rest.trims })
-            (unrecorded_idle r r.metadata.job r.metadata.group b.metadata.record_is (ap is_recording_in none))
-            (new_job r) rest.position
+            writes_quietly (with_fixed r) fixed_both fixed_rest (unrecorded_idle r r.metadata.job r.metadata.group b.metadata.record_is (ap is_recording_in none))
+            (new_job r) rest.position refl
+
+        combining_quietly : GoesQuietly generation range w i m l d (begins_combining d r)
+        combining_quietly = merges_quietly (with_fixed r) fixed_both fixed_rest (ap is_recording_in none) (new_combining_job r) refl rest.position
 
   -- ---- row data is answered
 
@@ -186,10 +250,10 @@ module _ (generation : ℕ → ℕ) (range : ℕ) (w : StreamSystem) (i : ℕ) (
       index_rule : (u : RangeView) → job.phase ≡ checkpoints.Index → ServedRule generation range w i u m l d (index_stands d now job extent offset) (index_stood_in r job checkpoints.Index extent offset)
       index_rule u e = index_stands_both generation range w i both m l d by u now now_both (not_recording checkpoints.Index e refl) job extent offset
 
-      index_rest : (n k : List Sent) → RestIf generation range w i n k (index_stands d now job extent offset).after
-      index_rest n k =
+      index_rest : job.phase ≡ checkpoints.Index → (n k : List Sent) → RestIf generation range w i n k (index_stands d now job extent offset).after
+      index_rest e n k =
           if_elim {A = RangeOutcome} (λ o. RestIf generation range w i n k o.after) (may_record now job) _ _
-          (λ t. record { rows = rows_left; position = rest.position; trims = (under_way.0, tt) }) (λ f. record { rows = rows_left; position = rest.position; trims = rest.trims })
+          (λ t. record { rows = rows_left; position = rest.position; trims = (under_way.0, tt, subst (λ p. MergesPhase p (next_place job.merge)) e under_way.2) }) (λ f. record { rows = rows_left; position = rest.position; trims = rest.trims })
         where
           rows_left : RowsStand range w n k reply.after
           rows_left = rows_idle range w m.sent l.sent n k reply.after idle does.stand
@@ -198,7 +262,7 @@ module _ (generation : ℕ → ℕ) (range : ℕ) (w : StreamSystem) (i : ℕ) (
       index_there done = if_elim {A = RangeOutcome} (λ o. (if is_some o.after then done else []) ≡ done) (may_record now job) _ _ (λ t. refl) (λ f. refl)
 
       index_sees : job.phase ≡ checkpoints.Index → Sees (index_stands d now job extent offset) (index_stood_in r job checkpoints.Index extent offset ++ stores extent offset)
-      index_sees e = whole_sees generation range w i m l d v (index_stands d now job extent offset) (later ++ stores extent offset) rule (index_rest rule.goes.metadata_sent rule.goes.log_sent)
+      index_sees e = whole_sees generation range w i m l d v (index_stands d now job extent offset) (later ++ stores extent offset) rule (index_rest e rule.goes.metadata_sent rule.goes.log_sent)
         where
           later : List StreamAction
           later = index_stood_in r job checkpoints.Index extent offset
@@ -221,9 +285,10 @@ module _ (generation : ℕ → ℕ) (range : ℕ) (w : StreamSystem) (i : ℕ) (
           }
 
       stand_sees : (phase : CheckpointPhase) → job.phase ≡ phase → SeesIf (rows_stand d now job phase extent offset) (index_stood_in r job phase extent offset ++ stores extent offset)
+      stand_sees checkpoints.Combining e = quiet (goes d now [] []) (stores extent offset) rests (tt, tt)
       stand_sees checkpoints.Pages e =
           quiet (writes_pages d now (pages_stand job extent offset)) (stores extent offset)
-          (writes_quietly now now_both now_rest (unrecorded_idle r r.metadata.job r.metadata.group b.metadata.record_is (not_recording checkpoints.Pages e refl)) (pages_stand job extent offset) under_way.0) (tt, tt)
+          (writes_quietly now now_both now_rest (unrecorded_idle r r.metadata.job r.metadata.group b.metadata.record_is (not_recording checkpoints.Pages e refl)) (pages_stand job extent offset) under_way.0 (subst (λ p. MergesPhase p (next_place job.merge)) e under_way.2)) (tt, tt)
       stand_sees checkpoints.Index e = subst (λ done. Sees (index_stands d now job extent offset) done) (sym (index_there _)) (index_sees e)
       stand_sees (checkpoints.Record index) e = quiet (goes d now [] []) (stores extent offset) rests (tt, tt)
       stand_sees (checkpoints.Trim before to_blob q) e = quiet (goes d now [] []) (stores extent offset) rests (tt, tt)

@@ -87,7 +87,7 @@ module _ (d : ServerContext) (r : RangeState) where
   -- its record stands, and its log is to be trimmed
   stands_keep : (s : RangeState) → KeepsRows r s → (job : CheckpointState) → BeginsInLog s.log job.position → (phase : CheckpointPhase) → Keeps (record_stands d s job phase)
   stands_keep s k job begins (checkpoints.Record index) =
-      if_elim Keeps (has_record_number s) _ _ (λ t. record { rows = k.rows; position = k.position; trims = (begins, trim_stays s.log job.position begins) }) (λ f. k)
+      if_elim Keeps (has_record_number s) _ _ (λ t. record { rows = k.rows; position = k.position; trims = (begins, trim_stays s.log job.position begins, refl) }) (λ f. k)
   stands_keep s k job begins phase = k
 
   record_keep : (s : RangeState) → KeepsRows r s → (control : Option CheckpointState) → TrimsJob s.log control → (told : Option News) (packets : List Packet) → Keeps (record_told d s control told packets)

@@ -37,6 +37,7 @@ pub mod GiveUpServed
 pub mod Stages
 pub mod SeenLoads
 pub mod CheckpointRules
+pub mod ReadPages
 pub mod LoadBegins
 pub mod LoadNews
 pub mod OpenedOrConfirmed

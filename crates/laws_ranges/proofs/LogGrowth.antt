@@ -106,4 +106,4 @@ module _ (c after : ClientState) (g : Grows c after) where
 
   pub trims_on : (job : Option CheckpointState) → TrimsJob c job → TrimsJob after job
   trims_on None b = tt
-  trims_on (Some job) b = (begins_on job.position b.0, phase_on job.phase b.1)
+  trims_on (Some job) b = (begins_on job.position b.0, phase_on job.phase b.1, b.2)

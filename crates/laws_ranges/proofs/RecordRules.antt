@@ -14,9 +14,8 @@ use Rattle.client.specs.declared.job.Job.TheVariants as jobs
 use Rattle.client.specs.declared.job.News.{News}
 use Rattle.client.specs.declared.job.News.TheVariants as news
 use Rattle.client.specs.Client.{ClientState, Outcome, last_extent, append_at, reply_rule}
-use Rattle.checkpoint.specs.PageGroups.{no_pages}
 use Rattle.model_streams.specs.StreamSystem.{StreamSystem}
-use Rattle.model_partition.specs.CheckpointStates.{CheckpointState}
+use Rattle.model_partition.specs.CheckpointStates.{CheckpointState, last_job}
 use Rattle.model_partition.specs.declared.checkpoint_job.CheckpointPhase.TheVariants as checkpoints
 use Rattle.model_partition.specs.declared.server_context.ServerContext.{ServerContext}
 use Rattle.model_partition.specs.declared.stage.Stage.{Stage}
@@ -196,7 +195,7 @@ module _ (generation : ℕ → ℕ) (range : ℕ) (w : StreamSystem) (i : ℕ) (
         said = recorded (record r { metadata = c }) job index
 
         after : RangeState
-        after = record said { control = Some (record job { pages = no_pages; phase = checkpoints.Trim (trim_index said.log job.position) (have_places said.indexes) (request d) }) }
+        after = record said { control = Some (last_job job.position job.next (checkpoints.Trim (trim_index said.log job.position) (have_places said.indexes) (request d))) }
 
         stood_if : Bool → RangeOutcome
         stood_if t = if t then trims d said job else goes d (record r { metadata = c }) [] []

@@ -1,5 +1,5 @@
 -- Each rule of a range leaves its row data waiting under the number that it waited under, or under a new one.
-use Rattle.std.proofs.Common.{◌≡◌, ℕ, ◌^◌, nat_lt, List, [], Option, Some, None, option_to_list, inl, inr, refl, ap, ◌∙◌, arith}
+use Rattle.std.proofs.Common.{◌≡◌, ℕ, ◌^◌, nat_lt, Bool, List, Option, Some, None, option_to_list, inl, inr, refl, ap, ◌∙◌, arith}
 use Rattle.wire.specs.declared.actor.ActorId.{ActorId}
 use Rattle.wire.specs.declared.actor.ReqNo.{ReqNo}
 use Rattle.wire.specs.declared.body.Body.{Body}
@@ -17,6 +17,7 @@ use Rattle.client.specs.declared.load.LoadPhase.{LoadPhase}
 use Rattle.client.specs.declared.load.LoadPhase.TheVariants as phases
 use Rattle.client.specs.Client.{ClientState, Outcome, new_client, awaits, last_extent, append_rule, reply_rule}
 use Rattle.client.specs.Load.{load_awaits}
+use Rattle.checkpoint.specs.Merges.{with_page}
 use Rattle.checkpoint.specs.PageGroups.{next_group}
 use Rattle.metadata.specs.Fold.{first_metadata}
 use Rattle.model_streams.proofs.Tests.{if_elim}
@@ -27,11 +28,12 @@ use Rattle.model_partition.specs.declared.server_context.ServerContext.{ServerCo
 use Rattle.model_partition.specs.declared.table_note.TableNote.{TableNote}
 use Rattle.model_partition.specs.Range.{RangeState, RangeOutcome, request, picking, given}
 use Rattle.model_partition.specs.Server.{new_range}
-use Rattle.model_partition.specs.PlaceReads.{reads_under}
+use Rattle.model_partition.specs.PlaceReads.{reads_under, reads_page}
 use Rattle.model_partition.specs.Serving.{transact_rule}
 use Rattle.model_partition.specs.Getting.{get_rule}
-use Rattle.model_partition.specs.Checkpoints.{number_to_apply, have_bytes, checkpoint_rule, new_job, next_append, writes_pages, rows_go, pages_stand, rows_stand, rows_told, rows_may_stand, rows_reply, may_record, trim_awaits}
-use Rattle.model_partition.specs.Answering.{load_told, load_reply, metadata_reply, log_reply, index_reply, trim_reply, gets_reply, answer_rule}
+use Rattle.model_partition.specs.Checkpoints.{number_to_apply, have_bytes, combines, with_fixed, checkpoint_rule, new_job, new_combining_job, combined_job, merges, next_append, writes_pages, rows_go, pages_stand, rows_stand, rows_told, rows_may_stand, rows_reply, may_record, trim_awaits}
+use Rattle.model_partition.specs.Answering.{load_told, load_reply, metadata_reply, log_reply, page_reply, index_reply, trim_reply, gets_reply, answer_rule}
+use Rattle.laws_loads.proofs.PageAnswers.{merged, unread, merges_elim, page_reply_elim}
 use Rattle.laws_ranges.specs.Records.{RowsGo}
 use Rattle.laws_ranges.proofs.RowNumbers.{WaitsOn, WaitsOnIf, waits_after, reply_waits, append_waits, rows_of_waits}
 use Rattle.laws_ranges.proofs.LoadRows.{RowsAreIf, begins_metadata_are, refused_are, serves_are, index_reply_are, trim_reply_are, gets_reply_are, get_are, transact_are, metadata_reply_are, log_reply_are}
@@ -69,12 +71,22 @@ module _ (d : ServerContext) (r : RangeState) where
   writes_wait : (s : RangeState) → WaitsOn (request d) r.rows s.rows → (job : CheckpointState) → Waits (writes_pages d s job)
   writes_wait s k job = pages_wait s k (next_append job (next_group job.pages))
 
+  -- pages of older indexes are merged first
+  merges_wait : (s : RangeState) → WaitsOn (request d) r.rows s.rows → (job : CheckpointState) → Waits (merges d s job)
+  merges_wait s k job =
+      merges_elim Waits d s job (inl (omega arith, k)) (λ merge. inl (omega arith, k)) (λ merge place places is told. inl (omega arith, k))
+      (λ merge newer is fixed. writes_wait (unread s) k (combined_job (merged job merge) newer))
+
+  page_waits : (body : Body) → Waits (page_reply d r body)
+  page_waits body = page_reply_elim Waits d r (inr (inl refl)) tt (λ job place entries is next. merges_wait r (λ v t. inl (t, refl)) (merged job (with_page r.said.keys job.merge entries))) body
+
   -- a checkpoint begins
-  pub checkpoint_rows : RowsGo d r (checkpoint_rule d r)
-  checkpoint_rows =
-      rows_of_waits d r (checkpoint_rule d r)
+  pub checkpoint_rows : (combine : Bool) → RowsGo d r (checkpoint_rule d r combine)
+  checkpoint_rows combine =
+      rows_of_waits d r (checkpoint_rule d r combine)
       (if_elim Waits (have_bytes r.live r.position (number_to_apply r.out r.next)) _ _
-      (λ t. writes_wait (record r { live = []; fixed = Some r.live }) (λ v t. inl (t, refl)) (new_job r)) (λ f. inr (inl refl)))
+      (λ t. if_elim Waits (combines combine r.indexes) _ _ (λ c. merges_wait (with_fixed r) (λ v t. inl (t, refl)) (new_combining_job r)) (λ c. writes_wait (with_fixed r) (λ v t. inl (t, refl)) (new_job r)))
+      (λ f. inr (inl refl)))
 
   stand_wait : (s : RangeState) → WaitsOn (request d) r.rows s.rows → (job : CheckpointState) (phase : CheckpointPhase) (e offset : ℕ) → Waits (rows_stand d s job phase e offset)
   stand_wait s k job checkpoints.Pages e offset = writes_wait s k (pages_stand job e offset)
@@ -128,7 +140,7 @@ module _ (d : ServerContext) (r : RangeState) where
         (λ f. if_elim Waits (awaits r.metadata.job u) _ _ (λ t. still (metadata_reply d r body) (metadata_reply_are d r.rows r refl body))
         (λ f. if_elim Waits (awaits r.log.job u) _ _ (λ t. still (log_reply d r body) (log_reply_are d r.rows r refl body))
         (λ f. if_elim Waits (awaits r.rows.job u) _ _ (λ t. rows_wait body)
-        (λ f. if_elim Waits (reads_under r.reading u) _ _ (λ t. still (index_reply d r body) (index_reply_are d r.rows r refl body))
+        (λ f. if_elim Waits (reads_under r.reading u) _ _ (λ t. if_elim Waits (reads_page r.reading) _ _ (λ p. page_waits body) (λ p. still (index_reply d r body) (index_reply_are d r.rows r refl body)))
         (λ f. if_elim Waits (trim_awaits r.control u) _ _ (λ t. still (trim_reply d r body) (trim_reply_are d r.rows r refl body)) (λ f. still (gets_reply d r u body) (gets_reply_are d r.rows r refl u body)))))))
 
     pub answer_rows : RowsGo d r (answer_rule d r u body)

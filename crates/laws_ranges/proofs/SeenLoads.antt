@@ -24,10 +24,11 @@ use Rattle.model_partition.specs.declared.stage.Stage.TheVariants as stages
 use Rattle.model_partition.specs.Range.{RangeState, RangeOutcome, request, picking, is_serving}
 use Rattle.model_partition.specs.Loading.{Group, serves}
 use Rattle.model_partition.specs.Answering.{answered_number, load_told, load_reply, answer_rule, is_taken, groups_of}
+use Rattle.model_partition.specs.Checkpoints.{trim_awaits}
 use Rattle.model_partition.specs.PlaceReads.{reads_under}
 use Rattle.laws_tables.specs.Runs.{start_number}
 use Rattle.model_partition.specs.ServerTurns as turns
-use Rattle.model_partition.specs.StreamActions.{StreamAction, Shows, first_start, read_end, index_told_actions, index_actions, loading_actions, confirmed_actions, load_actions, answered_actions, answer_actions}
+use Rattle.model_partition.specs.StreamActions.{StreamAction, Shows, first_start, read_end, bytes_told_actions, bytes_actions, loading_actions, confirmed_actions, load_actions, answered_actions, answer_actions}
 use Rattle.laws_stream_machine.specs.Refinement.{Means}
 use Rattle.laws_loads.specs.RangeView.{RangeView}
 use Rattle.laws_loads.specs.StaysLoading.{IsConfirmation}
@@ -45,14 +46,14 @@ loading_reads : (kind : StreamKind) (c : ClientState) (stage : Stage) (groups : 
 loading_reads kind c (stages.Reading k position) groups (Some (news.Content extent upto)) = (tt, tt)
 loading_reads kind c stage groups told = tt
 
--- the bytes of an index
-bytes_quiet : (body : ReadBody) → AreReads (index_told_actions body)
-bytes_quiet (reads.Bytes q e offset bytes) = (tt, tt)
-bytes_quiet body = tt
+-- the bytes of an index, of a page or of a value
+bytes_told_quiet : (body : ReadBody) → AreReads (bytes_told_actions body)
+bytes_told_quiet (reads.Bytes q e offset bytes) = (tt, tt)
+bytes_told_quiet body = tt
 
-pub index_quiet : (body : Body) → AreReads (index_actions body)
-index_quiet (bodies.Read body) = bytes_quiet body
-index_quiet body = tt
+pub bytes_quiet : (body : Body) → AreReads (bytes_actions body)
+bytes_quiet (bodies.Read body) = bytes_told_quiet body
+bytes_quiet body = tt
 
 -- a range that is dropped does nothing
 pub kept_reads : (o : Option RangeState) (done : List StreamAction) → AreReads done → AreReads (if is_some o then done else [])
@@ -79,7 +80,8 @@ module _ (d : ServerContext) (r : RangeState) (v : ReqNo) where
       (λ t. if_elim AreReads (is_taken r body) _ _
       (λ t. if_elim AreReads (is_serving r.stage) _ _ (λ s. absurd (cc (unserved, s))) (λ f. loading_reads kinds.Log r.log r.stage (groups_of body) (reply_rule (picking d r.log) (request d) body).news)) (λ f. tt))
       (λ f. if_elim AreReads (awaits r.rows.job v) _ _ (λ t. absurd (let z : false ≡ true = subst (λ j. awaits j v ≡ true) calm.0 t in cc))
-      (λ f. if_elim AreReads (reads_under r.reading v) _ _ (λ t. index_quiet body) (λ f. tt))))))
+      (λ f. if_elim AreReads (reads_under r.reading v) _ _ (λ t. bytes_quiet body)
+      (λ f. if_elim AreReads (trim_awaits r.control v) _ _ (λ t. tt) (λ f. bytes_quiet body)))))))
 
   -- an answer that a range waits for
   pub answer_reads : (body : Body) (o : RangeOutcome) → is_serving r.stage ≡ false → HasNoCheckpoint r → AreReads (answer_actions d r v body o) ⊎ IsConfirmation d r v body (answer_rule d r v body)

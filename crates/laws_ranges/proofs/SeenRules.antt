@@ -1,5 +1,5 @@
 -- What each rule of a range does with its streams is what servers see of it, wherever the range stands.
-use Rattle.std.proofs.Common.{◌≡◌, ⊎_elim, ℕ, List, [], false, Option, Some, None, refl, subst, arith}
+use Rattle.std.proofs.Common.{◌≡◌, ⊎_elim, ℕ, Bool, List, [], false, Option, Some, None, refl, subst, arith}
 use Rattle.wire.specs.declared.actor.ActorId.{ActorId}
 use Rattle.wire.specs.declared.actor.ReqNo.{ReqNo}
 use Rattle.wire.specs.declared.body.Body.{Body}
@@ -62,8 +62,8 @@ module _ (generation : ℕ → ℕ) (range : ℕ) (w : StreamSystem) (i : ℕ) (
 
     -- ---- a checkpoint
 
-    pub checkpoint_sees : checkpoint_fault r ≡ None → RuleSees generation i range w view m l d (checkpoint_rule d r) []
-    checkpoint_sees may = quiet_sees generation range w i view m l d (checkpoint_rule d r) [] (checkpoint_quietly generation range w i both m l d by r f may) tt
+    pub checkpoint_sees : (combine : Bool) → checkpoint_fault r ≡ None → RuleSees generation i range w view m l d (checkpoint_rule d r combine) []
+    checkpoint_sees combine may = quiet_sees generation range w i view m l d (checkpoint_rule d r combine) [] (checkpoint_quietly generation range w i both m l d by r f combine may) tt
 
   -- rules that ask something of the two streams, under numbers that row data does not wait under
   module _ (r : RangeState) (f : Follows generation range w i m l r) (past : IsPastRows d r) where

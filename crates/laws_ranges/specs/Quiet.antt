@@ -39,7 +39,7 @@ pub record GoesQuietly (generation : ℕ → ℕ) (range : ℕ) (w : StreamSyste
   pub metadata : AreQuiet goes.metadata_turns
   pub log : AreQuiet goes.log_turns
 
--- nothing happens to the stories: an extent or an index is read, or row data is stored
+-- nothing happens to the stories: an extent, an index, a page or a value is read, or row data is stored
 abbrev pub IsRead : StreamAction → Type 0
 IsRead (Reads kind read) = Unit {0}
 IsRead (Forms kind group) = ⊥

@@ -19,6 +19,7 @@ use Rattle.memtable.specs.declared.cell.Place.{Place}
 use Rattle.replica.specs.Groups.{Group}
 use Rattle.streams.specs.declared.table.Position.{Position}
 use Rattle.metadata.specs.declared.record.Region.{Region}
+use Rattle.checkpoint.specs.Merges.{next_place}
 use Rattle.client.specs.declared.job.Job.{Job}
 use Rattle.client.specs.declared.job.Job.TheVariants as jobs
 use Rattle.client.specs.declared.job.News.{News}
@@ -32,7 +33,7 @@ use Rattle.model_streams.specs.StreamSystem.{StreamSystem}
 use Rattle.model_partition.specs.CheckpointStates.{CheckpointState, is_recording}
 use Rattle.model_partition.specs.Checkpoints.{has_record_number}
 use Rattle.model_partition.specs.declared.checkpoint_job.CheckpointPhase.{CheckpointPhase}
-use Rattle.model_partition.specs.declared.checkpoint_job.CheckpointPhase.TheVariants.{Record, Trim}
+use Rattle.model_partition.specs.declared.checkpoint_job.CheckpointPhase.TheVariants.{Combining, Record, Trim}
 use Rattle.model_partition.specs.declared.server_context.ServerContext.{ServerContext}
 use Rattle.model_partition.specs.declared.stage.Stage.{Stage}
 use Rattle.model_partition.specs.declared.stage.Stage.TheVariants as stages
@@ -364,9 +365,14 @@ abbrev pub TrimsPhase : ClientState → CheckpointPhase → Type 0
 TrimsPhase log (Trim before to_blob q) = (before ≤ log.base) ⊎ (before < known log)
 TrimsPhase log phase = Unit {0}
 
+-- pages of older indexes are merged in the first phase alone
+abbrev pub MergesPhase : CheckpointPhase → Option Place → Type 0
+MergesPhase Combining next = Unit {0}
+MergesPhase phase next = next ≡ None
+
 abbrev pub TrimsJob : ClientState → Option CheckpointState → Type 0
 TrimsJob log None = Unit {0}
-TrimsJob log (Some job) = BeginsInLog log job.position × TrimsPhase log job.phase
+TrimsJob log (Some job) = BeginsInLog log job.position × TrimsPhase log job.phase × MergesPhase job.phase (next_place job.merge)
 
 module _ (generation : ℕ → ℕ) (range : ℕ) (w : StreamSystem) (i : ℕ) (m l : Side) where
   pub record IsOpening (r : RangeState) : Type 0 where
@@ -408,7 +414,7 @@ module _ (generation : ℕ → ℕ) (range : ℕ) (w : StreamSystem) (i : ℕ) (
     pub record_is : RecordIs r
     pub log : ServingIs generation (log_of range) w i l.stand l.sent r.log
     pub out : OutIs r.log.job r.log.group r.out
-    -- what the log is trimmed to
+    -- what the log is trimmed to; and pages are merged before any is written
     pub position : BeginsInLog r.log r.position
     pub trims : TrimsJob r.log r.control
 

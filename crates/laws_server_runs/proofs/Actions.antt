@@ -181,7 +181,7 @@ event_longer x (Takes s p) =
     let l : Longer x (with_effect s x (cell_effect p (entry_at x.servers s))) = effect_longer s x (cell_effect p (entry_at x.servers s)) in
     record { story = l.story; shown = l.shown; answered = l.answered }
 event_longer x (GivesUp s range pick) = record { story = λ n. longer_same (x.story n); shown = λ k. longer_same (x.shown k); answered = λ k. longer_same (x.answered k) }
-event_longer x (Checkpoints s range) = record { story = λ n. longer_same (x.story n); shown = λ k. longer_same (x.shown k); answered = λ k. longer_same (x.answered k) }
+event_longer x (Checkpoints s range combine) = record { story = λ n. longer_same (x.story n); shown = λ k. longer_same (x.shown k); answered = λ k. longer_same (x.answered k) }
 event_longer x (Stops s call) = record { story = λ n. longer_same (x.story n); shown = λ k. longer_same (x.shown k); answered = λ k. longer_same (x.answered k) }
 event_longer x (Starts s now batch) = record { story = λ n. longer_same (x.story n); shown = λ k. longer_same (x.shown k); answered = λ k. longer_same (x.answered k) }
 event_longer x (Moment now) = record { story = λ n. longer_same (x.story n); shown = λ k. longer_same (x.shown k); answered = λ k. longer_same (x.answered k) }

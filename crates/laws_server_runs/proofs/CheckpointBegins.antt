@@ -1,5 +1,5 @@
--- A checkpoint begins at a range that is served: what it notes, and what is appended to row data first.
-use Rattle.std.proofs.Common.{◌≡◌, ℕ, [], ◌∷◌, Option, Some, None, refl, subst, inr, ◌∙◌}
+-- A checkpoint begins at a range that is served: what it notes, and where it is a plain one, what is appended to row data first.
+use Rattle.std.proofs.Common.{◌≡◌, ℕ, Bool, [], ◌∷◌, Option, Some, None, refl, sym, ap, subst, inr, ◌∙◌}
 use Rattle.std.specs.List.{AllByRecursion}
 use Rattle.wire.specs.declared.streams.StreamKind.TheVariants as kinds
 use Rattle.client.specs.Client.{ClientState, append_rule}
@@ -7,14 +7,16 @@ use Rattle.memtable.specs.Entries.{Entries, IsFit}
 use Rattle.metadata.specs.Record.{IsNext, IsPosition}
 use Rattle.checkpoint_format.specs.Page.{IsPageEntry}
 use Rattle.checkpoint.specs.Contents.{AreEntries}
-use Rattle.checkpoint.specs.PageGroups.{next_group}
+use Rattle.checkpoint.specs.Merges.{MergeState, no_merge, next_place}
+use Rattle.checkpoint.specs.PageGroups.{PagesState, pages_to_write, next_group}
 use Rattle.checkpoint.proofs.Orders.{sorted_from_ascending}
 use Rattle.checkpoint.proofs.PageGroups.{pages_begin}
 use Rattle.model_partition.specs.declared.checkpoint_job.CheckpointPhase.{CheckpointPhase}
 use Rattle.model_partition.specs.declared.checkpoint_job.CheckpointPhase.TheVariants as checkpoints
 use Rattle.model_partition.specs.declared.server_context.ServerContext.{ServerContext}
+use Rattle.model_partition.specs.declared.waiting.PlaceRead.{PlaceRead}
 use Rattle.model_partition.specs.CheckpointStates.{CheckpointState}
-use Rattle.model_partition.specs.Checkpoints.{number_to_apply, new_job, with_phase, index_if_fit, next_append, rows_go, writes_pages, begins_pages}
+use Rattle.model_partition.specs.Checkpoints.{number_to_apply, new_job, with_phase, index_if_fit, next_append, rows_go, writes_pages, with_fixed, begins_pages}
 use Rattle.model_partition.specs.Loading.{Group}
 use Rattle.model_partition.specs.Past.{Bytes}
 use Rattle.model_partition.specs.Range.{RangeState}
@@ -29,7 +31,8 @@ use Rattle.laws_tables.specs.Runs.{Run, Serving, first_beginning, held, noting, 
 use Rattle.laws_checkpoints.specs.IndexLayers.{layer_at}
 use Rattle.laws_checkpoints.proofs.CheckpointRecords.{job_notes}
 use Rattle.laws_checkpoints.proofs.WrittenPages.{writing_begins}
-use Rattle.laws_server_runs.specs.CheckpointInvariant.{CheckpointParts, parts_of, HoldsNone, HasNoted, HoldsPhase, HoldsCheckpoint, AppendsPhase, AppendsRows}
+use Rattle.laws_checkpoints.specs.WritingPages.{WritesPages}
+use Rattle.laws_server_runs.specs.CheckpointInvariant.{CheckpointParts, parts_of, HoldsNone, HasNoted, Writes, HoldsPhase, HoldsCheckpoint, AppendsPhase, AppendsRows, ReadsNext}
 use Rattle.laws_server_runs.specs.NamedIndexes.{NamesSuch}
 use Rattle.laws_server_runs.specs.RangeInvariant.{IsOfPages, append_of, Matches}
 use Rattle.laws_server_runs.proofs.RowAppends.{idle_phase, appended_group, pages_group, index_group_is}
@@ -57,77 +60,94 @@ module _ (texts : ℕ → Bytes) where
   MatchesIf v s None = Unit {0}
   MatchesIf v s (Some r) = Matches texts v s r
 
-  -- the checkpoint waits for something else
-  pub noted_phase : (c : CheckpointParts) (job : CheckpointState) (phase : CheckpointPhase) → HasNoted texts c job → HasNoted texts c (with_phase job phase)
-  noted_phase c job phase h = record {
+  -- whatever is merged and written, its position and its next number are noted
+  abbrev pub noted_with : (c : CheckpointParts) (job : CheckpointState) (combine : Bool) (merge : MergeState) (pages : PagesState) (phase : CheckpointPhase) → HasNoted texts c job →
+      HasNoted texts c (record job { combine = combine; merge = merge; pages = pages; phase = phase })
+  noted_with c job combine merge pages phase h = record {
     fixed = h.fixed;
     entries = h.entries;
     are_entries = h.are_entries;
     layer = h.layer;
     noted = h.noted;
-    pages = h.pages;
     position = h.position;
     number = h.number;
   }
 
+  -- the checkpoint waits for something else
+  writes_phase : (c : CheckpointParts) (job : CheckpointState) (phase : CheckpointPhase) → Writes texts c job → Writes texts c (with_phase job phase)
+  writes_phase c job phase h = record { noted = noted_with c job job.combine job.merge job.pages phase h.noted; are_written = h.are_written; pages = h.pages; merged = h.merged }
+
+  -- no page is to be merged
+  pub nothing_next : (reading : Option PlaceRead) (job : CheckpointState) → job.merge ≡ no_merge → ReadsNext reading (Some job)
+  nothing_next reading job none read place out next = absurd (let z : None ≡ Some place = sym (ap next_place none) ∙ next in cc)
+
   -- ---- what is appended to row data
 
   module _ (v : RangeView) (s : Serving) (r : RangeState) (m : MatchesBeside v s r) (d : ServerContext) where
-    -- whatever becomes of the client of row data
-    pub with_control : (c : ClientState) (job : CheckpointState) → HoldsPhase texts (parts_of v s r) job job.phase → AppendsPhase c job job.phase → Matches texts v s (record r { rows = c; control = Some job })
-    with_control c job h appends = record { position = m.position; next = m.next; out = m.out; live = m.live; checkpoint = h; said = m.said; installed = m.installed; ordered = m.ordered; named = m.named; rows = appends }
+    -- whatever becomes of the client of row data, and of the read of a page
+    pub with_control : (reading : Option PlaceRead) (c : ClientState) (job : CheckpointState) → HoldsPhase texts (parts_of v s r) job job.phase → AppendsPhase c job job.phase → ReadsNext reading (Some job) →
+        Matches texts v s (record r { reading = reading; rows = c; control = Some job })
+    with_control reading c job h appends next =
+        record { position = m.position; next = m.next; out = m.out; live = m.live; checkpoint = h; said = m.said; installed = m.installed; ordered = m.ordered; named = m.named; rows = appends; reads = next }
 
-    go : r.rows.job ≡ jobs.Idle → (job : CheckpointState) → HoldsPhase texts (parts_of v s r) job job.phase → (group : Option Group) →
+    go : r.rows.job ≡ jobs.Idle → (job : CheckpointState) → HoldsPhase texts (parts_of v s r) job job.phase → ReadsNext r.reading (Some job) → (group : Option Group) →
         ((c : ClientState) (some : Group) → group ≡ Some some → c.group ≡ some → AppendsPhase c job job.phase) → MatchesIf v s (rows_go d r (job, group)).after
-    go idle job h None appends = with_control r.rows job h (idle_phase r.rows idle job job.phase)
-    go idle job h (Some group) appends =
+    go idle job h next None appends = with_control r.reading r.rows job h (idle_phase r.rows idle job job.phase) next
+    go idle job h next (Some group) appends =
         let c : ClientState = (given (picking d r.rows) (append_rule (picking d r.rows) (request d) group)).after in
-        with_control c job h (appends c group refl (appended_group (picking d r.rows) (request d) group idle))
+        with_control r.reading c job h (appends c group refl (appended_group (picking d r.rows) (request d) group idle)) next
 
     -- the next pages are appended, and behind the last ones the index
-    pub writes_on : (job : CheckpointState) → HasNoted texts (parts_of v s r) job → s.record_out ≡ None → r.rows.job ≡ jobs.Idle → MatchesIf v s (writes_pages d r job).after
+    pub writes_on : (job : CheckpointState) → Writes texts (parts_of v s r) job → s.record_out ≡ None → r.rows.job ≡ jobs.Idle → MatchesIf v s (writes_pages d r job).after
     writes_on job h none idle = by (next_group job.pages) refl
       where
         by : (group : Option Group) → next_group job.pages ≡ group → MatchesIf v s (rows_go d r (next_append job group)).after
         by (Some group) e =
-            go idle (with_phase job checkpoints.Pages) (noted_phase (parts_of v s r) job checkpoints.Pages h, none) (Some group) (λ c some is same. inr (same ∙ pages_group job.pages some (e ∙ is)))
+            go idle (with_phase job checkpoints.Pages) (writes_phase (parts_of v s r) job checkpoints.Pages h, none) (nothing_next r.reading (with_phase job checkpoints.Pages) h.merged) (Some group)
+            (λ c some is same. inr (same ∙ pages_group job.pages some (e ∙ is)))
         by None e =
-            go idle (with_phase job checkpoints.Index) (noted_phase (parts_of v s r) job checkpoints.Index h, none, e) (index_if_fit job.pages.index)
+            go idle (with_phase job checkpoints.Index) (writes_phase (parts_of v s r) job checkpoints.Index h, none, e) (nothing_next r.reading (with_phase job checkpoints.Index) h.merged) (index_if_fit job.pages.index)
             (λ c some is same. inr (same ∙ index_group_is job.pages.index some is))
 
   -- ---- it begins
 
-  each_fit : (entries : Entries) → AllByRecursion IsPageEntry entries → AllByRecursion IsFit entries
+  pub each_fit : (entries : Entries) → AllByRecursion IsPageEntry entries → AllByRecursion IsFit entries
   each_fit [] each = tt
   each_fit (entry ∷ entries) each = (each.0.0, each_fit entries each.1)
+
+  -- none of the pages of these entries is written yet
+  pub begin_pages : (entries : Entries) → AreEntries entries → WritesPages texts entries (pages_to_write entries)
+  begin_pages entries are = writing_begins texts entries (pages_begin entries (each_fit entries are.each) (sorted_from_ascending entries are.ascending))
 
   -- The range has no checkpoint, its live layer can be written in pages, and its position and its next number in a record.
   module _ (v : RangeView) (s : Serving) (r : RangeState) (m : Matches texts v s r) (none : r.control ≡ None) (are : AreEntries r.live) (at : IsPosition r.position) (number : IsNext (number_to_apply r.out r.next))
       (fits : OutFits r.out) where
-    nothing : HoldsNone (parts_of v s r)
+    pub nothing : HoldsNone (parts_of v s r)
     nothing = subst (HoldsCheckpoint texts (parts_of v s r)) none m.checkpoint
 
-    abbrev fixed_range : RangeState
-    fixed_range = record r { live = []; fixed = Some r.live }
-
-    noted_now : HasNoted texts (parts_of v (noting s) fixed_range) (new_job r)
+    abbrev pub noted_now : HasNoted texts (parts_of v (noting s) (with_fixed r)) (new_job r)
     noted_now = record {
       fixed = r.live;
       entries = refl;
       are_entries = are;
       layer = m.live;
       noted = job_notes (v.history.append kinds.Log) r s m.position m.next m.out fits;
-      pages = λ all. writing_begins texts r.live (pages_begin r.live (each_fit r.live are.each) (sorted_from_ascending r.live are.ascending));
       position = at;
       number = number;
     }
 
-    beside_now : MatchesBeside v (noting s) fixed_range
+    writes_now : Writes texts (parts_of v (noting s) (with_fixed r)) (new_job r)
+    writes_now = record { noted = noted_now; are_written = are; pages = λ all. begin_pages r.live are; merged = refl }
+
+    pub beside_now : MatchesBeside v (noting s) (with_fixed r)
     beside_now = record { position = m.position; next = m.next; out = m.out; live = λ all key. refl; said = m.said; installed = m.installed; ordered = tt; named = m.named }
 
+    pub idle_now : r.rows.job ≡ jobs.Idle
+    idle_now = subst (AppendsRows r.rows) none m.rows
+
     -- what is fixed and noted is what the run says then
-    pub checkpoint_begins : (d : ServerContext) → MatchesIf v (noting s) (begins_pages d r).after
-    checkpoint_begins d = writes_on v (noting s) fixed_range beside_now d (new_job r) noted_now nothing.record_out (subst (AppendsRows r.rows) none m.rows)
+    pub plain_begins : (d : ServerContext) → MatchesIf v (noting s) (begins_pages d r).after
+    plain_begins d = writes_on v (noting s) (with_fixed r) beside_now d (new_job r) writes_now nothing.record_out idle_now
 
   -- and it may note it
   pub may_note : (run : Run) (v : RangeView) (r : RangeState) → IsServing run r.load.generation → Matches texts v (held first_beginning run r.load.generation) r → r.control ≡ None →

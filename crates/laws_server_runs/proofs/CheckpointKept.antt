@@ -26,19 +26,21 @@ use Rattle.laws_server_runs.proofs.LoadsSteps.{without_actions}
 use Rattle.checkpoint.specs.PageGroups.{next_group}
 use Rattle.model_streams.specs.Outcome.{first_met}
 use Rattle.model_streams.proofs.Tests.{if_elim}
-use Rattle.model_partition.specs.Checkpoints.{checkpoint_fault, checkpoint_rule, have_bytes, number_to_apply, new_job, next_append, rows_go}
+use Rattle.model_partition.specs.Checkpoints.{checkpoint_fault, checkpoint_rule, have_bytes, number_to_apply, new_job, new_combining_job, combines, combined_job, merges, with_fixed, next_append, rows_go}
+use Rattle.laws_loads.proofs.PageAnswers.{merged, unread, merges_elim}
 use Rattle.model_partition.specs.Loading.{Group}
 use Rattle.std.specs.Prelude.{◌||◌, not}
 
 -- ---- what a step leaves
 
--- its load, its stage and what waits at it are as they were
+-- its load, its stage, what waits at it and its cache are as they were
 pub record IsBeside (r s : RangeState) : Type 0 where
   pub load : s.load ≡ r.load
   pub stage : s.stage ≡ r.stage
   pub next : s.next ≡ r.next
   pub queue : s.queue ≡ r.queue
   pub out : s.out ≡ r.out
+  pub held : s.held ≡ r.held
 
 abbrev pub IsBesideIf : RangeState → Option RangeState → Type 0
 IsBesideIf r None = Unit {0}
@@ -53,17 +55,30 @@ leaves_queue r o b = record { after = by o.after b.after; quiet = b.quiet }
   where
     by : (x : Option RangeState) → IsAsBeforeIf r x → IsBesideIf r x
     by None a = tt
-    by (Some s) a = record { load = a.load; stage = a.stage; next = a.next; queue = a.queue; out = a.out }
+    by (Some s) a = record { load = a.load; stage = a.stage; next = a.next; queue = a.queue; out = a.out; held = a.held }
 
-begins_beside : (d : ServerContext) (r : RangeState) (x : CheckpointState × Option Group) → LeavesQueue r (rows_go d (record r { live = []; fixed = Some r.live }) x)
-begins_beside d r (job, None) = record { after = record { load = refl; stage = refl; next = refl; queue = refl; out = refl }; quiet = refl }
-begins_beside d r (job, Some group) = record { after = record { load = refl; stage = refl; next = refl; queue = refl; out = refl }; quiet = refl }
+begins_beside : (d : ServerContext) (r : RangeState) (x : CheckpointState × Option Group) → LeavesQueue r (rows_go d (with_fixed r) x)
+begins_beside d r (job, None) = record { after = record { load = refl; stage = refl; next = refl; queue = refl; out = refl; held = refl }; quiet = refl }
+begins_beside d r (job, Some group) = record { after = record { load = refl; stage = refl; next = refl; queue = refl; out = refl; held = refl }; quiet = refl }
+
+writes_beside : (d : ServerContext) (r : RangeState) (x : CheckpointState × Option Group) → LeavesQueue r (rows_go d (unread (with_fixed r)) x)
+writes_beside d r (next, None) = record { after = record { load = refl; stage = refl; next = refl; queue = refl; out = refl; held = refl }; quiet = refl }
+writes_beside d r (next, Some group) = record { after = record { load = refl; stage = refl; next = refl; queue = refl; out = refl; held = refl }; quiet = refl }
+
+merges_beside : (d : ServerContext) (r : RangeState) (job : CheckpointState) → LeavesQueue r (merges d (with_fixed r) job)
+merges_beside d r job =
+    merges_elim (LeavesQueue r) d (with_fixed r) job
+    (record { after = record { load = refl; stage = refl; next = refl; queue = refl; out = refl; held = refl }; quiet = refl })
+    (λ merge. record { after = record { load = refl; stage = refl; next = refl; queue = refl; out = refl; held = refl }; quiet = refl })
+    (λ merge place places is told. record { after = record { load = refl; stage = refl; next = refl; queue = refl; out = refl; held = refl }; quiet = refl })
+    (λ merge newer is fixed. (let next : CheckpointState = combined_job (merged job merge) newer in writes_beside d r (next_append next (next_group next.pages))))
 
 -- also where none begins
-rule_beside : (d : ServerContext) (r : RangeState) → LeavesQueue r (checkpoint_rule d r)
-rule_beside d r =
-    if_elim (LeavesQueue r) (have_bytes r.live r.position (number_to_apply r.out r.next)) _ _ (λ t. begins_beside d r (next_append (new_job r) (next_group (new_job r).pages)))
-    (λ f. record { after = record { load = refl; stage = refl; next = refl; queue = refl; out = refl }; quiet = refl })
+rule_beside : (d : ServerContext) (r : RangeState) (combine : Bool) → LeavesQueue r (checkpoint_rule d r combine)
+rule_beside d r combine =
+    if_elim (LeavesQueue r) (have_bytes r.live r.position (number_to_apply r.out r.next)) _ _
+    (λ t. if_elim (LeavesQueue r) (combines combine r.indexes) _ _ (λ t. merges_beside d r (new_combining_job r)) (λ f. begins_beside d r (next_append (new_job r) (next_group (new_job r).pages))))
+    (λ f. record { after = record { load = refl; stage = refl; next = refl; queue = refl; out = refl; held = refl }; quiet = refl })
 
 module _ (texts : ℕ → Bytes) (subject : ℕ) (run : Run) (v : RangeView) (r : RangeState) (kept : RangeKept texts subject run v r) (streams : StreamsKept texts run v) (serving : is_serving r.stage ≡ true) where
   abbrev g : ℕ
@@ -91,7 +106,7 @@ module _ (texts : ℕ → Bytes) (subject : ℕ) (run : Run) (v : RangeView) (r 
           next = s.next;
           goes = s.goes;
           alone = inr (inl serving);
-          kept = subst (KeptIf texts subject s.next after g) (sym e) (kept_served texts subject run s.next v after r z kept serving same.stage same.load sound serves, generation);
+          kept = subst (KeptIf texts subject s.next after g) (sym e) (kept_served texts subject run s.next v after r z kept serving same.stage same.load same.held sound serves, generation);
           streams = s.streams;
           longer = s.longer;
           anew = subst (ServesAnew texts run r) (sym e) (λ t. inl serving);
@@ -158,12 +173,12 @@ module _ (texts : ℕ → Bytes) (subject : ℕ) (run : Run) (v : RangeView) (r 
       by true s false x e = (s, none_under_way r.control (both_false (is_some r.control) (is_some r.fixed) x))
 
   -- where pages can have its memory table, but for the numbers of extents
-  pub checkpoint_kept : checkpoint_fault r ≡ None → AreLow r.live → StepKept texts subject run v r [] (checkpoint_rule d r)
-  checkpoint_kept may low =
+  pub checkpoint_kept : (combine : Bool) → checkpoint_fault r ≡ None → AreLow r.live → StepKept texts subject run v r [] (checkpoint_rule d r combine)
+  checkpoint_kept combine may low =
       let serving : is_serving r.stage ≡ true = (may_begin may).0 in
       let k : Serves texts run v r = serves_of texts subject run v r serving kept in
-      let step : CheckpointStep texts subject run v r [] (checkpoint_rule d r) =
-      begins_step texts subject run v r k.matches k.shown streams d (may_begin may).1 low kept.sound.out_fits kept.sound.numbered in
-      without_actions texts subject run v r (checkpoint_rule d r)
-      (leaves_kept texts subject run v r kept streams serving (checkpoint_rule d r) []
-      (rule_beside d r) (λ z e. step))
+      let step : CheckpointStep texts subject run v r [] (checkpoint_rule d r combine) =
+      begins_step texts subject run v r k.matches k.shown streams d combine (may_begin may).1 low kept.sound.out_fits kept.sound.numbered kept.held in
+      without_actions texts subject run v r (checkpoint_rule d r combine)
+      (leaves_kept texts subject run v r kept streams serving (checkpoint_rule d r combine) []
+      (rule_beside d r combine) (λ z e. step))

@@ -28,14 +28,16 @@ use Rattle.laws_tables.specs.Runs as chains
 use Rattle.laws_tables.specs.Runs.{Event, Run, Serving, first_beginning, held, items_out, said, start_number, IsServing, MayInChain}
 use Rattle.laws_checkpoints.specs.IndexLayers.{layer_at}
 use Rattle.laws_checkpoints.proofs.CheckpointRecords.{said_with, may_trim, recorded_installed}
-use Rattle.laws_server_runs.specs.CheckpointInvariant.{item_of, parts_of, HasRecordOut, HoldsPhase, HoldsCheckpoint, AppendsPhase, AppendsRows}
+use Rattle.laws_server_runs.specs.CheckpointInvariant.{item_of, parts_of, entries_to_write, HasRecordOut, HoldsPhase, HoldsCheckpoint, AppendsPhase, AppendsRows}
 use Rattle.client.specs.declared.job.Job.TheVariants as jobs
 use Rattle.model_partition.specs.ServedTables.{AllStand}
 use Rattle.laws_server_runs.specs.RangeInvariant.{IsOfPages, Matches}
 use Rattle.laws_server_runs.proofs.NamedIndexes.{one_more_named}
-use Rattle.laws_server_runs.proofs.CheckpointBegins.{MatchesIf}
+use Rattle.laws_server_runs.proofs.CheckpointBegins.{MatchesIf, nothing_next}
 use Rattle.laws_server_runs.proofs.Others.{serving_on}
 use Rattle.laws_server_runs.proofs.ServedNotes.{same_here}
+use Rattle.checkpoint.specs.Merges.{no_merge}
+use Rattle.memtable.specs.Entries.{Entries}
 
 module _ (texts : ℕ → Bytes) where
   -- what the run of a range has where its record stands at an offset: the answer, and a Trim of what stands before the checkpoint's position
@@ -74,30 +76,44 @@ module _ (texts : ℕ → Bytes) where
     abbrev pub now_taken : ClientState → CheckpointState → RangeState
     now_taken c next = record (recorded (record r { metadata = c }) job index) { control = Some next }
 
-    pub recorded_match : (e offset : ℕ) (c : ClientState) (next : CheckpointState) → (before : ℕ) (to_blob : Bool) (q : ReqNo) → next.phase ≡ checkpoints.Trim before to_blob q → AllStand texts v.answered → r.rows.job ≡ jobs.Idle →
+    pub recorded_match : (e offset : ℕ) (c : ClientState) (next : CheckpointState) → (before : ℕ) (to_blob : Bool) (q : ReqNo) → next.phase ≡ checkpoints.Trim before to_blob q → next.merge ≡ no_merge → AllStand texts v.answered → r.rows.job ≡ jobs.Idle →
         Matches texts (view_after r.load.generation v (Stands kinds.Metadata e (last_position r.metadata offset) (record_group r job index))) (chains.recorded s) (now_taken c next)
-    recorded_match e offset c next before to_blob q waits stand idle = record {
+    recorded_match e offset c next before to_blob q waits merged stand idle = record {
       position = m.position;
       next = m.next;
       out = m.out;
       live = λ all. m.live all.1;
       checkpoint = subst
           (λ phase. HoldsPhase texts (parts_of (view_after r.load.generation v (Stands kinds.Metadata e (last_position r.metadata offset) (record_group r job index))) (chains.recorded s) (now_taken c next)) next phase)
-          (sym waits) (record { entries = refl; layer = refl; noted = refl; record_out = refl });
+          (sym waits) (record { entries = refl; layer = refl; noted = refl; record_out = refl }, merged);
       said = ap (λ z. taken z (item_of job index)) m.said ∙ sym (said_with first_beginning s.records (item_of job index)) ∙ ap (said first_beginning) (sym records_now);
-      installed = recorded_installed texts r job h.noted.fixed index (h.written stand) m.installed;
+      installed = recorded_installed texts r job entries index (h.written stand) m.installed;
       ordered = m.ordered;
-      named = one_more_named (IsOfPages texts) r.said (item_of job index)
-          ((index, job.position, job.next, refl, h.noted.position, (job.pages.index, h.noted.fixed, h.written stand, h.filed stand)), tt) m.named;
+      named = one_more_named (IsOfPages texts) r.said (item_of job index) (
+        record {
+          combine = job.combine;
+          index = index;
+          position = job.position;
+          next = job.next;
+          is = refl;
+          fits = h.writes.noted.position;
+          holds = (job.pages.index, entries, h.written stand, h.filed stand);
+        },
+        tt,
+      ) m.named;
       rows = subst (AppendsPhase r.rows next) (sym waits) idle;
+      reads = nothing_next texts r.reading next merged;
     }
+      where
+        entries : Entries
+        entries = entries_to_write texts (parts_of v s r) job h.writes.noted.fixed
 
   -- ---- the Trim
 
   module _ (v : RangeView) (s : Serving) (r : RangeState) (m : Matches texts v s r) (d : ServerContext) where
     trim_told_match : (job : CheckpointState) (phase : CheckpointPhase) → HoldsPhase texts (parts_of v s r) job phase → AppendsPhase r.rows job phase → (body : StreamBody) → MatchesIf texts v s (trim_told d r phase body).after
     trim_told_match job (checkpoints.Trim before to_blob q) h idle (streams.Trimmed w) =
-        record { position = m.position; next = m.next; out = m.out; live = m.live; checkpoint = h; said = m.said; installed = m.installed; ordered = m.ordered; named = m.named; rows = idle }
+        record { position = m.position; next = m.next; out = m.out; live = m.live; checkpoint = h.0; said = m.said; installed = m.installed; ordered = m.ordered; named = m.named; rows = idle; reads = tt }
     trim_told_match job phase h idle body = m
 
     trim_match : (control : Option CheckpointState) → HoldsCheckpoint texts (parts_of v s r) control → AppendsRows r.rows control → (body : StreamBody) → MatchesIf texts v s (trim_reply_in d r control body).after

@@ -132,7 +132,7 @@ module _ (texts : ℕ → Bytes) (subject : ℕ) (run : Run) (v : RangeView) (r 
 
   module _ (c : ClientState) where
     matches_with : AppendsRows c r.control → Matches texts v (held first_beginning run r.load.generation) (record r { rows = c })
-    matches_with appends = record { position = m.position; next = m.next; out = m.out; live = m.live; checkpoint = m.checkpoint; said = m.said; installed = m.installed; ordered = m.ordered; named = m.named; rows = appends }
+    matches_with appends = record { position = m.position; next = m.next; out = m.out; live = m.live; checkpoint = m.checkpoint; said = m.said; installed = m.installed; ordered = m.ordered; named = m.named; rows = appends; reads = m.reads }
 
     of_range : (actions : List StreamAction) (o : RangeOutcome) → CheckpointStep texts subject run v (record r { rows = c }) actions o → CheckpointStep texts subject run v r actions o
     of_range actions o s = record { next = s.next; goes = s.goes; shown = s.shown; matches = s.matches; streams = s.streams; longer = s.longer; seen = s.seen }
@@ -165,6 +165,7 @@ module _ (texts : ℕ → Bytes) (subject : ℕ) (run : Run) (v : RangeView) (r 
   -- the group that was appended is the one that the checkpoint waits for
   group_stands : (job : CheckpointState) (phase : CheckpointPhase) → AppendsPhase r.rows job phase → (r.rows.job ≡ jobs.Idle → ⊥) → (e offset : ℕ) → StandsAt (texts e) offset (joined r.rows.group) →
       GroupStands texts job phase e offset
+  group_stands job checkpoints.Combining appends never e offset stood = tt
   group_stands job checkpoints.Pages (inl idle) never e offset stood = absurd (never idle)
   group_stands job checkpoints.Pages (inr same) never e offset stood = subst (λ group. StandsAt (texts e) offset (joined group)) same stood
   group_stands job checkpoints.Index (inl idle) never e offset stood = absurd (never idle)

@@ -26,12 +26,16 @@ use Rattle.model_partition.specs.TableContents.{StandsAt}
 use Rattle.laws_loads.specs.RangeView.{RangeView, view_after, metadata_of}
 use Rattle.laws_tables.specs.Runs as chains
 use Rattle.laws_tables.specs.Runs.{Run, Serving, first_beginning, held, recording, said, IsServing, MayInChain}
-use Rattle.laws_checkpoints.specs.IndexLayers.{layer_at}
-use Rattle.laws_checkpoints.proofs.CheckpointRecords.{may_parts, said_number, record_spelled, index_written, index_filed, index_may}
+use Rattle.laws_checkpoints.specs.IndexLayers.{layer_at, IsWritten}
+use Rattle.laws_checkpoints.proofs.CheckpointRecords.{may_parts, said_number, record_spelled, may_checkpoint, index_written, index_filed}
 use Rattle.laws_checkpoints.proofs.WrittenPages.{writing_goes}
-use Rattle.laws_server_runs.specs.CheckpointInvariant.{item_of, parts_of, HasNoted, HoldsPhase}
+use Rattle.laws_server_runs.specs.CheckpointInvariant.{item_of, parts_of, entries_to_write, Writes, HoldsPhase}
 use Rattle.laws_server_runs.specs.RangeInvariant.{Matches}
-use Rattle.laws_server_runs.proofs.CheckpointBegins.{MatchesIf, beside, writes_on}
+use Rattle.laws_server_runs.proofs.CheckpointBegins.{MatchesIf, beside, noted_with, nothing_next, writes_on}
+use Rattle.laws_server_runs.proofs.NamedIndexes.{written_named}
+use Rattle.checkpoint.specs.Pages.{AreFiled}
+use Rattle.checkpoint_format.specs.Page.{pages_of}
+use Rattle.memtable.specs.Entries.{Entries}
 
 -- ---- numbers
 
@@ -43,6 +47,7 @@ module _ (texts : ℕ → Bytes) where
 
   -- it stands at an offset of an extent, by what the checkpoint waits for
   abbrev pub GroupStands : CheckpointState → CheckpointPhase → ℕ → ℕ → Type 0
+  GroupStands job checkpoints.Combining e offset = Unit {0}
   GroupStands job checkpoints.Pages e offset = StandsAt (texts e) offset (joined (page_group (next_pages job.pages)))
   GroupStands job checkpoints.Index e offset = StandsAt (texts e) offset (joined (index_group job.pages.index))
   GroupStands job (checkpoints.Record index) e offset = Unit {0}
@@ -66,16 +71,12 @@ module _ (texts : ℕ → Bytes) where
         (AllStand texts v.answered → GroupStands job checkpoints.Pages e offset) → r.rows.job ≡ jobs.Idle → MatchesIf texts v s (writes_pages d r (pages_stand job e offset)).after
     pages_go h e offset known may stands idle = writes_on texts v s r (beside texts v s r m) d (pages_stand job e offset) more h.1 idle
       where
-        more : HasNoted texts (parts_of v s r) (pages_stand job e offset)
+        more : Writes texts (parts_of v s r) (pages_stand job e offset)
         more = record {
-          fixed = h.0.fixed;
-          entries = h.0.entries;
-          are_entries = h.0.are_entries;
-          layer = h.0.layer;
-          noted = h.0.noted;
-          pages = λ all. writing_goes texts h.0.fixed job.pages (h.0.pages all) e offset known may (stands all);
-          position = h.0.position;
-          number = h.0.number;
+          noted = noted_with texts (parts_of v s r) job job.combine job.merge (pages_stand job e offset).pages job.phase h.0.noted;
+          are_written = h.0.are_written;
+          pages = λ all. writing_goes texts (entries_to_write texts (parts_of v s r) job h.0.noted.fixed) job.pages (h.0.pages all) e offset known may (stands all);
+          merged = h.0.merged;
         }
 
     -- ---- the index
@@ -113,9 +114,19 @@ module _ (texts : ℕ → Bytes) where
           fits : index_size job.pages.index < 2 ^ 32
           fits = omega (arith, small)
 
+      -- the entries whose index stands there
+      abbrev pub entries : Entries
+      entries = entries_to_write texts (parts_of v s r) job h.0.noted.fixed
+
+      pub written_there : AllStand texts v.answered → IsWritten texts job.pages.index entries place
+      written_there all = index_written texts r job entries (h.0.pages all) h.2 h.0.are_written may e offset (stands all)
+
+      pub filed_there : AllStand texts v.answered → AreFiled job.pages.index.pages (pages_of entries)
+      filed_there all = index_filed texts r job entries (h.0.pages all) h.2 h.0.are_written may e offset (stands all)
+
       -- the group that is appended to the metadata spells it
       pub group_spells : decoded_record (record_group r job place) ≡ chains.record_group r.said.next (item_of job place)
-      group_spells = record_spelled r job place number_fits place_fits h.0.position h.0.number
+      group_spells = record_spelled r job place number_fits place_fits h.0.noted.position h.0.noted.number
 
       -- it may be appended
       pub may_append : (run : Run) → held first_beginning run r.load.generation ≡ s → IsServing run r.load.generation → AllStand texts v.answered →
@@ -127,7 +138,10 @@ module _ (texts : ℕ → Bytes) where
             serving,
             h.1,
             number_is,
-            inl (index_may texts r job h.0.fixed (h.0.pages all) h.2 h.0.are_entries may e offset (stands all) first_beginning s (h.0.layer all) h.0.noted),
+            inl (
+                may_checkpoint texts first_beginning s r job h.0.noted.fixed place m.said m.installed (written_named texts r.said.indexes m.named.indexes) h.0.noted.are_entries (written_there all) (h.0.noted.layer all)
+                h.0.noted.noted
+                ),
           )
 
       -- its append is out
@@ -139,19 +153,23 @@ module _ (texts : ℕ → Bytes) where
         out = m.out;
         live = m.live;
         checkpoint = record {
-          noted = record {
-            fixed = h.0.fixed;
-            entries = h.0.entries;
-            are_entries = h.0.are_entries;
-            layer = h.0.layer;
-            noted = h.0.noted;
+          writes = record {
+            noted = record {
+              fixed = h.0.noted.fixed;
+              entries = h.0.noted.entries;
+              are_entries = h.0.noted.are_entries;
+              layer = h.0.noted.layer;
+              noted = h.0.noted.noted;
+              position = h.0.noted.position;
+              number = h.0.noted.number;
+            };
+            are_written = h.0.are_written;
             pages = h.0.pages;
-            position = h.0.position;
-            number = h.0.number;
+            merged = h.0.merged;
           };
           out = ap (λ k. Some (record { append = k; group = chains.record_group r.said.next (item_of job place) })) same;
-          written = λ all. index_written texts r job h.0.fixed (h.0.pages all) h.2 h.0.are_entries may e offset (stands all);
-          filed = λ all. index_filed texts r job h.0.fixed (h.0.pages all) h.2 h.0.are_entries may e offset (stands all);
+          written = written_there;
+          filed = filed_there;
           numbered = (may_parts r job may).1;
         };
         said = m.said;
@@ -159,4 +177,5 @@ module _ (texts : ℕ → Bytes) where
         ordered = m.ordered;
         named = m.named;
         rows = idle;
+        reads = nothing_next texts r.reading job h.0.merged;
       }

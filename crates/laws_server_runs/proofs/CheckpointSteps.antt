@@ -3,48 +3,53 @@ use Rattle.std.proofs.Common.{◌≡◌, ℕ, ◌<◌, ◌≤◌, ◌^◌, nat_l
 use Rattle.std.specs.Prelude.{if◌then◌else◌}
 use Rattle.std.proofs.lemmas.Bool.{ltb-true}
 use Rattle.model_streams.proofs.Tests.{if_elim}
+use Rattle.wire.specs.declared.body.AppendBody.TheVariants as appends
 use Rattle.wire.specs.declared.body.Body.{Body}
+use Rattle.wire.specs.declared.body.Body.TheVariants as bodies
+use Rattle.wire.specs.declared.body.ReadBody.TheVariants as reads
 use Rattle.wire.specs.declared.note.Note.{Note}
 use Rattle.wire.specs.declared.packet.Packet.{Packet}
 use Rattle.wire.specs.declared.streams.StreamKind.TheVariants as kinds
 use Rattle.memtable.specs.declared.cell.Place.{Place}
-use Rattle.metadata.specs.Record.{IsNext, IsPosition}
+use Rattle.metadata.specs.Record.{IsNext}
 use Rattle.replica.specs.Groups.{joined}
 use Rattle.client.specs.declared.job.News.{News}
 use Rattle.client.specs.declared.job.News.TheVariants as news
 use Rattle.client.specs.Client.{ClientState, append_rule}
 use Rattle.checkpoint.specs.Contents.{AreEntries}
-use Rattle.checkpoint.specs.PageGroups.{no_pages, next_pages, pages_size, may_stand_at}
+use Rattle.checkpoint.specs.PageGroups.{next_pages, pages_size, may_stand_at}
 use Rattle.model_partition.specs.declared.checkpoint_job.CheckpointPhase.{CheckpointPhase}
 use Rattle.model_partition.specs.declared.checkpoint_job.CheckpointPhase.TheVariants as checkpoints
 use Rattle.model_partition.specs.declared.server_context.ServerContext.{ServerContext}
-use Rattle.model_partition.specs.Answering.{trim_reply}
-use Rattle.model_partition.specs.CheckpointStates.{CheckpointState}
-use Rattle.model_partition.specs.Checkpoints.{number_to_apply, checkpoint_rule, may_record, index_place, with_phase, records, begins_pages, have_bytes, index_stands, rows_stand, rows_told, have_places, recorded, record_stands, record_told, trim_index, trims}
+use Rattle.model_partition.specs.Answering.{page_reply, trim_reply}
+use Rattle.model_partition.specs.CheckpointStates.{CheckpointState, last_job}
+use Rattle.model_partition.specs.Checkpoints.{number_to_apply, checkpoint_rule, may_record, index_place, with_phase, records, combines, begins_pages, begins_combining, have_bytes, index_stands, rows_stand, rows_told, have_places, recorded, record_stands, record_told, trim_index, trims}
 use Rattle.model_partition.specs.Past.{Bytes}
 use Rattle.model_partition.specs.Range.{RangeState, RangeOutcome, request, goes, given, picking}
 use Rattle.model_partition.specs.Renaming.{renamed_event, decoded_record}
 use Rattle.model_partition.specs.ServedTables.{AllStand}
-use Rattle.model_partition.specs.StreamActions.{PlacedBytes, Forms, Stands, Stores, StreamAction, last_position, record_group, record_stood_in, record_stood, record_actions, index_stood_in, index_stood}
+use Rattle.model_partition.specs.StreamActions.{PlacedBytes, Forms, Stands, Finds, Stores, StreamAction, bytes_actions, last_position, record_group, record_stood_in, record_stood, record_actions, index_stood_in, index_stood}
 use Rattle.laws_loads.proofs.Renaming.{mapped_length}
 use Rattle.laws_loads.specs.RangeView.{RangeView, view_after, view_after_all, metadata_of}
 use Rattle.laws_loads.specs.Sound.{OutFits}
 use Rattle.laws_tables.specs.Runs as chains
 use Rattle.laws_tables.specs.Runs.{Run, Serving, first_beginning, held, noting, IsServing}
-use Rattle.laws_server_runs.specs.CheckpointInvariant.{item_of, parts_of, HasRecordOut, HoldsPhase, HoldsCheckpoint, AppendsPhase, AppendsRows}
-use Rattle.laws_server_runs.specs.RangeInvariant.{IsOfPages, Matches, StreamsKept, AreObserved, GoesOn, Rests, Adds, IsLonger}
+use Rattle.laws_server_runs.specs.CheckpointInvariant.{item_of, parts_of, HasRecordOut, HoldsPhase, HoldsCheckpoint, AppendsPhase, AppendsRows, entries_to_write}
+use Rattle.laws_server_runs.specs.RangeInvariant.{IsOfPages, Matches, StreamsKept, AreObserved, GoesOn, Rests, Adds, IsLonger, InOrder}
 use Rattle.laws_server_runs.specs.Places.{AreLow}
 use Rattle.laws_server_runs.proofs.CheckpointNumbers.{HaveBytes, bytes_had, entries_writable, number_is_next}
-use Rattle.laws_server_runs.proofs.CheckpointBegins.{MatchesIf, checkpoint_begins, may_note}
+use Rattle.laws_server_runs.proofs.CheckpointBegins.{MatchesIf, plain_begins, may_note}
 use Rattle.laws_server_runs.proofs.CheckpointRecorded.{answer_event, trim_event, may_answer, may_trim_log, now_taken, recorded_match, trim_reply_match}
-use Rattle.laws_server_runs.proofs.CheckpointRows.{below, GroupStands, StandsRightlyIf, pages_go, group_spells, may_append, records_match}
+use Rattle.laws_server_runs.proofs.CheckpointRows.{below, GroupStands, StandsRightlyIf, pages_go, group_spells, written_there, filed_there, may_append, records_match}
 use Rattle.laws_server_runs.proofs.CheckpointStreams.{noted_streams, trimmed_streams, recording_streams, recorded_streams}
 use Rattle.laws_server_runs.proofs.ServedNotes.{same_here, view_both}
 use Rattle.laws_server_runs.proofs.Fronts.{longer_twice}
 use Rattle.laws_server_runs.proofs.HeldCheckpoints.{longer_holds}
 use Rattle.laws_server_runs.proofs.Others.{streams_same}
 use Rattle.client.specs.declared.job.Job.TheVariants as jobs
-use Rattle.laws_checkpoints.proofs.CheckpointRecords.{index_written, index_filed}
+use Rattle.laws_checkpoints.specs.ShownTables.{HoldsBytes}
+use Rattle.laws_loads.proofs.Cells.{taken_there}
+use Rattle.laws_server_runs.proofs.CheckpointMerges.{combining_begins, page_reply_match}
 use Rattle.model_partition.specs.Loading.{Group}
 
 module _ (texts : ℕ → Bytes) (subject : ℕ) where
@@ -80,24 +85,72 @@ module _ (texts : ℕ → Bytes) (subject : ℕ) where
     -- ---- it begins
 
     -- The range has no checkpoint, its live layer can be written in pages, and its position and its next number in a record.
-    pages_step : r.control ≡ None → AreEntries r.live → IsPosition r.position → IsNext (number_to_apply r.out r.next) → OutFits r.out → CheckpointStep run v r [] (begins_pages d r)
-    pages_step none are at number fits = record {
+    noting_step : r.control ≡ None → (o : RangeOutcome) → MatchesIf texts v (noting s) o.after → CheckpointStep run v r [] o
+    noting_step none o matches = record {
       next = chains.Notes g ∷ run;
       goes = Adds _ run Rests refl;
       shown = serving;
-      matches = subst (λ z. MatchesIf texts v z (begins_pages d r).after) (sym (same_here g (noting s) s)) (checkpoint_begins texts v s r m none are at number fits d);
+      matches = subst (λ z. MatchesIf texts v z o.after) (sym (same_here g (noting s) s)) matches;
       streams = noted_streams texts run v streams g (may_note texts run v r serving m none);
       longer = ([], refl);
       seen = λ notes old. old;
     }
 
     -- it begins where all its numbers have their bytes, and else nothing does
-    pub begins_step : r.control ≡ None → AreLow r.live → OutFits r.out → 1 ≤ r.next → CheckpointStep run v r [] (checkpoint_rule d r)
-    begins_step none low fits numbered =
+    pub begins_step : (combine : Bool) → r.control ≡ None → AreLow r.live → OutFits r.out → 1 ≤ r.next → HoldsBytes texts r.held → CheckpointStep run v r [] (checkpoint_rule d r combine)
+    begins_step combine none low fits numbered right =
         if_elim (λ (o : RangeOutcome). CheckpointStep run v r [] o) (have_bytes r.live r.position (number_to_apply r.out r.next)) _ _
         (λ t. (let n : HaveBytes r.live r.position (number_to_apply r.out r.next) = bytes_had r.live r.position (number_to_apply r.out r.next) t in
-        pages_step none (entries_writable r.live low n.extents) n.place (number_is_next r.out r.next fits numbered n.number) fits))
+        let are : AreEntries r.live = entries_writable r.live low n.extents in
+        let number : IsNext (number_to_apply r.out r.next) = number_is_next r.out r.next fits numbered n.number in
+        if_elim (λ (o : RangeOutcome). CheckpointStep run v r [] o) (combines combine r.indexes) _ _
+        (λ t. noting_step none (begins_combining d r) (combining_begins texts v s r m none are n.place number fits d right))
+        (λ f. noting_step none (begins_pages d r) (plain_begins texts v s r m none are n.place number fits d))))
         (λ f. rests_step _ m)
+
+    -- ---- a page has come
+
+    -- bytes that were found
+    module _ (found : PlacedBytes) where
+      abbrev found_view : RangeView
+      found_view = view_after g v (Finds found)
+
+      pub found_matches : Matches texts found_view s r
+      found_matches = record {
+        position = m.position;
+        next = m.next;
+        out = m.out;
+        live = m.live;
+        checkpoint = m.checkpoint;
+        said = m.said;
+        installed = m.installed;
+        ordered = m.ordered;
+        named = m.named;
+        rows = m.rows;
+        reads = m.reads;
+      }
+
+      found_step : (o : RangeOutcome) → MatchesIf texts found_view s o.after → CheckpointStep run v r (Finds found ∷ []) o
+      found_step o matches = record {
+        next = run;
+        goes = Rests;
+        shown = serving;
+        matches = matches;
+        streams = streams_same texts run v found_view refl refl streams;
+        longer = ([], refl);
+        seen = λ notes old. old;
+      }
+
+    -- the answer to the read of a page, whose bytes stand
+    pub page_step : HoldsBytes texts r.held → (body : Body) → InOrder texts (view_after_all g v (bytes_actions body)) → CheckpointStep run v r (bytes_actions body) (page_reply d r body)
+    page_step right (bodies.Read (reads.Bytes w e offset bytes)) order =
+        let found : PlacedBytes = record { extent = e; offset = offset; bytes = bytes } in
+        found_step found (page_reply d r (bodies.Read (reads.Bytes w e offset bytes)))
+        (page_reply_match texts (found_view found) s r (found_matches found) right d (bodies.Read (reads.Bytes w e offset bytes)) (taken_there (texts e) offset bytes order.shown.0))
+    page_step right (bodies.Read body) order = rests_step _ m
+    page_step right (bodies.Append (appends.Refused w why)) order = rests_step _ (page_reply_match texts v s r m right d (bodies.Append (appends.Refused w why)) tt)
+    page_step right (bodies.Append body) order = rests_step _ m
+    page_step right body order = rests_step _ m
 
     -- ---- row data
 
@@ -109,9 +162,9 @@ module _ (texts : ℕ → Bytes) (subject : ℕ) where
           (AllStand texts v.answered → GroupStands texts job checkpoints.Index e offset) → may_record r job ≡ true → IsOfPages texts (index_place job e offset)
       index_holds job h e offset known low stands may = (
         job.pages.index,
-        h.0.fixed,
-        index_written texts r job h.0.fixed (h.0.pages all) h.2 h.0.are_entries may e offset (stands all),
-        index_filed texts r job h.0.fixed (h.0.pages all) h.2 h.0.are_entries may e offset (stands all),
+        entries_to_write texts (parts_of v s r) job h.0.noted.fixed,
+        written_there texts v s r m d job h e offset known low stands may all,
+        filed_there texts v s r m d job h e offset known low stands may all,
       )
 
       index_step : (job : CheckpointState) → r.control ≡ Some job → HoldsPhase texts (parts_of v s r) job checkpoints.Index → (e offset : ℕ) → e < 2 ^ 64 → may_stand_at job.pages offset ≡ true →
@@ -136,7 +189,7 @@ module _ (texts : ℕ → Bytes) (subject : ℕ) where
                 matches = subst (λ z. Matches texts (view_after g v (Forms kinds.Metadata (record_group r job place))) z (record r { metadata = c; control = Some (with_phase job (checkpoints.Record place)) }))
                     (sym (same_here g _ _)) (records_match texts v s r m d job h e offset known low stands may (length (chains.meta_of run)) counted c idle);
                 streams = recording_streams texts run v streams g r.said.next (item_of job place) (record_group r job place) spells
-                    (record { number = r.said.next; index = place; position = job.position; next = job.next; spells = spells; fits = h.0.position; holds = index_holds job h e offset known low stands may }) (λ keys is. absurd cc)
+                    (record { number = r.said.next; combine = job.combine; index = place; position = job.position; next = job.next; spells = spells; fits = h.0.noted.position; holds = index_holds job h e offset known low stands may }) (λ keys is. absurd cc)
                     (may_append texts v s r m d job h e offset known low stands may run refl serving all);
                 longer = ([], refl);
                 seen = λ notes old. old;
@@ -144,6 +197,7 @@ module _ (texts : ℕ → Bytes) (subject : ℕ) where
 
       rows_phase : (job : CheckpointState) → r.control ≡ Some job → (phase : CheckpointPhase) → HoldsPhase texts (parts_of v s r) job phase → (e offset : ℕ) → e < 2 ^ 64 → may_stand_at job.pages offset ≡ true →
           (AllStand texts v.answered → GroupStands texts job phase e offset) → CheckpointStep run v r (index_stood_in r job phase e offset) (rows_stand d r job phase e offset)
+      rows_phase job there checkpoints.Combining h e offset known may stands = rests_step _ m
       rows_phase job there checkpoints.Pages h e offset known may stands = rests_step _ (pages_go texts v s r m d job h e offset known may stands idle)
       rows_phase job there checkpoints.Index h e offset known may stands = index_step job there h e offset known may stands
       rows_phase job there (checkpoints.Record index) h e offset known may stands = rests_step _ m
@@ -167,18 +221,18 @@ module _ (texts : ℕ → Bytes) (subject : ℕ) where
       now = record r { metadata = c }
 
       matches_now : Matches texts v s now
-      matches_now = record { position = m.position; next = m.next; out = m.out; live = m.live; checkpoint = m.checkpoint; said = m.said; installed = m.installed; ordered = m.ordered; named = m.named; rows = m.rows }
+      matches_now = record { position = m.position; next = m.next; out = m.out; live = m.live; checkpoint = m.checkpoint; said = m.said; installed = m.installed; ordered = m.ordered; named = m.named; rows = m.rows; reads = m.reads }
 
       stood_step : (job : CheckpointState) (index : Place) → r.control ≡ Some job → r.rows.job ≡ jobs.Idle → HasRecordOut texts (parts_of v s r) job index → (e offset : ℕ) →
           CheckpointStep run v r (record_stood_in r job (checkpoints.Record index) e offset) (trims d (recorded now job index) job)
       stood_step job index there idle h e offset =
-          let next : CheckpointState = record job { pages = no_pages; phase = checkpoints.Trim (trim_index r.log job.position) (have_places (recorded now job index).indexes) (request d) } in
+          let next : CheckpointState = last_job job.position job.next (checkpoints.Trim (trim_index r.log job.position) (have_places (recorded now job index).indexes) (request d)) in
           record {
             next = trim_event texts r job ∷ answer_event texts v r job index offset ∷ run;
             goes = Adds _ _ (Adds _ run Rests refl) refl;
             shown = serving;
             matches = subst (λ z. Matches texts (view_after g v (Stands kinds.Metadata e (last_position r.metadata offset) (record_group r job index))) z (now_taken texts v s r m job index h c next)) (sym (same_here g _ _))
-                (recorded_match texts v s r m job index h e offset c next (trim_index r.log job.position) (have_places (recorded now job index).indexes) (request d) refl stand idle);
+                (recorded_match texts v s r m job index h e offset c next (trim_index r.log job.position) (have_places (recorded now job index).indexes) (request d) refl refl stand idle);
             streams = trimmed_streams texts (answer_event texts v r job index offset ∷ run) (view_after g v (Stands kinds.Metadata e (last_position r.metadata offset) (record_group r job index)))
                 (recorded_streams texts run v streams g e (last_position r.metadata offset) (record_group r job index) (may_answer texts v s r m job index h run refl serving offset)) g _
                 (may_trim_log texts v s r m job index h run refl serving offset);
@@ -188,6 +242,7 @@ module _ (texts : ℕ → Bytes) (subject : ℕ) where
 
       metadata_phase : (job : CheckpointState) → r.control ≡ Some job → (phase : CheckpointPhase) → AppendsPhase r.rows job phase → HoldsPhase texts (parts_of v s r) job phase → (e offset : ℕ) →
           CheckpointStep run v r (record_stood_in r job phase e offset) (record_stands d now job phase)
+      metadata_phase job there checkpoints.Combining appends h e offset = rests_step _ matches_now
       metadata_phase job there checkpoints.Pages appends h e offset = rests_step _ matches_now
       metadata_phase job there checkpoints.Index appends h e offset = rests_step _ matches_now
       metadata_phase job there (checkpoints.Record index) appends h e offset =
@@ -238,6 +293,7 @@ module _ (texts : ℕ → Bytes) (subject : ℕ) where
         ordered = m.ordered;
         named = m.named;
         rows = m.rows;
+        reads = m.reads;
       }
 
       stored_streams : StreamsKept texts run stored

@@ -204,18 +204,18 @@ module _ (texts : ℕ → Bytes) (run : Run) (v : RangeView) (r : RangeState) (h
       streams.records a g group
       (made_before (metadata_of v) r.load.generation 0 (place_number (metadata_end r)) (placed_reads (v.history.reads kinds.Metadata)) a g group at)
 
-  -- those that the load shows are of plain checkpoints
-  all_plain : AreOfCheckpoints (IsOfPages texts) (line_shown (shown_records v r))
-  all_plain =
+  -- those that the load shows are of checkpoints
+  all_checkpoints : AreOfCheckpoints (IsOfPages texts) (line_shown (shown_records v r))
+  all_checkpoints =
       shown_of_checkpoints (IsOfPages texts) (metadata_load v r ∷ metadata_of v) order.metadata records_still (length (metadata_of v)) r.load.generation 0 (place_number (metadata_end r))
       (placed_reads (v.history.reads kinds.Metadata)) (newest Group (metadata_load v r) (metadata_of v))
 
   -- so they leave one region, and all keys
   pub records_keep : AllKeepOneRegion first_metadata (line_shown (shown_records v r))
-  records_keep = checkpoints_keep (IsOfPages texts) (line_shown (shown_records v r)) first_metadata all_plain
+  records_keep = checkpoints_keep (IsOfPages texts) (line_shown (shown_records v r)) first_metadata all_checkpoints
 
   pub keys_are : r.said.keys ≡ all_keys
-  keys_are = ap (λ (m : MetadataState). m.keys) said_is ∙ keys_stay (IsOfPages texts) (line_shown (shown_records v r)) first_metadata all_plain
+  keys_are = ap (λ (m : MetadataState). m.keys) said_is ∙ keys_stay (IsOfPages texts) (line_shown (shown_records v r)) first_metadata all_checkpoints
 
   -- and the indexes that they name were written, each of its pages
   pub named_are : NamesSuch (IsOfPages texts) r.said

@@ -40,11 +40,11 @@ use Rattle.model_partition.specs.TableContents.{table_in}
 use Rattle.laws_tables.proofs.Range.{newest}
 use Rattle.laws_tables.specs.Layers.{empty_layer, layer_line}
 use Rattle.laws_tables.specs.Runs as chains
-use Rattle.laws_tables.specs.Runs.{Run, first_beginning, greater, confirmed, replayed_by, next_loaded}
+use Rattle.laws_tables.specs.Runs.{Run, first_beginning, confirmed, replayed_by, next_loaded}
 use Rattle.laws_loads.proofs.Rows.{Ordered}
 use Rattle.laws_loads.specs.MemoryLayers.{layer_in}
 use Rattle.laws_checkpoints.specs.IndexLayers.{layer_at}
-use Rattle.laws_server_runs.specs.CheckpointInvariant.{parts_of, HoldsCheckpoint, AppendsRows}
+use Rattle.laws_server_runs.specs.CheckpointInvariant.{parts_of, HoldsCheckpoint, AppendsRows, ReadsNext}
 use Rattle.laws_server_runs.specs.RangeInvariant.{HasReadAll, Matches, Serves, PhaseIs, StageIs, RangeKept, StreamsKept, InOrder, AreObserved, Rests, Adds, StepKept}
 use Rattle.laws_loads.specs.RangeView.{RangeView, view_after_all}
 use Rattle.laws_server_runs.proofs.Behind.{end_fits}
@@ -105,6 +105,7 @@ module _ (texts : ℕ → Bytes) (subject : ℕ) (run : Run) (v : RangeView) (r 
       ordered = sorted;
       named = named_are texts run v r h.log streams order;
       rows = subst (AppendsRows r.rows) (sym h.log.none) h.log.rows;
+      reads = subst (ReadsNext r.reading) (sym h.log.none) tt;
     }
 
     serves_now : Serves texts (run_loaded run v r) (view_shown v r) served
@@ -119,6 +120,7 @@ module _ (texts : ℕ → Bytes) (subject : ℕ) (run : Run) (v : RangeView) (r 
       phase = refl;
       sound = record { queue_fits = tt; out_fits = tt; counted = omega arith; numbered = omega (arith, some) };
       stage = serves_now;
+      held = kept.held;
     }
 
     -- the rows of the load are what its layers say

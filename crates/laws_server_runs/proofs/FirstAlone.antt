@@ -30,7 +30,7 @@ IsTheFirst range = range ≡ first_range
 first_assigned : (event : ServerEvent) → IsFirst event → AllAssigned IsTheFirst event
 first_assigned (Takes s p) first = λ range generation until from body. subst (λ b. IsOfFirst actors.Map b) body (subst (λ a. IsOfFirst a p.body) from first)
 first_assigned (GivesUp s range pick) first = tt
-first_assigned (Checkpoints s range) first = tt
+first_assigned (Checkpoints s range combine) first = tt
 first_assigned (Stops s call) first = tt
 first_assigned (Starts s now batch) first = tt
 first_assigned (Moment now) first = tt

@@ -7,7 +7,7 @@ use Rattle.model_partition.specs.CheckpointStates.{CheckpointState}
 use Rattle.model_partition.specs.Past.{Bytes}
 use Rattle.model_partition.specs.ServedTables.{AllStand}
 use Rattle.model_partition.specs.StreamActions.{PlacedBytes}
-use Rattle.laws_server_runs.specs.CheckpointInvariant.{CheckpointParts, HoldsNone, HasNoted, HasRecordOut, HoldsPhase, HoldsCheckpoint}
+use Rattle.laws_server_runs.specs.CheckpointInvariant.{CheckpointParts, HoldsNone, HasNoted, Writes, HasRecordOut, HoldsPhase, HoldsCheckpoint}
 use Rattle.laws_server_runs.specs.RangeInvariant.{IsLonger}
 use Rattle.laws_server_runs.proofs.Fronts.{stand_shorter}
 
@@ -31,15 +31,18 @@ module _ (texts : ℕ → Bytes) where
       are_entries = h.are_entries;
       layer = λ all. h.layer (shorter all);
       noted = h.noted;
-      pages = λ all. h.pages (shorter all);
       position = h.position;
       number = h.number;
     }
 
-    longer_out : (job : CheckpointState) (index : Place) → HasRecordOut texts c job index → HasRecordOut texts more job index
+    longer_writes : (job : CheckpointState) → Writes texts c job → Writes texts more job
     unfolding longer_noted
+    longer_writes job h = record { noted = longer_noted job h.noted; are_written = h.are_written; pages = λ all. h.pages (shorter all); merged = h.merged }
+
+    longer_out : (job : CheckpointState) (index : Place) → HasRecordOut texts c job index → HasRecordOut texts more job index
+    unfolding longer_noted longer_writes
     longer_out job index h = record {
-      noted = longer_noted job h.noted;
+      writes = longer_writes job h.writes;
       out = h.out;
       written = λ all. h.written (shorter all);
       filed = λ all. h.filed (shorter all);
@@ -47,10 +50,11 @@ module _ (texts : ℕ → Bytes) where
     }
 
     longer_phase : (job : CheckpointState) (phase : CheckpointPhase) → HoldsPhase texts c job phase → HoldsPhase texts more job phase
-    longer_phase job checkpoints.Pages h = (longer_noted job h.0, h.1)
-    longer_phase job checkpoints.Index h = (longer_noted job h.0, h.1, h.2)
+    longer_phase job checkpoints.Combining h = record { noted = longer_noted job h.noted; none = h.none; combine = h.combine; merged = h.merged }
+    longer_phase job checkpoints.Pages h = (longer_writes job h.0, h.1)
+    longer_phase job checkpoints.Index h = (longer_writes job h.0, h.1, h.2)
     longer_phase job (checkpoints.Record index) h = longer_out job index h
-    longer_phase job (checkpoints.Trim before to_blob q) h = longer_none h
+    longer_phase job (checkpoints.Trim before to_blob q) h = (longer_none h.0, h.1)
 
     pub longer_holds : (control : Option CheckpointState) → HoldsCheckpoint texts c control → HoldsCheckpoint texts more control
     longer_holds None h = longer_none h

@@ -6,7 +6,6 @@ use Rattle.std.proofs.lemmas.List.{append_cancel_right}
 use Rattle.wire.specs.declared.rows.Row.{Row}
 use Rattle.memtable.specs.declared.cell.Place.{Place}
 use Rattle.memtable.specs.Entries.{Entries}
-use Rattle.metadata.specs.declared.record.IndexRange.{IndexRange}
 use Rattle.metadata.specs.declared.record.MetaItem.{MetaItem}
 use Rattle.metadata.specs.Keys.{within}
 use Rattle.commitlog.specs.Replay.{Numbered}
@@ -38,14 +37,14 @@ use Rattle.laws_tables.proofs.Ends.{renamed_ends_rise}
 use Rattle.laws_tables.proofs.Layers.{in_all}
 use Rattle.laws_tables.proofs.Range.{newest, older}
 use Rattle.laws_tables.proofs.Whole.{to_made}
-use Rattle.laws_checkpoints.specs.IndexLayers.{layer_at, AreWritten}
+use Rattle.laws_checkpoints.specs.IndexLayers.{layer_at}
 use Rattle.laws_checkpoints.proofs.Checkpoints.{newer_layer}
 use Rattle.laws_checkpoints.proofs.ShownRows.{ascending_if, written_ascending}
 use Rattle.laws_checkpoints.proofs.TableLayers.{table_flat, served_layer}
 use Rattle.laws_server_runs.specs.CheckpointInvariant.{CheckpointParts, parts_of, HoldsNone, HasNoted, HoldsPhase, HoldsCheckpoint}
-use Rattle.laws_server_runs.specs.NamedIndexes.{AreNamed}
-use Rattle.laws_server_runs.specs.RangeInvariant.{IsOfPages, append_of, Matches, Serves, StreamsKept}
+use Rattle.laws_server_runs.specs.RangeInvariant.{append_of, Matches, Serves, StreamsKept}
 use Rattle.laws_server_runs.proofs.ServedLine.{known_at, IsAtOwnLine, at_own_line}
+use Rattle.laws_server_runs.proofs.NamedIndexes.{written_named}
 
 -- ---- the append that is out
 
@@ -236,19 +235,16 @@ module _ (texts : ℕ → Bytes) where
   noted_ordered c job h = ap (λ x. is_ascending (entries_if x)) h.entries ∙ h.are_entries.ascending
 
   phase_ordered : (c : CheckpointParts) (job : CheckpointState) (phase : CheckpointPhase) → HoldsPhase texts c job phase → is_ascending (entries_if c.entries) ≡ true
-  phase_ordered c job checkpoints.Pages h = noted_ordered c job h.0
-  phase_ordered c job checkpoints.Index h = noted_ordered c job h.0
-  phase_ordered c job (checkpoints.Record index) h = noted_ordered c job h.noted
-  phase_ordered c job (checkpoints.Trim before to_blob q) h = none_ordered c h
+  phase_ordered c job checkpoints.Combining h = noted_ordered c job h.noted
+  phase_ordered c job checkpoints.Pages h = noted_ordered c job h.0.noted
+  phase_ordered c job checkpoints.Index h = noted_ordered c job h.0.noted
+  phase_ordered c job (checkpoints.Record index) h = noted_ordered c job h.writes.noted
+  phase_ordered c job (checkpoints.Trim before to_blob q) h = none_ordered c h.0
 
   -- the fixed layer, whatever is under way
   fixed_ordered : (c : CheckpointParts) (control : Option CheckpointState) → HoldsCheckpoint texts c control → is_ascending (entries_if c.entries) ≡ true
   fixed_ordered c None h = none_ordered c h
   fixed_ordered c (Some job) h = phase_ordered c job job.phase h
-
-  written_named : (named : List IndexRange) → AreNamed (IsOfPages texts) named → AreWritten texts named
-  written_named [] all = tt
-  written_named (x ∷ named) all = ((all.0.holds.0, all.0.holds.1, all.0.holds.2), written_named named all.1)
 
   module _ (run : Run) (v : RangeView) (r : RangeState) (streams : StreamsKept texts run v) (k : Serves texts run v r) where
     abbrev g : ℕ
@@ -265,7 +261,7 @@ module _ (texts : ℕ → Bytes) where
     known_table key =
         let inside : within r.said.keys key ≡ true = ap (λ keys. within keys key) m.named.keys ∙ in_all key in
         table_flat texts (served_entries texts r) key
-        ∙ ap flat (served_layer texts r r.said.indexes key m.installed (written_ascending texts r.said.indexes (written_named r.said.indexes m.named.indexes)) (ascending_if r.live m.ordered)
+        ∙ ap flat (served_layer texts r r.said.indexes key m.installed (written_ascending texts r.said.indexes (written_named texts r.said.indexes m.named.indexes)) (ascending_if r.live m.ordered)
         (fixed_ordered (parts_of v s r) r.control m.checkpoint) inside)
         ∙ ap (λ x. flat (over (layer_in texts r.live) (λ q. over x (indexed (layer_at texts) r.said.indexes) q) key)) (λ i q. newer_same r.fixed q i)
 

@@ -1,6 +1,6 @@
--- The answer to the read of an index leaves what is kept of a load: the bytes that have come are those that stand where the metadata
--- names the index.
-use Rattle.std.proofs.Common.{◌≡◌, ℕ, suc, List, [], ◌∷◌, Bool, true, false, Option, Some, None, is_some, refl, sym, ap, ◌∙◌, subst, arith}
+-- Bytes that have come leave what is kept of a range: they are those that stand where the metadata names the index that a load reads,
+-- where the page stands that a checkpoint merges, and where what a Get reads does.
+use Rattle.std.proofs.Common.{◌≡◌, ℕ, suc, List, [], ◌∷◌, Bool, true, false, Option, Some, None, is_some, refl, sym, ap, ◌∙◌, subst, arith, map}
 use Rattle.std.specs.Prelude.{if◌then◌else◌}
 use Rattle.block_types.specs.declared.record.Nodes.{Nodes}
 use Rattle.wire.specs.declared.body.AppendBody.{AppendBody}
@@ -10,26 +10,35 @@ use Rattle.wire.specs.declared.body.Body.TheVariants as bodies
 use Rattle.wire.specs.declared.body.ReadBody.{ReadBody}
 use Rattle.wire.specs.declared.body.ReadBody.TheVariants as reads
 use Rattle.wire.specs.declared.refusal.Refusal.TheVariants as refusals
+use Rattle.wire.specs.declared.actor.ReqNo.{ReqNo}
 use Rattle.metadata.specs.declared.record.IndexRange.{IndexRange}
+use Rattle.model_streams.proofs.Tests.{if_elim}
 use Rattle.checkpoint_format.specs.declared.index.Index.{Index}
 use Rattle.checkpoint_format.specs.Index.{index_at}
 use Rattle.model_partition.specs.declared.server_context.ServerContext.{ServerContext}
 use Rattle.model_partition.specs.declared.stage.Stage.{Stage}
 use Rattle.model_partition.specs.declared.stage.Stage.TheVariants as stages
 use Rattle.model_partition.specs.declared.waiting.PlaceRead.{PlaceRead}
-use Rattle.model_partition.specs.Answering.{load_refused, index_told, index_reply}
+use Rattle.model_partition.specs.Answering.{load_refused, index_told, index_reply, page_reply, bytes_reply, gets_reply}
 use Rattle.model_partition.specs.IndexContents.{bytes_in}
 use Rattle.model_partition.specs.Loading.{asks_index, index_bytes, index_named, index_read, installs, reads_named}
 use Rattle.model_partition.specs.Past.{Bytes}
 use Rattle.model_partition.specs.PlaceReads.{is_place, place_of, places_of}
-use Rattle.model_partition.specs.Range.{RangeState, RangeOutcome, answers}
-use Rattle.model_partition.specs.StreamActions.{PlacedBytes, StreamAction, Finds, index_actions, index_told_actions}
+use Rattle.model_partition.specs.Range.{RangeState, RangeOutcome, answers, is_serving}
+use Rattle.model_partition.specs.Getting.{Held, came, read_at, are_no_page, bytes_come, try_all, without}
+use Rattle.model_partition.specs.StreamActions.{PlacedBytes, StreamAction, Finds, bytes_actions, bytes_told_actions}
 use Rattle.laws_loads.proofs.Cells.{taken_there}
+use Rattle.laws_loads.proofs.CheckpointAnswers.{page_reply_same}
+use Rattle.laws_loads.proofs.PageAnswers.{page_reply_elim}
 use Rattle.laws_loads.specs.RangeView.{RangeView, view_after_all}
 use Rattle.laws_tables.specs.Runs.{Run}
 use Rattle.laws_checkpoints.proofs.HeldPages.{same_place}
-use Rattle.laws_server_runs.specs.RangeInvariant.{PhaseIs, StageIs, RangeKept, StreamsKept, InOrder, Rests, AsksIndex, KeptIf, ServesAnew, StepKept}
-use Rattle.laws_server_runs.proofs.Loads.{calm_kept, dropped_kept, rests_kept}
+use Rattle.laws_server_runs.specs.RangeInvariant.{PhaseIs, StageIs, Serves, RangeKept, StreamsKept, InOrder, Rests, AsksIndex, KeptIf, ServesAnew, StepKept}
+use Rattle.laws_server_runs.proofs.CheckpointKept.{leaves_kept, leaves_queue, unserved_none}
+use Rattle.laws_server_runs.proofs.CheckpointSteps.{page_step}
+use Rattle.laws_server_runs.proofs.HeldBytes.{holds_came}
+use Rattle.laws_server_runs.proofs.Loads.{same_kept, calm_kept, dropped_kept, rests_kept}
+use Rattle.laws_server_runs.proofs.ServedNotes.{serves_of}
 use Rattle.laws_server_runs.proofs.LoadsSteps.{Left, goes_left, installs_left}
 use Rattle.laws_server_runs.proofs.Others.{others_kept}
 
@@ -98,7 +107,7 @@ module _ (texts : ℕ → Bytes) (subject : ℕ) (run : Run) (v : RangeView) (r 
         left : InOrder texts view_found → FoundLeft (installs d r position (index_named r.said.indexes position) (index_at bytes))
         left order =
             installs_left texts subject run v r streams d (Finds found ∷ []) v.history (found ∷ v.shown) refl r
-            (record { range = kept.range; generation = refl; opened = p; sound = kept.sound }) position s.0 (index_named r.said.indexes position) refl (index_at bytes)
+            (record { range = kept.range; generation = refl; opened = p; sound = kept.sound; held = kept.held }) position s.0 (index_named r.said.indexes position) refl (index_at bytes)
             (index_stands position s.1 asked out there order)
 
         by : (x : Option RangeState) → (installs d r position (index_named r.said.indexes position) (index_at bytes)).after ≡ x → Given (Finds found ∷ []) (installs d r position (index_named r.said.indexes position) (index_at bytes))
@@ -124,9 +133,9 @@ module _ (texts : ℕ → Bytes) (subject : ℕ) (run : Run) (v : RangeView) (r 
   -- ---- answers
 
   rested : StepKept texts subject run v r [] (answers d r [])
-  rested = rests_kept texts subject run v r kept streams d r.until r.metadata r.log r.gets r.held _ _ (λ idle. idle) (λ idle. idle) refl
+  rested = rests_kept texts subject run v r kept streams d r.until r.metadata r.log r.gets r.held _ _ (λ idle. idle) (λ idle. idle) refl (λ h. h)
 
-  told_kept : (body : ReadBody) → Given (index_told_actions body) (index_told d r body)
+  told_kept : (body : ReadBody) → Given (bytes_told_actions body) (index_told d r body)
   told_kept (reads.Bytes w e offset bytes) = bytes_kept e offset bytes r.reading refl
   told_kept body = λ order. rested
 
@@ -135,7 +144,54 @@ module _ (texts : ℕ → Bytes) (subject : ℕ) (run : Run) (v : RangeView) (r 
   refused_kept body = λ order. rested
 
   -- the answer to the read of an index
-  pub index_reply_kept : (body : Body) → Given (index_actions body) (index_reply d r body)
+  pub index_reply_kept : (body : Body) → Given (bytes_actions body) (index_reply d r body)
   index_reply_kept (bodies.Read body) = told_kept body
   index_reply_kept (bodies.Append body) = refused_kept body
   index_reply_kept body = λ order. rested
+
+  -- ---- a page
+
+  -- bytes that change nothing
+  found_rests : (body : Body) → Given (bytes_actions body) (answers d r [])
+  found_rests (bodies.Read (reads.Bytes w e offset bytes)) = λ order. rests_found e offset bytes
+  found_rests (bodies.Read body) = λ order. rested
+  found_rests body = λ order. rested
+
+  -- the answer to the read of a page, where the range is served, or else has no checkpoint that waits for one
+  pub page_reply_kept : (body : Body) → Given (bytes_actions body) (page_reply d r body)
+  page_reply_kept body = by (is_serving r.stage) refl
+    where
+      by : (b : Bool) → is_serving r.stage ≡ b → Given (bytes_actions body) (page_reply d r body)
+      by true serving = λ order.
+          let k : Serves texts run v r = serves_of texts subject run v r serving kept in
+          leaves_kept texts subject run v r kept streams serving (page_reply d r body) (bytes_actions body) (leaves_queue r (page_reply d r body) (page_reply_same d r body))
+          (λ z there. page_step texts subject run v r k.matches k.shown streams d kept.held body
+          (subst (λ (x : Option RangeState). InOrder texts (view_after_all r.load.generation v (if is_some x then bytes_actions body else []))) there order))
+      by false unserved =
+          page_reply_elim (Given (bytes_actions body)) d r (found_rests body) (λ order. dropped_kept texts subject run v r kept streams d)
+          (λ job place entries is next. absurd (let z : None ≡ Some job = sym (unserved_none texts run v r r.stage kept.stage unserved) ∙ is in cc)) body
+
+  -- ---- Gets
+
+  -- what a Get reads is held from then on
+  come_kept : (w : ReqNo) (e offset : ℕ) (bytes : List ℕ) → Given (Finds (record { extent = e; offset = offset; bytes = bytes }) ∷ []) (bytes_come d r w (place_of e offset bytes) bytes)
+  come_kept w e offset bytes order =
+      goes_left texts subject run v r streams d (Finds (found e offset bytes) ∷ []) v.history (found e offset bytes ∷ v.shown) refl
+      (record r { held = now; gets = (try_all d (record r { held = now }) (map (without w) r.gets)).waiting }) _ _
+      (same_kept texts subject run (view_found e offset bytes) r r.until r.metadata r.log r.rows r.blob_data r.reading _ now (λ idle. idle) (λ idle. idle) refl (λ control a. a)
+      (λ read is. (read, is, refl)) (λ read is. (read, is, refl)) (λ right. holds_came texts r.held (read_at r.gets w) (place_of e offset bytes) bytes right (taken_there (texts e) offset bytes order.shown.0)) (kept_found e offset bytes))
+      refl (λ serves. serves)
+    where
+      now : Held
+      now = came r.held (read_at r.gets w) (place_of e offset bytes) bytes
+
+  get_bytes_kept : (w : ReqNo) (body : ReadBody) → Given (bytes_told_actions body) (bytes_reply d r w body)
+  get_bytes_kept w (reads.Bytes n e offset bytes) =
+      if_elim (Given (Finds (record { extent = e; offset = offset; bytes = bytes }) ∷ [])) (are_no_page (read_at r.gets w) bytes) _ _ (λ t order. rests_found e offset bytes) (λ f. come_kept w e offset bytes)
+  get_bytes_kept w body = λ order. rested
+
+  -- the answer to the read of a Get
+  pub gets_reply_kept : (w : ReqNo) (body : Body) → Given (bytes_actions body) (gets_reply d r w body)
+  gets_reply_kept w (bodies.Read body) = get_bytes_kept w body
+  gets_reply_kept w (bodies.Append body) = refused_kept body
+  gets_reply_kept w body = λ order. rested

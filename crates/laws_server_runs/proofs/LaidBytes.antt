@@ -85,7 +85,7 @@ module _ (old new : List PlacedBytes) (on : Covers old new) where
   job_on (Some job) w = pages_on job.pages.index.pages w
 
   pub checkpoint_on : (rows : ClientState) (fixed : Option Entries) (control : Option CheckpointState) → CheckpointLaid old rows fixed control → CheckpointLaid new rows fixed control
-  checkpoint_on rows fixed control c = record { appends = c.appends; pages = job_on control c.pages; layer = entries_on (entries_if fixed) c.layer }
+  checkpoint_on rows fixed control c = record { appends = c.appends; merges = c.merges; pages = job_on control c.pages; layer = entries_on (entries_if fixed) c.layer }
 
 -- ---- what was appended
 

@@ -1,6 +1,6 @@
--- What the steps of a checkpoint leave: row data's client appends what the checkpoint waits for, and its pages stand within what was
--- answered.
-use Rattle.std.proofs.Common.{◌^◌, nat_lt, ◌≡◌, ℕ, Bool, true, false, not, List, [], ◌∷◌, ◌++◌, length, Option, Some, None, is_some, option_to_list, refl, ap, ◌∙◌, subst, inl, inr, if◌then◌else◌}
+-- What the steps of a checkpoint leave: row data's client appends what the checkpoint waits for, nothing while older pages are merged, and
+-- its pages stand within what was answered.
+use Rattle.std.proofs.Common.{◌^◌, nat_lt, ◌≡◌, ℕ, Bool, true, false, not, List, [], ◌∷◌, ◌++◌, length, Option, Some, None, is_some, option_to_list, refl, sym, ap, ◌∙◌, subst, inl, inr, if◌then◌else◌}
 use Rattle.std.specs.Prelude.{◌||◌, ◌==◌}
 use Rattle.std.proofs.lemmas.Bool.{not-false}
 use Rattle.wire.specs.declared.body.AppendBody.{AppendBody}
@@ -14,8 +14,10 @@ use Rattle.wire.specs.declared.refusal.Refusal.TheVariants as refusals
 use Rattle.wire.specs.declared.streams.StreamKind.TheVariants as kinds
 use Rattle.replica.specs.Groups.{joined}
 use Rattle.memtable.specs.declared.cell.Place.{Place}
+use Rattle.memtable.specs.Entries.{Entries}
 use Rattle.checkpoint_format.specs.Index.{fits_a_group, index_group}
-use Rattle.checkpoint.specs.PageGroups.{page_group, placed_pages, next_pages, next_group}
+use Rattle.checkpoint.specs.Merges.{MergeState, no_merge, next_place, with_page}
+use Rattle.checkpoint.specs.PageGroups.{page_group, placed_pages, pages_to_write, next_pages, next_group, will_fit}
 use Rattle.client.specs.declared.job.Job.TheVariants as jobs
 use Rattle.client.specs.declared.job.News.{News}
 use Rattle.client.specs.declared.job.News.TheVariants as news
@@ -25,16 +27,17 @@ use Rattle.model_partition.specs.CheckpointStates.{CheckpointState}
 use Rattle.model_partition.specs.declared.checkpoint_job.CheckpointPhase.{CheckpointPhase}
 use Rattle.model_partition.specs.declared.checkpoint_job.CheckpointPhase.TheVariants as checkpoints
 use Rattle.model_partition.specs.declared.server_context.ServerContext.{ServerContext}
-use Rattle.model_partition.specs.Answering.{load_refused, trim_reply}
-use Rattle.model_partition.specs.Checkpoints.{checkpoint_fault, new_job, with_phase, index_if_fit, next_append, rows_go, writes_pages, begins_pages, checkpoint_rule, have_bytes, number_to_apply, pages_stand, may_record, index_place, records, rows_stand, rows_told, rows_may_stand, rows_reply, has_record_number, recorded, record_stands, record_told, trims, trim_told, trim_reply_in}
+use Rattle.model_partition.specs.Answering.{load_refused, page_reply, trim_reply}
+use Rattle.model_partition.specs.Checkpoints.{checkpoint_fault, new_job, new_combining_job, combines, with_phase, index_if_fit, next_append, rows_go, writes_pages, combined_pages, combined_job, merges, with_fixed, begins_pages, begins_combining, checkpoint_rule, have_bytes, number_to_apply, pages_stand, may_record, index_place, records, rows_stand, rows_told, rows_may_stand, rows_reply, has_record_number, recorded, record_stands, record_told, trims, trim_told, trim_reply_in}
 use Rattle.model_partition.specs.Loading.{Group}
 use Rattle.model_partition.specs.Range.{RangeState, RangeOutcome, request, answers, goes, given, picking, is_serving}
 use Rattle.model_partition.specs.Servers.{entries_if}
 use Rattle.model_partition.specs.StreamActions.{StreamAction, Forms, Stands, Stores, PlacedBytes, last_position, record_group, record_stood_in, record_stood, record_actions, index_stood_in, index_stood, rows_told_actions, rows_actions}
+use Rattle.laws_loads.proofs.PageAnswers.{merged, unread, merges_elim, page_reply_elim}
 use Rattle.laws_loads.specs.RangeView.{RangeView}
 use Rattle.laws_loads.specs.Sound.{IsSound}
 use Rattle.laws_server_runs.specs.CheckpointInvariant.{AppendsPhase, AppendsRows}
-use Rattle.laws_server_runs.specs.Places.{AreWithin, PagesWithin, placed_of, JobWithin, CheckpointLaid, RangeLaid, IsQuiet, RuleLaid}
+use Rattle.laws_server_runs.specs.Places.{AreWithin, PagesWithin, placed_of, MergesFirst, JobWithin, CheckpointLaid, RangeLaid, IsQuiet, RuleLaid}
 use Rattle.laws_server_runs.proofs.LaidBytes.{group_within, pages_both}
 use Rattle.laws_server_runs.proofs.LaidLayers.{within_front, within_behind}
 use Rattle.laws_server_runs.proofs.LaidReplies.{told_awake, told_idle, group_out, idle_appends}
@@ -57,28 +60,53 @@ module _ (k : ℕ) (v : RangeView) (r : RangeState) (d : ServerContext) where
     abbrev placed : List PlacedBytes
     placed = placed_of (view_of k v r actions)
 
-    append_left : (job : CheckpointState) → PagesWithin placed job.pages.index.pages → (group : Group) →
-        AppendsPhase (given (picking d s.rows) (append_rule (picking d s.rows) (request d) group)).after job job.phase → Left k v r actions (rows_go d s (job, Some group))
-    append_left job pages group appends =
-        left_goes k v r actions quiet _ _ _ (with_checkpoint k (view_of k v r actions) _ b sound (record { appends = appends; pages = pages; layer = layer }))
+    module _ (job : CheckpointState) (none_left : next_place job.merge ≡ None) (pages : PagesWithin placed job.pages.index.pages) where
+      append_left : (phase : CheckpointPhase) (group : Group) → AppendsPhase (given (picking d s.rows) (append_rule (picking d s.rows) (request d) group)).after job phase →
+          Left k v r actions (rows_go d s (with_phase job phase, Some group))
+      append_left phase group appends =
+          left_goes k v r actions quiet _ _ _ (with_checkpoint k (view_of k v r actions) _ b sound (record { appends = appends; merges = inr none_left; pages = pages; layer = layer }))
 
-    index_next : (job : CheckpointState) → PagesWithin placed job.pages.index.pages → (group : Option Group) → index_if_fit job.pages.index ≡ group →
-        Left k v r actions (rows_go d s (with_phase job checkpoints.Index, group))
-    index_next job pages (Some group) e =
-        let is : group ≡ index_group job.pages.index = some_index (fits_a_group job.pages.index) (index_group job.pages.index) group e in
-        append_left (with_phase job checkpoints.Index) pages group (inr (appended_group (picking d s.rows) (request d) group idle ∙ is))
-    index_next job pages None e =
-        left_goes k v r actions quiet _ _ _ (with_checkpoint k (view_of k v r actions) _ b sound (record { appends = inl idle; pages = pages; layer = layer }))
+      index_next : (group : Option Group) → index_if_fit job.pages.index ≡ group → Left k v r actions (rows_go d s (with_phase job checkpoints.Index, group))
+      index_next (Some group) e =
+          let is : group ≡ index_group job.pages.index = some_index (fits_a_group job.pages.index) (index_group job.pages.index) group e in
+          append_left checkpoints.Index group (inr (appended_group (picking d s.rows) (request d) group idle ∙ is))
+      index_next None e =
+          left_goes k v r actions quiet _ _ _ (with_checkpoint k (view_of k v r actions) _ b sound (record { appends = inl idle; merges = inr none_left; pages = pages; layer = layer }))
 
-    next : (job : CheckpointState) → PagesWithin placed job.pages.index.pages → (group : Option Group) → next_group job.pages ≡ group → Left k v r actions (rows_go d s (next_append job group))
-    next job pages (Some group) e =
-        let is : group ≡ page_group (next_pages job.pages) = some_group (length job.pages.unwritten == 0) (page_group (next_pages job.pages)) group e in
-        append_left (with_phase job checkpoints.Pages) pages group (inr (appended_group (picking d s.rows) (request d) group idle ∙ is))
-    next job pages None e = index_next job pages (index_if_fit job.pages.index) refl
+      next : (group : Option Group) → next_group job.pages ≡ group → Left k v r actions (rows_go d s (next_append job group))
+      next (Some group) e =
+          let is : group ≡ page_group (next_pages job.pages) = some_group (length job.pages.unwritten == 0) (page_group (next_pages job.pages)) group e in
+          append_left checkpoints.Pages group (inr (appended_group (picking d s.rows) (request d) group idle ∙ is))
+      next None e = index_next (index_if_fit job.pages.index) refl
 
-    -- the next pages, or the index behind the last ones
-    writes_left : (job : CheckpointState) → PagesWithin placed job.pages.index.pages → Left k v r actions (writes_pages d s job)
-    writes_left job pages = next job pages (next_group job.pages) refl
+      -- the next pages, or the index behind the last ones
+      writes_left : Left k v r actions (writes_pages d s job)
+      writes_left = next (next_group job.pages) refl
+
+    -- ---- what is combined
+
+    -- what was merged is written under the newer layer, or that alone
+    combined_left : (job : CheckpointState) (newer : Entries) → Left k v r actions (writes_pages d s (combined_job job newer))
+    combined_left job newer = by (will_fit (combined_pages job.merge newer))
+      where
+        by : (b : Bool) →
+            Left k v r actions
+            (writes_pages d s (if b then record job { merge = no_merge; pages = combined_pages job.merge newer } else record job { combine = false; merge = no_merge; pages = pages_to_write newer }))
+        by true = writes_left (record job { merge = no_merge; pages = combined_pages job.merge newer }) refl tt
+        by false = writes_left (record job { combine = false; merge = no_merge; pages = pages_to_write newer }) refl tt
+
+  -- Pages at hand are merged; the next one is asked for, while nothing is appended, or what all come to is written.
+  module _ (actions : List StreamAction) (quiet : IsQuiet actions) (s : RangeState) (b : Beside k (view_of k v r actions) s.load s.stage s.live) (sound : IsSound s) (idle : s.rows.job ≡ jobs.Idle)
+      (own : CheckpointLaid (placed_of (view_of k v r actions)) s.rows s.fixed s.control) where
+    merges_left : (job : CheckpointState) → job.phase ≡ checkpoints.Combining → PagesWithin (placed_of (view_of k v r actions)) job.pages.index.pages → Left k v r actions (merges d s job)
+    merges_left job phase pages =
+        merges_elim (Left k v r actions) d s job (left_goes k v r actions quiet _ _ _ (with_checkpoint k (view_of k v r actions) _ b sound own))
+        (λ merge. left_goes k v r actions quiet _ _ _ (with_checkpoint k (view_of k v r actions) _ b sound (merging merge)))
+        (λ merge place places next there. left_goes k v r actions quiet _ _ _ (with_checkpoint k (view_of k v r actions) _ b sound (merging merge)))
+        (λ merge newer next fixed. combined_left actions quiet (unread s) b sound idle own.layer (merged job merge) newer)
+      where
+        merging : (merge : MergeState) → CheckpointLaid (placed_of (view_of k v r actions)) s.rows s.fixed (Some (merged job merge))
+        merging merge = record { appends = subst (AppendsPhase s.rows job) (sym phase) idle; merges = inl phase; pages = pages; layer = own.layer }
 
   module _ (before : RangeLaid k v r) where
     rests : Left k v r [] (answers d r [])
@@ -100,16 +128,61 @@ module _ (k : ℕ) (v : RangeView) (r : RangeState) (d : ServerContext) where
         none_there (Some job) b e = absurd cc
 
     -- the live layer is fixed
-    pub begins_laid : checkpoint_fault r ≡ None → RuleLaid k v r [] (checkpoint_rule d r)
-    begins_laid may =
-        let parts = may_parts may in
-        let idle : r.rows.job ≡ jobs.Idle = subst (AppendsRows r.rows) parts.1 before.checkpoint.appends in
+    fixed_beside : Beside k v r.load r.stage []
+    fixed_beside = record { range = before.range; confirmed = before.confirmed; layer = λ e. (tt, tt); values = λ e. tt; low = (tt, tt) }
+
+    pub begins_laid : (combine : Bool) → checkpoint_fault r ≡ None → RuleLaid k v r [] (checkpoint_rule d r combine)
+    begins_laid combine may =
         if_elim (λ (o : RangeOutcome). RuleLaid k v r [] o) (have_bytes r.live r.position (number_to_apply r.out r.next)) _ _
-        (λ t. left_nothing k v r (begins_pages d r)
-        (writes_left [] tt (record r { live = []; fixed = Some r.live })
-        (record { range = before.range; confirmed = before.confirmed; layer = λ e. (tt, tt); values = λ e. tt; low = (tt, tt) })
-        before.sound idle (before.live parts.0) (new_job r) tt))
+        (λ t. if_elim (λ (o : RangeOutcome). RuleLaid k v r [] o) (combines combine r.indexes) _ _ (λ t. left_nothing k v r (begins_combining d r) combining) (λ f. left_nothing k v r (begins_pages d r) plain))
         (λ f. left_nothing k v r _ (left_goes k v r [] tt r _ _ before))
+      where
+        none : r.control ≡ None
+        none = (may_parts may).1
+
+        layer : AreWithin (placed_of v) r.live
+        layer = before.live (may_parts may).0
+
+        idle : r.rows.job ≡ jobs.Idle
+        idle = subst (AppendsRows r.rows) none before.checkpoint.appends
+
+        plain : Left k v r [] (begins_pages d r)
+        plain = writes_left [] tt (with_fixed r) fixed_beside before.sound idle layer (new_job r) refl tt
+
+        combining : Left k v r [] (begins_combining d r)
+        combining =
+            merges_left [] tt (with_fixed r) fixed_beside before.sound idle
+            (record { appends = before.checkpoint.appends; merges = before.checkpoint.merges; pages = before.checkpoint.pages; layer = layer }) (new_combining_job r) refl tt
+
+    -- ---- a page that is merged
+
+    module _ (actions : List StreamAction) (quiet : IsQuiet actions) (nothing : ReadsNothing k v r actions) where
+      own : CheckpointLaid (placed_of (view_of k v r actions)) r.rows r.fixed r.control
+      own = still_checkpoint k v r before actions
+
+      beside : Beside k (view_of k v r actions) r.load r.stage r.live
+      beside = still_beside k v r before actions nothing
+
+      page_rests : Left k v r actions (answers d r [])
+      page_rests = left_goes k v r actions quiet r _ _ (with_checkpoint k (view_of k v r actions) r beside before.sound own)
+
+      -- one that was still to be merged
+      page_comes_left : (job : CheckpointState) (place : Place) → r.control ≡ Some job → next_place job.merge ≡ Some place → (merge : MergeState) → Left k v r actions (merges d r (merged job merge))
+      page_comes_left job place is left merge =
+          merges_left actions quiet r beside before.sound (subst (AppendsPhase r.rows job) phase (subst (AppendsRows r.rows) is own.appends)) own (merged job merge) phase
+          (subst (JobWithin (placed_of (view_of k v r actions))) is own.pages)
+        where
+          phase : job.phase ≡ checkpoints.Combining
+          phase = elim (subst MergesFirst is own.merges) [
+            | inl combining ↦ combining
+            | inr none ↦ absurd (let z : None ≡ Some place = sym none ∙ left in cc)
+          ]
+
+      -- the answer to its read
+      pub page_left : (body : Body) → Left k v r actions (page_reply d r body)
+      page_left body =
+          page_reply_elim (Left k v r actions) d r page_rests (left_drops k v r actions _ _)
+          (λ job place entries is left. page_comes_left job place is left (with_page r.said.keys job.merge entries)) body
 
     -- ---- row data
 
@@ -129,7 +202,7 @@ module _ (k : ℕ) (v : RangeView) (r : RangeState) (d : ServerContext) where
       stays : (count : ℕ) → Left k v r [] (record { after = Some now; count = count; packets = packets; notes = [] })
       stays count =
           left_goes k v r [] tt now _ _
-          (with_checkpoint k v now (still_beside k v r before [] refl) before.sound (record { appends = appends_now; pages = before.checkpoint.pages; layer = before.checkpoint.layer }))
+          (with_checkpoint k v now (still_beside k v r before [] refl) before.sound (record { appends = appends_now; merges = before.checkpoint.merges; pages = before.checkpoint.pages; layer = before.checkpoint.layer }))
 
       -- the group that was out stands
       module _ (e offset : ℕ) (told : answer.news ≡ Some (news.Appended e offset)) where
@@ -151,9 +224,15 @@ module _ (k : ℕ) (v : RangeView) (r : RangeState) (d : ServerContext) where
         rests_now : (count : ℕ) (sent : List Packet) → Left k v r stores (record { after = Some now; count = count; packets = sent; notes = [] })
         rests_now count sent =
             left_goes k v r stores tt now _ _
-            (with_checkpoint k (view_of k v r stores) now (still_beside k v r before stores refl) before.sound (record { appends = idle_appends answer.after r.control idle_now; pages = still.pages; layer = still.layer }))
+            (with_checkpoint k (view_of k v r stores) now (still_beside k v r before stores refl) before.sound (record { appends = idle_appends answer.after r.control idle_now; merges = still.merges; pages = still.pages; layer = still.layer }))
 
         module _ (job : CheckpointState) (is : r.control ≡ Some job) where
+          none_left : (job.phase ≡ checkpoints.Combining → ⊥) → next_place job.merge ≡ None
+          none_left past = elim (subst MergesFirst is still.merges) [
+            | inl combining ↦ absurd (past combining)
+            | inr none ↦ none
+          ]
+
           pages_before : PagesWithin (placed_of (view_of k v r stores)) job.pages.index.pages
           pages_before = subst (JobWithin (placed_of (view_of k v r stores))) is still.pages
 
@@ -168,15 +247,18 @@ module _ (k : ℕ) (v : RangeView) (r : RangeState) (d : ServerContext) where
               Left k v r ((if b then Forms kinds.Metadata (record_group r job (index_place job e offset)) ∷ [] else []) ++ stores)
               (if b then records d now job (index_place job e offset) else goes d now [] [])
           index_left phase true may =
-              left_records k v r (record_group r job (index_place job e offset)) stores tt _ _ _ (with_phase job (checkpoints.Record (index_place job e offset)), index_place job e offset, refl, refl)
+              left_records k v r (record_group r job (index_place job e offset)) stores tt _ _ _
+              (record { before = job; job = with_phase job (checkpoints.Record (index_place job e offset)); index = index_place job e offset; under_way = is; control = refl; phase = refl; said = refl })
               (with_checkpoint k (view_of k v r (Forms kinds.Metadata (record_group r job (index_place job e offset)) ∷ stores)) _
               (still_beside k v r before (Forms kinds.Metadata (record_group r job (index_place job e offset)) ∷ stores) refl) before.sound
-              (record { appends = idle_now; pages = pages_before; layer = still.layer }))
+              (record { appends = idle_now; merges = inr (none_left (λ e. absurd (let z : checkpoints.Combining ≡ checkpoints.Index = sym e ∙ phase in cc))); pages = pages_before; layer = still.layer }))
           index_left phase false may = rests_now _ _
 
           phase_left : (phase : CheckpointPhase) → job.phase ≡ phase → Left k v r (index_stood_in r job phase e offset ++ stores) (rows_stand d now job phase e offset)
+          phase_left checkpoints.Combining phase = rests_now _ _
           phase_left checkpoints.Pages phase =
-              writes_left stores tt now (still_beside k v r before stores refl) before.sound idle_now still.layer (pages_stand job e offset) (pages_behind phase)
+              writes_left stores tt now (still_beside k v r before stores refl) before.sound idle_now still.layer (pages_stand job e offset)
+              (none_left (λ e. absurd (let z : checkpoints.Combining ≡ checkpoints.Pages = sym e ∙ phase in cc))) (pages_behind phase)
           phase_left checkpoints.Index phase = index_left phase (may_record r job) refl
           phase_left (checkpoints.Record index) phase = rests_now _ _
           phase_left (checkpoints.Trim before to_blob q) phase = rests_now _ _
@@ -226,11 +308,12 @@ module _ (k : ℕ) (v : RangeView) (r : RangeState) (d : ServerContext) where
         stands_left job (checkpoints.Record index) is phase =
             if_elim (Left k v r (stands job index)) (has_record_number metadata_now) (trims d (recorded metadata_now job index) job) (goes d metadata_now [] [])
             (λ t. left_goes k v r (stands job index) tt _ _ _
-            (with_checkpoint k (view_of k v r (stands job index)) _ (still_beside k v r before (stands job index) refl) before.sound (record { appends = idle; pages = tt; layer = tt })))
+            (with_checkpoint k (view_of k v r (stands job index)) _ (still_beside k v r before (stands job index) refl) before.sound (record { appends = idle; merges = inr refl; pages = tt; layer = tt })))
             (λ f. metadata_rests (stands job index) tt refl _ _)
           where
             idle : r.rows.job ≡ jobs.Idle
             idle = subst (AppendsPhase r.rows job) phase (subst (AppendsRows r.rows) is before.checkpoint.appends)
+        stands_left job checkpoints.Combining is phase = metadata_rests [] tt refl _ _
         stands_left job checkpoints.Pages is phase = metadata_rests [] tt refl _ _
         stands_left job checkpoints.Index is phase = metadata_rests [] tt refl _ _
         stands_left job (checkpoints.Trim before to_blob q) is phase = metadata_rests [] tt refl _ _
@@ -255,7 +338,7 @@ module _ (k : ℕ) (v : RangeView) (r : RangeState) (d : ServerContext) where
     trim_phase job (checkpoints.Trim below to_blob q) is phase (streams.Trimmed w) =
         left_goes k v r [] tt _ _ _
         (with_checkpoint k v _ (still_beside k v r before [] refl) before.sound
-        (record { appends = subst (AppendsPhase r.rows job) phase (subst (AppendsRows r.rows) is before.checkpoint.appends); pages = tt; layer = before.checkpoint.layer }))
+        (record { appends = subst (AppendsPhase r.rows job) phase (subst (AppendsRows r.rows) is before.checkpoint.appends); merges = tt; pages = tt; layer = before.checkpoint.layer }))
     trim_phase job phase is same body = rests
 
     trim_control : (control : Option CheckpointState) → r.control ≡ control → (body : StreamBody) → Left k v r [] (trim_reply_in d r control body)

@@ -1,23 +1,21 @@
 -- The index that a record of the metadata names is laid within what was shown and answered, and so are the tables that a load makes of such
 -- indexes.
-use Rattle.std.proofs.Common.{◌≡◌, ℕ, Bool, true, false, List, [], ◌∷◌, length, map, ◌&&◌, ◌==◌, Some, None, refl, sym, ap, ◌∙◌, subst, inl, inr, if◌then◌else◌}
+use Rattle.std.proofs.Common.{◌≡◌, ℕ, Bool, true, false, List, [], ◌∷◌, length, map, not, ◌&&◌, Some, None, refl, sym, ap, ◌∙◌, subst, inl, inr}
 use Rattle.std.specs.List.{AllByRecursion}
-use Rattle.std.proofs.lemmas.Bool.{eqb-true}
 use Rattle.wire.specs.declared.streams.StreamKind.TheVariants as kinds
 use Rattle.streams.specs.declared.table.Position.{Position}
 use Rattle.memtable.specs.declared.cell.Place.{Place}
+use Rattle.memtable.specs.Entries.{Entries, put_all}
 use Rattle.metadata.specs.declared.record.IndexRange.{IndexRange}
 use Rattle.metadata.specs.declared.record.KeyRange.{KeyRange}
-use Rattle.metadata.specs.declared.record.MetaItem.{MetaItem}
 use Rattle.metadata.specs.Fold.{first_metadata}
 use Rattle.metadata.specs.Keys.{within}
 use Rattle.checkpoint_format.specs.Index.{index_at}
 use Rattle.checkpoint_format.specs.declared.index.Index.{Index}
 use Rattle.checkpoint.specs.declared.installed_index.InstalledIndex.{InstalledIndex}
-use Rattle.checkpoint.specs.Pages.{merged, kept_within}
+use Rattle.checkpoint.specs.Pages.{is_deleted, merged, combined, kept_within}
 use Rattle.client.specs.declared.load.LoadPhase.{LoadPhase}
 use Rattle.client.specs.declared.load.LoadPhase.TheVariants as phases
-use Rattle.commitlog.specs.Replay.{Numbered}
 use Rattle.commitlog.specs.Replay.{replayed as replay}
 use Rattle.wire.specs.declared.actor.ReqNo.{ReqNo}
 use Rattle.model_partition.specs.CheckpointStates.{CheckpointState}
@@ -34,21 +32,22 @@ use Rattle.model_partition.specs.Renaming.{renamed_placed, decoded_record}
 use Rattle.model_partition.specs.Servers.{entries_if}
 use Rattle.model_partition.specs.ServedTables.{AllStand}
 use Rattle.model_partition.specs.ServerRun.{place_number, placed_reads}
-use Rattle.model_partition.specs.Story.{StreamEvent, Made, Answered, Showed, Story, event_at, KeepsOrder}
+use Rattle.model_partition.specs.Story.{StreamEvent, Made, Showed, Story, event_at, KeepsOrder}
 use Rattle.model_partition.specs.StreamActions.{StreamAction, Reads, Forms, Stands, Shows, Finds, Stores, PlacedBytes, ExtentRead}
 use Rattle.laws_checkpoints.proofs.WrittenIndexes.{index_read, pages_say}
+use Rattle.laws_checkpoints.specs.CombinedLayers.{written_entries}
+use Rattle.laws_checkpoints.specs.IndexLayers.{IsWritten}
 use Rattle.laws_checkpoints.specs.ShownTables.{AreInstalled}
 use Rattle.laws_loads.proofs.Renaming.{made_at}
 use Rattle.laws_loads.specs.RangeView.{RangeView, view_after, view_after_all, metadata_of}
-use Rattle.laws_tables.proofs.Range.{newest, older, event_cases}
-use Rattle.laws_tables.specs.Runs as chains
+use Rattle.laws_tables.proofs.Range.{newest, event_cases}
 use Rattle.laws_tables.specs.Runs.{Run, Serving, first_beginning, record_group, said, held, meta_of}
-use Rattle.laws_tables.specs.Through.{OutAppend}
 use Rattle.laws_server_runs.specs.CheckpointInvariant.{HoldsPhase, HoldsCheckpoint, HasRecordOut, item_of, parts_of}
 use Rattle.laws_server_runs.specs.NamedIndexes.{NamesSuch}
 use Rattle.laws_server_runs.specs.Places.{IsLaid, AreWithin, PagesWithin, IndexesWithin, placed_of, IndexLaid, TableLaid, JobWithin, RangeLaid, IsQuiet}
 use Rattle.laws_server_runs.specs.RangeInvariant.{groups_read, IsCheckpointRecord, AreCheckpoints, ReadsLog, HasReadAll, PhaseIs, StageIs, RangeKept, StreamsKept, Serves}
 use Rattle.laws_server_runs.proofs.Folding.{IsFoldOf, groups_folded}
+use Rattle.laws_server_runs.proofs.HeldRecords.{record_begun}
 use Rattle.laws_server_runs.proofs.LaidBytes.{Covers, entries_on, pages_on}
 use Rattle.laws_server_runs.proofs.LaidLayers.{within_put, within_filter}
 use Rattle.laws_server_runs.proofs.LoadedLine.{reads_groups, groups_renamed}
@@ -58,7 +57,7 @@ use Rattle.laws_server_runs.proofs.ServedNotes.{serves_of}
 -- ---- records
 
 record_on : (Old New : Place → Type 0) → ((place : Place) → Old place → New place) → (group : Group) → IsCheckpointRecord Old group → IsCheckpointRecord New group
-record_on Old New on group c = record { number = c.number; index = c.index; position = c.position; next = c.next; spells = c.spells; fits = c.fits; holds = on c.index c.holds }
+record_on Old New on group c = record { number = c.number; combine = c.combine; index = c.index; position = c.position; next = c.next; spells = c.spells; fits = c.fits; holds = on c.index c.holds }
 
 pub records_on : (Old New : Place → Type 0) → ((place : Place) → Old place → New place) → (story : Story Group) → AreCheckpoints Old story → AreCheckpoints New story
 records_on Old New on story all a g group at = record_on Old New on group (all a g group at)
@@ -96,107 +95,7 @@ module _ (generation : ℕ) where
   quiet_made v (Finds found ∷ earlier) quiet a g group at = quiet_made v earlier quiet a g group at
   quiet_made v (Stores stored ∷ earlier) quiet a g group at = quiet_made v earlier quiet a g group at
 
--- ---- the record that is out
-
-same_out : (b : Bool) (t u : Serving) → t.record_out ≡ u.record_out → (if b then t else u).record_out ≡ u.record_out
-same_out true t u same = same
-same_out false t u same = refl
-
--- its append began with the event that the run tells of
-abbrev IsBegun : Run → ℕ → OutAppend MetaItem → Type 0
-IsBegun run g out = (held first_beginning run g).record_out ≡ Some out → event_at (meta_of run) out.append ≡ Some (Made g out.group)
-
-record_begun : (run : Run) (g : ℕ) (out : OutAppend MetaItem) → (held first_beginning run g).record_out ≡ Some out → event_at (meta_of run) out.append ≡ Some (Made g out.group)
-record_begun [] g out e = absurd cc
-record_begun (chains.Forms h group ∷ run) g out e = record_begun run g out (sym (same_out (g == h) (chains.formed _ group (held first_beginning run g)) (held first_beginning run g) refl) ∙ e)
-record_begun (chains.Logged h append from to ∷ run) g out e = record_begun run g out (sym (same_out (g == h) (chains.logged to (held first_beginning run g)) (held first_beginning run g) refl) ∙ e)
-record_begun (chains.Notes h ∷ run) g out e = record_begun run g out (sym (same_out (g == h) (chains.noting (held first_beginning run g)) (held first_beginning run g) refl) ∙ e)
-record_begun (chains.Records h number item ∷ run) g out e = go (record_begun run g out) (g == h) refl e
-  where
-    go : IsBegun run g out → (b : Bool) → (g == h) ≡ b → (if b then chains.recording (length (meta_of run)) (record_group number item) (held first_beginning run g) else held first_beginning run g).record_out ≡ Some out →
-        event_at (Made h (record_group number item) ∷ meta_of run) out.append ≡ Some (Made g out.group)
-    go more true same e =
-        let is : record { append = length (meta_of run); group = record_group number item } ≡ out = cc in
-        let here : event_at (Made h (record_group number item) ∷ meta_of run) (length (meta_of run)) ≡ Some (Made g (record_group number item)) =
-        newest (Numbered MetaItem) (Made h (record_group number item)) (meta_of run) ∙ ap (λ n. Some (Made n (record_group number item))) (sym (eqb-true g h same)) in
-        subst (λ (o : OutAppend MetaItem). event_at (Made h (record_group number item) ∷ meta_of run) o.append ≡ Some (Made g o.group)) is here
-    go more false same e = older (Numbered MetaItem) (Made h (record_group number item)) (meta_of run) out.append (Made g out.group) (more e)
-record_begun (chains.Recorded h append from to ∷ run) g out e = go (record_begun run g out) (g == h) e
-  where
-    go : IsBegun run g out → (b : Bool) → (if b then chains.recorded (held first_beginning run g) else held first_beginning run g).record_out ≡ Some out → event_at (Answered append from to ∷ meta_of run) out.append ≡ Some (Made g out.group)
-    go more true e = absurd cc
-    go more false e = older (Numbered MetaItem) (Answered append from to) (meta_of run) out.append (Made g out.group) (more e)
-record_begun (chains.Trims h place ∷ run) g out e = record_begun run g out e
-record_begun (chains.Confirms h start end groups metadata_end records ∷ run) g out e = go (record_begun run g out) (g == h) e
-  where
-    go : IsBegun run g out → (b : Bool) → (if b then chains.confirmed first_beginning start end groups records else held first_beginning run g).record_out ≡ Some out →
-        event_at (Showed h 0 metadata_end records ∷ meta_of run) out.append ≡ Some (Made g out.group)
-    go more true e = absurd cc
-    go more false e = older (Numbered MetaItem) (Showed h 0 metadata_end records) (meta_of run) out.append (Made g out.group) (more e)
-
--- a range that loads has no checkpoint
-serves_checkpoint : (texts : ℕ → Bytes) (run : Run) (v : RangeView) (r : RangeState) (job : CheckpointState) → r.control ≡ Some job → (stage : Stage) → StageIs texts run v r stage → is_serving stage ≡ true
-serves_checkpoint texts run v r job is stages.Opening h = absurd (let z : None ≡ Some job = sym h.none ∙ is in cc)
-serves_checkpoint texts run v r job is (stages.Checking kinds.Metadata) h = absurd (let z : None ≡ Some job = sym h.none ∙ is in cc)
-serves_checkpoint texts run v r job is (stages.Checking kinds.Log) h = absurd (let z : None ≡ Some job = sym h.0.none ∙ is in cc)
-serves_checkpoint texts run v r job is (stages.Checking kinds.RowData) h = absurd h
-serves_checkpoint texts run v r job is (stages.Checking kinds.BlobData) h = absurd h
-serves_checkpoint texts run v r job is (stages.Reading kinds.Metadata position) h = absurd (let z : None ≡ Some job = sym h.none ∙ is in cc)
-serves_checkpoint texts run v r job is (stages.Reading kinds.Log position) h = absurd (let z : None ≡ Some job = sym h.0.none ∙ is in cc)
-serves_checkpoint texts run v r job is (stages.Reading kinds.RowData position) h = absurd h
-serves_checkpoint texts run v r job is (stages.Reading kinds.BlobData position) h = absurd h
-serves_checkpoint texts run v r job is (stages.Indexing position) h = absurd (let z : None ≡ Some job = sym h.0.log.none ∙ is in cc)
-serves_checkpoint texts run v r job is stages.Confirming h = absurd (let z : None ≡ Some job = sym h.log.none ∙ is in cc)
-serves_checkpoint texts run v r job is stages.Serving h = refl
-
-module _ (texts : ℕ → Bytes) (subject : ℕ) (run : Run) (v : RangeView) (r : RangeState) (kept : RangeKept texts subject run v r) (laid : RangeLaid subject v r) (streams : StreamsKept texts run v) (answered : AllStand texts v.answered) where
-  abbrev g : ℕ
-  g = r.load.generation
-
-  abbrev holds : Serving
-  holds = held first_beginning run g
-
-  -- while a record is out, it is that of an index that is laid so
-  pub record_laid : (job : CheckpointState) (index : Place) → r.control ≡ Some job → job.phase ≡ checkpoints.Record index → (h : ℕ) (group : Group) →
-      event_at (metadata_of v) (v.history.append kinds.Metadata) ≡ Some (Made h group) → IsCheckpointRecord (IndexLaid texts (placed_of v)) group
-  record_laid job index is phase h group at = record {
-    number = r.said.next;
-    index = index;
-    position = job.position;
-    next = job.next;
-    spells = spelled;
-    fits = out.noted.position;
-    holds = index_laid;
-  }
-    where
-      serves : Serves texts run v r
-      serves = serves_of texts subject run v r (serves_checkpoint texts run v r job is r.stage kept.stage) kept
-
-      out : HasRecordOut texts (parts_of v holds r) job index
-      out = subst (HoldsPhase texts (parts_of v holds r) job) phase (subst (HoldsCheckpoint texts (parts_of v holds r)) is serves.matches.checkpoint)
-
-      -- what the run tells of that event is what its group spells
-      spelled : decoded_record group ≡ record_group r.said.next (item_of job index)
-      spelled =
-          let told : event_at (meta_of run) (v.history.append kinds.Metadata) ≡ Some (Made g (record_group r.said.next (item_of job index))) =
-          record_begun run g (record { append = v.history.append kinds.Metadata; group = record_group r.said.next (item_of job index) }) out.out in
-          let seen : event_at (meta_of run) (v.history.append kinds.Metadata) ≡ Some (Made h (decoded_record group)) =
-          ap (λ z. event_at z (v.history.append kinds.Metadata)) streams.metadata ∙ made_at decoded_record (metadata_of v) (v.history.append kinds.Metadata) h group at in
-          let both : Some (Made h (decoded_record group)) ≡ Some (Made g (record_group r.said.next (item_of job index))) = sym seen ∙ told in
-          cc
-
-      index_laid : IndexLaid texts (placed_of v) index
-      index_laid other there =
-          let written = out.written answered in
-          let same : Some job.pages.index ≡ Some other = sym (index_read texts job.pages.index out.noted.fixed index written) ∙ there in
-          let equal : job.pages.index ≡ other = cc in
-          let pages : PagesWithin (placed_of v) job.pages.index.pages = subst (JobWithin (placed_of v)) is laid.checkpoint.pages in
-          let layer : AreWithin (placed_of v) out.noted.fixed = subst (λ fixed. AreWithin (placed_of v) (entries_if fixed)) out.noted.entries laid.checkpoint.layer in
-          let entries : AreWithin (placed_of v) (pages_in texts job.pages.index.pages) =
-          subst (AreWithin (placed_of v)) (sym (pages_say texts job.pages.index.pages out.noted.fixed written.entries_are written.pages)) layer in
-          subst (λ (x : Index). PagesWithin (placed_of v) x.pages × AreWithin (placed_of v) (pages_in texts x.pages)) equal (pages, entries)
-
--- ---- a table that is loaded
+-- ---- what installed indexes say together
 
 module _ (texts : ℕ → Bytes) (placed : List PlacedBytes) where
   abbrev ContentsWithin : List InstalledIndex → Type 0
@@ -219,11 +118,93 @@ module _ (texts : ℕ → Bytes) (placed : List PlacedBytes) where
       within_put placed (merged keys (map (index_in texts) indexes)) (kept_within x.keys keys (pages_in texts x.index.pages)) (merged_within keys indexes all.1)
       (within_filter placed (λ e. within x.keys e.0 && within keys e.0) (pages_in texts x.index.pages) all.0)
 
-  table_laid : (table : ShownTable) → IsLaid placed table.live → IndexesWithin placed table.indexes × ContentsWithin table.indexes → TableLaid texts placed table
+  -- what stays without deleted keys
+  combined_within : (entries newer : Entries) → AreWithin placed entries → AreWithin placed newer → AreWithin placed (combined entries (Some newer))
+  combined_within entries newer first second = within_filter placed (λ e. not (is_deleted e.1)) (put_all entries newer) (within_put placed entries newer first second)
+
+  -- what the pages of a checkpoint are written of
+  written_within : (combine : Bool) (keys : KeyRange) (indexes : List InstalledIndex) (fixed : Entries) → ContentsWithin indexes → AreWithin placed fixed →
+      AreWithin placed (written_entries texts combine keys indexes fixed)
+  written_within false keys indexes fixed contents layer = layer
+  written_within true keys indexes fixed contents layer = combined_within (merged keys (map (index_in texts) indexes)) fixed (merged_within keys indexes contents) layer
+
+-- ---- the index of a record
+
+-- a range that loads has no checkpoint
+pub serves_checkpoint : (texts : ℕ → Bytes) (run : Run) (v : RangeView) (r : RangeState) (job : CheckpointState) → r.control ≡ Some job → (stage : Stage) → StageIs texts run v r stage → is_serving stage ≡ true
+serves_checkpoint texts run v r job is stages.Opening h = absurd (let z : None ≡ Some job = sym h.none ∙ is in cc)
+serves_checkpoint texts run v r job is (stages.Checking kinds.Metadata) h = absurd (let z : None ≡ Some job = sym h.none ∙ is in cc)
+serves_checkpoint texts run v r job is (stages.Checking kinds.Log) h = absurd (let z : None ≡ Some job = sym h.0.none ∙ is in cc)
+serves_checkpoint texts run v r job is (stages.Checking kinds.RowData) h = absurd h
+serves_checkpoint texts run v r job is (stages.Checking kinds.BlobData) h = absurd h
+serves_checkpoint texts run v r job is (stages.Reading kinds.Metadata position) h = absurd (let z : None ≡ Some job = sym h.none ∙ is in cc)
+serves_checkpoint texts run v r job is (stages.Reading kinds.Log position) h = absurd (let z : None ≡ Some job = sym h.0.none ∙ is in cc)
+serves_checkpoint texts run v r job is (stages.Reading kinds.RowData position) h = absurd h
+serves_checkpoint texts run v r job is (stages.Reading kinds.BlobData position) h = absurd h
+serves_checkpoint texts run v r job is (stages.Indexing position) h = absurd (let z : None ≡ Some job = sym h.0.log.none ∙ is in cc)
+serves_checkpoint texts run v r job is stages.Confirming h = absurd (let z : None ≡ Some job = sym h.log.none ∙ is in cc)
+serves_checkpoint texts run v r job is stages.Serving h = refl
+
+module _ (texts : ℕ → Bytes) (subject : ℕ) (run : Run) (v : RangeView) (r : RangeState) (kept : RangeKept texts subject run v r) (laid : RangeLaid subject v r) (streams : StreamsKept texts run v) (answered : AllStand texts v.answered) where
+  abbrev g : ℕ
+  g = r.load.generation
+
+  abbrev holds : Serving
+  holds = held first_beginning run g
+
+  -- while a record is out, it is that of an index that is laid so, where those are that the metadata names
+  pub record_laid : NamesSuch (IndexLaid texts (placed_of v)) r.said → (job : CheckpointState) (index : Place) → r.control ≡ Some job → job.phase ≡ checkpoints.Record index → (h : ℕ) (group : Group) →
+      event_at (metadata_of v) (v.history.append kinds.Metadata) ≡ Some (Made h group) → IsCheckpointRecord (IndexLaid texts (placed_of v)) group
+  record_laid names job index is phase h group at = record {
+    number = r.said.next;
+    combine = job.combine;
+    index = index;
+    position = job.position;
+    next = job.next;
+    spells = spelled;
+    fits = out.writes.noted.position;
+    holds = index_laid;
+  }
+    where
+      serves : Serves texts run v r
+      serves = serves_of texts subject run v r (serves_checkpoint texts run v r job is r.stage kept.stage) kept
+
+      out : HasRecordOut texts (parts_of v holds r) job index
+      out = subst (HoldsPhase texts (parts_of v holds r) job) phase (subst (HoldsCheckpoint texts (parts_of v holds r)) is serves.matches.checkpoint)
+
+      -- what the run tells of that event is what its group spells
+      spelled : decoded_record group ≡ record_group r.said.next (item_of job index)
+      spelled =
+          let told : event_at (meta_of run) (v.history.append kinds.Metadata) ≡ Some (Made g (record_group r.said.next (item_of job index))) =
+          record_begun run g (record { append = v.history.append kinds.Metadata; group = record_group r.said.next (item_of job index) }) out.out in
+          let seen : event_at (meta_of run) (v.history.append kinds.Metadata) ≡ Some (Made h (decoded_record group)) =
+          ap (λ z. event_at z (v.history.append kinds.Metadata)) streams.metadata ∙ made_at decoded_record (metadata_of v) (v.history.append kinds.Metadata) h group at in
+          let both : Some (Made h (decoded_record group)) ≡ Some (Made g (record_group r.said.next (item_of job index))) = sym seen ∙ told in
+          cc
+
+      index_laid : IndexLaid texts (placed_of v) index
+      index_laid other there =
+          let fixed : Entries = out.writes.noted.fixed in
+          let content : Entries = written_entries texts job.combine r.said.keys r.indexes fixed in
+          let written : IsWritten texts job.pages.index content index = out.written answered in
+          let same : Some job.pages.index ≡ Some other = sym (index_read texts job.pages.index content index written) ∙ there in
+          let equal : job.pages.index ≡ other = cc in
+          let pages : PagesWithin (placed_of v) job.pages.index.pages = subst (JobWithin (placed_of v)) is laid.checkpoint.pages in
+          let layer : AreWithin (placed_of v) fixed = subst (λ fixed. AreWithin (placed_of v) (entries_if fixed)) out.writes.noted.entries laid.checkpoint.layer in
+          let installed = installed_laid texts (placed_of v) r.indexes r.said.indexes serves.matches.installed (places_of (IndexLaid texts (placed_of v)) r.said.indexes names.indexes) in
+          let entries : AreWithin (placed_of v) (pages_in texts job.pages.index.pages) =
+          subst (AreWithin (placed_of v)) (sym (pages_say texts job.pages.index.pages content written.entries_are written.pages))
+          (written_within texts (placed_of v) job.combine r.said.keys r.indexes fixed installed.1 layer) in
+          subst (λ (x : Index). PagesWithin (placed_of v) x.pages × AreWithin (placed_of v) (pages_in texts x.pages)) equal (pages, entries)
+
+-- ---- a table that is loaded
+
+module _ (texts : ℕ → Bytes) (placed : List PlacedBytes) where
+  table_laid : (table : ShownTable) → IsLaid placed table.live → IndexesWithin placed table.indexes × ContentsWithin texts placed table.indexes → TableLaid texts placed table
   table_laid table live indexes = record {
     live = live;
     pages = indexes.0;
-    entries = within_put placed (merged table.keys (map (index_in texts) table.indexes)) table.live (merged_within table.keys table.indexes indexes.1) live.1;
+    entries = within_put placed (merged table.keys (map (index_in texts) table.indexes)) table.live (merged_within texts placed table.keys table.indexes indexes.1) live.1;
   }
 
 -- a range that waits for its confirmation has read all

@@ -28,6 +28,7 @@ group_out c group awake (inl idle) = absurd (awake idle)
 group_out c group awake (inr is) = is
 
 idle_phase : (c : ClientState) (job : CheckpointState) (phase : CheckpointPhase) → c.job ≡ jobs.Idle → AppendsPhase c job phase
+idle_phase c job checkpoints.Combining idle = idle
 idle_phase c job checkpoints.Pages idle = inl idle
 idle_phase c job checkpoints.Index idle = inl idle
 idle_phase c job (checkpoints.Record index) idle = idle

@@ -35,7 +35,7 @@ rule_left k v r before actions o (Transacts d from q changes) = transact_laid k 
 rule_left k v r before actions o (Answers d w body) = answer_laid k v r before d body w
 rule_left k v r before actions o (Gets d from q key) = get_laid k v r before d from q key
 rule_left k v r before actions o (Yields d) = give_up_laid k v r before d
-rule_left k v r before actions o (Checkpoints d may) = begins_laid k v r d before may
+rule_left k v r before actions o (Checkpoints d combine may) = begins_laid k v r d before combine may
 rule_left k v r before actions o (Renews until count) = renewed_laid k v r before until count
 
 pub rule_laid : (k : ℕ) (v : RangeView) (r : RangeState) → RangeLaid k v r → (actions : List StreamAction) (o : RangeOutcome) → IsRule r actions o → StepLaid k v r.load.generation actions o
@@ -242,7 +242,7 @@ module _ (batch servers : ℕ) where
   pub event_notes : (x : ServerRun) (event : ServerEvent) → (after_event x event).notes ≡ x.notes ++ (outcome_of x.servers event).notes
   event_notes x (Takes s p) = ap (λ l. l ++ (outcome_of x.servers (Takes s p)).notes) (effect_rests s x (cell_effect p (entry_at x.servers s)))
   event_notes x (GivesUp s range pick) = refl
-  event_notes x (EventCheckpoints s range) = refl
+  event_notes x (EventCheckpoints s range combine) = refl
   event_notes x (Stops s call) = refl
   event_notes x (Starts s now batch) = refl
   event_notes x (Moment now) = sym (append-nil x.notes)

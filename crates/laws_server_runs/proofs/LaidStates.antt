@@ -71,7 +71,7 @@ module _ (k : ℕ) (v : RangeView) (r : RangeState) where
   left_goes actions quiet next count packets laid = record { step = record { after = laid; notes = tt }; forms = Quiet actions quiet; tables = tt }
 
   -- the record of its checkpoint is appended
-  pub left_records : (group : Group) (earlier : List StreamAction) → IsQuiet earlier → (next : RangeState) (count : ℕ) (packets : List Packet) → IsRecording (Some next) →
+  pub left_records : (group : Group) (earlier : List StreamAction) → IsQuiet earlier → (next : RangeState) (count : ℕ) (packets : List Packet) → IsRecording r (Some next) →
       RangeLaid k (view_of (Forms kinds.Metadata group ∷ earlier)) next → Left (Forms kinds.Metadata group ∷ earlier) (record { after = Some next; count = count; packets = packets; notes = [] })
   left_records group earlier quiet next count packets recording laid = record { step = record { after = laid; notes = tt }; forms = OfRecord group earlier quiet recording; tables = tt }
 

@@ -36,17 +36,17 @@ use Rattle.model_partition.specs.declared.stage.Stage.{Stage}
 use Rattle.model_partition.specs.declared.stage.Stage.TheVariants as stages
 use Rattle.model_partition.specs.Range.{OutGroup, RangeState, RangeOutcome, request, used, answers, dropped, picking, is_serving}
 use Rattle.model_partition.specs.Loading.{Group, said_after, confirms, asks_index, index_named, reads_named, reads_index, installs, index_read, reads_log, open_region, first_position, reads_log_from, checks_log, begins_log, reads_metadata, begins_metadata, opens, are_counted, has_position, says, metadata_news, replayed, replays, log_read, log_news, serves, serves_from, serves_region}
-use Rattle.model_partition.specs.PlaceReads.{places_of, reads_under}
+use Rattle.model_partition.specs.PlaceReads.{places_of, reads_under, reads_page}
 use Rattle.model_partition.specs.Getting.{get_fault, gets, get_rule, read_at, are_no_page}
-use Rattle.model_partition.specs.Answering.{may_stand, load_refused, load_told, load_reply, metadata_reply, serving_news, is_taken, log_taken, log_reply, index_reply, trim_reply, bytes_reply, gets_reply, groups_of, answer_rule, give_up_all}
+use Rattle.model_partition.specs.Answering.{may_stand, load_refused, load_told, load_reply, metadata_reply, serving_news, is_taken, log_taken, log_reply, page_reply, index_reply, trim_reply, bytes_reply, gets_reply, groups_of, answer_rule, give_up_all}
 use Rattle.model_partition.specs.Server.{new_range}
-use Rattle.model_partition.specs.StreamActions.{StreamAction, Reads, Shows, Finds, first_start, read_end, loading_actions, serving_actions, confirmed_actions, load_actions, record_actions, metadata_actions, rows_actions, index_told_actions, index_actions, log_actions, answer_actions}
+use Rattle.model_partition.specs.StreamActions.{StreamAction, Reads, Shows, Finds, first_start, read_end, loading_actions, serving_actions, confirmed_actions, load_actions, record_actions, metadata_actions, rows_actions, bytes_told_actions, bytes_actions, log_actions, answer_actions}
 use Rattle.model_partition.specs.ServerRun.{bytes_read}
 use Rattle.model_partition.specs.Checkpoints.{record_told, rows_reply, trim_awaits}
 use Rattle.laws_loads.proofs.IndexAnswers.{index_reply_elim}
 use Rattle.laws_loads.specs.RangeView.{RangeView}
 use Rattle.laws_server_runs.specs.Places.{IsLaid, AreLow, placed_of, CheckpointLaid, RangeLaid, IsQuiet, Quiet, RuleLaid}
-use Rattle.laws_server_runs.proofs.LaidCheckpoints.{rows_left, record_left, trim_left}
+use Rattle.laws_server_runs.proofs.LaidCheckpoints.{page_left, rows_left, record_left, trim_left}
 use Rattle.laws_server_runs.proofs.LaidLayers.{laid_front, replayed_laid}
 use Rattle.laws_server_runs.proofs.LaidReplies.{idle_appends}
 use Rattle.laws_server_runs.proofs.LaidFits.{replayed_low}
@@ -68,7 +68,7 @@ new_laid k v d generation until = record {
   live = λ e. absurd cc;
   low = (tt, tt);
   sound = new_sound d k generation until;
-  checkpoint = record { appends = refl; pages = tt; layer = tt };
+  checkpoint = record { appends = refl; merges = tt; pages = tt; layer = tt };
 }
 
 -- its lease goes on
@@ -168,7 +168,7 @@ module _ (k : ℕ) (v : RangeView) (r : RangeState) (before : RangeLaid k v r) (
           blob_data = lists.blob_data;
           said = first_metadata;
         })
-        (record { range = l.range; low = l.low; sound = l.sound; layer = l.layer; checkpoint = record { appends = idle_appends (new_client d.server (record { range = s.load.range; kind = kinds.RowData }) s.load.generation lists.row_data d.pick) s.control refl; pages = l.checkpoint.pages; layer = l.checkpoint.layer } }) (last_extent lists.metadata.extents)
+        (record { range = l.range; low = l.low; sound = l.sound; layer = l.layer; checkpoint = record { appends = idle_appends (new_client d.server (record { range = s.load.range; kind = kinds.RowData }) s.load.generation lists.row_data d.pick) s.control refl; merges = l.checkpoint.merges; pages = l.checkpoint.pages; layer = l.checkpoint.layer } }) (last_extent lists.metadata.extents)
 
     says_left : (s : RangeState) → IsLoading s → (position : ℕ) (said : Option MetadataState) → Left k v r actions (says d s position said)
     says_left s l position None = drops_left _ _
@@ -298,6 +298,7 @@ module _ (k : ℕ) (v : RangeView) (r : RangeState) (before : RangeLaid k v r) (
     step = record {
       after = again _ still before.sound (record {
         appends = give_up_appends (picking (used (used d)) r.rows) (request (used (used d))) d.pick r.control before.checkpoint.appends;
+        merges = before.checkpoint.merges;
         pages = before.checkpoint.pages;
         layer = before.checkpoint.layer;
       });
@@ -316,40 +317,57 @@ module _ (k : ℕ) (v : RangeView) (r : RangeState) (before : RangeLaid k v r) (
   refused_left (appends.Refused w refusals.Stale) = left_drops k v r [] _ _
   refused_left body = rests_left
 
-  bytes_left : (w : ReqNo) (body : ReadBody) → Left k v r [] (bytes_reply d r w body)
-  bytes_left w (reads.Bytes n e offset bytes) =
-      if_elim (Left k v r []) (are_no_page (read_at r.gets w) bytes) _ _ (λ t. rests_left) (λ f. left_goes k v r [] tt _ _ _ (again _ still before.sound before.checkpoint))
-  bytes_left w body = rests_left
-
-  gets_reply_left : (w : ReqNo) (body : Body) → Left k v r [] (gets_reply d r w body)
-  gets_reply_left w (bodies.Read body) = bytes_left w body
-  gets_reply_left w (bodies.Append body) = refused_left body
-  gets_reply_left w body = rests_left
-
-  -- ---- the read of an index
+  -- ---- bytes that were read
 
   module _ (actions : List StreamAction) (quiet : IsQuiet actions) (nothing : ReadsNothing k v r actions) where
-    index_rests : Left k v r actions (answers d r [])
-    index_rests = left_goes k v r actions quiet r _ _ (with_checkpoint k (view_of k v r actions) r (still_beside k v r before actions nothing) before.sound (still_checkpoint k v r before actions))
+    bytes_rest : Left k v r actions (answers d r [])
+    bytes_rest = left_goes k v r actions quiet r _ _ (with_checkpoint k (view_of k v r actions) r (still_beside k v r before actions nothing) before.sound (still_checkpoint k v r before actions))
 
+    -- those of Gets
+    bytes_left : (w : ReqNo) (body : ReadBody) → Left k v r actions (bytes_reply d r w body)
+    bytes_left w (reads.Bytes n e offset bytes) =
+        if_elim (Left k v r actions) (are_no_page (read_at r.gets w) bytes) _ _ (λ t. bytes_rest)
+        (λ f. left_goes k v r actions quiet _ _ _ (with_checkpoint k (view_of k v r actions) _ (still_beside k v r before actions nothing) before.sound (still_checkpoint k v r before actions)))
+    bytes_left w body = bytes_rest
+
+    refused_read : (body : AppendBody) → Left k v r actions (load_refused d r body)
+    refused_read (appends.Refused w refusals.Stale) = left_drops k v r actions _ _
+    refused_read body = bytes_rest
+
+    gets_left : (w : ReqNo) (body : Body) → Left k v r actions (gets_reply d r w body)
+    gets_left w (bodies.Read body) = bytes_left w body
+    gets_left w (bodies.Append body) = refused_read body
+    gets_left w body = bytes_rest
+
+    -- those of an index
     index_read_left : (stage : Stage) → r.stage ≡ stage → (bytes : List ℕ) → Left k v r actions (index_read d r stage bytes)
     index_read_left (stages.Indexing position) is bytes =
         let b : Beside k (view_of k v r actions) r.load r.stage r.live = still_beside k v r before actions nothing in
         installs_left actions quiet r (record { range = before.range; low = before.low; sound = before.sound; layer = b.layer (ap is_serving is); checkpoint = still_checkpoint k v r before actions }) position (index_named r.said.indexes position) (index_at bytes)
-    index_read_left stage is bytes = index_rests
+    index_read_left stage is bytes = bytes_rest
 
     index_left : (body : Body) → Left k v r actions (index_reply d r body)
-    index_left body = index_reply_elim (Left k v r actions) d r index_rests (left_drops k v r actions _ _) (index_read_left r.stage refl) body
+    index_left body = index_reply_elim (Left k v r actions) d r bytes_rest (left_drops k v r actions _ _) (index_read_left r.stage refl) body
 
   -- the bytes are found, whatever becomes of them
-  found_left : (body : ReadBody) (o : RangeOutcome) → ((actions : List StreamAction) → IsQuiet actions → ReadsNothing k v r actions → Left k v r actions o) → Left k v r (index_told_actions body) o
-  found_left (reads.Bytes w e offset bytes) o by = by (Finds (record { extent = e; offset = offset; bytes = bytes }) ∷ []) tt refl
-  found_left body o by = by [] tt refl
+  module _ (o : RangeOutcome) (by : (actions : List StreamAction) → IsQuiet actions → ReadsNothing k v r actions → Left k v r actions o) where
+    found_left : (body : ReadBody) → Left k v r (bytes_told_actions body) o
+    found_left (reads.Bytes w e offset bytes) = by (Finds (record { extent = e; offset = offset; bytes = bytes }) ∷ []) tt refl
+    found_left body = by [] tt refl
 
-  index_reply_left : (body : Body) → Left k v r (index_actions body) (index_reply d r body)
-  index_reply_left (bodies.Read body) = found_left body (index_reply d r (bodies.Read body)) (λ actions quiet nothing. index_left actions quiet nothing (bodies.Read body))
-  index_reply_left (bodies.Append body) = index_left [] tt refl (bodies.Append body)
-  index_reply_left body = index_left [] tt refl body
+    came_left : (body : Body) → Left k v r (bytes_actions body) o
+    came_left (bodies.Read body) = found_left body
+    came_left body = by [] tt refl
+
+  -- of a page that is merged, or of an index
+  place_left : (body : Body) → Left k v r (bytes_actions body) (if reads_page r.reading then page_reply d r body else index_reply d r body)
+  place_left body =
+      came_left _
+      (λ actions quiet nothing. if_elim (Left k v r actions) (reads_page r.reading) _ _ (λ t. page_left k v r d before actions quiet nothing body) (λ f. index_left actions quiet nothing body)) body
+
+  -- of a page or a value for Gets
+  gets_reply_left : (w : ReqNo) (body : Body) → Left k v r (bytes_actions body) (gets_reply d r w body)
+  gets_reply_left w body = came_left _ (λ actions quiet nothing. gets_left actions quiet nothing w body) body
 
   -- ---- the confirmation
 
@@ -450,14 +468,14 @@ module _ (k : ℕ) (v : RangeView) (r : RangeState) (before : RangeLaid k v r) (
     answered : (w : ReqNo) (a b c e f g : Bool) →
         Left k v r
         (if a then load_actions r body else if b then metadata_actions d r body else if c then (if is_taken r body then log_actions d r body
-        (if a then load_reply d r body else if b then metadata_reply d r body else if c then log_reply d r body else if e then rows_reply d r body else if f then index_reply d r body else if g then trim_reply d r body else gets_reply d r w body) else [])
-        else if e then rows_actions d r body else if f then index_actions body else [])
-        (if a then load_reply d r body else if b then metadata_reply d r body else if c then log_reply d r body else if e then rows_reply d r body else if f then index_reply d r body else if g then trim_reply d r body else gets_reply d r w body)
+        (if a then load_reply d r body else if b then metadata_reply d r body else if c then log_reply d r body else if e then rows_reply d r body else if f then (if reads_page r.reading then page_reply d r body else index_reply d r body) else if g then trim_reply d r body else gets_reply d r w body) else [])
+        else if e then rows_actions d r body else if f then bytes_actions body else if g then [] else bytes_actions body)
+        (if a then load_reply d r body else if b then metadata_reply d r body else if c then log_reply d r body else if e then rows_reply d r body else if f then (if reads_page r.reading then page_reply d r body else index_reply d r body) else if g then trim_reply d r body else gets_reply d r w body)
     answered w true b c e f g = load_left body
     answered w false true c e f g = metadata_left body
     answered w false false true e f g = log_left (is_taken r body) refl
     answered w false false false true f g = rows_left k v r d before body
-    answered w false false false false true g = index_reply_left body
+    answered w false false false false true g = place_left body
     answered w false false false false false true = trim_left k v r d before body
     answered w false false false false false false = gets_reply_left w body
 

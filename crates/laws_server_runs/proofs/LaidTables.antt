@@ -6,6 +6,7 @@ use Rattle.wire.specs.declared.streams.StreamKind.TheVariants as kinds
 use Rattle.memtable.specs.declared.cell.Place.{Place}
 use Rattle.checkpoint.specs.declared.installed_index.InstalledIndex.{InstalledIndex}
 use Rattle.model_streams.specs.Maps.{entry_at}
+use Rattle.model_partition.specs.CheckpointStates.{CheckpointState}
 use Rattle.model_partition.specs.declared.table_note.TableNote.{TableNote}
 use Rattle.model_partition.specs.declared.table_note.TableNote.TheVariants as tables
 use Rattle.model_partition.specs.declared.shown_table.ShownTable.{ShownTable}
@@ -22,18 +23,21 @@ use Rattle.model_partition.specs.ServerRun.{ServerRun, RangeEffect, Does, with_e
 use Rattle.laws_loads.proofs.Entries.{entry_set}
 use Rattle.laws_loads.specs.RangeView.{RangeView, view_after, view_after_all, metadata_of}
 use Rattle.laws_tables.proofs.Range.{newest, event_cases}
+use Rattle.laws_server_runs.specs.NamedIndexes.{NamesSuch}
 use Rattle.laws_server_runs.specs.Places.{IsLaid, IndexesWithin, NotesWithin, placed_of, bytes_of, IndexLaid, TableLaid, TablesWithin, RangeLaid, IsRecording, FormsRecords, Quiet, OfRecord, IsConfirmed, TablesAre, RuleLaid, RunLaid}
 use Rattle.laws_server_runs.specs.RangeInvariant.{IsCheckpointRecord, AreCheckpoints, RangeKept, StreamsKept}
 use Rattle.laws_server_runs.specs.RunInvariant.{view_at, RunKept}
 use Rattle.laws_server_runs.specs.Turns.{IsRule, Turn, Idles, Opens, Acts, Calms, RunStep, Keeps, Passes, Turns}
 use Rattle.laws_server_runs.proofs.Actions.{other_test, actions_here, actions_beside, actions_longer}
+use Rattle.laws_server_runs.proofs.HeldRecords.{named_by_server}
 use Rattle.laws_server_runs.proofs.LaidBytes.{Covers, entries_on, laid_on, pages_on}
 use Rattle.laws_server_runs.proofs.LaidLayers.{laid_front}
-use Rattle.laws_server_runs.proofs.LaidRecords.{records_on, index_on, quiet_made, record_laid, confirmed_laid}
+use Rattle.laws_server_runs.proofs.LaidRecords.{records_on, index_on, quiet_made, serves_checkpoint, record_laid, confirmed_laid}
 use Rattle.laws_server_runs.proofs.LaidRuns.{rule_left, run_covers}
 use Rattle.laws_server_runs.proofs.Others.{streams_same}
 use Rattle.laws_server_runs.proofs.RangeLists.{left_here}
 use Rattle.laws_server_runs.proofs.RunSteps.{IsAny}
+use Rattle.laws_server_runs.proofs.ServedNotes.{serves_of}
 
 -- ---- more bytes
 
@@ -78,6 +82,13 @@ module _ (texts : ℕ → Bytes) where
       subst (λ (story : Story Group). AreCheckpoints (IndexLaid texts (bytes_of y k)) story) (sym same)
       (records_on (IndexLaid texts (bytes_of x k)) (IndexLaid texts (bytes_of y k)) (index_on texts (bytes_of x k) (bytes_of y k) on) (x.story (metadata_name k)) all)
 
+  -- what is kept of a range before a step and after it, and what is premised of its streams
+  pub record StepPremises (x y : ServerRun) (k : ℕ) : Type 0 where
+    pub kept : RunKept texts k x
+    pub order : KeepsOrder (x.story (metadata_name k))
+    pub now : RunKept texts k y
+    pub answered : AllStand texts (y.answered k)
+
   module _ (x : ServerRun) (laid : RunLaid x) where
     -- ---- a server takes a turn
 
@@ -117,26 +128,38 @@ module _ (texts : ℕ → Bytes) where
 
         -- ---- its own records
 
-        module _ (laid_now : RunLaid y) (kept_now : RunKept texts range y) (answered : AllStand texts (y.answered range)) (all : RecordsLaid x range) where
+        module _ (laid_now : RunLaid y) (premises : StepPremises x y range) (all : RecordsLaid x range) where
+          abbrev kept_now : RunKept texts range y
+          kept_now = premises.now
+
           abbrev Now : Place → Type 0
           Now place = IndexLaid texts (bytes_of y range) place
 
           before : AreCheckpoints Now (metadata_of v)
           before = records_on (IndexLaid texts (bytes_of x range)) Now (index_on texts (bytes_of x range) (bytes_of y range) (bytes range)) (metadata_of v) all
 
-          record_now : (group : Group) (earlier : List StreamAction) → actions ≡ Forms kinds.Metadata group ∷ earlier → (a : Option RangeState) → o.after ≡ a → IsRecording a → IsCheckpointRecord Now group
+          -- what the metadata named while the checkpoint was under way
+          names_before : (job : CheckpointState) → r.control ≡ Some job → NamesSuch Now r.said
+          names_before job under_way =
+              let kept : RunKept texts range x = premises.kept in
+              let mine : RangeKept texts range kept.run v r = kept.ranges s cell st at is r held in
+              named_by_server Now texts kept.run v r (streams_same texts kept.run (view_at range x 0) v refl refl kept.streams) premises.order before
+              (serves_of texts range kept.run v r (serves_checkpoint texts kept.run v r job under_way r.stage mine.stage) mine)
+
+          record_now : (group : Group) (earlier : List StreamAction) → actions ≡ Forms kinds.Metadata group ∷ earlier → (a : Option RangeState) → o.after ≡ a → IsRecording r a → IsCheckpointRecord Now group
           record_now group earlier done None e none = absurd none
-          record_now group earlier done (Some z) e (job, index, control, phase) =
+          record_now group earlier done (Some z) e sends =
               let mine : range_of next.ranges range ≡ Some z = found ∙ e in
-              let kept : RangeKept texts range kept_now.run w z = kept_now.ranges s (record cell { state = Some next }) next there refl z mine in
+              let now : RangeKept texts range kept_now.run w z = kept_now.ranges s (record cell { state = Some next }) next there refl z mine in
               let laid : RangeLaid range w z = laid_now.ranges s (record cell { state = Some next }) next there refl range z mine in
               let streams : StreamsKept texts kept_now.run w = streams_same texts kept_now.run (view_at range y 0) w refl refl kept_now.streams in
               let same : w ≡ view_after g (view_after_all g v earlier) (Forms kinds.Metadata group) = here ∙ ap (view_after_all g v) done in
-              record_laid texts range kept_now.run w z kept laid streams answered job index control phase g group
+              let names : NamesSuch Now z.said = subst (NamesSuch Now) (sym sends.said) (names_before sends.before sends.under_way) in
+              record_laid texts range kept_now.run w z now laid streams premises.answered names sends.job sends.index sends.control sends.phase g group
               (subst (λ (u : RangeView). event_at (metadata_of u) (u.history.append kinds.Metadata) ≡ Some (Made g group)) (sym same)
               (newest Group (Made g group) (metadata_of (view_after_all g v earlier))))
 
-          after_forms : (done : List StreamAction) → actions ≡ done → FormsRecords o.after done → AreCheckpoints Now (metadata_of (view_after_all g v done))
+          after_forms : (done : List StreamAction) → actions ≡ done → FormsRecords r o.after done → AreCheckpoints Now (metadata_of (view_after_all g v done))
           after_forms done e (Quiet actions quiet) a h group at = before a h group (quiet_made g v done quiet a h group at)
           after_forms done e (OfRecord group earlier quiet recording) a h other at =
               elim (event_cases Group (Made g group) (metadata_of (view_after_all g v earlier)) a (Made h other) at) [
@@ -168,18 +191,18 @@ module _ (texts : ℕ → Bytes) where
 
         -- ---- any range
 
-        pub any_records : RunLaid y → (k : ℕ) → RunKept texts k y → AllStand texts (y.answered k) → RecordsLaid x k → RecordsLaid y k
-        any_records laid_now k kept_now answered all = elim (cases_eq k range) [
+        pub any_records : RunLaid y → (k : ℕ) → StepPremises x y k → RecordsLaid x k → RecordsLaid y k
+        any_records laid_now k p all = elim (cases_eq k range) [
           | inl same ↦
-              subst (λ n. RunKept texts n y → AllStand texts (y.answered n) → RecordsLaid x n → RecordsLaid y n) (sym same) (λ k a l. acts_records laid_now k a l) kept_now answered all
+              subst (λ n. StepPremises x y n → RecordsLaid x n → RecordsLaid y n) (sym same) (λ q l. acts_records laid_now q l) p all
           | inr other ↦ records_later x y k (actions_beside s range g (metadata_name k) (other_test k range other) x actions) (bytes k) all
         ]
 
-      turn_records : (e : RangeEffect) (o : ServerOutcome) → Turn IsAny st e o → RunLaid (Next e o) → (k : ℕ) → RunKept texts k (Next e o) → AllStand texts ((Next e o).answered k) → RecordsLaid x k → RecordsLaid (Next e o) k
-      turn_records e o (Idles next packets same) laid_now k kept answered all = all
-      turn_records e o (Opens range assigned d generation until next packets new) laid_now k kept answered all = all
-      turn_records e o (Acts range r held actions ro rule next left) laid_now k kept answered all = any_records range r held actions ro rule next left laid_now k kept answered all
-      turn_records e o (Calms range r held ro rule next left) laid_now k kept answered all = any_records range r held [] ro rule next left laid_now k kept answered all
+      turn_records : (e : RangeEffect) (o : ServerOutcome) → Turn IsAny st e o → RunLaid (Next e o) → (k : ℕ) → StepPremises x (Next e o) k → RecordsLaid x k → RecordsLaid (Next e o) k
+      turn_records e o (Idles next packets same) laid_now k premises all = all
+      turn_records e o (Opens range assigned d generation until next packets new) laid_now k premises all = all
+      turn_records e o (Acts range r held actions ro rule next left) laid_now k premises all = any_records range r held actions ro rule next left laid_now k premises all
+      turn_records e o (Calms range r held ro rule next left) laid_now k premises all = any_records range r held [] ro rule next left laid_now k premises all
 
       turn_tables : (e : RangeEffect) (o : ServerOutcome) → Turn IsAny st e o → ((k : ℕ) → RunKept texts k x) → ((k : ℕ) → KeepsOrder ((Next e o).story (metadata_name k))) → ((k : ℕ) → RecordsLaid (Next e o) k) →
           TablesWithin texts (bytes_of (Next e o)) o.notes
@@ -190,10 +213,10 @@ module _ (texts : ℕ → Bytes) where
 
     -- ---- a step of all
 
-    pub step_records : (notes : List TableNote) (y : ServerRun) → RunStep IsAny x notes y → RunLaid y → (k : ℕ) → RunKept texts k y → AllStand texts (y.answered k) → RecordsLaid x k → RecordsLaid y k
-    step_records notes y (Keeps servers packets like) laid_now k kept answered all = all
-    step_records notes y (Passes servers like) laid_now k kept answered all = all
-    step_records notes y (Turns s cell st at is e o turn) laid_now k kept answered all = turn_records s cell st at is e o turn laid_now k kept answered all
+    pub step_records : (notes : List TableNote) (y : ServerRun) → RunStep IsAny x notes y → RunLaid y → (k : ℕ) → StepPremises x y k → RecordsLaid x k → RecordsLaid y k
+    step_records notes y (Keeps servers packets like) laid_now k premises all = all
+    step_records notes y (Passes servers like) laid_now k premises all = all
+    step_records notes y (Turns s cell st at is e o turn) laid_now k premises all = turn_records s cell st at is e o turn laid_now k premises all
 
     pub step_tables : (notes : List TableNote) (y : ServerRun) → RunStep IsAny x notes y → ((k : ℕ) → RunKept texts k x) → ((k : ℕ) → KeepsOrder (y.story (metadata_name k))) → ((k : ℕ) → RecordsLaid y k) →
         TablesWithin texts (bytes_of y) notes

@@ -18,6 +18,8 @@ mod IndexRead
 mod ClientAnswers
 pub mod NamedIndexes
 mod CheckpointBegins
+mod CheckpointMerges
+mod HeldBytes
 mod CheckpointNumbers
 mod CheckpointRows
 mod CheckpointRecorded
@@ -56,6 +58,7 @@ pub mod RangeLists
 pub mod RunSteps
 pub mod Actions
 pub mod LaidRuns
+mod HeldRecords
 mod LaidRecords
 mod LaidTables
 pub mod LoadedWithin

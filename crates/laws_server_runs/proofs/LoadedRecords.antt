@@ -1,5 +1,5 @@
--- What a load shows of metadata whose records are those of plain checkpoints: one region without end, and all keys.
-use Rattle.std.proofs.Common.{◌≡◌, ℕ, zero, suc, ◌-◌, false, List, [], ◌∷◌, ◌++◌, map, drop, Some, nat_lt, refl, sym, ap, ◌∙◌, subst}
+-- What a load shows of metadata whose records are those of checkpoints: one region without end, and all keys.
+use Rattle.std.proofs.Common.{◌≡◌, ℕ, zero, suc, ◌-◌, Bool, List, [], ◌∷◌, ◌++◌, map, drop, Some, nat_lt, refl, sym, ap, ◌∙◌, subst}
 use Rattle.std.specs.Prelude.{Contains}
 use Rattle.std.specs.List.{AllByRecursion}
 use Rattle.streams.specs.declared.table.Position.{Position}
@@ -24,9 +24,15 @@ use Rattle.laws_server_runs.proofs.Order.{first_there, later_there}
 module _ (Holds : Place → Type 0) where
   -- ---- items
 
-  -- that of a plain checkpoint's record, at a position
-  abbrev pub IsOfCheckpoint : MetaItem → Type 0
-  IsOfCheckpoint item = (index : Place) × (position : Position) × (next : ℕ) × (item ≡ Checkpoint false index position next) × IsPosition position × Holds index
+  -- that of a checkpoint's record, at a position
+  pub record IsOfCheckpoint (item : MetaItem) : Type 0 where
+    pub combine : Bool
+    pub index : Place
+    pub position : Position
+    pub next : ℕ
+    pub is : item ≡ Checkpoint combine index position next
+    pub fits : IsPosition position
+    pub holds : Holds index
 
   abbrev pub AreOfCheckpoints : List MetaItem → Type 0
   AreOfCheckpoints items = AllByRecursion IsOfCheckpoint items
@@ -36,7 +42,7 @@ module _ (Holds : Place → Type 0) where
   left_of (suc n) [] all = tt
   left_of (suc n) (item ∷ items) all = left_of n items all.1
 
-  both_of : (xs ys : List MetaItem) → AreOfCheckpoints xs → AreOfCheckpoints ys → AreOfCheckpoints (xs ++ ys)
+  pub both_of : (xs ys : List MetaItem) → AreOfCheckpoints xs → AreOfCheckpoints ys → AreOfCheckpoints (xs ++ ys)
   both_of [] ys a b = b
   both_of (x ∷ xs) ys a b = (a.0, both_of xs ys a.1 b)
 
@@ -52,16 +58,16 @@ module _ (Holds : Place → Type 0) where
 
   pub checkpoints_keep : (items : List MetaItem) (m : MetadataState) → AreOfCheckpoints items → AllKeepOneRegion m items
   checkpoints_keep [] m all = tt
-  checkpoints_keep (item ∷ items) m all = (subst (KeepsOneRegion m) (sym all.0.3) all.0.4, checkpoints_keep items (taken m item) all.1)
+  checkpoints_keep (item ∷ items) m all = (subst (KeepsOneRegion m) (sym all.0.is) all.0.fits, checkpoints_keep items (taken m item) all.1)
 
   pub keys_stay : (items : List MetaItem) (m : MetadataState) → AreOfCheckpoints items → (fold_of m items).keys ≡ m.keys
   keys_stay [] m all = refl
-  keys_stay (item ∷ items) m all = keys_stay items (taken m item) all.1 ∙ ap (λ i. (taken m i).keys) all.0.3
+  keys_stay (item ∷ items) m all = keys_stay items (taken m item) all.1 ∙ ap (λ i. (taken m i).keys) all.0.is
 
   -- ---- what a load shows
 
-  item_there : (group : Group) → IsCheckpointRecord Holds group → AreOfCheckpoints (decoded_record group).items
-  item_there group r = subst (λ (n : Numbered MetaItem). AreOfCheckpoints n.items) (sym r.spells) ((r.index, r.position, r.next, refl, r.fits, r.holds), tt)
+  pub item_there : (group : Group) → IsCheckpointRecord Holds group → AreOfCheckpoints (decoded_record group).items
+  item_there group r = subst (λ (n : Numbered MetaItem). AreOfCheckpoints n.items) (sym r.spells) (record { combine = r.combine; index = r.index; position = r.position; next = r.next; is = refl; fits = r.fits; holds = r.holds }, tt)
 
   abbrev Shown : List (Copy Group) → Type 0
   Shown cs = GroupsOf (map (λ p. p.group) (map (renamed_placed decoded_record) (map placed cs)))

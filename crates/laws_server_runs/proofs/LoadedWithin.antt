@@ -1,5 +1,5 @@
 -- Whatever comes to servers, each table that they show as loaded is in the order of its keys, and its pages and its values by place stand within
--- the bytes that loads were shown and appends were answered for.
+-- the bytes that reads were shown and appends were answered for.
 use Rattle.std.proofs.Common.{ℕ, List, [], ◌∷◌, sym, subst}
 use Rattle.model_partition.specs.declared.table_note.TableNote.{TableNote}
 use Rattle.model_partition.specs.Past.{Bytes}
@@ -33,7 +33,13 @@ module _ (texts : ℕ → Bytes) (batch servers : ℕ) where
   records_are (event ∷ earlier) range p =
       let x : ServerRun = run_of batch servers earlier in
       step_records texts x (all_laid batch servers earlier) (outcome_of x.servers event).notes (after_event x event) (one_step event earlier) (all_laid batch servers (event ∷ earlier)) range
-      (all_kept texts range batch servers (event ∷ earlier) p) p.answered (records_are earlier range (earlier_so event earlier range p))
+      (record {
+        kept = all_kept texts range batch servers earlier (earlier_so event earlier range p);
+        order = (earlier_so event earlier range p).metadata;
+        now = all_kept texts range batch servers (event ∷ earlier) p;
+        answered = p.answered;
+      })
+      (records_are earlier range (earlier_so event earlier range p))
 
   tables_within : (events : List ServerEvent) → ((range : ℕ) → Premise events range) → TablesWithin texts (bytes_of (run_of batch servers events)) (run_of batch servers events).notes
   tables_within [] all = tt

@@ -3,22 +3,14 @@ use Rattle.std.proofs.Common.{◌≡◌, ◌≤◌, ℕ, List, [], ◌∷◌, �
 use Rattle.std.proofs.lemmas.List.{append-nil}
 use Rattle.wire.specs.declared.actor.ActorId.{ActorId}
 use Rattle.wire.specs.declared.actor.ReqNo.{ReqNo}
-use Rattle.wire.specs.declared.body.AppendBody.{AppendBody}
-use Rattle.wire.specs.declared.body.AppendBody.TheVariants as appends
-use Rattle.wire.specs.declared.body.Body.{Body}
-use Rattle.wire.specs.declared.body.Body.TheVariants as bodies
-use Rattle.wire.specs.declared.body.ReadBody.{ReadBody}
-use Rattle.wire.specs.declared.body.ReadBody.TheVariants as reads
 use Rattle.wire.specs.declared.note.Note.{Note}
 use Rattle.wire.specs.declared.packet.Packet.{Packet}
 use Rattle.wire.specs.declared.refusal.Refusal.{Refusal}
-use Rattle.wire.specs.declared.refusal.Refusal.TheVariants as refusals
 use Rattle.wire.specs.declared.streams.StreamKind.TheVariants as kinds
 use Rattle.wire.specs.declared.streams.StreamList.{StreamList}
 use Rattle.memtable.specs.declared.cell.Place.{Place}
 use Rattle.client.specs.declared.job.Job.TheVariants as jobs
 use Rattle.client.specs.Client.{ClientState}
-use Rattle.model_streams.proofs.Tests.{if_elim}
 use Rattle.model_partition.specs.declared.server_context.ServerContext.{ServerContext}
 use Rattle.model_partition.specs.declared.stage.Stage.{Stage}
 use Rattle.model_partition.specs.declared.stage.Stage.TheVariants as stages
@@ -26,8 +18,8 @@ use Rattle.model_partition.specs.declared.waiting.PlaceRead.{PlaceRead}
 use Rattle.model_partition.specs.declared.waiting.WaitingGet.{WaitingGet}
 use Rattle.model_partition.specs.Past.{Bytes}
 use Rattle.model_partition.specs.Range.{RangeState, RangeOutcome, request, used, picking, dropped}
-use Rattle.model_partition.specs.Getting.{get_fault, gets, get_rule, read_at, are_no_page}
-use Rattle.model_partition.specs.Answering.{load_refused, bytes_reply, gets_reply, give_up_all}
+use Rattle.model_partition.specs.Getting.{get_fault, gets, get_rule, standing}
+use Rattle.model_partition.specs.Answering.{give_up_all}
 use Rattle.model_partition.specs.Server.{new_range}
 use Rattle.model_partition.specs.ServerRun.{first_history}
 use Rattle.model_partition.specs.StreamActions.{first_start}
@@ -36,7 +28,9 @@ use Rattle.laws_loads.proofs.WaitingStays.{new_sound}
 use Rattle.laws_loads.specs.RangeView.{RangeView}
 use Rattle.laws_tables.specs.Runs.{Run, Serving, first_beginning, held as held_by}
 use Rattle.model_partition.specs.CheckpointStates.{CheckpointState}
-use Rattle.laws_server_runs.specs.CheckpointInvariant.{AppendsRows}
+use Rattle.laws_checkpoints.specs.ShownTables.{HoldsBytes}
+use Rattle.laws_server_runs.proofs.HeldBytes.{holds_used}
+use Rattle.laws_server_runs.specs.CheckpointInvariant.{AppendsRows, ReadsNext}
 use Rattle.laws_server_runs.proofs.RowAppends.{idle_gives_up, give_up_appends, base_given_up}
 use Rattle.model_partition.specs.PlaceReads.{moved_on}
 use Rattle.laws_server_runs.specs.RangeInvariant.{ReadsMetadata, ReadsLog, Matches, StageIs, RangeKept, StreamsKept, AreObserved, Rests, KeptIf, ServesAnew, StepKept}
@@ -45,7 +39,8 @@ use Rattle.laws_server_runs.specs.RangeInvariant.{ReadsMetadata, ReadsLog, Match
 
 module _ (texts : ℕ → Bytes) (subject : ℕ) (run : Run) (v : RangeView) (r : RangeState) (until : ℕ) (metadata log : ClientState) (rows : ClientState) (blob_data : StreamList) (reading : Option PlaceRead) (gets : List WaitingGet) (held : List (Place × List ℕ))
     (metadata_idle : r.metadata.job ≡ jobs.Idle → metadata.job ≡ jobs.Idle) (log_idle : r.log.job ≡ jobs.Idle → log.job ≡ jobs.Idle)
-    (log_base : log.base ≡ r.log.base) (rows_same : (control : Option CheckpointState) → AppendsRows r.rows control → AppendsRows rows control) (reading_same : (read : PlaceRead) → r.reading ≡ Some read → (z : PlaceRead) × (reading ≡ Some z) × (z.place ≡ read.place)) where
+    (log_base : log.base ≡ r.log.base) (rows_same : (control : Option CheckpointState) → AppendsRows r.rows control → AppendsRows rows control) (reading_same : (read : PlaceRead) → r.reading ≡ Some read → (z : PlaceRead) × (reading ≡ Some z) × (z.place ≡ read.place))
+    (reading_was : (read : PlaceRead) → reading ≡ Some read → (z : PlaceRead) × (r.reading ≡ Some z) × (read.place ≡ z.place)) (held_same : HoldsBytes texts r.held → HoldsBytes texts held) where
   abbrev other : RangeState
   other = record r { until = until; metadata = metadata; log = log; rows = rows; blob_data = blob_data; reading = reading; gets = gets; held = held }
 
@@ -54,6 +49,13 @@ module _ (texts : ℕ → Bytes) (subject : ℕ) (run : Run) (v : RangeView) (r 
 
   log_same : ReadsLog v.history r → ReadsLog v.history other
   log_same h = record { said = h.said; made = h.made; fixed = h.fixed; idle = metadata_idle h.idle; none = h.none; rows = rows_same None h.rows; begins = subst (λ n. n ≤ (first_start r.said.regions).index) (sym log_base) h.begins }
+
+  -- a read of the same place is that of the page that is merged next
+  next_same : (control : Option CheckpointState) → ReadsNext r.reading control → ReadsNext reading control
+  next_same None next = tt
+  next_same (Some job) next = λ read place out first.
+      let old : (z : PlaceRead) × (r.reading ≡ Some z) × (read.place ≡ z.place) = reading_was read out in
+      old.2 ∙ next old.0 place old.1 first
 
   matches_same : (s : Serving) → Matches texts v s r → Matches texts v s other
   matches_same s m = record {
@@ -67,6 +69,7 @@ module _ (texts : ℕ → Bytes) (subject : ℕ) (run : Run) (v : RangeView) (r 
     ordered = m.ordered;
     named = m.named;
     rows = rows_same r.control m.rows;
+    reads = next_same r.control m.reads;
   }
 
   stage_same : (stage : Stage) → StageIs texts run v r stage → StageIs texts run v other stage
@@ -87,11 +90,11 @@ module _ (texts : ℕ → Bytes) (subject : ℕ) (run : Run) (v : RangeView) (r 
 
   -- the end of the lease, what the clients know, the other streams and the Gets may be others
   pub same_kept : RangeKept texts subject run v r → RangeKept texts subject run v other
-  same_kept kept = record { range = kept.range; phase = kept.phase; sound = kept.sound; stage = stage_same r.stage kept.stage }
+  same_kept kept = record { range = kept.range; phase = kept.phase; sound = kept.sound; stage = stage_same r.stage kept.stage; held = held_same kept.held }
 
 -- the lease of a range is renewed
 pub renewed_kept : (texts : ℕ → Bytes) (subject : ℕ) (run : Run) (v : RangeView) (r : RangeState) → RangeKept texts subject run v r → (until : ℕ) → RangeKept texts subject run v (record r { until = until })
-renewed_kept texts subject run v r kept until = same_kept texts subject run v r until r.metadata r.log r.rows r.blob_data r.reading r.gets r.held (λ e. e) (λ e. e) refl (λ control a. a) (λ read e. (read, e, refl)) kept
+renewed_kept texts subject run v r kept until = same_kept texts subject run v r until r.metadata r.log r.rows r.blob_data r.reading r.gets r.held (λ e. e) (λ e. e) refl (λ control a. a) (λ read e. (read, e, refl)) (λ read e. (read, e, refl)) (λ h. h) kept
 
 -- a range whose load begins
 pub new_kept : (texts : ℕ → Bytes) (subject : ℕ) (run : Run) (v : RangeView) (d : ServerContext) → v.history ≡ first_history → (generation until : ℕ) → RangeKept texts subject run v (new_range d subject generation until)
@@ -101,6 +104,7 @@ new_kept texts subject run v d first generation until =
       phase = (request d, refl);
       sound = new_sound d subject generation until;
       stage = record { metadata = ap (λ h. h.reads kinds.Metadata) first; log = ap (λ h. h.reads kinds.Log) first; live = refl; fixed = refl; none = refl; indexes = refl; rows = refl };
+      held = tt;
     }
 
 -- ---- a step that shows nothing
@@ -127,53 +131,40 @@ calm_kept texts subject run v r o streams quiet kept anew = record {
 module _ (texts : ℕ → Bytes) (subject : ℕ) (run : Run) (v : RangeView) (r : RangeState) (kept : RangeKept texts subject run v r) (streams : StreamsKept texts run v) (d : ServerContext) where
   -- nothing is done with a stream, and the range stays at its stage
   pub rests_kept : (until : ℕ) (metadata log : ClientState) (gets : List WaitingGet) (held : List (Place × List ℕ)) (count : ℕ) (packets : List Packet) →
-      (r.metadata.job ≡ jobs.Idle → metadata.job ≡ jobs.Idle) → (r.log.job ≡ jobs.Idle → log.job ≡ jobs.Idle) → log.base ≡ r.log.base →
+      (r.metadata.job ≡ jobs.Idle → metadata.job ≡ jobs.Idle) → (r.log.job ≡ jobs.Idle → log.job ≡ jobs.Idle) → log.base ≡ r.log.base → (HoldsBytes texts r.held → HoldsBytes texts held) →
       StepKept texts subject run v r []
       (record { after = Some (record r { until = until; metadata = metadata; log = log; gets = gets; held = held }); count = count; packets = packets; notes = [] })
-  rests_kept until metadata log gets held count packets metadata_idle log_idle log_base =
+  rests_kept until metadata log gets held count packets metadata_idle log_idle log_base held_same =
       calm_kept texts subject run v r
       (record { after = Some (record r { until = until; metadata = metadata; log = log; gets = gets; held = held }); count = count; packets = packets; notes = [] })
-      streams refl (same_kept texts subject run v r until metadata log r.rows r.blob_data r.reading gets held metadata_idle log_idle log_base (λ control a. a) (λ read e. (read, e, refl)) kept, refl) (λ serves. inl serves)
+      streams refl (same_kept texts subject run v r until metadata log r.rows r.blob_data r.reading gets held metadata_idle log_idle log_base (λ control a. a) (λ read e. (read, e, refl)) (λ read e. (read, e, refl)) held_same kept, refl) (λ serves. inl serves)
 
   gets_kept : (from : ActorId) (q : ReqNo) (key : List ℕ) (fault : Option Refusal) → StepKept texts subject run v r [] (gets d r from q key fault)
-  gets_kept from q key (Some refusal) = rests_kept r.until r.metadata r.log r.gets r.held _ _ (λ e. e) (λ e. e) refl
-  gets_kept from q key None = rests_kept r.until r.metadata r.log _ _ _ _ (λ e. e) (λ e. e) refl
+  gets_kept from q key (Some refusal) = rests_kept r.until r.metadata r.log r.gets r.held _ _ (λ e. e) (λ e. e) refl (λ h. h)
+  gets_kept from q key None = rests_kept r.until r.metadata r.log _ _ _ _ (λ e. e) (λ e. e) refl (holds_used texts r.held r.indexes key (standing r key))
 
   -- a Get
   pub get_kept : (from : ActorId) (q : ReqNo) (key : List ℕ) → StepKept texts subject run v r [] (get_rule d r from q key)
   get_kept from q key = gets_kept from q key (get_fault d r key)
 
-  bytes_kept : (w : ReqNo) (body : ReadBody) → StepKept texts subject run v r [] (bytes_reply d r w body)
-  bytes_kept w (reads.Bytes n e offset bytes) =
-      if_elim (λ o. StepKept texts subject run v r [] o) (are_no_page (read_at r.gets w) bytes) _ _
-      (λ t. rests_kept r.until r.metadata r.log r.gets r.held _ _ (λ e. e) (λ e. e) refl)
-      (λ f. rests_kept r.until r.metadata r.log _ _ _ _ (λ e. e) (λ e. e) refl)
-  bytes_kept w body = rests_kept r.until r.metadata r.log r.gets r.held _ _ (λ e. e) (λ e. e) refl
-
   -- a range of an old generation is dropped
   pub dropped_kept : StepKept texts subject run v r [] (dropped d r)
   dropped_kept = calm_kept texts subject run v r (dropped d r) streams refl tt tt
 
-  refused_kept : (body : AppendBody) → StepKept texts subject run v r [] (load_refused d r body)
-  refused_kept (appends.Refused n refusals.Stale) = dropped_kept
-  refused_kept body = rests_kept r.until r.metadata r.log r.gets r.held _ _ (λ e. e) (λ e. e) refl
-
-  -- an answer to a Get's read
-  pub gets_reply_kept : (w : ReqNo) (body : Body) → StepKept texts subject run v r [] (gets_reply d r w body)
-  gets_reply_kept w (bodies.Read body) = bytes_kept w body
-  gets_reply_kept w (bodies.Append body) = refused_kept body
-  gets_reply_kept w body = rests_kept r.until r.metadata r.log r.gets r.held _ _ (λ e. e) (λ e. e) refl
-
   -- a read that goes to another place is one of the same bytes
   moved : (reading : Option PlaceRead) (read : PlaceRead) → reading ≡ Some read → (z : PlaceRead) × (option_map moved_on reading ≡ Some z) × (z.place ≡ read.place)
   moved reading read e = (moved_on read, ap (option_map moved_on) e, refl)
+
+  was_moved : (reading : Option PlaceRead) (read : PlaceRead) → option_map moved_on reading ≡ Some read → (z : PlaceRead) × (reading ≡ Some z) × (read.place ≡ z.place)
+  was_moved None read e = absurd cc
+  was_moved (Some z) read e = let same : moved_on z ≡ read = cc in (z, refl, ap (λ (x : PlaceRead). x.place) (sym same))
 
   -- the jobs of the range give up
   pub give_up_kept : StepKept texts subject run v r [] (give_up_all d r)
   give_up_kept =
       calm_kept texts subject run v r (give_up_all d r) streams refl (
         same_kept texts subject run v r r.until _ _ _ r.blob_data _ _ r.held (idle_gives_up (picking d r.metadata) (request (used d)) d.pick) (idle_gives_up (picking d r.log) (request d) d.pick)
-            (base_given_up (picking d r.log) (request d) r.log.job) (give_up_appends (picking d r.rows) (request (used (used d))) d.pick) (moved r.reading) kept,
+            (base_given_up (picking d r.log) (request d) r.log.job) (give_up_appends (picking d r.rows) (request (used (used d))) d.pick) (moved r.reading) (was_moved r.reading) (λ h. h) kept,
         refl,
       )
       (λ serves. inl serves)

@@ -8,10 +8,10 @@ use Rattle.client.specs.Load.{load_awaits}
 use Rattle.model_partition.specs.declared.server_context.ServerContext.{ServerContext}
 use Rattle.model_partition.specs.Past.{Bytes}
 use Rattle.model_partition.specs.Range.{RangeState, RangeOutcome, is_serving}
-use Rattle.model_partition.specs.PlaceReads.{reads_under}
-use Rattle.model_partition.specs.Answering.{load_reply, log_reply, is_taken, answer_rule, metadata_reply, index_reply, trim_reply, gets_reply}
+use Rattle.model_partition.specs.PlaceReads.{reads_under, reads_page}
+use Rattle.model_partition.specs.Answering.{load_reply, log_reply, is_taken, answer_rule, metadata_reply, index_reply, page_reply, trim_reply, gets_reply}
 use Rattle.model_partition.specs.Checkpoints.{rows_reply, trim_awaits}
-use Rattle.model_partition.specs.StreamActions.{StreamAction, load_actions, log_actions, metadata_actions, rows_actions, index_actions, answer_actions}
+use Rattle.model_partition.specs.StreamActions.{StreamAction, load_actions, log_actions, metadata_actions, rows_actions, bytes_actions, answer_actions}
 use Rattle.laws_loads.specs.RangeView.{RangeView, view_after_all}
 use Rattle.laws_tables.specs.Runs.{Run}
 use Rattle.laws_server_runs.specs.RangeInvariant.{Serves, InOrder, RangeKept, StreamsKept, StepKept}
@@ -20,10 +20,9 @@ use Rattle.laws_server_runs.proofs.CheckpointKept.{leaves_kept, leaves_queue, un
 use Rattle.laws_server_runs.proofs.CheckpointReplies.{rows_reply_step}
 use Rattle.laws_server_runs.proofs.CheckpointSteps.{trim_step}
 use Rattle.laws_server_runs.proofs.ServedNotes.{serves_of}
-use Rattle.laws_server_runs.proofs.Loads.{gets_reply_kept}
 use Rattle.laws_server_runs.proofs.ClientAnswers.{busy}
 use Rattle.laws_server_runs.proofs.Fronts.{order_before_actions}
-use Rattle.laws_server_runs.proofs.IndexRead.{index_reply_kept}
+use Rattle.laws_server_runs.proofs.IndexRead.{index_reply_kept, page_reply_kept, gets_reply_kept}
 use Rattle.laws_server_runs.proofs.LoadsAnswers.{metadata_kept, log_loading_kept}
 
 module _ (texts : ℕ → Bytes) (subject : ℕ) (run : Run) (v : RangeView) (r : RangeState) (kept : RangeKept texts subject run v r) (streams : StreamsKept texts run v) (d : ServerContext) where
@@ -37,11 +36,6 @@ module _ (texts : ℕ → Bytes) (subject : ℕ) (run : Run) (v : RangeView) (r 
     log_answer : awaits r.log.job w ≡ true → (t : Bool) → is_serving r.stage ≡ t → KeptBy (λ o. if is_taken r body then log_actions d r body o else []) (log_reply d r body)
     log_answer waited true e = λ order. serving e waited
     log_answer waited false e = λ order. log_loading_kept texts subject run v r kept streams d e w body waited
-
-    -- nothing is done with a stream
-    nothing : (b : Bool) (o : RangeOutcome) → StepKept texts subject run v r [] o → StepKept texts subject run v r (if b then [] else []) o
-    nothing true o h = h
-    nothing false o h = h
 
     metadata_answer : awaits r.metadata.job w ≡ true → KeptBy (λ o. metadata_actions d r body) (metadata_reply d r body)
     metadata_answer waited order =
@@ -66,23 +60,24 @@ module _ (texts : ℕ → Bytes) (subject : ℕ) (run : Run) (v : RangeView) (r 
     trim_answer waited false e =
         let none : trim_awaits None w ≡ true = subst (λ job. trim_awaits job w ≡ true) (unserved_none texts run v r r.stage kept.stage e) waited in absurd cc
 
-    abbrev chosen : Bool → Bool → Bool → Bool → Bool → Bool → RangeOutcome
-    chosen a b c e f g =
+    abbrev chosen : Bool → Bool → Bool → Bool → Bool → Bool → Bool → RangeOutcome
+    chosen a b c e f p g =
         if a then load_reply d r body else if b then metadata_reply d r body else if c then log_reply d r body
-        else if e then rows_reply d r body else if f then index_reply d r body else if g then trim_reply d r body else gets_reply d r w body
+        else if e then rows_reply d r body else if f then (if p then page_reply d r body else index_reply d r body) else if g then trim_reply d r body else gets_reply d r w body
 
-    answered : (a b c e f g : Bool) → load_awaits r.load.phase w ≡ a → awaits r.metadata.job w ≡ b → awaits r.log.job w ≡ c → awaits r.rows.job w ≡ e → trim_awaits r.control w ≡ g →
-        KeptBy (λ o. if a then load_actions r body else if b then metadata_actions d r body else if c then (if is_taken r body then log_actions d r body o else []) else if e then rows_actions d r body else if f then index_actions body else [])
-        (chosen a b c e f g)
-    answered true b c e f g x y z u t = load x
-    answered false true c e f g x y z u t = metadata_answer y
-    answered false false true e f g x y z u t = log_answer z (is_serving r.stage) refl
-    answered false false false true f g x y z u t = rows_answer u (is_serving r.stage) refl
-    answered false false false false true g x y z u t = index_reply_kept texts subject run v r kept streams d body
-    answered false false false false false true x y z u t = trim_answer t (is_serving r.stage) refl
-    answered false false false false false false x y z u t = λ order. nothing (is_some (gets_reply d r w body).after) (gets_reply d r w body) (gets_reply_kept texts subject run v r kept streams d w body)
+    answered : (a b c e f p g : Bool) → load_awaits r.load.phase w ≡ a → awaits r.metadata.job w ≡ b → awaits r.log.job w ≡ c → awaits r.rows.job w ≡ e → trim_awaits r.control w ≡ g →
+        KeptBy (λ o. if a then load_actions r body else if b then metadata_actions d r body else if c then (if is_taken r body then log_actions d r body o else []) else if e then rows_actions d r body else if f then bytes_actions body else if g then [] else bytes_actions body)
+        (chosen a b c e f p g)
+    answered true b c e f p g x y z u t = load x
+    answered false true c e f p g x y z u t = metadata_answer y
+    answered false false true e f p g x y z u t = log_answer z (is_serving r.stage) refl
+    answered false false false true f p g x y z u t = rows_answer u (is_serving r.stage) refl
+    answered false false false false true true g x y z u t = page_reply_kept texts subject run v r kept streams d body
+    answered false false false false true false g x y z u t = index_reply_kept texts subject run v r kept streams d body
+    answered false false false false false p true x y z u t = trim_answer t (is_serving r.stage) refl
+    answered false false false false false p false x y z u t = gets_reply_kept texts subject run v r kept streams d w body
 
     -- an answer, where that of the opening or the confirmation and that of a served range's log are kept
     pub answer_kept : InOrder texts (view_after_all r.load.generation v (answer_actions d r w body (answer_rule d r w body))) → StepKept texts subject run v r (answer_actions d r w body (answer_rule d r w body)) (answer_rule d r w body)
     answer_kept =
-        answered (load_awaits r.load.phase w) (awaits r.metadata.job w) (awaits r.log.job w) (awaits r.rows.job w) (reads_under r.reading w) (trim_awaits r.control w) refl refl refl refl refl
+        answered (load_awaits r.load.phase w) (awaits r.metadata.job w) (awaits r.log.job w) (awaits r.rows.job w) (reads_under r.reading w) (reads_page r.reading) (trim_awaits r.control w) refl refl refl refl refl

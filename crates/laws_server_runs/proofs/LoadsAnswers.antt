@@ -73,13 +73,13 @@ module _ (texts : ℕ → Bytes) (subject : ℕ) (run : Run) (v : RangeView) (r 
   module _ (w : ReqNo) (waited : awaits r.metadata.job w ≡ true) (groups : List Group) (packets : List Packet) (c : ClientState) where
     metadata_rests : (count : ℕ) → StepKept texts subject run v r [] (record { after = Some (record r { metadata = c }); count = count; packets = packets; notes = [] })
     metadata_rests count =
-        rests_kept texts subject run v r kept streams d r.until c r.log r.gets r.held count packets (λ idle. absurd (busy r.metadata.job w waited idle)) (λ idle. idle) refl
+        rests_kept texts subject run v r kept streams d r.until c r.log r.gets r.held count packets (λ idle. absurd (busy r.metadata.job w waited idle)) (λ idle. idle) refl (λ h. h)
 
     -- the next extent is read, or the log
     metadata_next : r.load.phase ≡ phases.Opened → ReadsMetadata v.history r → c.job ≡ jobs.Idle → (position : ℕ) → NoneRead (reads_metadata d (record r { metadata = c }) position)
     metadata_next opened s idle position =
         reads_metadata_left texts subject run v r streams d [] v.history v.shown refl (record r { metadata = c })
-        (record { range = kept.range; generation = refl; opened = opened; sound = kept.sound })
+        (record { range = kept.range; generation = refl; opened = opened; sound = kept.sound; held = kept.held })
         (record { said = s.said; log = s.log; live = s.live; fixed = s.fixed; idle = s.idle; none = s.none; indexes = s.indexes; rows = s.rows }) idle position
 
     metadata_read : r.load.phase ≡ phases.Opened → ReadsMetadata v.history r → c.job ≡ jobs.Idle → (position index extent : ℕ) (x : Option MetadataState) → said_after r.said groups ≡ x →
@@ -91,7 +91,7 @@ module _ (texts : ℕ → Bytes) (subject : ℕ) (run : Run) (v : RangeView) (r 
         reads_metadata_left texts subject run v r streams d (Reads kinds.Metadata (record { index = index; extent = extent; groups = groups }) ∷ [])
         (one_more_read v.history kinds.Metadata (record { index = index; extent = extent; groups = groups })) v.shown refl
         (record r { metadata = c; said = said })
-        (record { range = kept.range; generation = refl; opened = opened; sound = kept.sound })
+        (record { range = kept.range; generation = refl; opened = opened; sound = kept.sound; held = kept.held })
         (record {
           said = said_both first_metadata (groups_read (v.history.reads kinds.Metadata)) groups ∙ ap (λ x. x >>= λ z. said_after z groups) s.said ∙ e;
           log = s.log;
@@ -155,13 +155,13 @@ module _ (texts : ℕ → Bytes) (subject : ℕ) (run : Run) (v : RangeView) (r 
   module _ (w : ReqNo) (waited : awaits r.log.job w ≡ true) (groups : List Group) (packets : List Packet) (c : ClientState) where
     log_rests : c.base ≡ r.log.base → (count : ℕ) → StepKept texts subject run v r [] (record { after = Some (record r { log = c }); count = count; packets = packets; notes = [] })
     log_rests base count =
-        rests_kept texts subject run v r kept streams d r.until r.metadata c r.gets r.held count packets (λ idle. idle) (λ idle. absurd (busy r.log.job w waited idle)) base
+        rests_kept texts subject run v r kept streams d r.until r.metadata c r.gets r.held count packets (λ idle. idle) (λ idle. absurd (busy r.log.job w waited idle)) base (λ h. h)
 
     abbrev now : RangeState
     now = record r { log = c }
 
     is_loading : r.load.phase ≡ phases.Opened → IsLoading texts subject run v r streams d [] v.history v.shown refl now
-    is_loading opened = record { range = kept.range; generation = refl; opened = opened; sound = kept.sound }
+    is_loading opened = record { range = kept.range; generation = refl; opened = opened; sound = kept.sound; held = kept.held }
 
     log_same : c.base ≡ r.log.base → ReadsLog v.history r → ReadsLog v.history now
     log_same base s =
@@ -193,7 +193,7 @@ module _ (texts : ℕ → Bytes) (subject : ℕ) (run : Run) (v : RangeView) (r 
       log_replayed opened s none base (Some x) e =
           reads_log_left texts subject run v r streams d (Reads kinds.Log read ∷ []) (one_more_read v.history kinds.Log read) v.shown refl
           (record r { log = c; regions = x.0; live = x.1 })
-          (record { range = kept.range; generation = refl; opened = opened; sound = kept.sound })
+          (record { range = kept.range; generation = refl; opened = opened; sound = kept.sound; held = kept.held })
           (record {
             said = s.said;
             made = ap (λ y. y >>= λ z. replayed_from r.log.base z) s.made ∙ ap (λ n. replayed_from n (r.regions, r.live)) (sym base) ∙ e;
@@ -255,7 +255,7 @@ module _ (texts : ℕ → Bytes) (subject : ℕ) (run : Run) (v : RangeView) (r 
 
     replied_kept : is_serving r.stage ≡ false → (t : Bool) → StepKept texts subject run v r (if is_some (replied t).after then (if t then log_actions d r body (replied t) else []) else []) (replied t)
     replied_kept unserved true = taken_kept (is_serving r.stage) unserved
-    replied_kept unserved false = rests_kept texts subject run v r kept streams d r.until r.metadata r.log r.gets r.held d.count [] (λ idle. idle) (λ idle. idle) refl
+    replied_kept unserved false = rests_kept texts subject run v r kept streams d r.until r.metadata r.log r.gets r.held d.count [] (λ idle. idle) (λ idle. idle) refl (λ h. h)
 
   -- an answer to the log's client of a range that is not served yet
   pub log_loading_kept : is_serving r.stage ≡ false → (w : ReqNo) (body : Body) → awaits r.log.job w ≡ true →

@@ -36,7 +36,7 @@ use Rattle.model_partition.specs.IndexContents.{bytes_in}
 use Rattle.model_partition.specs.Loading.{read_of}
 use Rattle.model_partition.specs.Range.{given, picking}
 use Rattle.model_partition.specs.StreamActions.{PlacedBytes, first_start}
-use Rattle.laws_checkpoints.specs.ShownTables.{AreInstalled}
+use Rattle.laws_checkpoints.specs.ShownTables.{AreInstalled, HoldsBytes}
 use Rattle.laws_server_runs.proofs.ClientAnswers.{check_base, read_base}
 use Rattle.laws_server_runs.proofs.IndexOrder.{all_read, next_read, none_read}
 use Rattle.laws_server_runs.proofs.Loads.{silent_seen}
@@ -100,6 +100,7 @@ module _ (texts : ℕ → Bytes) (subject : ℕ) (run : Run) (v : RangeView) (r 
     pub generation : s.load.generation ≡ r.load.generation
     pub opened : s.load.phase ≡ phases.Opened
     pub sound : IsSound s
+    pub held : HoldsBytes texts s.held
 
   -- ---- the log
 
@@ -110,6 +111,7 @@ module _ (texts : ℕ → Bytes) (subject : ℕ) (run : Run) (v : RangeView) (r 
     range = b.range;
     phase = b.opened;
     sound = b.sound;
+    held = b.held;
     stage = (record { said = reads.said; made = reads.made; fixed = reads.fixed; idle = reads.idle; none = reads.none; rows = reads.rows; begins = subst (λ n. n ≤ (first_start s.said.regions).index) (sym base) reads.begins }, none);
   }
 
@@ -118,13 +120,14 @@ module _ (texts : ℕ → Bytes) (subject : ℕ) (run : Run) (v : RangeView) (r 
     range = b.range;
     phase = b.opened;
     sound = b.sound;
+    held = b.held;
     stage = (record { said = reads.said; made = reads.made; fixed = reads.fixed; idle = reads.idle; none = reads.none; rows = reads.rows; begins = subst (λ n. n ≤ (first_start s.said.regions).index) (sym base) reads.begins }, none);
   }
 
   confirms_left : (s : RangeState) → IsLoading s → HasReadAll texts h s → Left (confirms d s)
   confirms_left s b reads =
       goes_left (record s { stage = stages.Confirming; load = record s.load { phase = phases.Confirming (request d) } }) _ _
-      (record { range = b.range; phase = (request d, refl); sound = b.sound; stage = record { log = record { said = reads.log.said; made = reads.log.made; fixed = reads.log.fixed; idle = reads.log.idle; none = reads.log.none; rows = reads.log.rows; begins = reads.log.begins }; installed = reads.installed } })
+      (record { range = b.range; phase = (request d, refl); sound = b.sound; held = b.held; stage = record { log = record { said = reads.log.said; made = reads.log.made; fixed = reads.log.fixed; idle = reads.log.idle; none = reads.log.none; rows = reads.log.rows; begins = reads.log.begins }; installed = reads.installed } })
       b.generation (λ z. absurd cc)
 
   -- an index is asked for
@@ -138,13 +141,14 @@ module _ (texts : ℕ → Bytes) (subject : ℕ) (run : Run) (v : RangeView) (r 
         range = b.range;
         phase = b.opened;
         sound = b.sound;
+        held = b.held;
         stage = (record { log = record { said = reads.log.said; made = reads.log.made; fixed = reads.log.fixed; idle = reads.log.idle; none = reads.log.none; rows = reads.log.rows; begins = reads.log.begins }; installed = reads.installed }, record { read = read; named = index; out = refl; next = is; place = refl });
       })
       b.generation (λ z. absurd cc)
 
   reads_named_left : (s : RangeState) → IsLoading s → (position : ℕ) → ReadsIndexes texts h s position → (named : Option IndexRange) → index_named s.said.indexes position ≡ named → Left (reads_named d s position named)
   reads_named_left s b position reads None is =
-      confirms_left (record s { reading = None }) (record { range = b.range; generation = b.generation; opened = b.opened; sound = b.sound })
+      confirms_left (record s { reading = None }) (record { range = b.range; generation = b.generation; opened = b.opened; sound = b.sound; held = b.held })
       (record { log = record { said = reads.log.said; made = reads.log.made; fixed = reads.log.fixed; idle = reads.log.idle; none = reads.log.none; rows = reads.log.rows; begins = reads.log.begins }; installed = subst (AreInstalled texts s.indexes) (all_read s.said.indexes position is) reads.installed })
   reads_named_left s b position reads (Some index) is = asks_index_left s b position reads index is (places_of s index.place.extent)
 
@@ -156,7 +160,7 @@ module _ (texts : ℕ → Bytes) (subject : ℕ) (run : Run) (v : RangeView) (r 
       ((one : IndexRange) → named ≡ Some one → index_at (bytes_in texts one.place) ≡ index) → Left (installs d s position named index)
   installs_left s b position reads (Some named) is (Some index) stands =
       reads_index_left (record s { indexes = record { place = named.place; keys = named.keys; index = index } ∷ s.indexes })
-      (record { range = b.range; generation = b.generation; opened = b.opened; sound = b.sound }) (suc position)
+      (record { range = b.range; generation = b.generation; opened = b.opened; sound = b.sound; held = b.held }) (suc position)
       (record {
         log = record { said = reads.log.said; made = reads.log.made; fixed = reads.log.fixed; idle = reads.log.idle; none = reads.log.none; rows = reads.log.rows; begins = reads.log.begins };
         installed = subst (AreInstalled texts (record { place = named.place; keys = named.keys; index = index } ∷ s.indexes)) (sym (next_read s.said.indexes position named is))
@@ -190,7 +194,7 @@ module _ (texts : ℕ → Bytes) (subject : ℕ) (run : Run) (v : RangeView) (r 
   begins_log_left : (s : RangeState) → IsLoading s → ReadsMetadata h s → s.metadata.job ≡ jobs.Idle → Left (begins_log d s)
   begins_log_left s b reads idle =
       if_elim Left (is_some (open_region s.said.regions) && is_some (first_position s s.said.regions)) _ _
-      (λ t. checks_log_left (record s { regions = s.said.regions }) (record { range = b.range; generation = b.generation; opened = b.opened; sound = b.sound })
+      (λ t. checks_log_left (record s { regions = s.said.regions }) (record { range = b.range; generation = b.generation; opened = b.opened; sound = b.sound; held = b.held })
       (record {
         said = reads.said;
         made = made;
@@ -208,10 +212,10 @@ module _ (texts : ℕ → Bytes) (subject : ℕ) (run : Run) (v : RangeView) (r 
 
   -- a request of the metadata's client is out
   metadata_reads : (s : RangeState) → IsLoading s → (c : ClientState) → ReadsMetadata h s → (position : ℕ) → RangeKept texts subject run view (record s { stage = stages.Reading kinds.Metadata position; metadata = c })
-  metadata_reads s b c reads position = record { range = b.range; phase = b.opened; sound = b.sound; stage = record { said = reads.said; log = reads.log; live = reads.live; fixed = reads.fixed; idle = reads.idle; none = reads.none; indexes = reads.indexes; rows = reads.rows } }
+  metadata_reads s b c reads position = record { range = b.range; phase = b.opened; sound = b.sound; held = b.held; stage = record { said = reads.said; log = reads.log; live = reads.live; fixed = reads.fixed; idle = reads.idle; none = reads.none; indexes = reads.indexes; rows = reads.rows } }
 
   metadata_checks : (s : RangeState) → IsLoading s → (c : ClientState) → ReadsMetadata h s → RangeKept texts subject run view (record s { stage = stages.Checking kinds.Metadata; metadata = c })
-  metadata_checks s b c reads = record { range = b.range; phase = b.opened; sound = b.sound; stage = record { said = reads.said; log = reads.log; live = reads.live; fixed = reads.fixed; idle = reads.idle; none = reads.none; indexes = reads.indexes; rows = reads.rows } }
+  metadata_checks s b c reads = record { range = b.range; phase = b.opened; sound = b.sound; held = b.held; stage = record { said = reads.said; log = reads.log; live = reads.live; fixed = reads.fixed; idle = reads.idle; none = reads.none; indexes = reads.indexes; rows = reads.rows } }
 
   pub reads_metadata_left : (s : RangeState) → IsLoading s → ReadsMetadata h s → s.metadata.job ≡ jobs.Idle → (position : ℕ) → Left (reads_metadata d s position)
   reads_metadata_left s b reads idle position =
@@ -238,7 +242,7 @@ module _ (texts : ℕ → Bytes) (subject : ℕ) (run : Run) (v : RangeView) (r 
         blob_data = lists.blob_data;
         said = first_metadata;
       })
-      (record { range = b.range; generation = b.generation; opened = b.opened; sound = b.sound })
+      (record { range = b.range; generation = b.generation; opened = b.opened; sound = b.sound; held = b.held })
       (record {
         said = ap (λ read. said_after first_metadata (groups_read read)) nothing.metadata;
         log = nothing.log;
@@ -264,5 +268,5 @@ module _ (texts : ℕ → Bytes) (subject : ℕ) (run : Run) (v : RangeView) (r 
   pub opens_kept : r.stage ≡ stages.Opening → (lists : StreamLists) → StepKept texts subject run v r [] (opens d r lists)
   opens_kept opening lists =
       without_actions texts subject run v r (opens d r lists)
-      (opens_left texts subject run v r streams d [] v.history v.shown refl (record { range = kept.range; generation = refl; opened = refl; sound = kept.sound })
+      (opens_left texts subject run v r streams d [] v.history v.shown refl (record { range = kept.range; generation = refl; opened = refl; sound = kept.sound; held = kept.held })
       (subst (λ stage. StageIs texts run v r stage) opening kept.stage) lists)

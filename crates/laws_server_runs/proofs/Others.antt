@@ -90,6 +90,7 @@ module _ (texts : ℕ → Bytes) (subject : ℕ) where
       ordered = m.ordered;
       named = m.named;
       rows = m.rows;
+      reads = m.reads;
     }
 
     still_serves : (u.load.generation ≡ g → ⊥) → Serves texts run v u → Serves texts later v' u
@@ -116,4 +117,4 @@ module _ (texts : ℕ → Bytes) (subject : ℕ) where
   pub others_kept : (run later : Run) (v : RangeView) (u : RangeState) (v' : RangeView) → v'.history ≡ v.history → RangeKept texts subject run v u → (g : ℕ) → GoesOn g run later →
       IsLonger v.answered v'.answered → (is_serving u.stage ≡ true → u.load.generation ≡ g → ⊥) → RangeKept texts subject later v' u
   others_kept run later v u v' same k g goes longer apart =
-      record { range = k.range; phase = k.phase; sound = k.sound; stage = still_at run later v v' same g goes longer u u.stage apart k.stage }
+      record { range = k.range; phase = k.phase; sound = k.sound; stage = still_at run later v v' same g goes longer u u.stage apart k.stage; held = k.held }

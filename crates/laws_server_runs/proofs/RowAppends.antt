@@ -44,6 +44,7 @@ module _ (c next : ClientState) (leaves : Leaves c next) (idle : c.job ≡ jobs.
       on (inr as_before) = inr (as_before ∙ same)
 
   appends_phase : (job : CheckpointState) (phase : CheckpointPhase) → AppendsPhase c job phase → AppendsPhase next job phase
+  appends_phase job checkpoints.Combining a = idle a
   appends_phase job checkpoints.Pages a = appends_on _ a
   appends_phase job checkpoints.Index a = appends_on _ a
   appends_phase job (checkpoints.Record index) a = idle a
@@ -179,6 +180,7 @@ module _ (c : ClientState) (q : ReqNo) where
 
 -- a client that waits for nothing appends nothing else
 pub idle_phase : (c : ClientState) → c.job ≡ jobs.Idle → (job : CheckpointState) (phase : CheckpointPhase) → AppendsPhase c job phase
+idle_phase c idle job checkpoints.Combining = idle
 idle_phase c idle job checkpoints.Pages = inl idle
 idle_phase c idle job checkpoints.Index = inl idle
 idle_phase c idle job (checkpoints.Record index) = idle

@@ -26,7 +26,7 @@ module _ (texts : ℕ → Bytes) (subject : ℕ) (run : Run) (v : RangeView) (r 
       (λ serving waited. log_serving_kept texts subject run v r kept streams d serving w body waited) order
   rule_kept kept streams low actions o (Gets d from q key) order = get_kept texts subject run v r kept streams d from q key
   rule_kept kept streams low actions o (Yields d) order = give_up_kept texts subject run v r kept streams d
-  rule_kept kept streams low actions o (Checkpoints d may) order = checkpoint_kept texts subject run v r kept streams d may low
+  rule_kept kept streams low actions o (Checkpoints d combine may) order = checkpoint_kept texts subject run v r kept streams d combine may low
   rule_kept kept streams low actions o (Renews until count) order =
       calm_kept texts subject run v r (record { after = Some (record r { until = until }); count = count; packets = []; notes = [] }) streams refl
       (renewed_kept texts subject run v r kept until, refl) (λ e. inl e)

@@ -48,7 +48,7 @@ IsAny range = Unit {0}
 pub any_assigned : (event : ServerEvent) → AllAssigned IsAny event
 any_assigned (Takes s p) = λ range generation until from body. tt
 any_assigned (GivesUp s range pick) = tt
-any_assigned (Checkpoints s range) = tt
+any_assigned (Checkpoints s range combine) = tt
 any_assigned (Stops s call) = tt
 any_assigned (Starts s now batch) = tt
 any_assigned (Moment now) = tt
@@ -171,14 +171,14 @@ module _ (IsAssigned : ℕ → Type 0) (st : ServerState) where
           subst (λ z. Turn IsAssigned st RestsSo z) same (go r held (has_numbers (picked st pick).context))
 
   -- told to make a checkpoint
-  checkpoint_turn : (range : ℕ) → Turn IsAssigned st RestsSo (server_checkpoint st range)
-  checkpoint_turn range = by (range_of st.ranges range) refl (checkpoint_refusal st range) refl
+  checkpoint_turn : (range : ℕ) (combine : Bool) → Turn IsAssigned st RestsSo (server_checkpoint st range combine)
+  checkpoint_turn range combine = by (range_of st.ranges range) refl (checkpoint_refusal st range) refl
     where
-      begins : (r : RangeState) → range_of st.ranges range ≡ Some r → checkpoint_fault r ≡ None → (b : Bool) → Turn IsAssigned st RestsSo (if b then stepped st range (checkpoint_rule st.context r) else rests st)
-      begins r held may true = Calms range r held (checkpoint_rule st.context r) (BeginsCheckpoint st.context may) (stepped st range (checkpoint_rule st.context r)).after refl
+      begins : (r : RangeState) → range_of st.ranges range ≡ Some r → checkpoint_fault r ≡ None → (b : Bool) → Turn IsAssigned st RestsSo (if b then stepped st range (checkpoint_rule st.context r combine) else rests st)
+      begins r held may true = Calms range r held (checkpoint_rule st.context r combine) (BeginsCheckpoint st.context combine may) (stepped st range (checkpoint_rule st.context r combine)).after refl
       begins r held may false = rests_turn
 
-      by : (o : Option RangeState) → range_of st.ranges range ≡ o → (fault : Option Refusal) → checkpoint_refused o ≡ fault → Turn IsAssigned st RestsSo (if is_some fault then rests st else checkpoints_in st range o)
+      by : (o : Option RangeState) → range_of st.ranges range ≡ o → (fault : Option Refusal) → checkpoint_refused o ≡ fault → Turn IsAssigned st RestsSo (if is_some fault then rests st else checkpoints_in st range combine o)
       by o held (Some why) e = rests_turn
       by None held None e = rests_turn
       by (Some r) held None e = begins r held e (has_numbers st.context)
@@ -247,17 +247,17 @@ module _ (IsAssigned : ℕ → Type 0) (x : ServerRun) where
       go None at = nobody
       go (Some cell) at = by_state cell at cell.state refl
 
-  checkpoints_step : (s range : ℕ) → RunStep IsAssigned x (outcome_of x.servers (Checkpoints s range)).notes (after_event x (Checkpoints s range))
-  checkpoints_step s range = go (entry_at x.servers s) refl
+  checkpoints_step : (s range : ℕ) (combine : Bool) → RunStep IsAssigned x (outcome_of x.servers (Checkpoints s range combine)).notes (after_event x (Checkpoints s range combine))
+  checkpoints_step s range combine = go (entry_at x.servers s) refl
     where
       by_state : (cell : ServerCell) → entry_at x.servers s ≡ Some cell → (o : Option ServerState) → cell.state ≡ o →
-          RunStep IsAssigned x (cell_checkpoints cell range o).notes (with_outcome x
-          (record { servers = slice_set x.servers (s - 1) (cell_checkpoints cell range o).cell; packets = (cell_checkpoints cell range o).packets; notes = (cell_checkpoints cell range o).notes }))
+          RunStep IsAssigned x (cell_checkpoints cell range combine o).notes (with_outcome x
+          (record { servers = slice_set x.servers (s - 1) (cell_checkpoints cell range combine o).cell; packets = (cell_checkpoints cell range combine o).packets; notes = (cell_checkpoints cell range combine o).notes }))
       by_state cell at None is = one_keeps s cell at cell (same_cell cell)
-      by_state cell at (Some st) is = Turns s cell st at is RestsSo (server_checkpoint st range) (checkpoint_turn IsAssigned st range)
+      by_state cell at (Some st) is = Turns s cell st at is RestsSo (server_checkpoint st range combine) (checkpoint_turn IsAssigned st range combine)
 
       go : (o : Option ServerCell) → entry_at x.servers s ≡ o →
-          RunStep IsAssigned x (at_server x.servers s (λ cell. cell_checkpoints cell range cell.state) o).notes (with_outcome x (at_server x.servers s (λ cell. cell_checkpoints cell range cell.state) o))
+          RunStep IsAssigned x (at_server x.servers s (λ cell. cell_checkpoints cell range combine cell.state) o).notes (with_outcome x (at_server x.servers s (λ cell. cell_checkpoints cell range combine cell.state) o))
       go None at = nobody
       go (Some cell) at = by_state cell at cell.state refl
 
@@ -307,7 +307,7 @@ module _ (IsAssigned : ℕ → Type 0) (x : ServerRun) where
   pub event_step : (event : ServerEvent) → AllAssigned IsAssigned event → RunStep IsAssigned x (outcome_of x.servers event).notes (after_event x event)
   event_step (Takes s p) assigned = takes_step s p assigned
   event_step (GivesUp s range pick) assigned = gives_up_step s range pick
-  event_step (Checkpoints s range) assigned = checkpoints_step s range
+  event_step (Checkpoints s range combine) assigned = checkpoints_step s range combine
   event_step (Stops s call) assigned = stops_step s call
   event_step (Starts s now batch) assigned = starts_step s now batch
   event_step (Moment now) assigned = Passes (map (told_moment now) x.servers) (moment_like now)

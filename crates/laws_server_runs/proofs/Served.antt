@@ -145,7 +145,7 @@ module _ (texts : ℕ → Bytes) (subject : ℕ) (run : Run) (v : RangeView) (r 
     pushed_kept : transact_fault d r changes ≡ None → RangeKept texts subject run v pushed
     pushed_kept e =
         let serving : is_serving r.stage ≡ true = taken_served d r changes e in
-        kept_served texts subject run run v v r pushed kept serving refl refl (pushed_sound d r from q changes e kept.sound) (pushed_serves serving)
+        kept_served texts subject run run v v r pushed kept serving refl refl refl (pushed_sound d r from q changes e kept.sound) (pushed_serves serving)
 
     -- it goes to the queue, and a group is formed where none is out
     taken_kept : (x : Option OutGroup) → r.out ≡ x → transact_fault d r changes ≡ None → StepKept texts subject run v r (if is_some x then [] else formed (forms d pushed).after) (forms d pushed)
@@ -177,7 +177,7 @@ module _ (texts : ℕ → Bytes) (subject : ℕ) (run : Run) (v : RangeView) (r 
     now = record r { log = c }
 
     now_kept : RangeKept texts subject run v now
-    now_kept = kept_served texts subject run run v v r now kept serving refl refl kept.sound (serves_with texts subject run v r c r.queue (serves_of texts subject run v r serving kept))
+    now_kept = kept_served texts subject run run v v r now kept serving refl refl refl kept.sound (serves_with texts subject run v r c r.queue (serves_of texts subject run v r serving kept))
 
     -- news that tell nothing of the group
     still_kept : (packets : List Packet) → StepKept texts subject run v r [] (goes d now packets [])

@@ -103,6 +103,7 @@ module _ (texts : ℕ → Bytes) (subject : ℕ) where
       ordered = k.matches.ordered;
       named = k.matches.named;
       rows = k.matches.rows;
+      reads = k.matches.reads;
     }
 
     formed_serves : StreamsKept texts run v → Serves texts formed_run formed_view formed_range
@@ -130,7 +131,7 @@ module _ (texts : ℕ → Bytes) (subject : ℕ) where
         goes = Adds _ run Rests refl;
         alone = inr (inl serving);
         kept = (
-          kept_served texts subject run (formed_run run v r k n is c) v (formed_view run v r k n is c) r (formed_range run v r k n is c) kept serving refl refl (appends_sound d r n kept.sound is)
+          kept_served texts subject run (formed_run run v r k n is c) v (formed_view run v r k n is c) r (formed_range run v r k n is c) kept serving refl refl refl (appends_sound d r n kept.sound is)
               (formed_serves run v r k n is c streams),
           refl,
         );

@@ -21,7 +21,7 @@ use Rattle.laws_loads.specs.RangeView.{RangeView}
 use Rattle.laws_loads.specs.Sound.{OutFits}
 use Rattle.laws_tables.specs.Layers.{Layer, over, flat, indexed}
 use Rattle.laws_tables.specs.Runs as chains
-use Rattle.laws_tables.specs.Runs.{NotedPosition, Run, Serving, items_out, first_beginning, held, noted_next, noting, said, ShowsLayers, IsServing}
+use Rattle.laws_tables.specs.Runs.{NotedPosition, Run, Serving, items_out, first_beginning, held, noted_next, said, ShowsLayers, IsServing}
 use Rattle.laws_tables.specs.Through.{OutAppend, HasLine}
 use Rattle.laws_tables.proofs.Final.{first_begins, first_behind}
 use Rattle.laws_tables.proofs.Holds.{HoldsRightly, NumberIs}
@@ -47,10 +47,11 @@ module _ (texts : ℕ → Bytes) where
     noted_is job h = ap (λ e. newer_layer texts e key) h.entries ∙ h.layer all key
 
     phase_is : (job : CheckpointState) (phase : CheckpointPhase) → HoldsPhase texts c job phase → FixedIs
-    phase_is job checkpoints.Pages h = noted_is job h.0
-    phase_is job checkpoints.Index h = noted_is job h.0
-    phase_is job (checkpoints.Record index) h = noted_is job h.noted
-    phase_is job (checkpoints.Trim before to_blob q) h = none_is h
+    phase_is job checkpoints.Combining h = noted_is job h.noted
+    phase_is job checkpoints.Pages h = noted_is job h.0.noted
+    phase_is job checkpoints.Index h = noted_is job h.0.noted
+    phase_is job (checkpoints.Record index) h = noted_is job h.writes.noted
+    phase_is job (checkpoints.Trim before to_blob q) h = none_is h.0
 
     -- it is what the run says, whatever is under way
     pub fixed_is : (control : Option CheckpointState) → HoldsCheckpoint texts c control → FixedIs

@@ -21,6 +21,7 @@ use Rattle.laws_loads.specs.Sound.{IsSound}
 use Rattle.laws_loads.specs.RangeView.{RangeView, view_after, view_after_all}
 use Rattle.laws_tables.specs.Runs as chains
 use Rattle.laws_tables.specs.Runs.{Run, first_beginning, held, seen}
+use Rattle.laws_checkpoints.specs.ShownTables.{HoldsBytes}
 use Rattle.laws_server_runs.specs.RangeInvariant.{Matches, Serves, PhaseIs, StageIs, RangeKept, StreamsKept, AreObserved, GoesOn, Rests, Adds, KeptIf, ServesAnew, StepKept}
 
 -- a number is itself
@@ -80,13 +81,14 @@ module _ (texts : ℕ → Bytes) (subject : ℕ) where
   serves_of run v r serving k = (served_stage run v r r.stage serving).0 k.stage
 
   -- it keeps what it keeps where it is served still
-  pub kept_served : (run later : Run) (v v' : RangeView) (r r' : RangeState) → RangeKept texts subject run v r → is_serving r.stage ≡ true → r'.stage ≡ r.stage → r'.load ≡ r.load → IsSound r' → Serves texts later v' r' →
+  pub kept_served : (run later : Run) (v v' : RangeView) (r r' : RangeState) → RangeKept texts subject run v r → is_serving r.stage ≡ true → r'.stage ≡ r.stage → r'.load ≡ r.load → r'.held ≡ r.held → IsSound r' → Serves texts later v' r' →
       RangeKept texts subject later v' r'
-  kept_served run later v v' r r' k serving stage load sound serves = record {
+  kept_served run later v v' r r' k serving stage load held sound serves = record {
     range = ap (λ l. l.range) load ∙ k.range;
     phase = subst (λ s. PhaseIs texts s r'.load.phase) (sym stage) (subst (λ l. PhaseIs texts r.stage l.phase) (sym load) k.phase);
     sound = sound;
     stage = (served_stage later v' r' r'.stage (ap is_serving stage ∙ serving)).1 serves;
+    held = subst (HoldsBytes texts) (sym held) k.held;
   }
 
   -- the log's client and the queue tell nothing of the log
@@ -106,6 +108,7 @@ module _ (texts : ℕ → Bytes) (subject : ℕ) where
           ordered = m.ordered;
           named = m.named;
           rows = m.rows;
+          reads = m.reads;
         };
       }
 

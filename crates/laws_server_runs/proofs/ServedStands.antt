@@ -29,7 +29,7 @@ use Rattle.laws_loads.proofs.Rows.{ordered_put}
 use Rattle.laws_loads.specs.RangeView.{RangeView, view_after, log_of}
 use Rattle.laws_tables.specs.Layers.{layer_line}
 use Rattle.laws_tables.specs.Runs as chains
-use Rattle.laws_tables.specs.Runs.{Run, Serving, first_beginning, held, items_out, logged, MayInChain}
+use Rattle.laws_tables.specs.Runs.{Run, Serving, first_beginning, held, items_out, logged}
 use Rattle.laws_loads.specs.MemoryLayers.{layer_in}
 use Rattle.laws_server_runs.specs.CheckpointInvariant.{parts_of}
 use Rattle.laws_server_runs.specs.RangeInvariant.{append_of, Matches, Serves, RangeKept, StreamsKept, AreObserved, Rests, Adds, StepKept}
@@ -120,6 +120,7 @@ module _ (texts : ℕ → Bytes) (subject : ℕ) (run : Run) (v : RangeView) (r 
       ordered = ordered_put r.live (flat_map (λ changes. changes) (kept (record_of out.first out.transactions) extent offset)) k.matches.ordered;
       named = k.matches.named;
       rows = k.matches.rows;
+      reads = k.matches.reads;
     }
 
     -- what was made is as before
@@ -162,7 +163,7 @@ module _ (texts : ℕ → Bytes) (subject : ℕ) (run : Run) (v : RangeView) (r 
       next = stood_run;
       goes = Adds _ run Rests refl;
       alone = inr (inl serving);
-      kept = (kept_served texts subject run stood_run v stood_view r stood_range before serving refl refl sound stood_serves, refl);
+      kept = (kept_served texts subject run stood_run v stood_view r stood_range before serving refl refl refl sound stood_serves, refl);
       streams = stood_streams streams;
       longer = (record { extent = extent; offset = at.offset; bytes = joined (group_of out) } ∷ [], refl);
       anew = λ s. inl serving;

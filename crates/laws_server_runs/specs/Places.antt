@@ -15,6 +15,7 @@ use Rattle.checkpoint_format.specs.Index.{index_at}
 use Rattle.checkpoint_format.specs.declared.index.Index.{Index}
 use Rattle.checkpoint_format.specs.declared.index.PageAt.{PageAt}
 use Rattle.checkpoint.specs.declared.installed_index.InstalledIndex.{InstalledIndex}
+use Rattle.checkpoint.specs.Merges.{next_place}
 use Rattle.model_streams.specs.Maps.{entry_at}
 use Rattle.model_partition.specs.CheckpointStates.{CheckpointState}
 use Rattle.model_partition.specs.declared.checkpoint_job.CheckpointPhase.TheVariants as checkpoints
@@ -111,13 +112,13 @@ module _ (texts : ℕ → Bytes) where
   TablesWithin placed (tables.Loaded range generation table next ∷ notes) = TableLaid (placed range) table × TablesWithin placed notes
   TablesWithin placed (note ∷ notes) = TablesWithin placed notes
 
--- the bytes that a range's loads were shown and its appends were answered for
+-- the bytes that a range's reads were shown and its appends were answered for
 abbrev pub bytes_of : ServerRun → ℕ → List PlacedBytes
 bytes_of x range = x.shown range ++ x.answered range
 
 -- ---- a checkpoint
 
--- what loads were shown and appends were answered for, as a range sees it
+-- what reads were shown and appends were answered for, as a range sees it
 abbrev pub placed_of : RangeView → List PlacedBytes
 placed_of v = v.shown ++ v.answered
 
@@ -126,10 +127,16 @@ abbrev pub JobWithin : List PlacedBytes → Option CheckpointState → Type 0
 JobWithin placed None = Unit {0}
 JobWithin placed (Some job) = PagesWithin placed job.pages.index.pages
 
--- What is kept of a checkpoint, or where there is none: what is appended for it, where its pages stand, and where the values of its
--- layer do.
+-- while pages are left to be merged it waits for these
+abbrev pub MergesFirst : Option CheckpointState → Type 0
+MergesFirst None = Unit {0}
+MergesFirst (Some job) = (job.phase ≡ checkpoints.Combining) ⊎ (next_place job.merge ≡ None)
+
+-- What is kept of a checkpoint, or where there is none: what is appended for it, what it waits for, where its pages stand, and where
+-- the values of its layer do.
 pub record CheckpointLaid (placed : List PlacedBytes) (rows : ClientState) (fixed : Option Entries) (control : Option CheckpointState) : Type 0 where
   pub appends : AppendsRows rows control
+  pub merges : MergesFirst control
   pub pages : JobWithin placed control
   pub layer : AreWithin placed (entries_if fixed)
 
@@ -163,15 +170,24 @@ IsQuiet [] = Unit {0}
 IsQuiet (Forms kinds.Metadata group ∷ earlier) = ⊥
 IsQuiet (action ∷ earlier) = IsQuiet earlier
 
--- the record of its checkpoint is out
-abbrev pub IsRecording : Option RangeState → Type 0
-IsRecording None = ⊥
-IsRecording (Some r) = (job : CheckpointState) × (index : Place) × (r.control ≡ Some job) × (job.phase ≡ checkpoints.Record index)
+-- the record of a checkpoint that was under way is sent, and nothing more is said yet
+pub record SendsRecord (r next : RangeState) : Type 0 where
+  pub before : CheckpointState
+  pub job : CheckpointState
+  pub index : Place
+  pub under_way : r.control ≡ Some before
+  pub control : next.control ≡ Some job
+  pub phase : job.phase ≡ checkpoints.Record index
+  pub said : next.said ≡ r.said
+
+abbrev pub IsRecording : RangeState → Option RangeState → Type 0
+IsRecording r None = ⊥
+IsRecording r (Some next) = SendsRecord r next
 
 -- where an append to the metadata begins it is that of the record of a checkpoint
-pub data FormsRecords (o : Option RangeState) : List StreamAction → Type 0 where
-  Quiet : (actions : List StreamAction) (quiet : IsQuiet actions) → FormsRecords o actions
-  OfRecord : (group : Group) (earlier : List StreamAction) (quiet : IsQuiet earlier) (recording : IsRecording o) → FormsRecords o (Forms kinds.Metadata group ∷ earlier)
+pub data FormsRecords (r : RangeState) (o : Option RangeState) : List StreamAction → Type 0 where
+  Quiet : (actions : List StreamAction) (quiet : IsQuiet actions) → FormsRecords r o actions
+  OfRecord : (group : Group) (earlier : List StreamAction) (quiet : IsQuiet earlier) (recording : IsRecording r o) → FormsRecords r o (Forms kinds.Metadata group ∷ earlier)
 
 -- a table that is shown is that of the load which is confirmed
 pub record IsConfirmed (r : RangeState) (actions : List StreamAction) (table : ShownTable) : Type 0 where
@@ -193,7 +209,7 @@ TablesAre Is (note ∷ notes) = TablesAre Is notes
 -- what a rule leaves of the range
 pub record RuleLaid (k : ℕ) (v : RangeView) (r : RangeState) (actions : List StreamAction) (o : RangeOutcome) : Type 0 where
   pub step : StepLaid k v r.load.generation actions o
-  pub forms : FormsRecords o.after actions
+  pub forms : FormsRecords r o.after actions
   pub tables : TablesAre (IsConfirmed r actions) o.notes
 
 -- ---- all servers

@@ -1,6 +1,6 @@
 -- What is kept of a range at a server: while it loads, what it made of what it read; while it is served, that it holds what a run of
 -- its servers says that its generation holds.
-use Rattle.std.specs.Prelude.{◌≡◌, ◌⊎◌, ℕ, ◌-◌, ◌<◌, ◌≤◌, ◌^◌, true, false, List, [], ◌∷◌, ◌++◌, length, drop, Option, Some, None, option_map}
+use Rattle.std.specs.Prelude.{◌≡◌, ◌⊎◌, ℕ, ◌-◌, ◌<◌, ◌≤◌, ◌^◌, Bool, true, List, [], ◌∷◌, ◌++◌, length, drop, Option, Some, None, option_map}
 use Rattle.blocks.specs.Format.{◌>>=◌}
 use Rattle.wire.specs.declared.actor.ReqNo.{ReqNo}
 use Rattle.wire.specs.declared.note.Note.{Note}
@@ -44,10 +44,10 @@ use Rattle.laws_tables.specs.Runs as chains
 use Rattle.laws_tables.specs.Runs.{Event, Run, Serving, first_beginning, record_group, said, held, seen, IsServing, IsChainRun, ShowsLayers, KeepsKeys}
 use Rattle.laws_tables.specs.Through.{OutAppend}
 use Rattle.laws_checkpoints.specs.IndexLayers.{layer_at, IsWritten}
-use Rattle.laws_checkpoints.specs.ShownTables.{AreInstalled}
+use Rattle.laws_checkpoints.specs.ShownTables.{AreInstalled, HoldsBytes}
 use Rattle.laws_loads.proofs.Rows.{Ordered}
 use Rattle.laws_server_runs.specs.NamedIndexes.{NamesSuch}
-use Rattle.laws_server_runs.specs.CheckpointInvariant.{parts_of, HoldsCheckpoint, AppendsRows}
+use Rattle.laws_server_runs.specs.CheckpointInvariant.{parts_of, HoldsCheckpoint, AppendsRows, ReadsNext}
 
 -- ---- what a load makes of what it reads
 
@@ -105,13 +105,14 @@ generation_of (chains.Recorded g append from to) = g
 generation_of (chains.Trims g place) = g
 generation_of (chains.Confirms g start end groups metadata_end records) = g
 
--- the group of a plain checkpoint's record, at a position; its index is one of which this is so
+-- the group of a checkpoint's record, at a position; its index is one of which this is so
 pub record IsCheckpointRecord (Holds : Place → Type 0) (group : Group) : Type 0 where
   pub number : ℕ
+  pub combine : Bool
   pub index : Place
   pub position : Position
   pub next : ℕ
-  pub spells : decoded_record group ≡ record_group number (Checkpoint false index position next)
+  pub spells : decoded_record group ≡ record_group number (Checkpoint combine index position next)
   pub fits : IsPosition position
   pub holds : Holds index
 
@@ -179,6 +180,8 @@ module _ (texts : ℕ → Bytes) where
     pub named : NamesSuch IsOfPages r.said
     -- what its client of row data appends is what the checkpoint waits for
     pub rows : AppendsRows r.rows r.control
+    -- the page that is read is the one that it merges next
+    pub reads : ReadsNext r.reading r.control
     -- its memory table is in the order of its keys
     pub ordered : Ordered r.live
 
@@ -216,6 +219,8 @@ module _ (texts : ℕ → Bytes) where
     pub phase : PhaseIs r.stage r.load.phase
     pub sound : IsSound r
     pub stage : StageIs run v r r.stage
+    -- what its cache holds are the bytes of its places
+    pub held : HoldsBytes texts r.held
 
   -- ---- the streams of a range
 

@@ -1,5 +1,5 @@
 -- What an event is to one server: at most one of its ranges takes a turn.
-use Rattle.std.specs.Prelude.{◌≡◌, ◌⊎◌, ℕ, ◌-◌, List, [], map, Some, None, slice_set}
+use Rattle.std.specs.Prelude.{◌≡◌, ◌⊎◌, ℕ, ◌-◌, Bool, List, [], map, Some, None, slice_set}
 use Rattle.std.specs.BTreeMap.{insert_entry}
 use Rattle.std.specs.Ordering.{nat_cmp}
 use Rattle.wire.specs.declared.actor.ActorId.{ActorId}
@@ -26,7 +26,7 @@ pub data IsRule (r : RangeState) : List StreamAction → RangeOutcome → Type 0
   Answers : (d : ServerContext) (w : ReqNo) (body : Body) → IsRule r (answer_actions d r w body (answer_rule d r w body)) (answer_rule d r w body)
   Gets : (d : ServerContext) (from : ActorId) (q : ReqNo) (key : List ℕ) → IsRule r [] (get_rule d r from q key)
   Yields : (d : ServerContext) → IsRule r [] (give_up_all d r)
-  Checkpoints : (d : ServerContext) (may : checkpoint_fault r ≡ None) → IsRule r [] (checkpoint_rule d r)
+  Checkpoints : (d : ServerContext) (combine : Bool) (may : checkpoint_fault r ≡ None) → IsRule r [] (checkpoint_rule d r combine)
   Renews : (until count : ℕ) → IsRule r [] (record { after = Some (record r { until = until }); count = count; packets = []; notes = [] })
 
 -- A step of a server, to which the map assigns such ranges: its ranges are as they were, or one of them begins its load, or one takes
@@ -46,7 +46,7 @@ pub data Turn (IsAssigned : ℕ → Type 0) (s : ServerState) : RangeEffect → 
 abbrev pub outcome_of : List ServerCell → ServerEvent → ServersOutcome
 outcome_of servers (Takes server p) = server_takes servers server p
 outcome_of servers (GivesUp server range pick) = server_gives_up servers server range pick
-outcome_of servers (MakesCheckpoint server range) = server_checkpoints servers server range
+outcome_of servers (MakesCheckpoint server range combine) = server_checkpoints servers server range combine
 outcome_of servers (Stops server call) = server_stops servers server call
 outcome_of servers (Starts server now batch) = server_starts servers server now batch
 outcome_of servers (Moment now) = record { servers = map (told_moment now) servers; packets = []; notes = [] }

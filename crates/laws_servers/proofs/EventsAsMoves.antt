@@ -174,8 +174,8 @@ comes_by c (Assign range server until) = assigns_by c range server until
 comes_by c (Renew range server until) = renews_by c range server until
 comes_by c (Moment now) = moment_by c now
 comes_by c (Checkpoint server range combine) =
-    let o : ServersOutcome = server_checkpoints c.servers server range in
-    told_by c.stream_layer o.packets o.notes (server_checkpoints_tidy c.servers server range).0
+    let o : ServersOutcome = server_checkpoints c.servers server range combine in
+    told_by c.stream_layer o.packets o.notes (server_checkpoints_tidy c.servers server range combine).0
 comes_by c (Split server range key) = one c.stream_layer (Happens (Split server range key))
 comes_by c (Merge server left right) = one c.stream_layer (Happens (Merge server left right))
 

@@ -32,9 +32,11 @@ use Rattle.commitlog.specs.Places.{kept}
 use Rattle.memtable.specs.Entries.{Entries, put_all}
 use Rattle.checkpoint_format.specs.declared.index.Index.{Index}
 use Rattle.checkpoint_format.specs.Index.{index_at}
+use Rattle.checkpoint_format.specs.Page.{entries_at}
 use Rattle.metadata.specs.Fold.{MetadataState, first_metadata}
 use Rattle.metadata.specs.declared.record.IndexRange.{IndexRange}
 use Rattle.metadata.specs.declared.record.Region.{Region}
+use Rattle.checkpoint.specs.Merges.{MergeState, next_place, with_at_hand, with_page}
 use Rattle.model_streams.proofs.Tests.{if_elim}
 use Rattle.model_partition.specs.declared.server_context.ServerContext.{ServerContext}
 use Rattle.model_partition.specs.declared.shown_table.ShownTable.{ShownTable}
@@ -47,14 +49,14 @@ use Rattle.model_partition.specs.declared.waiting.WaitingGet.{WaitingGet}
 use Rattle.model_partition.specs.declared.waiting.WaitingTransaction.{WaitingTransaction}
 use Rattle.model_partition.specs.Range.{OutGroup, RangeState, RangeOutcome, request, used, refuses, waiting_out, refused_users, dropped, given, picking, is_serving}
 use Rattle.model_partition.specs.Serving.{record_of, group_count, began, appends as appends_next, forms, transact_fault, lease_ended, transacts, transact_rule, dones, committed, out_size, after_these, applies, log_done}
-use Rattle.model_partition.specs.PlaceReads.{is_place, place_of, places_of, reads_under, moved_on, asks_again}
+use Rattle.model_partition.specs.PlaceReads.{is_place, place_of, places_of, reads_under, reads_page, moved_on, asks_again}
 use Rattle.model_partition.specs.Loading.{Group, said_after, replayed, read_by, read_of, asks_index, index_named, reads_named, reads_index, installs, index_read, index_bytes, reads_log, first_position, reads_log_from, checks_log, begins_log, reads_metadata, begins_metadata, opens, says, metadata_news, replays, log_read, log_news, open_region, serves_from, serves, shown_table, has_position}
-use Rattle.model_partition.specs.Getting.{Lookup, Is, Needs, Tried, asks_place, answered, try, try_all, get_fault, gets, get_rule, are_no_page, bytes_rule, came, gives_up_read, gives_up_get, look, read_at, standing, without}
+use Rattle.model_partition.specs.Getting.{Lookup, Is, Needs, Tried, asks_place, answered, try, try_all, get_fault, gets, get_rule, are_no_page, bytes_rule, came, held_at, gives_up_read, gives_up_get, look, read_at, standing, without}
 use Rattle.model_partition.specs.CheckpointStates.{CheckpointState}
 use Rattle.model_partition.specs.declared.checkpoint_job.CheckpointPhase.{CheckpointPhase}
 use Rattle.model_partition.specs.declared.checkpoint_job.CheckpointPhase.TheVariants as checkpoints
-use Rattle.model_partition.specs.Checkpoints.{number_to_apply, have_bytes, new_job, rows_go, writes_pages, checkpoint_rule, pages_stand, checkpoint_record, has_record_number, may_record, index_place, records, index_stands, rows_stand, rows_told, rows_may_stand, rows_reply, record_stands, record_told, trim_awaits, trim_told, trim_reply_in, phase_again, trim_again}
-use Rattle.model_partition.specs.Answering.{load_refused, load_told, load_reply, metadata_reply, serving_news, is_taken, log_taken, log_reply, index_told, index_reply, trim_reply, bytes_reply, gets_reply, answer_rule, gives_up_job, gives_up_reading, give_up_all, groups_of}
+use Rattle.model_partition.specs.Checkpoints.{number_to_apply, have_bytes, new_job, new_combining_job, combines, with_fixed, rows_go, writes_pages, combined_job, writes_combined, asks_page, merges_next, merges, page_comes, page_read, page_bytes, page_told, begins, checkpoint_rule, pages_stand, checkpoint_record, has_record_number, may_record, index_place, records, index_stands, rows_stand, rows_told, rows_may_stand, rows_reply, record_stands, record_told, trim_awaits, trim_told, trim_reply_in, phase_again, trim_again}
+use Rattle.model_partition.specs.Answering.{load_refused, load_told, load_reply, metadata_reply, serving_news, is_taken, log_taken, log_reply, index_told, index_reply, page_reply, trim_reply, bytes_reply, gets_reply, answer_rule, gives_up_job, gives_up_reading, give_up_all, groups_of}
 use Rattle.model_partition.specs.Servers.{ArePlain, ShowsLoad}
 use Rattle.laws_servers.specs.Sending.{AllFromServers}
 use Rattle.laws_servers.proofs.ClientPackets.{all_both, all_map, all_flat, listed, Calls, given_calls, append_rule_calls, check_rule_calls, read_sealed_calls, read_checked_calls, reply_calls, give_up_calls, again_calls}
@@ -308,10 +310,46 @@ rows_go_tidy d r (job, Some group) =
 writes_pages_tidy : (d : ServerContext) (r : RangeState) (job : CheckpointState) → IsTidy (writes_pages d r job)
 writes_pages_tidy d r job = rows_go_tidy d r _
 
-pub checkpoint_tidy : (d : ServerContext) (r : RangeState) → IsTidy (checkpoint_rule d r)
-checkpoint_tidy d r =
-    if_elim IsTidy (have_bytes r.live r.position (number_to_apply r.out r.next)) _ _
-    (λ t. writes_pages_tidy d (record r { live = []; fixed = Some r.live }) (new_job r)) (λ f. (tt, tt))
+writes_combined_tidy : (d : ServerContext) (r : RangeState) (job : CheckpointState) (fixed : Option Entries) → IsTidy (writes_combined d r job fixed)
+writes_combined_tidy d r job None = (tt, tt)
+writes_combined_tidy d r job (Some newer) = writes_pages_tidy d r (combined_job job newer)
+
+asks_page_tidy : (d : ServerContext) (r : RangeState) (place : Place) (places : Option Nodes) → IsTidy (asks_page d r place places)
+asks_page_tidy d r place None = (tt, tt)
+asks_page_tidy d r place (Some places) = (((d.server, refl, inl refl), tt), tt)
+
+merges_next_tidy : (d : ServerContext) (r : RangeState) (job : CheckpointState) (place : Option Place) → IsTidy (merges_next d r job place)
+merges_next_tidy d r job None = writes_combined_tidy d r job r.fixed
+merges_next_tidy d r job (Some place) = asks_page_tidy d (record r { control = Some job }) place (places_of r place.extent)
+
+merges_tidy : (d : ServerContext) (r : RangeState) (job : CheckpointState) → IsTidy (merges d r job)
+merges_tidy d r job =
+    let merge : MergeState = with_at_hand (held_at r.held) r.said.keys job.merge in
+    merges_next_tidy d (record r { reading = None }) (record job { merge = merge }) (next_place merge)
+
+begins_tidy : (d : ServerContext) (r : RangeState) (combine : Bool) → IsTidy (begins d r combine)
+begins_tidy d r combine = if_elim IsTidy (combines combine r.indexes) _ _ (λ t. merges_tidy d (with_fixed r) (new_combining_job r)) (λ f. writes_pages_tidy d (with_fixed r) (new_job r))
+
+pub checkpoint_tidy : (d : ServerContext) (r : RangeState) (combine : Bool) → IsTidy (checkpoint_rule d r combine)
+checkpoint_tidy d r combine =
+    if_elim IsTidy (have_bytes r.live r.position (number_to_apply r.out r.next)) _ _ (λ t. begins_tidy d r combine) (λ f. (tt, tt))
+
+page_comes_tidy : (d : ServerContext) (r : RangeState) (job : CheckpointState) (place : Option Place) (entries : Entries) → IsTidy (page_comes d r job place entries)
+page_comes_tidy d r job None entries = (tt, tt)
+page_comes_tidy d r job (Some place) entries = merges_tidy d r (record job { merge = with_page r.said.keys job.merge entries })
+
+page_read_tidy : (d : ServerContext) (r : RangeState) (job : Option CheckpointState) (entries : Option Entries) → IsTidy (page_read d r job entries)
+page_read_tidy d r None entries = (tt, tt)
+page_read_tidy d r (Some job) None = (tt, tt)
+page_read_tidy d r (Some job) (Some entries) = page_comes_tidy d r job (next_place job.merge) entries
+
+page_bytes_tidy : (d : ServerContext) (r : RangeState) (reading : Option PlaceRead) (place : Place) (bytes : List ℕ) → IsTidy (page_bytes d r reading place bytes)
+page_bytes_tidy d r None place bytes = (tt, tt)
+page_bytes_tidy d r (Some read) place bytes = if_elim IsTidy (is_place read.place place) _ _ (λ t. page_read_tidy d r r.control (entries_at bytes)) (λ f. (tt, tt))
+
+page_told_tidy : (d : ServerContext) (r : RangeState) (body : ReadBody) → IsTidy (page_told d r body)
+page_told_tidy d r (reads.Bytes w e offset bytes) = page_bytes_tidy d r r.reading (place_of e offset bytes) bytes
+page_told_tidy d r body = (tt, tt)
 
 records_tidy : (d : ServerContext) (r : RangeState) (job : CheckpointState) (index : Place) → IsTidy (records d r job index)
 records_tidy d r job index =
@@ -445,6 +483,11 @@ index_reply_tidy d r (bodies.Read body) = index_told_tidy d r body
 index_reply_tidy d r (bodies.Append body) = load_refused_tidy d r body
 index_reply_tidy d r body = (tt, tt)
 
+page_reply_tidy : (d : ServerContext) (r : RangeState) (body : Body) → IsTidy (page_reply d r body)
+page_reply_tidy d r (bodies.Read body) = page_told_tidy d r body
+page_reply_tidy d r (bodies.Append body) = load_refused_tidy d r body
+page_reply_tidy d r body = (tt, tt)
+
 trim_reply_tidy : (d : ServerContext) (r : RangeState) (body : Body) → IsTidy (trim_reply d r body)
 trim_reply_tidy d r (bodies.Stream body) = trim_reply_in_tidy d r r.control body
 trim_reply_tidy d r (bodies.Append body) = load_refused_tidy d r body
@@ -471,7 +514,7 @@ answer_by loading d r w body loads =
     (λ h. if_elim (ShowsFrom loading) (awaits r.rows.job w) _ _
     (λ t. tidy_shows loading (rows_reply d r body) (rows_reply_tidy d r body))
     (λ i. if_elim (ShowsFrom loading) (reads_under r.reading w) _ _
-    (λ t. tidy_shows loading (index_reply d r body) (index_reply_tidy d r body))
+    (λ t. if_elim (ShowsFrom loading) (reads_page r.reading) _ _ (λ p. tidy_shows loading (page_reply d r body) (page_reply_tidy d r body)) (λ p. tidy_shows loading (index_reply d r body) (index_reply_tidy d r body)))
     (λ j. if_elim (ShowsFrom loading) (trim_awaits r.control w) _ _
     (λ t. tidy_shows loading (trim_reply d r body) (trim_reply_tidy d r body))
     (λ k. tidy_shows loading (gets_reply d r w body) (gets_reply_tidy d r w body)))))))

@@ -1,5 +1,5 @@
 -- What a step of a server sends it may send, and what it shows is plain, but for the table that it loads.
-use Rattle.std.proofs.Common.{◌≡◌, ℕ, ◌==◌, List, [], Option, Some, None, is_some, refl, sym, ap, ◌∙◌, inl, inr, subst}
+use Rattle.std.proofs.Common.{◌≡◌, Bool, ℕ, ◌==◌, List, [], Option, Some, None, is_some, refl, sym, ap, ◌∙◌, inl, inr, subst}
 use Rattle.std.proofs.lemmas.Option.{same_Some}
 use Rattle.block_types.specs.declared.record.Nodes.{Nodes}
 use Rattle.wire.specs.declared.actor.ActorId.{ActorId}
@@ -128,13 +128,13 @@ server_shows s p = if_elim (Shows (loads s p.body)) (has_numbers s.context) _ _ 
 
 -- ---- a checkpoint
 
-checkpoints_tidy : (s : ServerState) (range : ℕ) (known : Option RangeState) → AreTidy (checkpoints_in s range known)
-checkpoints_tidy s range None = (tt, tt)
-checkpoints_tidy s range (Some r) = if_elim AreTidy (has_numbers s.context) _ _ (λ t. checkpoint_tidy s.context r) (λ f. (tt, tt))
+checkpoints_tidy : (s : ServerState) (range : ℕ) (combine : Bool) (known : Option RangeState) → AreTidy (checkpoints_in s range combine known)
+checkpoints_tidy s range combine None = (tt, tt)
+checkpoints_tidy s range combine (Some r) = if_elim AreTidy (has_numbers s.context) _ _ (λ t. checkpoint_tidy s.context r combine) (λ f. (tt, tt))
 
-pub server_checkpoint_tidy : (s : ServerState) (range : ℕ) → AreTidy (server_checkpoint s range)
-server_checkpoint_tidy s range =
-    if_elim AreTidy (is_some (checkpoint_refusal s range)) _ _ (λ t. (tt, tt)) (λ f. checkpoints_tidy s range (range_of s.ranges range))
+pub server_checkpoint_tidy : (s : ServerState) (range : ℕ) (combine : Bool) → AreTidy (server_checkpoint s range combine)
+server_checkpoint_tidy s range combine =
+    if_elim AreTidy (is_some (checkpoint_refusal s range)) _ _ (λ t. (tt, tt)) (λ f. checkpoints_tidy s range combine (range_of s.ranges range))
 
 -- ---- servers over their starts and stops
 
@@ -180,18 +180,18 @@ given_up_tidy servers n range pick (Some cell) = cell_gives_up_tidy cell range p
 pub server_gives_up_tidy : (servers : List ServerCell) (n range : ℕ) (pick : Nodes) → AllTidy (server_gives_up servers n range pick)
 server_gives_up_tidy servers n range pick = given_up_tidy servers n range pick (entry_at servers n)
 
-cell_checkpoints_tidy : (cell : ServerCell) (range : ℕ) (state : Option ServerState) →
-    MaySendAll (cell_checkpoints cell range state).packets × ArePlain (cell_checkpoints cell range state).notes
-cell_checkpoints_tidy cell range None = (tt, tt)
-cell_checkpoints_tidy cell range (Some s) = let h = server_checkpoint_tidy s range in (may_send_all (server_checkpoint s range).packets h.0, h.1)
+cell_checkpoints_tidy : (cell : ServerCell) (range : ℕ) (combine : Bool) (state : Option ServerState) →
+    MaySendAll (cell_checkpoints cell range combine state).packets × ArePlain (cell_checkpoints cell range combine state).notes
+cell_checkpoints_tidy cell range combine None = (tt, tt)
+cell_checkpoints_tidy cell range combine (Some s) = let h = server_checkpoint_tidy s range combine in (may_send_all (server_checkpoint s range combine).packets h.0, h.1)
 
-checkpoints_of_tidy : (servers : List ServerCell) (n range : ℕ) (cell : Option ServerCell) →
-    AllTidy (at_server servers n (λ x. cell_checkpoints x range x.state) cell)
-checkpoints_of_tidy servers n range None = (tt, tt)
-checkpoints_of_tidy servers n range (Some cell) = cell_checkpoints_tidy cell range cell.state
+checkpoints_of_tidy : (servers : List ServerCell) (n range : ℕ) (combine : Bool) (cell : Option ServerCell) →
+    AllTidy (at_server servers n (λ x. cell_checkpoints x range combine x.state) cell)
+checkpoints_of_tidy servers n range combine None = (tt, tt)
+checkpoints_of_tidy servers n range combine (Some cell) = cell_checkpoints_tidy cell range combine cell.state
 
-pub server_checkpoints_tidy : (servers : List ServerCell) (n range : ℕ) → AllTidy (server_checkpoints servers n range)
-server_checkpoints_tidy servers n range = checkpoints_of_tidy servers n range (entry_at servers n)
+pub server_checkpoints_tidy : (servers : List ServerCell) (n range : ℕ) (combine : Bool) → AllTidy (server_checkpoints servers n range combine)
+server_checkpoints_tidy servers n range combine = checkpoints_of_tidy servers n range combine (entry_at servers n)
 
 -- a stop and a start neither send nor show
 abbrev pub IsStill : ServersOutcome → Type 0

@@ -2,7 +2,7 @@
 ghost use Rattle.std.specs.Prelude.{◌≡◌, ℕ, List, [], Some, None, true, false, is_some, not, option_map, OnOk, OnErr};
 ghost use Rattle.std.specs.Option.{option_copied};
 ghost use Rattle.std.specs.List.{AllByRecursion};
-ghost use Rattle.memtable.specs.Entries.{IsFit, found, latest, put_all};
+ghost use Rattle.memtable.specs.Entries.{IsFit, AllFit, found, latest, put_all};
 
 use crate::cell::Cell;
 use crate::cell_map::CellMap;
@@ -112,7 +112,8 @@ impl MemTable {
 
     /// The fixed layer, if there is one, for a walk through its entries in the order of their keys.
     pub fn fixed(&self) -> Option<&BTreeMap<Bytes, Cell>>
-        ensures { option_map (λ layer. layer.now.entries) result ≡ self.now.fixed }
+        ensures value { option_map (λ layer. layer.now.entries) result ≡ self.now.fixed }
+        ensures each { AllFit (option_map (λ layer. layer.now.entries) result) }
     {
         match &self.fixed {
             None => None,

@@ -33,9 +33,9 @@ use Rattle.model_partition.specs.declared.server_context.ServerContext.{ServerCo
 use Rattle.model_partition.specs.Range.{OutGroup, RangeState, RangeOutcome, request, used, goes, answers, dropped, picking, is_serving}
 use Rattle.model_partition.specs.Loading.{Group, are_counted, opens, serves, metadata_news, log_news, index_bytes}
 use Rattle.model_partition.specs.Serving.{log_done, out_size}
-use Rattle.model_partition.specs.PlaceReads.{place_of, places_of, reads_under, moved_on, asks_again}
+use Rattle.model_partition.specs.PlaceReads.{place_of, places_of, reads_under, reads_page, moved_on, asks_again}
 use Rattle.model_partition.specs.Getting.{bytes_rule, gives_up_get}
-use Rattle.model_partition.specs.Checkpoints.{record_told, rows_reply, trim_awaits, trim_reply_in, trim_again}
+use Rattle.model_partition.specs.Checkpoints.{page_told, record_told, rows_reply, trim_awaits, trim_reply_in, trim_again}
 
 -- ---- whose answer it is
 
@@ -196,6 +196,12 @@ index_reply d r (bodies.Read body) = index_told d r body
 index_reply d r (bodies.Append body) = load_refused d r body
 index_reply d r body = answers d r []
 
+-- the bytes of a page that a checkpoint merges, or a refusal of their read
+abbrev pub page_reply : ServerContext → RangeState → Body → RangeOutcome
+page_reply d r (bodies.Read body) = page_told d r body
+page_reply d r (bodies.Append body) = load_refused d r body
+page_reply d r body = answers d r []
+
 -- the answer to a Trim, or a refusal of it
 abbrev pub trim_reply : ServerContext → RangeState → Body → RangeOutcome
 trim_reply d r (bodies.Stream body) = trim_reply_in d r r.control body
@@ -220,7 +226,7 @@ answer_rule d r w body =
     else if awaits r.metadata.job w then metadata_reply d r body
     else if awaits r.log.job w then log_reply d r body
     else if awaits r.rows.job w then rows_reply d r body
-    else if reads_under r.reading w then index_reply d r body
+    else if reads_under r.reading w then (if reads_page r.reading then page_reply d r body else index_reply d r body)
     else if trim_awaits r.control w then trim_reply d r body
     else gets_reply d r w body
 
@@ -235,7 +241,7 @@ abbrev pub gives_up_reading : ServerContext → RangeState → Option PlaceRead 
 gives_up_reading d r None = []
 gives_up_reading d r (Some read) = asks_again d (moved_on read) (places_of r read.place.extent)
 
--- The load, the jobs of the log, of the metadata and of row data, the read of an index, the Trim and the Gets give up, in this
+-- The load, the jobs of the log, of the metadata and of row data, the read of an index or of a page, the Trim and the Gets give up, in this
 -- order. A client's job takes the next number.
 abbrev pub give_up_all : ServerContext → RangeState → RangeOutcome
 give_up_all d r =

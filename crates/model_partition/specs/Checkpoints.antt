@@ -1,12 +1,16 @@
 -- A checkpoint of a range: its memory table is written as pages and an index into row data, then a record of it into the
--- metadata, each answered before the next, and then the log is trimmed.
-use Rattle.std.specs.Prelude.{ℕ, suc, ◌+◌, ◌-◌, ◌^◌, max, min, Bool, true, false, not, ◌||◌, ◌&&◌, ◌==◌, nat_lt, List, [], ◌∷◌, ◌++◌, length, take, drop, Option, Some, None, option_to_list, is_some, if◌then◌else◌}
+-- metadata, each answered before the next, and then the log is trimmed. One that combines reads the pages of the older indexes
+-- first, and writes what they and the memory table say together.
+use Rattle.std.specs.Prelude.{ℕ, suc, ◌+◌, ◌-◌, ◌^◌, max, min, Bool, true, false, not, ◌||◌, ◌&&◌, ◌==◌, nat_lt, nat_le, List, [], ◌∷◌, ◌++◌, length, take, drop, Option, Some, None, option_to_list, is_some, if◌then◌else◌}
 use Rattle.std.specs.List.{list_any}
+use Rattle.block_types.specs.declared.record.Nodes.{Nodes}
 use Rattle.wire.specs.declared.actor.ActorId.TheVariants.{Manager}
 use Rattle.wire.specs.declared.actor.ReqNo.{ReqNo}
 use Rattle.wire.specs.declared.body.AppendBody.TheVariants as appends
 use Rattle.wire.specs.declared.body.Body.{Body}
 use Rattle.wire.specs.declared.body.Body.TheVariants as bodies
+use Rattle.wire.specs.declared.body.ReadBody.{ReadBody}
+use Rattle.wire.specs.declared.body.ReadBody.TheVariants as reads
 use Rattle.wire.specs.declared.body.StreamBody.{StreamBody}
 use Rattle.wire.specs.declared.body.StreamBody.TheVariants as streams
 use Rattle.wire.specs.declared.packet.Packet.{Packet}
@@ -20,6 +24,7 @@ use Rattle.memtable.specs.declared.cell.Cell.{Cell}
 use Rattle.memtable.specs.declared.cell.Cell.TheVariants.{Placed}
 use Rattle.memtable.specs.declared.cell.Place.{Place}
 use Rattle.memtable.specs.Entries.{Entries}
+use Rattle.client.specs.declared.job.Place.TheVariants.{First}
 use Rattle.client.specs.declared.job.News.{News}
 use Rattle.client.specs.declared.job.News.TheVariants as news
 use Rattle.client.specs.Client.{ClientState, Outcome, append_rule, reply_rule}
@@ -30,14 +35,20 @@ use Rattle.metadata.specs.Record.{spelling}
 use Rattle.metadata.specs.Fold.{taken}
 use Rattle.checkpoint_format.specs.declared.index.Index.{Index}
 use Rattle.checkpoint_format.specs.Index.{fits_a_group, index_group, index_size}
+use Rattle.checkpoint_format.specs.Page.{entries_at}
 use Rattle.checkpoint.specs.declared.installed_index.InstalledIndex.{InstalledIndex}
-use Rattle.checkpoint.specs.PageGroups.{no_pages, pages_to_write, next_group, may_stand_at, with_next_placed}
-use Rattle.model_partition.specs.CheckpointStates.{CheckpointState}
+use Rattle.checkpoint.specs.Merges.{MergeState, no_merge, merge_of, next_place, with_at_hand, with_page}
+use Rattle.checkpoint.specs.PageGroups.{PagesState, no_pages, pages_to_write, next_group, may_stand_at, with_next_placed, will_fit}
+use Rattle.checkpoint.specs.Pages.{combined}
+use Rattle.model_partition.specs.CheckpointStates.{CheckpointState, last_job}
 use Rattle.model_partition.specs.declared.checkpoint_job.CheckpointPhase.{CheckpointPhase}
 use Rattle.model_partition.specs.declared.checkpoint_job.CheckpointPhase.TheVariants as phases
 use Rattle.model_partition.specs.declared.server_context.ServerContext.{ServerContext}
 use Rattle.model_partition.specs.Range.{OutGroup, RangeState, RangeOutcome, request, tells, answers, goes, dropped, given, picking, is_serving}
+use Rattle.model_partition.specs.declared.waiting.PlaceRead.{PlaceRead}
 use Rattle.model_partition.specs.Loading.{Group}
+use Rattle.model_partition.specs.PlaceReads.{is_place, place_of, places_of, reads_place}
+use Rattle.model_partition.specs.Getting.{held_at}
 
 -- ---- what begins
 
@@ -67,7 +78,23 @@ have_bytes entries position next =
 
 -- the checkpoint of the live layer, none of whose pages is written yet
 abbrev pub new_job : RangeState → CheckpointState
-new_job r = record { position = r.position; next = number_to_apply r.out r.next; pages = pages_to_write r.live; phase = phases.Pages }
+new_job r =
+    record {
+      position = r.position;
+      next = number_to_apply r.out r.next;
+      combine = false;
+      merge = no_merge;
+      pages = pages_to_write r.live;
+      phase = phases.Pages;
+    }
+
+-- the same of one that combines, none of whose older pages is merged yet
+abbrev pub new_combining_job : RangeState → CheckpointState
+new_combining_job r = record (new_job r) { combine = true; merge = merge_of r.indexes; pages = no_pages; phase = phases.Combining }
+
+-- so many indexes are combined also where that was not asked
+abbrev pub combines : Bool → List InstalledIndex → Bool
+combines combine indexes = combine || nat_le 16 (length indexes)
 
 -- ---- what is appended to row data
 
@@ -93,13 +120,80 @@ rows_go d r (job, Some group) =
 abbrev pub writes_pages : ServerContext → RangeState → CheckpointState → RangeOutcome
 writes_pages d r job = rows_go d r (next_append job (next_group job.pages))
 
--- The live layer becomes the fixed one, and what comes later goes into a new one.
+-- ---- what is combined
+
+-- the pages of what was merged, under what is newer
+abbrev pub combined_pages : MergeState → Entries → PagesState
+combined_pages merge newer = pages_to_write (combined merge.entries (Some newer))
+
+-- where its index would fit no group the checkpoint goes on as a plain one, of the newer layer alone
+abbrev pub combined_job : CheckpointState → Entries → CheckpointState
+combined_job job newer =
+    if will_fit (combined_pages job.merge newer) then record job { merge = no_merge; pages = combined_pages job.merge newer }
+    else record job { combine = false; merge = no_merge; pages = pages_to_write newer }
+
+-- all older pages are merged
+abbrev pub writes_combined : ServerContext → RangeState → CheckpointState → Option Entries → RangeOutcome
+writes_combined d r job None = goes d r [] []
+writes_combined d r job (Some newer) = writes_pages d r (combined_job job newer)
+
+-- a page in an extent that the load was not told of never comes
+abbrev pub asks_page : ServerContext → RangeState → Place → Option Nodes → RangeOutcome
+asks_page d r place None = goes d r [] []
+asks_page d r place (Some places) =
+    let read : PlaceRead = record { request = request d; place = place; page = true; replica = First } in
+    goes d (record r { reading = Some read }) (reads_place d places read ∷ []) []
+
+-- the next page is read, or where all are merged what they come to is written
+abbrev pub merges_next : ServerContext → RangeState → CheckpointState → Option Place → RangeOutcome
+merges_next d r job None = writes_combined d r job r.fixed
+merges_next d r job (Some place) = asks_page d (record r { control = Some job }) place (places_of r place.extent)
+
+-- those that are at hand are merged first
+abbrev pub merges_on : ServerContext → RangeState → CheckpointState → MergeState → RangeOutcome
+merges_on d r job merge = merges_next d (record r { reading = None }) (record job { merge = merge }) (next_place merge)
+
+abbrev pub merges : ServerContext → RangeState → CheckpointState → RangeOutcome
+merges d r job = merges_on d r job (with_at_hand (held_at r.held) r.said.keys job.merge)
+
+-- the page that is read has come, and says this
+abbrev pub page_comes : ServerContext → RangeState → CheckpointState → Option Place → Entries → RangeOutcome
+page_comes d r job None entries = answers d r []
+page_comes d r job (Some place) entries = merges d r (record job { merge = with_page r.said.keys job.merge entries })
+
+-- bytes that spell no page change nothing, and the read is still waited for
+abbrev pub page_read : ServerContext → RangeState → Option CheckpointState → Option Entries → RangeOutcome
+page_read d r None entries = answers d r []
+page_read d r (Some job) None = answers d r []
+page_read d r (Some job) (Some entries) = page_comes d r job (next_place job.merge) entries
+
+-- nor do bytes of another place
+abbrev pub page_bytes : ServerContext → RangeState → Option PlaceRead → Place → List ℕ → RangeOutcome
+page_bytes d r None place bytes = answers d r []
+page_bytes d r (Some read) place bytes = if is_place read.place place then page_read d r r.control (entries_at bytes) else answers d r []
+
+abbrev pub page_told : ServerContext → RangeState → ReadBody → RangeOutcome
+page_told d r (reads.Bytes w e offset bytes) = page_bytes d r r.reading (place_of e offset bytes) bytes
+page_told d r body = answers d r []
+
+-- ---- the first step
+
+-- the live layer becomes the fixed one, and what comes later goes into a new one
+abbrev pub with_fixed : RangeState → RangeState
+with_fixed r = record r { live = []; fixed = Some r.live }
+
 abbrev pub begins_pages : ServerContext → RangeState → RangeOutcome
-begins_pages d r = writes_pages d (record r { live = []; fixed = Some r.live }) (new_job r)
+begins_pages d r = writes_pages d (with_fixed r) (new_job r)
+
+abbrev pub begins_combining : ServerContext → RangeState → RangeOutcome
+begins_combining d r = merges d (with_fixed r) (new_combining_job r)
+
+abbrev pub begins : ServerContext → RangeState → Bool → RangeOutcome
+begins d r combine = if combines combine r.indexes then begins_combining d r else begins_pages d r
 
 -- what cannot be written is not begun
-abbrev pub checkpoint_rule : ServerContext → RangeState → RangeOutcome
-checkpoint_rule d r = if have_bytes r.live r.position (number_to_apply r.out r.next) then begins_pages d r else goes d r [] []
+abbrev pub checkpoint_rule : ServerContext → RangeState → Bool → RangeOutcome
+checkpoint_rule d r combine = if have_bytes r.live r.position (number_to_apply r.out r.next) then begins d r combine else goes d r [] []
 
 -- ---- what stands in row data
 
@@ -108,7 +202,7 @@ pages_stand job e offset = record job { pages = with_next_placed job.pages e off
 
 -- the record of the checkpoint whose index stands at a place
 abbrev pub checkpoint_record : RangeState → CheckpointState → Place → MetaRecord
-checkpoint_record r job index = record { number = r.said.next; item = Checkpoint false index job.position job.next }
+checkpoint_record r job index = record { number = r.said.next; item = Checkpoint job.combine index job.position job.next }
 
 -- whether a number of 64 bits is left after that of the next record
 abbrev pub has_record_number : RangeState → Bool
@@ -176,10 +270,14 @@ trim_packet d r before to_blob q = tells d Manager (bodies.Stream (streams.Trim 
 
 abbrev pub trims_below : ServerContext → RangeState → CheckpointState → ℕ → Bool → RangeOutcome
 trims_below d r job before to_blob =
-    goes d (record r { control = Some (record job { pages = no_pages; phase = phases.Trim before to_blob (request d) }) }) (trim_packet d r before to_blob (request d) ∷ []) []
+    goes d (record r { control = Some (last_job job.position job.next (phases.Trim before to_blob (request d))) }) (trim_packet d r before to_blob (request d) ∷ []) []
 
 abbrev pub trims : ServerContext → RangeState → CheckpointState → RangeOutcome
 trims d r job = trims_below d r job (trim_index r.log job.position) (have_places r.indexes)
+
+-- an index that combines the older ones stands in their place
+abbrev pub indexes_below : Bool → List InstalledIndex → List InstalledIndex
+indexes_below combine indexes = if combine then [] else indexes
 
 -- What the record says is said, the fixed layer goes, and its index is the newest.
 abbrev pub recorded : RangeState → CheckpointState → Place → RangeState
@@ -187,7 +285,7 @@ recorded r job index =
     record r {
       said = taken r.said (checkpoint_record r job index).item;
       fixed = None;
-      indexes = record { place = index; keys = r.said.keys; index = job.pages.index } ∷ r.indexes;
+      indexes = record { place = index; keys = r.said.keys; index = job.pages.index } ∷ indexes_below job.combine r.indexes;
     }
 
 abbrev pub record_stands : ServerContext → RangeState → CheckpointState → CheckpointPhase → RangeOutcome

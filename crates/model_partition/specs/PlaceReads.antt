@@ -38,6 +38,11 @@ abbrev pub reads_under : Option PlaceRead → ReqNo → Bool
 reads_under None w = false
 reads_under (Some read) w = is_same read.request w
 
+-- whether it is that of a page, which a checkpoint merges, and not that of an index
+abbrev pub reads_page : Option PlaceRead → Bool
+reads_page None = false
+reads_page (Some read) = read.page
+
 -- ---- giving up
 
 abbrev pub moved_on : PlaceRead → PlaceRead

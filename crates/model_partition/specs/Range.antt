@@ -36,9 +36,9 @@ pub record OutGroup : Type 0 where
 
 -- A range at a server: the end of its lease; the opening and the confirmation of its streams; its stage; its metadata, its log
 -- and its row data, as clients know them, and its blob stream; what its metadata says; the regions of the log, each with the
--- number that is to be applied next; the two layers of its memory table; the indexes below it, the newest first, and the index
--- that is being read; the checkpoint that is under way; the number of the next transaction; the end of what was appended to the
--- log; the transactions that wait, and those that are being appended; the Gets that wait, and what was read for them.
+-- number that is to be applied next; the two layers of its memory table; the indexes below it, the newest first, and the index or
+-- the page that is being read; the checkpoint that is under way; the number of the next transaction; the end of what was appended
+-- to the log; the transactions that wait, and those that are being appended; the Gets that wait, and what was read for them.
 pub record RangeState : Type 0 where
   pub until : ℕ
   pub load : LoadState

@@ -52,7 +52,7 @@ AllStand texts [] = Unit {0}
 AllStand texts (p ∷ placed) = StandsAt (texts p.extent) p.offset p.bytes × AllStand texts placed
 
 -- What is premised of the streams of a range, as their servers see them: the stories of its metadata and of its log keep their
--- order, no generation is confirmed twice, loads of the log end in the order of their generations, and what loads were shown and appends
+-- order, no generation is confirmed twice, loads of the log end in the order of their generations, and what reads were shown and appends
 -- were answered for keeps its bytes.
 pub record StreamsInOrder (texts : ℕ → Bytes) (range : ℕ) (x : ServerRun) : Type 0 where
   pub metadata : KeepsOrder (x.story (metadata_name range))

@@ -207,13 +207,13 @@ checkpoint_refused (Some r) = checkpoint_fault r
 abbrev pub checkpoint_refusal : ServerState → ℕ → Option Refusal
 checkpoint_refusal s range = checkpoint_refused (range_of s.ranges range)
 
-abbrev pub checkpoints_in : ServerState → ℕ → Option RangeState → ServerOutcome
-checkpoints_in s range None = rests s
-checkpoints_in s range (Some r) = if has_numbers s.context then stepped s range (checkpoint_rule s.context r) else rests s
+abbrev pub checkpoints_in : ServerState → ℕ → Bool → Option RangeState → ServerOutcome
+checkpoints_in s range combine None = rests s
+checkpoints_in s range combine (Some r) = if has_numbers s.context then stepped s range (checkpoint_rule s.context r combine) else rests s
 
--- a checkpoint of a range begins; without numbers for the requests of a step none does
-abbrev pub server_checkpoint : ServerState → ℕ → ServerOutcome
-server_checkpoint s range = if is_some (checkpoint_refusal s range) then rests s else checkpoints_in s range (range_of s.ranges range)
+-- a checkpoint of a range begins, which may combine its indexes; without numbers for the requests of a step none does
+abbrev pub server_checkpoint : ServerState → ℕ → Bool → ServerOutcome
+server_checkpoint s range combine = if is_some (checkpoint_refusal s range) then rests s else checkpoints_in s range combine (range_of s.ranges range)
 
 -- a start: no range, and the last moment
 abbrev pub started : ℕ → ℕ → ℕ → Nodes → ℕ → ServerState

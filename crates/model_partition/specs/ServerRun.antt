@@ -65,8 +65,9 @@ pub record RangeHistory : Type 0 where
   -- the event of a stream's story with which the append that is out began
   pub append : StreamKind → ℕ
 
--- The servers, the history of each range at each server, the story of each stream, the bytes that loads of each range were shown of its
--- log and of its indexes and those that its appends were answered for, the newest first; and what servers showed, in order.
+-- The servers, the history of each range at each server, the story of each stream, the bytes that loads and reads of each range were
+-- shown (of its log, of its indexes, of pages and of values) and those that its appends were answered for, the newest first; and what
+-- servers showed, in order.
 pub record ServerRun : Type 0 where
   pub servers : List ServerCell
   pub history : (server range : ℕ) → RangeHistory
@@ -187,7 +188,7 @@ cell_effect p (Some cell) = server_effect p cell.state
 pub data ServerEvent : Type 0 where
   Takes : (server : ℕ) (p : Packet) → ServerEvent
   GivesUp : (server range : ℕ) (pick : Nodes) → ServerEvent
-  Checkpoints : (server range : ℕ) → ServerEvent
+  Checkpoints : (server range : ℕ) (combine : Bool) → ServerEvent
   Stops : (server call : ℕ) → ServerEvent
   Starts : (server now batch : ℕ) → ServerEvent
   Moment : (now : ℕ) → ServerEvent
@@ -204,7 +205,7 @@ with_outcome x o = record x { servers = o.servers; notes = x.notes ++ o.notes }
 abbrev pub after_event : ServerRun → ServerEvent → ServerRun
 after_event x (Takes server p) = with_outcome (with_effect server x (cell_effect p (entry_at x.servers server))) (server_takes x.servers server p)
 after_event x (GivesUp server range pick) = with_outcome x (server_gives_up x.servers server range pick)
-after_event x (Checkpoints server range) = with_outcome x (server_checkpoints x.servers server range)
+after_event x (Checkpoints server range combine) = with_outcome x (server_checkpoints x.servers server range combine)
 after_event x (Stops server call) = with_outcome x (server_stops x.servers server call)
 after_event x (Starts server now batch) = with_outcome x (server_starts x.servers server now batch)
 after_event x (Moment now) = record x { servers = map (told_moment now) x.servers }

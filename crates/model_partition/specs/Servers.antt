@@ -1,5 +1,5 @@
 -- The servers of a run: what they hold, what comes of packets and events to them, and what their loaded tables show.
-use Rattle.std.specs.Prelude.{◌≡◌, ◌⊎◌, ℕ, zero, suc, ◌+◌, ◌-◌, ◌^◌, ◌&&◌, ◌==◌, nat_lt, nat_le, List, [], ◌∷◌, ◌++◌, length, map, take, drop, flat_map, Option, Some, None, option_map, is_some, slice_set, if◌then◌else◌}
+use Rattle.std.specs.Prelude.{◌≡◌, Bool, ◌⊎◌, ℕ, zero, suc, ◌+◌, ◌-◌, ◌^◌, ◌&&◌, ◌==◌, nat_lt, nat_le, List, [], ◌∷◌, ◌++◌, length, map, take, drop, flat_map, Option, Some, None, option_map, is_some, slice_set, if◌then◌else◌}
 use Rattle.block_types.specs.declared.record.Nodes.{Nodes}
 use Rattle.wire.specs.declared.body.StreamBody.{StreamBody}
 use Rattle.wire.specs.declared.body.StreamBody.TheVariants.{Confirmed}
@@ -188,9 +188,9 @@ abbrev pub give_up_fault : ℕ → Nodes → Option ServerState → Option Refus
 give_up_fault range pick None = None
 give_up_fault range pick (Some server) = if is_some (give_up_rule server range pick) then None else Some NotOwner
 
-abbrev pub cell_checkpoints : ServerCell → ℕ → Option ServerState → CellOutcome
-cell_checkpoints cell range None = cell_rests cell
-cell_checkpoints cell range (Some server) = cell_performs cell (server_checkpoint server range)
+abbrev pub cell_checkpoints : ServerCell → ℕ → Bool → Option ServerState → CellOutcome
+cell_checkpoints cell range combine None = cell_rests cell
+cell_checkpoints cell range combine (Some server) = cell_performs cell (server_checkpoint server range combine)
 
 -- why a server makes no checkpoint of a range
 abbrev pub checkpoint_fault_of : ℕ → Option ServerState → Option Refusal
@@ -231,8 +231,8 @@ server_takes servers s p = at_server servers s (λ cell. cell_takes cell p cell.
 abbrev pub server_gives_up : List ServerCell → ℕ → ℕ → Nodes → ServersOutcome
 server_gives_up servers s range pick = at_server servers s (λ cell. cell_gives_up cell range pick cell.state) (entry_at servers s)
 
-abbrev pub server_checkpoints : List ServerCell → ℕ → ℕ → ServersOutcome
-server_checkpoints servers s range = at_server servers s (λ cell. cell_checkpoints cell range cell.state) (entry_at servers s)
+abbrev pub server_checkpoints : List ServerCell → ℕ → ℕ → Bool → ServersOutcome
+server_checkpoints servers s range combine = at_server servers s (λ cell. cell_checkpoints cell range combine cell.state) (entry_at servers s)
 
 abbrev pub server_stops : List ServerCell → ℕ → ℕ → ServersOutcome
 server_stops servers s call = at_server servers s (λ cell. cell_rests (cell_stops call cell)) (entry_at servers s)

@@ -32,7 +32,7 @@ use Rattle.model_partition.specs.Range.{OutGroup, RangeState, RangeOutcome, requ
 use Rattle.model_partition.specs.Loading.{Group, log_end}
 use Rattle.model_partition.specs.PlaceReads.{reads_under}
 use Rattle.model_partition.specs.Serving.{record_of}
-use Rattle.model_partition.specs.Checkpoints.{checkpoint_record, may_record, index_place, rows_may_stand}
+use Rattle.model_partition.specs.Checkpoints.{checkpoint_record, may_record, index_place, rows_may_stand, trim_awaits}
 use Rattle.model_partition.specs.Answering.{groups_of, is_taken}
 
 -- bytes that stand in an extent from an offset on
@@ -56,7 +56,7 @@ pub data StreamAction : Type 0 where
   Stands : (kind : StreamKind) (extent : ℕ) (at : Position) (group : Group) → StreamAction
   -- the generation is confirmed: the log is shown from a position on up to an end, and the metadata up to an end of its own
   Shows : (start log_end metadata_end : Position) → StreamAction
-  -- the load has read an index
+  -- an index, a page or a value has been read
   Finds : (found : PlacedBytes) → StreamAction
   -- an append to row data ends: these bytes stand
   Stores : (stored : PlacedBytes) → StreamAction
@@ -159,14 +159,14 @@ abbrev pub rows_actions : ServerContext → RangeState → Body → List StreamA
 rows_actions d r body =
     if rows_may_stand r.control body then rows_told_actions r (reply_rule (picking d r.rows) (request d) body).news else []
 
--- what the answer to the read of an index brings
-abbrev pub index_told_actions : ReadBody → List StreamAction
-index_told_actions (reads.Bytes w e offset bytes) = Finds (record { extent = e; offset = offset; bytes = bytes }) ∷ []
-index_told_actions body = []
+-- what the answer to the read of an index, of a page or of a value brings
+abbrev pub bytes_told_actions : ReadBody → List StreamAction
+bytes_told_actions (reads.Bytes w e offset bytes) = Finds (record { extent = e; offset = offset; bytes = bytes }) ∷ []
+bytes_told_actions body = []
 
-abbrev pub index_actions : Body → List StreamAction
-index_actions (bodies.Read body) = index_told_actions body
-index_actions body = []
+abbrev pub bytes_actions : Body → List StreamAction
+bytes_actions (bodies.Read body) = bytes_told_actions body
+bytes_actions body = []
 
 abbrev pub log_actions : ServerContext → RangeState → Body → RangeOutcome → List StreamAction
 log_actions d r body o =
@@ -180,8 +180,9 @@ answered_actions d r w body o =
     else if awaits r.metadata.job w then metadata_actions d r body
     else if awaits r.log.job w then (if is_taken r body then log_actions d r body o else [])
     else if awaits r.rows.job w then rows_actions d r body
-    else if reads_under r.reading w then index_actions body
-    else []
+    else if reads_under r.reading w then bytes_actions body
+    else if trim_awaits r.control w then []
+    else bytes_actions body
 
 -- a range that is dropped does nothing
 abbrev pub answer_actions : ServerContext → RangeState → ReqNo → Body → RangeOutcome → List StreamAction

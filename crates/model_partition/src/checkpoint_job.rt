@@ -1,5 +1,5 @@
 //! A checkpoint that is under way.
-use checkpoint::CheckpointPages;
+use checkpoint::{CheckpointPages, PageMerge};
 use memtable::Place;
 use std::marker::Model;
 use streams::Position;
@@ -8,6 +8,8 @@ use wire::ReqNo;
 /// What a checkpoint waits for. It goes through its phases in this order.
 #[derive(Clone, Copy)]
 pub enum CheckpointPhase {
+    /// The pages of older indexes are being read, one at a time, to be combined.
+    Combining,
     /// A group of its pages is being appended to row data.
     Pages,
     /// Its index is being appended to row data. One that fits no group is not, and the checkpoint rests.
@@ -25,10 +27,13 @@ pub enum CheckpointPhase {
 }
 
 /// A checkpoint of a range: where a load that begins with it reads the log from, the number that is then to be applied next,
-/// its pages until its record stands, and what it waits for.
+/// whether its index stands for all older ones, the merge of these where it does, its pages until its record stands, and what it
+/// waits for.
 pub struct CheckpointJob {
     pub position: Position,
     pub next: u64,
+    pub combine: bool,
+    pub merge: PageMerge,
     pub pages: CheckpointPages,
     pub phase: CheckpointPhase,
 }
@@ -39,6 +44,8 @@ impl Drop for CheckpointJob {
         let CheckpointJob {
             position: _,
             next: _,
+            combine: _,
+            merge: _,
             pages: _,
             phase: _,
         } = self;
@@ -52,7 +59,7 @@ impl Model for CheckpointJob {
 
     ghost Value = { specs.CheckpointState };
 
-    ghost view = { λ j. record { position = j.position; next = j.next; pages = j.pages; phase = j.phase } };
+    ghost view = { λ j. record { position = j.position; next = j.next; combine = j.combine; merge = j.merge; pages = j.pages; phase = j.phase } };
 
     // An index that stands can be installed.
     ghost invariant = { λ j. specs.is_recording j.phase ≡ true → fits_a_group j.pages.index ≡ true };

@@ -37,7 +37,7 @@ mod waiting;
 pub use checkpoint_job::{CheckpointJob, CheckpointPhase};
 pub use client_answers::take_answer;
 pub use map_record::MapRecord;
-pub use place_reads::{is_same, moved_on, places_of, reads_place};
+pub use place_reads::{is_at, is_same, moved_on, places_of, reads_page, reads_place};
 pub use progress::{Progress, Service};
 pub use range_content::RangeContent;
 pub use range_entry::RangeEntry;

@@ -8,6 +8,7 @@ use crate::server_context::ServerContext;
 use crate::waiting::PlaceRead;
 use block_types::Nodes;
 use client::Place as Replica;
+use memtable::Place;
 use wire::{ActorId, Body, ExtentId, Packet, ReadBody, ReqNo, StreamExtent};
 
 /// Whether two numbers name one request.
@@ -42,6 +43,23 @@ pub fn is_same(one: &ReqNo, other: &ReqNo) -> bool
             ReqNo::NoRequest => true,
         },
     }
+}
+
+/// Whether the read that is out is that of a page, which a checkpoint merges, and not that of an index.
+pub fn reads_page(reading: &Option<PlaceRead>) -> bool
+    ensures { result ≡ specs.reads_page reading.now }
+{
+    match reading {
+        None => false,
+        Some(read) => read.page,
+    }
+}
+
+/// Whether bytes that stand at an offset of an extent are those of the place.
+pub fn is_at(place: &Place, extent: ExtentId, offset: u32, bytes: &[u8]) -> bool
+    ensures { result ≡ specs.is_place place.now (specs.place_of extent offset bytes.now) }
+{
+    place.extent.0 == extent.0 && place.offset == offset && place.length as usize == bytes.len()
 }
 
 /// The node at a place.

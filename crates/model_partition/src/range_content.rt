@@ -13,8 +13,8 @@ use metadata::{Metadata, Region};
 use wire::StreamList;
 
 /// What a server knows of a range beside its transactions and Gets: how far its load is, its streams, what its metadata says,
-/// the regions of its log with the numbers that are to be applied next, its table, the indexes below it, the index that is being
-/// read, and the checkpoint that is under way.
+/// the regions of its log with the numbers that are to be applied next, its table, the indexes below it, the index or the page that
+/// is being read, and the checkpoint that is under way.
 pub struct RangeContent {
     pub load: RangeLoad,
     pub stage: Stage,

@@ -7,7 +7,8 @@
 //!   it names, or it is refused (30); what the map tells assigns a range or renews its lease.
 //! - `give_up` has the jobs of a range give up on what they wait for.
 //! - `checkpoint` begins a checkpoint of a range that is served and has none under way, or says why it does not; the checkpoint
-//!   goes on by the answers that `handle` takes.
+//!   goes on by the answers that `handle` takes. It combines the indexes of the range, by reading their pages, where that is
+//!   asked or the range has 16.
 //! - `loading` is the table that a confirmation is about to show.
 //! - A step sends and shows at most 2,048 each.
 //!

@@ -407,12 +407,19 @@ impl RangeServer {
         }
     }
 
-    /// A checkpoint of a range begins: what its memory table has is written as pages, and goes on by the answers to them.
+    /// A checkpoint of a range begins: what its memory table has is written as pages, and goes on by the answers to them. Where it
+    /// combines, which is asked or comes of 16 indexes, the pages of its indexes are read first, and what they and the memory
+    /// table say together is written, in place of all older indexes.
     /// 22: no memory. 30: the server does not hold the range. 38: the range is not served yet. 35: a checkpoint of it is under way.
     /// After a refusal nothing has changed. A server with no numbers left for its requests does nothing.
     #[tactic(auto, using(crate::proofs::Entries::removed_after, crate::proofs::Entries::set_same, crate::proofs::Checkpoints::loading_or_busy))]
-    pub fn checkpoint(&mut self, alloc: Global, range: RangeId) -> Result<Sent, RangeFault>
-        ensures ok { IfOk result (λ t. server_checkpoint self.old range ≡ outcome t self.new) }
+    pub fn checkpoint(
+        &mut self,
+        alloc: Global,
+        range: RangeId,
+        combine: bool,
+    ) -> Result<Sent, RangeFault>
+        ensures ok { IfOk result (λ t. server_checkpoint self.old range combine ≡ outcome t self.new) }
         ensures refused { refusal_in result ≡ checkpoint_refusal self.old range }
         ensures err { OnErr result (self.new ≡ self.old) }
         ensures short { IfOk result IsShort }
@@ -426,7 +433,7 @@ impl RangeServer {
         if !has_numbers(&self.context) {
             return Ok(Sent::nothing(alloc));
         }
-        match state.checkpoint(alloc, &self.context) {
+        match state.checkpoint(alloc, &self.context, combine) {
             Ok(taken) => Ok(settle(&mut self.ranges, &mut self.context, range.0, taken)),
             Err(_full) => Err(RangeFault::Memory),
         }

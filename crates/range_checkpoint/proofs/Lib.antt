@@ -1,3 +1,4 @@
 pub mod Told
 pub mod Stood
 pub mod Noted
+pub mod Combined

@@ -71,6 +71,7 @@ pages_go d r (job, Some group) = refl
 
 phase_stands : (d : ServerContext) (r : RangeState) (job : CheckpointState) (phase : CheckpointPhase) (e o : ℕ) → r.control ≡ Some job →
     rows_stand d r job phase e o ≡ goes_on d (record r { control = Some (stands_in d r job phase e o).0 }) (stands_in d r job phase e o).1
+phase_stands d r job phases.Combining e o is = ap (λ (c : Option CheckpointState). goes d (record r { control = c }) [] []) is
 phase_stands d r job phases.Pages e o is = pages_go d r (next_append (pages_stand job e o) (next_group (pages_stand job e o).pages))
 phase_stands d r job phases.Index e o is =
     elim (may_record r job) as (λ b. may_record r job ≡ b → rows_stand d r job phases.Index e o ≡ goes_on d (record r { control = Some (stands_in d r job phases.Index e o).0 }) (stands_in d r job phases.Index e o).1) [
@@ -133,6 +134,7 @@ phase_recorded d r job (phases.Record index) =
       | true ↦ λ may. rw may refl
       | false ↦ λ may. rw may refl
     ] refl
+phase_recorded d r job phases.Combining = refl
 phase_recorded d r job phases.Pages = refl
 phase_recorded d r job phases.Index = refl
 phase_recorded d r job (phases.Trim before to_blob q) = refl

@@ -1,3 +1,4 @@
 pub mod Steps
 pub mod Records
 pub mod Trims
+pub mod Combining

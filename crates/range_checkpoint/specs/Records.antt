@@ -1,17 +1,16 @@
 -- What the record of a checkpoint leaves once it stands.
-use Rattle.std.specs.Prelude.{suc, ◌^◌, false, nat_lt, [], ◌∷◌, Option, Some, None, if◌then◌else◌}
+use Rattle.std.specs.Prelude.{suc, ◌^◌, nat_lt, [], ◌∷◌, Option, Some, None, if◌then◌else◌}
 use Rattle.wire.specs.declared.body.Body.{Body}
 use Rattle.memtable.specs.declared.cell.Place.{Place}
 use Rattle.client.specs.Client.{ClientState, Outcome, reply_rule}
 use Rattle.metadata.specs.declared.record.MetaItem.TheVariants.{Checkpoint}
 use Rattle.metadata.specs.Fold.{MetadataState, taken}
-use Rattle.checkpoint.specs.PageGroups.{no_pages}
 use Rattle.model_partition.specs.declared.checkpoint_job.CheckpointPhase.{CheckpointPhase}
 use Rattle.model_partition.specs.declared.checkpoint_job.CheckpointPhase.TheVariants as phases
 use Rattle.model_partition.specs.declared.server_context.ServerContext.{ServerContext}
-use Rattle.model_partition.specs.CheckpointStates.{CheckpointState}
+use Rattle.model_partition.specs.CheckpointStates.{CheckpointState, last_job}
 use Rattle.model_partition.specs.Range.{RangeState, RangeOutcome, request, goes, picking}
-use Rattle.model_partition.specs.Checkpoints.{trims}
+use Rattle.model_partition.specs.Checkpoints.{indexes_below, trims}
 use Rattle.range_checkpoint.specs.declared.record_answers.Recorded.{Recorded}
 
 -- what the metadata's client makes of an answer
@@ -21,8 +20,9 @@ metadata_reaction d c body = reply_rule (picking d c) (request d) body
 abbrev pub recorded_at : MetadataState → CheckpointState → Place → Recorded
 recorded_at m job place =
     record {
-      said = taken m (Checkpoint false place job.position job.next);
+      said = taken m (Checkpoint job.combine place job.position job.next);
       installed = record { place = place; keys = m.keys; index = job.pages.index };
+      combine = job.combine;
       position = job.position;
       next = job.next;
     }
@@ -38,9 +38,9 @@ recorded_of m (Some job) = recorded_in m job job.phase
 
 -- a job of which this is noted
 abbrev pub job_of : Recorded → CheckpointState
-job_of x = record { position = x.position; next = x.next; pages = no_pages; phase = phases.Pages }
+job_of x = last_job x.position x.next phases.Pages
 
 -- and then the log is to be trimmed
 abbrev pub goes_on : ServerContext → RangeState → Option Recorded → RangeOutcome
 goes_on d r None = goes d r [] []
-goes_on d r (Some x) = trims d (record r { said = x.said; fixed = None; indexes = x.installed ∷ r.indexes }) (job_of x)
+goes_on d r (Some x) = trims d (record r { said = x.said; fixed = None; indexes = x.installed ∷ indexes_below x.combine r.indexes }) (job_of x)

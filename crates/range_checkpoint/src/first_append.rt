@@ -1,16 +1,27 @@
 //! How a checkpoint begins.
 ghost use Rattle.std.specs.Prelude.{◌≡◌, None, IfOk, OnErr};
+ghost use Rattle.checkpoint.specs.Merges.{LeadsTo, with_at_hand};
 ghost use Rattle.model_partition.specs.Checkpoints as rules;
+ghost use Rattle.model_partition.specs.Getting.{held_at};
 ghost use Rattle.model_partition.specs.Range.{RangeState};
 ghost use Rattle.model_partition.specs.RangeSteps.{outcome, put};
+ghost use Rattle.range_checkpoint.specs.Combining as specs;
 
-use crate::appends::{NextAppend, append_of, send};
+use crate::appends::NextAppend;
+use crate::merging::asks_first;
 use crate::numbers::have_bytes;
-use checkpoint::CheckpointPages;
-use model_partition::{CheckpointJob, Progress, RangeContent, ServerContext, Stage};
+use crate::starts::CheckpointStart;
+use crate::writing::{combined_job, first_append, writes, writing_job};
+use checkpoint::{CheckpointPages, InstalledIndex, PageChanges, PageMerge, Pages};
+use model_partition::{
+    CheckpointJob, CheckpointPhase, Progress, RangeContent, ServerContext, Stage,
+};
 use std::alloc::{AllocError, Global};
 use streams::Position;
 use wire::Refusal;
+
+/// How many indexes are combined also where that is not asked.
+const MAX_INDEXES: usize = 16;
 
 /// Why no checkpoint can begin: the range is not served (`Loading`, 38), or one is under way (`Busy`, 35).
 pub fn checkpoint_fault(content: &RangeContent) -> Option<Refusal>
@@ -25,34 +36,123 @@ pub fn checkpoint_fault(content: &RangeContent) -> Option<Refusal>
     None
 }
 
-/// A checkpoint begins: the live layer becomes the fixed one, and its first pages are appended to row data, or where it has no
-/// entry its index. The position is that up to which the layer has the log, and `next` the number that a load from there applies
-/// next. One whose numbers had no bytes is not begun. Where memory runs out (22) nothing has changed.
-pub fn begin(
+/// The live layer becomes the fixed one, and its first pages are appended.
+fn begins_pages(
     content: &mut RangeContent,
     alloc: Global,
     context: &ServerContext,
-    position: Position,
-    next: u64,
+    start: &CheckpointStart,
 ) -> Result<Progress, AllocError>
     requires { content.old.table.fixed ≡ None }
-    ensures ok { IfOk result (λ p. (r : RangeState) → r.position ≡ position → rules.number_to_apply r.out r.next ≡ next
-        → rules.checkpoint_rule context.now (put content.old r) ≡ outcome context.now (put content.new r) p) }
+    ensures ok { IfOk result (λ p. (r : RangeState) → r.position ≡ start.now.position → rules.number_to_apply r.out r.next ≡ start.now.next
+        → rules.begins_pages context.now (put content.old r) ≡ outcome context.now (put content.new r) p) }
     ensures err { OnErr result (content.new ≡ content.old) }
 {
-    if !have_bytes(content.table.live(), position.index, position.offset, next) {
+    let pages = CheckpointPages::of(alloc, content.table.live())?;
+    let NextAppend { phase, blocks } = first_append(alloc, &pages)?;
+    let plain = CheckpointStart {
+        position: start.position,
+        next: start.next,
+        combine: false,
+    };
+    let _frozen = content.table.freeze_layer(alloc);
+    let job = writing_job(alloc, &plain, pages, &phase);
+    Ok(writes(content, context, job, blocks))
+}
+
+/// The job of a checkpoint that combines the indexes, none of whose pages is merged yet.
+fn combining_job(
+    content: &RangeContent,
+    alloc: Global,
+    start: &CheckpointStart,
+) -> Result<CheckpointJob, AllocError>
+    ensures { IfOk result (λ job. job ≡ specs.combining_job start.now content.now.indexes) }
+{
+    Ok(CheckpointJob {
+        position: start.position,
+        next: start.next,
+        combine: true,
+        merge: PageMerge::of(alloc, content.indexes.as_slice())?,
+        pages: CheckpointPages::new(alloc),
+        phase: CheckpointPhase::Combining,
+    })
+}
+
+/// What the pages bring that are to be merged first and are at hand.
+fn changes_at_hand<P: Pages>(
+    content: &RangeContent,
+    alloc: Global,
+    merge: &PageMerge,
+    pages: &P,
+) -> Result<PageChanges, AllocError>
+    ensures { IfOk result (λ changes. LeadsTo changes merge.now (with_at_hand (P.source pages.now) content.now.said.keys merge.now)) }
+{
+    merge.at_hand(alloc, &content.said.keys, pages)
+}
+
+/// The live layer becomes the fixed one, and the first page of the older indexes that is not at hand is asked for, or where there
+/// is none what they and this layer come to is written.
+fn begins_combining<P: Pages>(
+    content: &mut RangeContent,
+    alloc: Global,
+    context: &ServerContext,
+    start: &CheckpointStart,
+    pages: &P,
+) -> Result<Progress, AllocError>
+    requires { content.old.table.fixed ≡ None }
+    ensures ok { IfOk result (λ p. (r : RangeState) → r.position ≡ start.now.position → rules.number_to_apply r.out r.next ≡ start.now.next → held_at r.held ≡ P.source pages.now
+        → rules.begins_combining context.now (put content.old r) ≡ outcome context.now (put content.new r) p) }
+    ensures err { OnErr result (content.new ≡ content.old) }
+{
+    let mut job = combining_job(content, alloc, start)?;
+    let changes = changes_at_hand(content, alloc, &job.merge, pages)?;
+    match job.merge.place_behind(&changes) {
+        Some(place) => {
+            job.merge.take(alloc, changes)?;
+            let _frozen = content.table.freeze_layer(alloc);
+            content.reading = None;
+            Ok(asks_first(content, context, job, &place))
+        }
+        None => {
+            let (job, blocks) = combined_job(alloc, &job, &changes, content.table.live())?;
+            let _frozen = content.table.freeze_layer(alloc);
+            content.reading = None;
+            Ok(writes(content, context, job, blocks))
+        }
+    }
+}
+
+/// Whether a checkpoint combines so many indexes: where that is asked, or there are 16.
+fn combines(combine: bool, indexes: &[InstalledIndex]) -> bool
+    ensures { result ≡ rules.combines combine indexes.now }
+{
+    combine || indexes.len() >= MAX_INDEXES
+}
+
+/// A checkpoint begins: the live layer becomes the fixed one, and its first pages are appended to row data, or where it has no
+/// entry its index. Where that is asked, or 16 indexes are installed, it combines them: the first of their pages that is not at
+/// hand is asked for, or where there is none what they and the layer come to is written. The position is that up to which the
+/// layer has the log, and `next` the number that a load from there applies next. One whose numbers had no bytes is not begun.
+/// Where memory runs out (22) nothing has changed.
+pub fn begin<P: Pages>(
+    content: &mut RangeContent,
+    alloc: Global,
+    context: &ServerContext,
+    start: &CheckpointStart,
+    pages: &P,
+) -> Result<Progress, AllocError>
+    requires { content.old.table.fixed ≡ None }
+    ensures ok { IfOk result (λ p. (r : RangeState) → r.position ≡ start.now.position → rules.number_to_apply r.out r.next ≡ start.now.next → held_at r.held ≡ P.source pages.now
+        → rules.checkpoint_rule context.now (put content.old r) start.now.combine ≡ outcome context.now (put content.new r) p) }
+    ensures err { OnErr result (content.new ≡ content.old) }
+{
+    let Position { index, offset } = start.position;
+    if !have_bytes(content.table.live(), index, offset, start.next) {
         return Ok(Progress::Goes(None));
     }
-    let pages = CheckpointPages::of(alloc, content.table.live())?;
-    let group = pages.next_group(alloc)?;
-    let NextAppend { phase, blocks } = append_of(alloc, group, pages.index())?;
-    let packet = send(&mut content.rows, context, blocks);
-    let _frozen = content.table.freeze_layer(alloc);
-    content.control = Some(CheckpointJob {
-        position,
-        next,
-        pages,
-        phase,
-    });
-    Ok(Progress::Goes(packet))
+    if combines(start.combine, content.indexes.as_slice()) {
+        begins_combining(content, alloc, context, start, pages)
+    } else {
+        begins_pages(content, alloc, context, start)
+    }
 }

@@ -1,9 +1,10 @@
 //! The answers to the metadata's client of a range that is served.
-ghost use Rattle.std.specs.Prelude.{◌≡◌, ◌+◌, ◌<◌, ◌^◌, true, false, Some, None, IfOk, IfSome, OnErr};
+ghost use Rattle.std.specs.Prelude.{◌≡◌, ◌∷◌, ◌+◌, ◌<◌, ◌^◌, true, false, Some, None, IfOk, IfSome, OnOk, OnErr};
 ghost use Rattle.client.specs.Client.{needs_memory};
 ghost use Rattle.model_partition.specs.declared.checkpoint_job.CheckpointPhase.TheVariants as phases;
 ghost use Rattle.checkpoint.specs.Lookup.{HasIndex};
 ghost use Rattle.model_partition.specs.Answering as answers;
+ghost use Rattle.model_partition.specs.Checkpoints as rules;
 ghost use Rattle.model_partition.specs.Range.{is_serving};
 ghost use Rattle.model_partition.specs.RangeSteps.{RangePerforms};
 ghost use Rattle.range_checkpoint.specs.Steps as specs;
@@ -11,7 +12,7 @@ ghost use Rattle.range_checkpoint.specs.Records as records;
 
 use crate::appended::{appended, told};
 use crate::trim::trims;
-use checkpoint::{Index, InstalledIndex};
+use checkpoint::{Index, InstalledIndex, InstalledIndexes};
 use memtable::Place;
 use metadata::{MetaItem, MetaRecord, Metadata, copied_keys};
 use model_partition::{
@@ -21,12 +22,13 @@ use std::alloc::{AllocError, Global};
 use streams::Position;
 use wire::{ExtentId, Packet};
 
-/// What a checkpoint's record that stands leaves: what the metadata says then, the index that counts from now on, and the
-/// position and the number that the checkpoint noted.
+/// What a checkpoint's record that stands leaves: what the metadata says then, the index that counts from now on, whether it
+/// stands for all older ones, and the position and the number that the checkpoint noted.
 #[derive(Drop)]
 pub(crate) struct Recorded {
     pub(crate) said: Metadata,
     pub(crate) installed: InstalledIndex,
+    pub(crate) combine: bool,
     pub(crate) position: Position,
     pub(crate) next: u64,
 }
@@ -47,7 +49,7 @@ fn recorded_at(
     let record = MetaRecord {
         number: said.next,
         item: MetaItem::Checkpoint {
-            combine: false,
+            combine: job.combine,
             index: place,
             position: job.position,
             next: job.next,
@@ -67,6 +69,7 @@ fn recorded_at(
                 has_place: index.has_place,
             },
         },
+        combine: job.combine,
         position: job.position,
         next: job.next,
     })
@@ -112,6 +115,27 @@ fn take_appended(
     drop(reaction);
 }
 
+/// The index becomes the newest, in place of all older ones where it combines them. Where memory runs out (22) nothing has
+/// changed.
+fn install(
+    indexes: &mut InstalledIndexes,
+    alloc: Global,
+    combine: bool,
+    installed: InstalledIndex,
+) -> Result<(), AllocError>
+    requires { HasIndex installed }
+    ensures ok { OnOk result (indexes.new ≡ installed ∷ rules.indexes_below combine indexes.old) }
+    ensures err { OnErr result (indexes.new ≡ indexes.old) }
+{
+    if !combine {
+        return indexes.install(installed);
+    }
+    let mut alone = Vec::with_capacity(alloc, 1)?;
+    alone.push_reserved(installed);
+    *indexes = InstalledIndexes::of(alone);
+    Ok(())
+}
+
 /// The record stands, where one is out: its index counts from now on, the fixed layer goes, and the log is to be trimmed.
 fn record_stands(
     content: &mut RangeContent,
@@ -132,10 +156,11 @@ fn record_stands(
     let Recorded {
         said,
         installed,
+        combine,
         position,
         next,
     } = recorded;
-    content.indexes.install(installed)?;
+    install(&mut content.indexes, alloc, combine, installed)?;
     content.said = said;
     content.table.drop_layer();
     take_appended(content, alloc, context, packet);

@@ -77,18 +77,19 @@ fn fit_position(index: u64, offset: u32) -> Position
 fn record_append(
     alloc: Global,
     number: u64,
+    combine: bool,
     index: &Place,
     position: &Position,
     next: u64,
 ) -> Result<Appending, AllocError>
     requires number { (0 < number) × (number + 1 < 2 ^ 64) }
     requires next { 0 < next }
-    ensures { IfOk result (λ blocks. blocks ≡ spelling (record { number = number; item = Checkpoint false index.now position.now next }) ∷ []) }
+    ensures { IfOk result (λ blocks. blocks ≡ spelling (record { number = number; item = Checkpoint combine index.now position.now next }) ∷ []) }
 {
     let record = MetaRecord {
         number,
         item: MetaItem::Checkpoint {
-            combine: false,
+            combine,
             index: fit_place(index.extent.0, index.offset, index.length),
             position: fit_position(position.index, position.offset),
             next,
@@ -149,7 +150,7 @@ fn index_stands(
 {
     if may_record(number, job) {
         let place = index_place(&job.pages, extent, offset);
-        let blocks = record_append(alloc, number, &place, &job.position, job.next)?;
+        let blocks = record_append(alloc, number, job.combine, &place, &job.position, job.next)?;
         job.phase = CheckpointPhase::Record { index: place };
         Ok(NextStep::Metadata(blocks))
     } else {

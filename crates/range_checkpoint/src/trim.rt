@@ -2,16 +2,15 @@
 ghost use Rattle.std.specs.Prelude.{◌≡◌, ◌≤◌, ◌-◌, false, true, length, take, drop, IfOk, OnOk, OnErr};
 ghost use Rattle.wire.specs.declared.actor.ReqNo.{ReqNo as Number};
 ghost use Rattle.wire.specs.declared.body.StreamBody.TheVariants as streams;
-ghost use Rattle.checkpoint.specs.PageGroups.{no_pages};
 ghost use Rattle.model_partition.specs.declared.server_context.ServerContext.{ServerContext as Context};
 ghost use Rattle.model_partition.specs.Answering as answers;
-ghost use Rattle.model_partition.specs.CheckpointStates.{CheckpointState, is_recording};
+ghost use Rattle.model_partition.specs.CheckpointStates.{CheckpointState, is_recording, last_job};
 ghost use Rattle.model_partition.specs.Checkpoints as rules;
 ghost use Rattle.model_partition.specs.Range.{RangeState};
 ghost use Rattle.model_partition.specs.RangeSteps.{RangePerforms, put};
 ghost use Rattle.range_checkpoint.specs.Trims as specs;
 
-use checkpoint::{CheckpointPages, InstalledIndex};
+use checkpoint::{CheckpointPages, InstalledIndex, PageMerge};
 use client::StreamClient;
 use model_partition::{
     CheckpointJob, CheckpointPhase, Progress, RangeContent, ServerContext, is_same, next_request,
@@ -75,11 +74,13 @@ pub(crate) fn trim_packet(
 /// The job of a checkpoint whose record stands.
 fn trim_job(alloc: Global, position: &Position, next: u64, phase: &CheckpointPhase) -> CheckpointJob
     requires { is_recording phase.now ≡ false }
-    ensures { result ≡ record { position = position.now; next = next; pages = no_pages; phase = phase.now } }
+    ensures { result ≡ last_job position.now next phase.now }
 {
     CheckpointJob {
         position: *position,
         next,
+        combine: false,
+        merge: PageMerge::new(alloc),
         pages: CheckpointPages::new(alloc),
         phase: *phase,
     }

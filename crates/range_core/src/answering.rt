@@ -1,8 +1,9 @@
 //! Answers that a range waits for.
 ghost use Rattle.std.specs.Prelude.{◌≡◌, ◌<◌, ◌≤◌, ◌+◌, ◌^◌, [], Some, true, false, length, vec_len, vec_capacity, IfOk, OnErr};
-ghost use Rattle.model_partition.specs.Range.{is_serving, refused_users};
+ghost use Rattle.model_partition.specs.Range.{RangeState, is_serving, refused_users};
 ghost use Rattle.model_partition.specs.Answering.{answer_rule, answered_number, log_reply, metadata_reply, range_awaits};
 ghost use Rattle.range_load.specs.Awaited.{is_awaited};
+ghost use Rattle.model_partition.specs.Getting.{held_at};
 ghost use Rattle.model_partition.specs.RangeSteps as steps;
 ghost use Rattle.range_core.specs.Replies.{IsAwaited};
 ghost use Rattle.range_core.specs.Steps.{outcome, IsShort};
@@ -11,10 +12,11 @@ ghost use Rattle.range_core.specs.declared.answering.Waiter.TheVariants as waite
 
 use crate::range_step::{RangeStep, push_some};
 use crate::state::RangeState;
-use model_partition::{Progress, RangeContent, ServerContext, Service, TableNote};
-use range_checkpoint::{record_reply, rows_reply, trim_awaits, trim_reply};
+use model_partition::{Progress, RangeContent, ServerContext, Service, TableNote, reads_page};
+use range_checkpoint::{page_reply, record_reply, rows_reply, trim_awaits, trim_reply};
 use range_commit::Queue;
 use range_load::{index_reply, load_reply, log_load_reply, metadata_reply, reads_under};
+use range_reads::Lookups;
 use std::alloc::{AllocError, Global};
 use wire::{Packet, ReqNo};
 
@@ -54,23 +56,28 @@ pub enum Waiter {
     Rows,
     /// The read of an index.
     Index,
+    /// The read of a page that a checkpoint merges.
+    Page,
     /// The Trim that ends a checkpoint.
     Trim,
 }
 
-/// What an answer to this one leaves of what is loaded, and of the checkpoint that is under way.
+/// What an answer to this one leaves of what is loaded, and of the checkpoint that is under way. The pages that the range holds
+/// are at hand.
 fn progress_of(
     content: &mut RangeContent,
     alloc: Global,
     context: &ServerContext,
     waiter: Waiter,
     packet: &Packet,
+    pages: &Lookups,
 ) -> Result<Progress, AllocError>
     requires load { waiter ≡ waiters.Load → is_awaited content.old.load.phase packet.now.body ≡ true }
     requires metadata { waiter ≡ waiters.Metadata → is_serving content.old.stage ≡ false }
     requires log { waiter ≡ waiters.Log → is_serving content.old.stage ≡ false }
     requires record { waiter ≡ waiters.Record → is_serving content.old.stage ≡ true }
-    ensures ok { IfOk result (λ p. steps.RangePerforms context.now (λ r. waiter_rule waiter context.now r packet.now.body) content.old content.new p) }
+    ensures ok { IfOk result (λ p. (r : RangeState) → held_at r.held ≡ held_at pages.now.held
+        → waiter_rule waiter context.now (steps.put content.old r) packet.now.body ≡ steps.outcome context.now (steps.put content.new r) p) }
     ensures err { OnErr result (content.new ≡ content.old) }
 {
     match waiter {
@@ -80,6 +87,7 @@ fn progress_of(
         Waiter::Log => log_load_reply(content, alloc, context, packet),
         Waiter::Rows => rows_reply(content, alloc, context, packet),
         Waiter::Index => index_reply(content, alloc, context, packet),
+        Waiter::Page => page_reply(content, alloc, context, packet, pages),
         Waiter::Trim => trim_reply(content, context, packet),
     }
 }
@@ -137,7 +145,8 @@ impl RangeState {
 
     /// The load goes on by the answer to this one: the streams are opened, the metadata is read, then the log, then the indexes,
     /// the generation is confirmed, and the range is served from then on, with the number of the next transaction and the log's
-    /// position. Or a checkpoint goes on: a group of pages stands, then the index, then the record, and the log is trimmed. The
+    /// position. Or a checkpoint goes on: the pages of older indexes are read, where it combines these, a group of pages stands,
+    /// then the index, then the record, and the log is trimmed. The
     /// range is dropped where its generation is an old one (3), what was read is damaged (21), or an index stands in an extent that
     /// is in none of its streams, and those who wait are told so (30). Where memory runs out (22) nothing has changed.
     pub fn load(
@@ -158,7 +167,14 @@ impl RangeState {
     {
         let farewell = self.refusals(alloc, context)?;
         let prepared = make_room(alloc, farewell)?;
-        match progress_of(&mut self.content, alloc, context, waiter, packet) {
+        match progress_of(
+            &mut self.content,
+            alloc,
+            context,
+            waiter,
+            packet,
+            &self.lookups,
+        ) {
             Ok(progress) => Ok(self.settle(alloc, context, progress, prepared)),
             Err(full) => Err(full),
         }
@@ -216,7 +232,8 @@ impl RangeState {
     }
 
     /// The answer of this number, a packet: what the load, the client of the metadata, of the log or of row data, the read of an
-    /// index, the Trim or the Gets do with it, whichever waits for it first. That it bears the number is the caller's condition.
+    /// index or of a page, the Trim or the Gets do with it, whichever waits for it first. That it bears the number is the caller's
+    /// condition.
     /// For want of memory (22) nothing has changed.
     #[tactic(auto, using(crate::proofs::LogAnswers::awaited, crate::proofs::LogAnswers::load_awaited))]
     pub fn answer(
@@ -245,6 +262,9 @@ impl RangeState {
             return self.load(alloc, context, Waiter::Rows, packet);
         }
         if reads_under(&self.content.reading, request) {
+            if reads_page(&self.content.reading) {
+                return self.load(alloc, context, Waiter::Page, packet);
+            }
             return self.load(alloc, context, Waiter::Index, packet);
         }
         if trim_awaits(&self.content.control, request) {

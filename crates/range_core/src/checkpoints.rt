@@ -7,6 +7,7 @@ use crate::answering::make_room;
 use crate::range_step::RangeStep;
 use crate::state::RangeState;
 use model_partition::ServerContext;
+use range_checkpoint::{CheckpointStart, begin};
 use std::alloc::{AllocError, Global};
 use wire::Refusal;
 
@@ -19,23 +20,30 @@ impl RangeState {
     }
 
     /// A checkpoint begins: the live layer of the memory table is fixed, what comes later goes into a new one, and its first pages
-    /// are appended to row data. It notes where the log is to be read from after it, and the number that is then to be applied
-    /// next: the first of the group that is out. Where memory runs out (22) nothing has changed.
+    /// are appended to row data. Where it combines, which is asked or comes of 16 indexes, the pages of all indexes are merged
+    /// first: those that the range holds at once, and then the next one is read. It notes where the log is to be read from after
+    /// it, and the number that is then to be applied next: the first of the group that is out. Where memory runs out (22) nothing
+    /// has changed.
     pub fn checkpoint(
         &mut self,
         alloc: Global,
         context: &ServerContext,
+        combine: bool,
     ) -> Result<RangeStep, AllocError>
         requires numbers { context.now.count + 1024 < 2 ^ 64 }
         requires may { checkpoint_fault self.old ≡ None }
-        ensures ok { IfOk result (λ t. checkpoint_rule context.now self.old ≡ outcome t self.new) }
+        ensures ok { IfOk result (λ t. checkpoint_rule context.now self.old combine ≡ outcome t self.new) }
         ensures err { OnErr result (self.new ≡ self.old) }
         ensures short { IfOk result IsShort }
     {
         let farewell = self.refusals(alloc, context)?;
         let prepared = make_room(alloc, farewell)?;
-        let next = self.queue.number_to_apply();
-        match range_checkpoint::begin(&mut self.content, alloc, context, self.position, next) {
+        let start = CheckpointStart {
+            position: self.position,
+            next: self.queue.number_to_apply(),
+            combine,
+        };
+        match begin(&mut self.content, alloc, context, &start, &self.lookups) {
             Ok(progress) => Ok(self.settle(alloc, context, progress, prepared)),
             Err(full) => Err(full),
         }

@@ -10,8 +10,8 @@ use range_reads::{Asking, MAX_GETS};
 use std::alloc::{AllocError, Global};
 use wire::Packet;
 
-/// What the load and the clients of the log, of the metadata and of row data send, then the read of an index, the Trim, and then
-/// those of Gets, in room that is there.
+/// What the load and the clients of the log, of the metadata and of row data send, then the read of an index or of a page, the
+/// Trim, and then those of Gets, in room that is there.
 fn gathered(
     packets: Vec<Packet>,
     loading: range_load::GivenUp,
@@ -42,7 +42,7 @@ fn gathered(
 
 impl RangeState {
     /// What is not answered is sent again, or an extent that does not answer is sealed: the load, the jobs of the log, of the
-    /// metadata and of row data, the read of an index, the Trim and the Gets, in this order. Where memory runs out (22) nothing has changed.
+    /// metadata and of row data, the read of an index or of a page, the Trim and the Gets, in this order. Where memory runs out (22) nothing has changed.
     pub fn give_up(
         &mut self,
         alloc: Global,

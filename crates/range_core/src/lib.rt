@@ -3,8 +3,9 @@
 //!
 //! This crate touches memory only. Each step is a rule of the table of a server (model_partition/specs: Loading, Serving, Getting
 //! and Answering) on the range, exactly, what its cache holds included: `assign`, `renew`, `load`, `transact`, `form`, `log_done`,
-//! `get` and `give_up`. `answer` goes to `load` (which the read of an index is a part of), to `log_done` or to the Gets, whichever
-//! waits. A step that is refused for want of memory (22) leaves the range as it was, and that is the one error that no clause
+//! `get`, `checkpoint` and `give_up`. `answer` goes to `load` (which the read of an index and the steps of a checkpoint are a part
+//! of), to `log_done` or to the Gets, whichever waits. A checkpoint that combines the indexes of its range reads their pages one
+//! by one, unless the range holds them already, and leaves what is held as it is. A step that is refused for want of memory (22) leaves the range as it was, and that is the one error that no clause
 //! limits. The readers `phase`, `position`, `next_number`, `indexes` and `regions` take no memory.
 //! The group that `form` of a range appends is that of the function `form`, which encodes each transaction once.
 #![tactic(auto)]

@@ -14,7 +14,7 @@ use checkpoint::InstalledIndex;
 use checkpoint_format::decode;
 use memtable::Place;
 use metadata::{IndexRange, KeyRange, copied_keys};
-use model_partition::{PlaceRead, Progress, RangeContent, ServerContext, Stage, is_same};
+use model_partition::{PlaceRead, Progress, RangeContent, ServerContext, Stage, is_at, is_same};
 use std::alloc::{AllocError, Global};
 use wire::{AppendBody, Body, ExtentId, Packet, ReadBody, Refusal, ReqNo};
 
@@ -26,13 +26,6 @@ pub fn reads_under(reading: &Option<PlaceRead>, number: &ReqNo) -> bool
         None => false,
         Some(read) => is_same(&read.request, number),
     }
-}
-
-/// Whether bytes that stand at an offset of an extent are those of the place.
-fn is_at(place: &Place, extent: ExtentId, offset: u32, bytes: &[u8]) -> bool
-    ensures { result ≡ reads.is_place place.now (reads.place_of extent offset bytes.now) }
-{
-    place.extent.0 == extent.0 && place.offset == offset && place.length as usize == bytes.len()
 }
 
 /// Where the index at a position stands, and the keys within which it counts.

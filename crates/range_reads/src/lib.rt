@@ -9,6 +9,7 @@
 //! - `bytes` takes what was read, tries each Get again, and holds the bytes only where a read that waits asked for just these.
 //!   Bytes that spell no page where one is wanted change nothing.
 //! - `give_up` sends the last read of each Get to the next place.
+//! - What is held is a source of pages (`checkpoint::Pages`), which looking at leaves as it is.
 //! - What is held after each, and in which order, is a function of what was held and of what came (`ok` of `get` and `bytes`).
 //!
 //! Running out of memory is the one error that no clause limits.

@@ -19,6 +19,8 @@ use crate::trying::{OneTry, Tries, one_try, try_each};
 use crate::usage::{pages_used, promote_each, promote_some, value_used};
 use crate::value_cache::{Fresh, ValueCache};
 use bytes::Bytes;
+use checkpoint::Pages;
+use memtable::Place;
 use model_partition::{PlaceReads, ServerContext, WaitingGet};
 use std::alloc::{AllocError, Global};
 use std::marker::Model;
@@ -57,6 +59,17 @@ impl Model for Lookups {
     ghost view = { λ l. record { gets = l.gets.items; held = l.held } };
 
     ghost invariant = { λ l. length l.gets.items ≤ 256 };
+}
+
+/// What is held is at hand: a page that was read for a Get, or a value, by its place.
+impl Pages for Lookups {
+    ghost use Rattle.model_partition.specs.Getting.{held_at};
+
+    ghost source = { λ l. held_at l.held };
+
+    fn page(&self, place: &Place) -> Option<&Bytes> {
+        self.held.value(place)
+    }
 }
 
 fn packets_of(alloc: Global, packet: Option<Packet>) -> Result<Vec<Packet>, AllocError>

@@ -33,7 +33,7 @@ Asks (requests.Get server range key) =
     says (codes "get") then IsServer server then Denotes range then IsKey key then end
 Asks (requests.Route key) = says (codes "route") then IsKey key then end
 
--- an event of its own; no line submits or delivers so, and none has a server combine indexes, split or merge yet
+-- an event of its own; no line submits or delivers so, and none has a server split or merge yet
 abbrev pub SpellsEvent : Event → List (List ℕ) → Type 0
 SpellsEvent (events.Assign range server until) =
     says (codes "assign") then Denotes range then IsServer server then Denotes until then end

@@ -46,10 +46,10 @@ abbrev pub IsFate : Bool → List ℕ → Type 0
 IsFate true word = word ≡ codes "keep"
 IsFate false word = word ≡ codes "drop"
 
--- whether a checkpoint combines the indexes; no line asks for that yet
+-- whether a checkpoint combines the indexes
 abbrev pub IsManner : Bool → List ℕ → Type 0
+IsManner true word = word ≡ codes "combine"
 IsManner false word = word ≡ codes "plain"
-IsManner true word = ⊥
 
 -- actors are `n1` and on, `s1` and on, `m` the manager, `p` the map
 abbrev pub IsActor : ActorId → List ℕ → Type 0

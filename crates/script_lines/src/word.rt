@@ -84,11 +84,12 @@ pub fn fate(word: &str) -> Option<bool>
     }
 }
 
-/// Whether a checkpoint combines the indexes. No line asks for that yet.
+/// Whether a checkpoint combines the indexes: `combine`, or `plain`.
 pub fn manner(word: &str) -> Option<bool>
     ensures { Reads IsManner result word.now }
 {
     match word {
+        "combine" => Some(true),
         "plain" => Some(false),
         _ => None,
     }

@@ -3,7 +3,7 @@
 use crate::requests::PLACES;
 use crate::runs::{Run, decides, settles, started};
 use Observed::{Acked, Seals, Sees};
-use Step::{Assigns, Checkpoints, Commits, Decides, Finds, Refuses, StartsAgain};
+use Step::{Assigns, Checkpoints, Combines, Commits, Decides, Finds, Refuses, StartsAgain};
 use block_types::Group;
 use bytes::Bytes;
 use model_partition::TableNote;
@@ -33,6 +33,8 @@ enum Step {
     Decides(u64),
     /// A checkpoint begins.
     Checkpoints,
+    /// A checkpoint begins that combines the indexes.
+    Combines,
     /// A checkpoint is refused for this reason.
     Refuses(RangeFault),
     /// The server stops, and starts under this number.
@@ -99,6 +101,67 @@ const CASES: &[Case] = &[
             Sees(1, 24, 5000),
         ],
         &[1, 3],
+    ),
+    (
+        "a load after a checkpoint that combines reads one index, and a value by its place is still found",
+        &[
+            Assigns(1),
+            Commits(b"k", 5000, b'q'),
+            Checkpoints,
+            Commits(b"a", 1, b'x'),
+            Decides(1),
+            Checkpoints,
+            Combines,
+            StartsAgain(2),
+            Assigns(2),
+            Finds(b"k", 5000, b'q'),
+            Finds(b"a", 1, b'x'),
+        ],
+        &[
+            Acked(1, 0, 5024),
+            Acked(2, 0, 22),
+            Acked(2, 22, 28),
+            Acked(3, 0, 46),
+            Seals(1, 5024),
+            Acked(4, 0, 24),
+            Acked(2, 50, 11),
+            Acked(2, 61, 28),
+            Acked(3, 46, 46),
+            Sees(2, 0, 22),
+            Sees(2, 50, 11),
+            Acked(2, 89, 31),
+            Acked(2, 120, 28),
+            Acked(3, 92, 46),
+            Sees(3, 0, 138),
+            Sees(4, 0, 24),
+            Sees(2, 120, 28),
+            Sees(2, 89, 31),
+            Sees(1, 24, 5000),
+        ],
+        &[1, 3],
+    ),
+    (
+        "a page that was read for a Get is not read again to be combined",
+        &[
+            Assigns(1),
+            Commits(b"a", 1, b'x'),
+            Checkpoints,
+            Finds(b"a", 1, b'x'),
+            Combines,
+            Finds(b"a", 1, b'x'),
+        ],
+        &[
+            Acked(1, 0, 24),
+            Acked(2, 0, 11),
+            Acked(2, 11, 28),
+            Acked(3, 0, 46),
+            Sees(2, 0, 11),
+            Acked(2, 39, 11),
+            Acked(2, 50, 28),
+            Acked(3, 46, 46),
+            Sees(2, 39, 11),
+        ],
+        &[1],
     ),
     (
         "a table with no entry has an index alone, and a checkpoint wants a range that is served",
@@ -294,8 +357,8 @@ fn finds(alloc: Global, stand: &mut Stand, key: &[u8], count: usize, letter: u8)
         }
 }
 
-fn checkpoints(alloc: Global, stand: &mut Stand) -> bool {
-    match stand.server.checkpoint(alloc, RangeId(1)) {
+fn checkpoints(alloc: Global, stand: &mut Stand, combine: bool) -> bool {
+    match stand.server.checkpoint(alloc, RangeId(1), combine) {
         Ok(sent) => follows(alloc, stand, sent),
         Err(_fault) => false,
     }
@@ -314,7 +377,7 @@ fn is_sealed(alloc: Global, stand: &mut Stand, extent: u64) -> bool {
 }
 
 fn refuses(alloc: Global, stand: &mut Stand, wanted: &RangeFault) -> bool {
-    match stand.server.checkpoint(alloc, RangeId(1)) {
+    match stand.server.checkpoint(alloc, RangeId(1), false) {
         Ok(_sent) => false,
         Err(fault) => fault == *wanted,
     }
@@ -327,7 +390,8 @@ fn takes(alloc: Global, stand: &mut Stand, step: &Step) -> bool {
             asks(alloc, stand, transaction(alloc, key, *count, *letter))
         }
         Decides(extent) => is_sealed(alloc, stand, *extent),
-        Checkpoints => checkpoints(alloc, stand),
+        Checkpoints => checkpoints(alloc, stand, false),
+        Combines => checkpoints(alloc, stand, true),
         Refuses(fault) => refuses(alloc, stand, fault),
         StartsAgain(session) => {
             stand.server = server_of(alloc, *session);

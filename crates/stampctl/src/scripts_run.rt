@@ -365,7 +365,7 @@ const LINES: &[&str] = &[
     "checkpoint 1 1",
     "checkpoint 1 x plain",
     "checkpoint 1 1 Plain",
-    "checkpoint 1 1 combine",
+    "checkpoint 1 1 Combine",
     "checkpoint 1 1 plain now",
     "renew 1 1",
     "renew 1 x 100",

@@ -5,10 +5,11 @@ ghost use Rattle.memtable.specs.Limits.{IsKey};
 ghost use Rattle.checkpoint_format.specs.Index.{IsIndex};
 ghost use Rattle.memtable.specs.Entries.{IsFit};
 
+use crate::groups::has_blocks;
 use bytes::Bytes;
 use checkpoint::{
-    Index, InstalledIndex, Lookup, PageAt, PageList, Pages, add_page, combine, combined_entries,
-    has_place, lookup,
+    CheckpointPages, Index, InstalledIndex, Lookup, PageAt, PageList, PageMerge, Pages, add_page,
+    combine, has_place, lookup,
 };
 use memtable::{Cell, CellMap, Place};
 use metadata::KeyRange;
@@ -172,19 +173,78 @@ fn entries(alloc: Global, first: &'static [u8], second: &'static [u8]) -> Result
     Ok(map)
 }
 
+/// Whether pages that do not stand yet are one, with these bytes.
+fn is_one_page(alloc: Global, pages: &CheckpointPages, bytes: &[u8]) -> Result<bool, Fail> {
+    match pages.next_group(alloc)? {
+        None => Ok(false),
+        Some(group) => Ok(has_blocks(group, &[bytes])),
+    }
+}
+
 #[test]
 fn combining_keeps_the_newest_cells_and_no_deleted_key(rt: HostRuntime) -> Result<(), Fail> {
     let alloc = rt.alloc();
     let merged = entries(alloc, OLDER, NEWER)?;
     let newest = entries(alloc, NEWEST, NEWEST)?;
-    let pages = combine(alloc, &merged, Some(newest.entries()))?;
-    assert!(rt; pages.len() == 1);
-    assert!(rt; pages[0].first.as_slice() == b"b".as_slice());
-    assert!(rt; pages[0].bytes.as_slice() == COMBINED);
-    let all = combined_entries(alloc, &merged, Some(newest.entries()))?;
-    assert!(rt; has_place(&all));
+    let pages = combine(alloc, &merged, &[], newest.entries())?;
+    assert!(rt; is_one_page(alloc, &pages, COMBINED)?);
+    assert!(rt; pages.index().has_place);
     assert!(rt; !has_place(newest.entries()));
     Ok(())
+}
+
+/// The offset of a place; none is 1.
+fn offset_of(place: Option<Place>) -> u32 {
+    match place {
+        None => 1,
+        Some(place) => place.offset,
+    }
+}
+
+/// The older page at hand.
+fn older_at_hand(alloc: Global) -> Result<AtHand, Fail> {
+    let mut pages = BTreeMap::new(alloc);
+    pages.insert(AT_OLDER, Bytes::from_static(OLDER))?;
+    Ok(AtHand { pages })
+}
+
+/// The merge of both indexes once the older page, which is at hand, is taken.
+fn older_merged(alloc: Global, keys: &KeyRange, pages: &AtHand) -> Result<PageMerge, Fail> {
+    let newer = installed(alloc, AT_NEWER, None)?;
+    let older = installed(alloc, AT_OLDER, None)?;
+    let mut merge = PageMerge::of(alloc, &[newer, older])?;
+    let changes = merge.at_hand(alloc, keys, pages)?;
+    merge.take(alloc, changes)?;
+    Ok(merge)
+}
+
+#[test]
+fn pages_are_merged_as_they_come(rt: HostRuntime) -> Result<(), Fail> {
+    let alloc = rt.alloc();
+    let at_hand = older_at_hand(alloc)?;
+    let keys = keys_below(None);
+    let merge = older_merged(alloc, &keys, &at_hand)?;
+    assert!(rt; offset_of(merge.next_place()) == AT_NEWER);
+    let none = Bytes::from_static(b"none");
+    assert!(rt; merge.with_page(alloc, &keys, &none, &at_hand)?.is_none());
+    let page = Bytes::from_static(NEWER);
+    let newest = entries(alloc, NEWEST, NEWEST)?;
+    match merge.with_page(alloc, &keys, &page, &at_hand)? {
+        None => assert!(rt; false),
+        Some(changes) => {
+            assert!(rt; merge.place_behind(&changes).is_none());
+            let pages = merge.combined_pages(alloc, &changes, newest.entries())?;
+            assert!(rt; pages.will_fit());
+            assert!(rt; is_one_page(alloc, &pages, COMBINED)?);
+        }
+    }
+    Ok(())
+}
+
+#[test]
+fn nothing_is_to_be_merged_at_first(rt: HostRuntime) {
+    let merge = PageMerge::new(rt.alloc());
+    assert!(rt; merge.next_place().is_none());
 }
 
 #[test]

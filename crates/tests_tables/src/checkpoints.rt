@@ -11,8 +11,10 @@ use memtable::Place;
 use model_partition::{Progress, RangeContent, ServerContext, Stage};
 use packets::{Comes, are_sent, comes_to};
 use range_checkpoint::{
-    begin, checkpoint_fault, give_up, record_reply, rows_reply, trim_awaits, trim_reply,
+    CheckpointStart, begin, checkpoint_fault, give_up, page_reply, record_reply, rows_reply,
+    trim_awaits, trim_reply,
 };
+use range_reads::Lookups;
 use std::alloc::{AllocError, Global};
 use std::test::Fail;
 use streams::Position;
@@ -24,6 +26,8 @@ pub(crate) enum Part {
     Rows,
     Metadata,
     Log,
+    /// The read of a page that is merged.
+    Page,
 }
 
 /// What is done with a range, or what is known of it.
@@ -36,6 +40,8 @@ pub(crate) enum Step {
     IsLoading,
     /// A checkpoint begins under this number of the server's next request, at the position 24 of the extent of this index.
     Begins(u32, u64, Comes),
+    /// The same of a checkpoint that combines.
+    Combines(u32, u64, Comes),
     /// The request of the first number is answered, where the server's next request has the second.
     Answered(Part, u32, u32, Answer, Comes),
     /// No answer comes: what row data's client sends, and whether the log is trimmed again.
@@ -51,10 +57,10 @@ pub(crate) enum Step {
     PageAt(usize, u32, u32),
 }
 
-use Comes::{Appends, AppendsMany, Dropped, Extends, Rests, Seals, Silence, Trims};
-use Part::{Metadata, Rows};
+use Comes::{Appends, AppendsMany, Dropped, Extends, Reads, Rests, Seals, Silence, Trims};
+use Part::{Metadata, Page, Rows};
 use Step::{
-    Answered, Begins, Faults, Fills, GivesUp, Has, Indexes, IsLoading, PageAt, PutsLarge,
+    Answered, Begins, Combines, Faults, Fills, GivesUp, Has, Indexes, IsLoading, PageAt, PutsLarge,
     PutsSmall, Table,
 };
 
@@ -72,6 +78,28 @@ const TWO_INDEX: &[u8] = &[
 const TWO_RECORD: &[u8] = &[
     0, 0, 0, 0, 0, 0, 0, 1, 2, 0, 0, 0, 0, 0, 0, 0, 0, 7, 0, 0, 0, 22, 0, 0, 0, 29, 0, 0, 0, 0, 0,
     0, 0, 1, 0, 0, 0, 24, 0, 0, 0, 0, 0, 0, 0, 3,
+];
+
+/// The page of the keys `ka`, `kb` and `kc`.
+const THREE_KEYS: &[u8] = &[
+    0, 3, 0, 2, b'k', b'a', 1, 0, 0, 0, 1, b'x', 0, 2, b'k', b'b', 1, 0, 0, 0, 1, b'x', 0, 2, b'k',
+    b'c', 1, 0, 0, 0, 1, b'x',
+];
+
+/// The index of that page at 60 of the extent 7.
+const THREE_INDEX: &[u8] = &[
+    0, 0, 0, 29, 0, 0, 0, 1, 0, 0, 2, b'k', b'a', 0, 0, 0, 0, 0, 0, 0, 7, 0, 0, 0, 60, 0, 0, 0, 32,
+];
+
+/// The record of that index at 92, which stands for all older ones.
+const THREE_RECORD: &[u8] = &[
+    0, 0, 0, 0, 0, 0, 0, 2, 2, 1, 0, 0, 0, 0, 0, 0, 0, 7, 0, 0, 0, 92, 0, 0, 0, 29, 0, 0, 0, 0, 0,
+    0, 0, 1, 0, 0, 0, 24, 0, 0, 0, 0, 0, 0, 0, 3,
+];
+
+/// As many bytes as the page of two keys has, which say that they have three.
+const NO_PAGE: &[u8] = &[
+    0, 3, 0, 2, b'k', b'a', 1, 0, 0, 0, 1, b'x', 0, 2, b'k', b'b', 1, 0, 0, 0, 1, b'x',
 ];
 
 /// The index of no page.
@@ -103,6 +131,14 @@ const TRIMMING: &[Step] = &[
     Table(0, false),
 ];
 
+/// And it is done. Then a key is put, and a checkpoint begins that combines: the page is read under the number 7.
+const COMBINING: &[Step] = &[
+    Answered(Part::Log, 6, 7, Answer::Trimmed, Rests),
+    PutsSmall(b'c'),
+    Combines(7, 1, Reads(0, 22)),
+    Table(0, true),
+];
+
 /// A checkpoint of no key begins, where row data has no extent.
 const NONE_BEGUN: &[Step] = &[Begins(3, 0, Extends)];
 
@@ -120,6 +156,69 @@ const CASES: &[Case<Step>] = &[
                 Step::Log(1, 1, 0),
                 Faults(None),
             ],
+        ],
+    ),
+    (
+        "what combines reads the page, and writes an index that stands for both",
+        &[
+            STREAMS,
+            TWO,
+            RECORDED,
+            TRIMMING,
+            COMBINING,
+            &[
+                Answered(
+                    Page,
+                    7,
+                    8,
+                    Answer::Bytes(0, TWO_KEYS),
+                    Appends(&[THREE_KEYS]),
+                ),
+                Answered(Rows, 8, 9, Answer::Appended(60), Appends(&[THREE_INDEX])),
+                Answered(Rows, 9, 10, Answer::Appended(92), Appends(&[THREE_RECORD])),
+                Indexes(1, 1),
+                Answered(Metadata, 10, 11, Answer::Appended(46), Trims(1, false, 11)),
+                Indexes(1, 1),
+                PageAt(0, 60, 32),
+                Table(0, false),
+            ],
+        ],
+    ),
+    (
+        "what combines nothing goes at once",
+        &[STREAMS, &[PutsSmall(b'a'), Combines(3, 1, AppendsMany(1))]],
+    ),
+    (
+        "bytes that are not the page that is read change nothing",
+        &[
+            STREAMS,
+            TWO,
+            RECORDED,
+            TRIMMING,
+            COMBINING,
+            &[
+                Answered(Page, 7, 8, Answer::Bytes(0, NO_PAGE), Rests),
+                Answered(Page, 7, 8, Answer::Bytes(1, TWO_KEYS), Rests),
+                Answered(Page, 7, 8, Answer::Refused(Refusal::Memory), Rests),
+                Answered(
+                    Page,
+                    7,
+                    8,
+                    Answer::Bytes(0, TWO_KEYS),
+                    Appends(&[THREE_KEYS]),
+                ),
+            ],
+        ],
+    ),
+    (
+        "an old generation drops the range while a page is read",
+        &[
+            STREAMS,
+            TWO,
+            RECORDED,
+            TRIMMING,
+            COMBINING,
+            &[Answered(Page, 7, 8, Answer::Refused(Refusal::Stale), Dropped)],
         ],
     ),
     (
@@ -312,36 +411,53 @@ fn has_extent(content: &mut RangeContent, part: &Part) -> Result<(), Fail> {
         Part::Rows => content.rows.extents.push(extent(None))?,
         Part::Metadata => content.metadata.extents.push(extent(None))?,
         Part::Log => content.log.extents.push(extent(Some(24)))?,
+        Part::Page => {}
     }
     Ok(())
 }
 
 fn begins(
-    content: &mut RangeContent,
+    checkpointed: &mut Checkpointed,
     alloc: Global,
     count: u32,
-    index: u64,
+    start: &CheckpointStart,
     comes: &Comes,
 ) -> Result<bool, Fail> {
-    if content.table.fixed().is_some() {
+    if checkpointed.content.table.fixed().is_some() {
         return Ok(false);
     }
-    let position = Position { index, offset: 24 };
-    let progress = begin(content, alloc, &context(count, 5), position, 3)?;
+    let progress = begin(
+        &mut checkpointed.content,
+        alloc,
+        &context(count, 5),
+        start,
+        &checkpointed.pages,
+    )?;
     let told = comes_to(&progress, comes);
     drop(progress);
     Ok(told)
 }
 
+/// Where the log is read from behind a checkpoint that begins in the extent of this index, and the number that is applied next.
+fn start_in(index: u64, combine: bool) -> CheckpointStart {
+    CheckpointStart {
+        position: Position { index, offset: 24 },
+        next: 3,
+        combine,
+    }
+}
+
 /// What comes of an answer for a part, if its range is served.
 fn reply(
-    content: &mut RangeContent,
+    checkpointed: &mut Checkpointed,
     alloc: Global,
     context: &ServerContext,
     part: &Part,
     packet: &Packet,
 ) -> Result<Progress, AllocError> {
+    let content = &mut checkpointed.content;
     match part {
+        Part::Page => page_reply(content, alloc, context, packet, &checkpointed.pages),
         Part::Rows => rows_reply(content, alloc, context, packet),
         Part::Metadata => {
             if content.stage != Stage::Serving {
@@ -354,18 +470,19 @@ fn reply(
 }
 
 fn answered(
-    content: &mut RangeContent,
+    checkpointed: &mut Checkpointed,
     alloc: Global,
     part: &Part,
     asked: u32,
     count: u32,
     answer: &Answer,
 ) -> Result<Progress, Fail> {
-    if matches!(part, Part::Log) && !trim_awaits(&content.control, &number(u64::from(asked))) {
+    let control = &checkpointed.content.control;
+    if matches!(part, Part::Log) && !trim_awaits(control, &number(u64::from(asked))) {
         return Ok(Progress::Rests);
     }
     let packet = answer_of(body_of(asked, answer));
-    let told = reply(content, alloc, &context(count, 5), part, &packet);
+    let told = reply(checkpointed, alloc, &context(count, 5), part, &packet);
     drop(packet);
     Ok(told?)
 }
@@ -412,22 +529,29 @@ fn knows(content: &RangeContent, step: &Step) -> bool {
     }
 }
 
-/// A range of which a checkpoint is made.
+/// A range of which a checkpoint is made, and what it holds of pages, which is none.
 #[derive(Drop)]
 struct Checkpointed {
     content: RangeContent,
+    pages: Lookups,
 }
 
-fn takes(content: &mut RangeContent, alloc: Global, step: &Step) -> Result<bool, Fail> {
+fn takes(checkpointed: &mut Checkpointed, alloc: Global, step: &Step) -> Result<bool, Fail> {
+    let content = &mut checkpointed.content;
     match step {
         Has(part) => has_extent(content, part)?,
         PutsSmall(key) => put_small(alloc, &mut content.table, *key)?,
         PutsLarge(key) => put_large(alloc, &mut content.table, *key)?,
         Fills(count) => fill(alloc, &mut content.table, *count)?,
         IsLoading => content.stage = Stage::Confirming,
-        Begins(count, index, comes) => return begins(content, alloc, *count, *index, comes),
+        Begins(count, index, comes) => {
+            return begins(checkpointed, alloc, *count, &start_in(*index, false), comes);
+        }
+        Combines(count, index, comes) => {
+            return begins(checkpointed, alloc, *count, &start_in(*index, true), comes);
+        }
         Answered(part, asked, count, answer, comes) => {
-            let progress = answered(content, alloc, part, *asked, *count, answer)?;
+            let progress = answered(checkpointed, alloc, part, *asked, *count, answer)?;
             let told = comes_to(&progress, comes);
             drop(progress);
             return Ok(told);
@@ -442,7 +566,7 @@ impl Tested for Checkpointed {
     type Step = Step;
 
     fn takes(&mut self, alloc: Global, step: &Step) -> Result<bool, Fail> {
-        takes(&mut self.content, alloc, step)
+        takes(self, alloc, step)
     }
 }
 
@@ -451,6 +575,7 @@ fn checkpoints_go_as_their_cases_say(rt: HostRuntime) -> Result<(), Fail> {
     for (name, parts) in CASES {
         let start = Checkpointed {
             content: served(rt.alloc())?,
+            pages: Lookups::new(rt.alloc())?,
         };
         assert!(rt; holds(rt.alloc(), start, *parts)?, "{name}");
     }

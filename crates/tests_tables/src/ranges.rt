@@ -306,7 +306,7 @@ fn checkpointed(state: &mut RangeState, alloc: Global) -> Result<Option<Refusal>
     if let Some(refusal) = state.checkpoint_fault() {
         return Ok(Some(refusal));
     }
-    let taken = state.checkpoint(alloc, &context(9, 1))?;
+    let taken = state.checkpoint(alloc, &context(9, 1), false)?;
     drop(taken);
     Ok(None)
 }

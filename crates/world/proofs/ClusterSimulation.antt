@@ -151,11 +151,11 @@ give_up_came x l servers s range pick t = λ c m.
     subst (λ (cells : List ServerCell). ClusterMirrors (record x { stream_layer = l; servers = servers }) (servers_perform c (server_gives_up cells s range pick))) m.servers
     (does_mirrors x l servers (server_gives_up x.servers s range pick) t c m)
 
-pub checkpoint_came : (x : ClusterState) (l : StreamLayerState) (servers : List ServerCell) (s range : ℕ) (combine : Bool) → AfterServers x.stream_layer l servers (server_checkpoints x.servers s range) →
+pub checkpoint_came : (x : ClusterState) (l : StreamLayerState) (servers : List ServerCell) (s range : ℕ) (combine : Bool) → AfterServers x.stream_layer l servers (server_checkpoints x.servers s range combine) →
     ClusterSimulates x (record x { stream_layer = l; servers = servers }) (Checkpoint s range combine)
 checkpoint_came x l servers s range combine t = λ c m.
-    subst (λ (cells : List ServerCell). ClusterMirrors (record x { stream_layer = l; servers = servers }) (servers_perform c (server_checkpoints cells s range))) m.servers
-    (does_mirrors x l servers (server_checkpoints x.servers s range) t c m)
+    subst (λ (cells : List ServerCell). ClusterMirrors (record x { stream_layer = l; servers = servers }) (servers_perform c (server_checkpoints cells s range combine))) m.servers
+    (does_mirrors x l servers (server_checkpoints x.servers s range combine) t c m)
 
 -- nothing is sent and shown
 rests : (x : ClusterState) (servers : List ServerCell) (o : ServersOutcome) → o ≡ record { servers = servers; packets = []; notes = [] } → AfterServers x.stream_layer x.stream_layer servers o

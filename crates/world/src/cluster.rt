@@ -232,7 +232,7 @@ impl Cluster {
         ensures err { OnErr result (self.new ≡ self.old) }
     {
         self.stream_layer
-            .checkpoint(alloc, &mut self.servers, server, range)
+            .checkpoint(alloc, &mut self.servers, server, range, combine)
     }
 
     fn assign(

@@ -126,11 +126,16 @@ impl ServerActor {
         }
     }
 
-    /// Has it begin a checkpoint of a range. It answers why it does not: it does not hold the range (30), the range is not served
-    /// yet (38), or a checkpoint of it is under way (35). Nothing comes of it where it has stopped. An error is out of memory (22),
-    /// and nothing has changed.
-    pub fn checkpoint(&mut self, alloc: Global, range: RangeId) -> Result<ActorStep, AllocError>
-        ensures ok { IfOk result (λ step. cell_checkpoints self.old.cell range self.old.cell.state ≡ cell_outcome self.new.cell step) }
+    /// Has it begin a checkpoint of a range, which combines the range's indexes where that is asked. It answers why it does not:
+    /// it does not hold the range (30), the range is not served yet (38), or a checkpoint of it is under way (35). Nothing comes
+    /// of it where it has stopped. An error is out of memory (22), and nothing has changed.
+    pub fn checkpoint(
+        &mut self,
+        alloc: Global,
+        range: RangeId,
+        combine: bool,
+    ) -> Result<ActorStep, AllocError>
+        ensures ok { IfOk result (λ step. cell_checkpoints self.old.cell range combine self.old.cell.state ≡ cell_outcome self.new.cell step) }
         ensures same { self.new ≡ record self.old { cell = self.new.cell } }
         ensures plain { IfOk result (λ step. step.notes ≡ []) }
         ensures refusal { IfOk result (λ step. step.refusal ≡ checkpoint_fault_of range self.old.cell.state) }
@@ -139,7 +144,7 @@ impl ServerActor {
     {
         match &mut self.server {
             None => Ok(ActorStep::silent(alloc)),
-            Some(server) => match server.checkpoint(alloc, range) {
+            Some(server) => match server.checkpoint(alloc, range, combine) {
                 Ok(sent) => Ok(performed(alloc, sent)),
                 Err(fault) => match fault.refusal() {
                     None => Err(AllocError),

@@ -118,16 +118,17 @@ fn checkpoint_at(
     at: usize,
     alloc: Global,
     range: RangeId,
+    combine: bool,
 ) -> Result<ActorStep, AllocError>
     requires { at < length actors.old.items }
-    ensures ok { IfOk result (λ step. server_checkpoints (cells_of actors.old.items) (suc at) range ≡ outcome (cells_of actors.new.items) step) }
+    ensures ok { IfOk result (λ step. server_checkpoints (cells_of actors.old.items) (suc at) range combine ≡ outcome (cells_of actors.new.items) step) }
     ensures stay { StayServers actors.old.items actors.new.items }
     ensures plain { IfOk result (λ step. step.notes ≡ []) }
     ensures refusal { IfOk result (λ step. step.refusal ≡ checkpoint_refusal_at range (entry_at (cells_of actors.old.items) (suc at))) }
     ensures err { OnErr result (actors.new.items ≡ actors.old.items) }
     ensures few { IfOk result IsFew }
 {
-    match actors[at].checkpoint(alloc, range) {
+    match actors[at].checkpoint(alloc, range, combine) {
         Ok(step) => Ok(step),
         Err(full) => Err(full),
     }
@@ -229,15 +230,17 @@ impl Servers {
         }
     }
 
-    /// Has the server of a number begin a checkpoint of a range. It answers why it does not (30, 38, 35). Nothing comes of it where
-    /// the server is absent or has stopped. An error is out of memory (22), and nothing has changed.
+    /// Has the server of a number begin a checkpoint of a range, which combines the range's indexes where that is asked. It answers
+    /// why it does not (30, 38, 35). Nothing comes of it where the server is absent or has stopped. An error is out of memory (22),
+    /// and nothing has changed.
     pub fn checkpoint(
         &mut self,
         alloc: Global,
         server: ServerNo,
         range: RangeId,
+        combine: bool,
     ) -> Result<ActorStep, AllocError>
-        ensures ok { IfOk result (λ step. server_checkpoints self.old.cells server range ≡ outcome self.new.cells step) }
+        ensures ok { IfOk result (λ step. server_checkpoints self.old.cells server range combine ≡ outcome self.new.cells step) }
         ensures same { (self.new.moment ≡ self.old.moment) × (self.new.batch ≡ self.old.batch) }
         ensures plain { IfOk result (λ step. step.notes ≡ []) }
         ensures refusal { IfOk result (λ step. step.refusal ≡ checkpoint_refusal_at range (entry_at self.old.cells server)) }
@@ -246,7 +249,7 @@ impl Servers {
     {
         match place(self.actors.as_slice(), server) {
             None => Ok(ActorStep::silent(alloc)),
-            Some(at) => checkpoint_at(&mut self.actors, at, alloc, range),
+            Some(at) => checkpoint_at(&mut self.actors, at, alloc, range, combine),
         }
     }
 

@@ -443,16 +443,18 @@ impl StreamLayer {
         }
     }
 
-    /// A server begins a checkpoint of a range. It answers why it does not: it does not hold the range (30), the range is not served
-    /// yet (38), or a checkpoint of it is under way (35). An error is out of memory (22), and nothing has changed.
+    /// A server begins a checkpoint of a range, which combines the range's indexes where that is asked. It answers why it does not:
+    /// it does not hold the range (30), the range is not served yet (38), or a checkpoint of it is under way (35). An error is out
+    /// of memory (22), and nothing has changed.
     pub fn checkpoint(
         &mut self,
         alloc: Global,
         servers: &mut Servers,
         server: ServerNo,
         range: RangeId,
+        combine: bool,
     ) -> Result<Option<Refusal>, WorldFault>
-        ensures ok { OnOk result (AfterServers self.old self.new servers.new.cells (server_checkpoints servers.old.cells server range)) }
+        ensures ok { OnOk result (AfterServers self.old self.new servers.new.cells (server_checkpoints servers.old.cells server range combine)) }
         ensures refusal { IfOk result (λ refusal. refusal ≡ checkpoint_refusal_at range (entry_at servers.old.cells server)) }
         ensures err { OnErr result (self.new ≡ self.old) }
         ensures servers_err { OnErr result (servers.new ≡ servers.old) }
@@ -460,7 +462,7 @@ impl StreamLayer {
     {
         make_room(&mut self.post)?;
         self.notes.make_room()?;
-        match servers.checkpoint(alloc, server, range) {
+        match servers.checkpoint(alloc, server, range, combine) {
             Ok(step) => {
                 let ActorStep {
                     packets: asked,

@@ -1,6 +1,7 @@
 //! The answers that a checkpoint gets.
 use crate::asking::{PLACES, number};
-use wire::{AppendBody, Body, ExtentId, Refusal, SealBody, StreamBody};
+use bytes::Bytes;
+use wire::{AppendBody, Body, ExtentId, ReadBody, Refusal, SealBody, StreamBody};
 
 /// An answer, but for the number that it bears.
 pub(crate) enum Answer {
@@ -11,6 +12,8 @@ pub(crate) enum Answer {
     /// The extent 7 is sealed at this length.
     Sealed(u32),
     Trimmed,
+    /// These bytes stand at this offset of the extent 7.
+    Bytes(u32, &'static [u8]),
     Refused(Refusal),
 }
 
@@ -34,6 +37,12 @@ pub(crate) fn body_of(asked: u32, answer: &Answer) -> Body {
             length: *length,
         }),
         Answer::Trimmed => Body::Stream(StreamBody::Trimmed { request }),
+        Answer::Bytes(offset, bytes) => Body::Read(ReadBody::Bytes {
+            request,
+            extent: ExtentId(7),
+            offset: *offset,
+            bytes: Bytes::from_static(*bytes),
+        }),
         Answer::Refused(refusal) => Body::Append(AppendBody::Refused {
             request,
             refusal: *refusal,

@@ -2,7 +2,7 @@
 use crate::asking::number;
 use bytes::Bytes;
 use model_partition::Progress;
-use wire::{AppendBody, Body, ExtentId, Packet, SealBody, StreamBody};
+use wire::{AppendBody, Body, ExtentId, Packet, ReadBody, SealBody, StreamBody};
 
 /// What is sent, or what else comes of an answer.
 pub(crate) enum Comes {
@@ -14,6 +14,8 @@ pub(crate) enum Comes {
     Appends(&'static [&'static [u8]]),
     /// An append to the extent 7 of so many blocks.
     AppendsMany(usize),
+    /// So many bytes of the extent 7 are to be read from this offset on.
+    Reads(u32, u32),
     /// A new extent is asked for.
     Extends,
     /// The extent 7 is to be sealed.
@@ -59,10 +61,23 @@ fn is_trim(body: &StreamBody, below: u64, blob: bool, count: u32) -> bool {
     }
 }
 
+fn is_read(body: &ReadBody, from: u32, count: u32) -> bool {
+    match body {
+        ReadBody::ReadAt {
+            extent,
+            offset,
+            length,
+            ..
+        } => *extent == ExtentId(7) && *offset == from && *length == count,
+        _ => false,
+    }
+}
+
 /// Whether a packet is what is to be sent.
 pub(crate) fn is_sent(packet: &Packet, comes: &Comes) -> bool {
     match (&packet.body, comes) {
         (Body::Append(body), _) => is_append(body, comes),
+        (Body::Read(body), Comes::Reads(from, count)) => is_read(body, *from, *count),
         (Body::Stream(StreamBody::Extend { .. }), Comes::Extends) => true,
         (Body::Seal(SealBody::SealExtent { extent, .. }), Comes::Seals) => *extent == ExtentId(7),
         (Body::Stream(body), Comes::Trims(below, blob, count)) => {

@@ -14,7 +14,7 @@ pub returns-clause-shown_again : goal.returns-clause-shown_again
 returns-clause-shown_again c = λ servers s range pick. (server_gives_up_tidy servers s range pick).1
 
 pub returns-clause-sent_by_checkpoints : goal.returns-clause-sent_by_checkpoints
-returns-clause-sent_by_checkpoints c = λ servers s range. (server_checkpoints_tidy servers s range).0
+returns-clause-sent_by_checkpoints c = λ servers s range combine. (server_checkpoints_tidy servers s range combine).0
 
 pub returns-clause-shown_of_checkpoints : goal.returns-clause-shown_of_checkpoints
-returns-clause-shown_of_checkpoints c = λ servers s range. (server_checkpoints_tidy servers s range).1
+returns-clause-shown_of_checkpoints c = λ servers s range combine. (server_checkpoints_tidy servers s range combine).1

@@ -6,5 +6,5 @@ pub encode-requires : goal.encode-requires
 encode-requires c = (
   (omega (arith, c.requires.number), omega (arith, c.requires.number)),
   (c.fit_place.ensures.fits, c.fit_position.ensures.fits, (omega (arith, c.requires.next), omega (arith, c.ranges.next.fits))),
-  omega (arith, record_size c.args.number c.fit_place.result c.fit_position.result c.args.next),
+  omega (arith, record_size c.args.number c.args.combine c.fit_place.result c.fit_position.result c.args.next),
 )

@@ -5,7 +5,7 @@ use Rattle.world_servers.proofs.list.checkpoint_at.Goals as goal
 
 pub returns-in-Ok-clause-ok : goal.returns-in-Ok-clause-ok
 returns-in-Ok-clause-ok c =
-    one_stepped c.args.actors.now.items c.args.at c.index_mut.result.now c.checkpoint.new.self (λ cell. cell_checkpoints cell c.args.range cell.state) c.in-Ok.step c.requires c.index_mut.ensures.value c.in-Ok.ensures.ok
+    one_stepped c.args.actors.now.items c.args.at c.index_mut.result.now c.checkpoint.new.self (λ cell. cell_checkpoints cell c.args.range c.args.combine cell.state) c.in-Ok.step c.requires c.index_mut.ensures.value c.in-Ok.ensures.ok
 
 pub returns-in-Ok-clause-refusal : goal.returns-in-Ok-clause-refusal
 returns-in-Ok-clause-refusal c =
