@@ -12,7 +12,7 @@ ghost use Rattle.model_partition.specs.Range.{RangeState};
 ghost use Rattle.model_partition.specs.ServedTables.{IsAtLine, ServesAt};
 ghost use Rattle.model_partition.specs.ServerRun.{log_name};
 ghost use Rattle.model_partition.specs.TableContents.{AllTellRightly};
-ghost use Rattle.model_partition.specs.Servers.{ArePlain, ServerCell, ShowsLoad, server_checkpoints, server_gives_up, server_loads, server_takes};
+ghost use Rattle.model_partition.specs.Servers.{ArePlain, ServerCell, ShowsLoad, server_checkpoints, server_gives_up, server_loads, server_splits, server_takes};
 ghost use Rattle.model_partition.specs.Story.{KeepsOrder};
 ghost use Rattle.model_partition.specs.Cluster.{Cluster, first_cluster, cluster_after, cluster_after_all};
 ghost use Rattle.laws_clusters.specs.Orders.{ComesOfStreams};
@@ -21,7 +21,7 @@ ghost use Rattle.laws_servers.specs.Sending.{ByMoves, MaySendAll};
 
 /// A server sends nothing but what servers may ask of nodes and of the manager, and what no node takes. Of loaded tables it
 /// shows at most one, of the table that the range has when the answer comes that confirms its generation; where it gives up, or
-/// begins a checkpoint, none.
+/// begins a checkpoint or a split, none. This is so of any servers, whatever splits are under way at them.
 pub fn servers_take_steps()
     ensures sent { (servers : List ServerCell) (s : ℕ) (p : Packet) → MaySendAll (server_takes servers s p).packets }
     ensures shown { (servers : List ServerCell) (s : ℕ) (p : Packet) →
@@ -30,6 +30,8 @@ pub fn servers_take_steps()
     ensures shown_again { (servers : List ServerCell) (s range : ℕ) (pick : Nodes) → ArePlain (server_gives_up servers s range pick).notes }
     ensures sent_by_checkpoints { (servers : List ServerCell) (s range : ℕ) (combine : Bool) → MaySendAll (server_checkpoints servers s range combine).packets }
     ensures shown_of_checkpoints { (servers : List ServerCell) (s range : ℕ) (combine : Bool) → ArePlain (server_checkpoints servers s range combine).notes }
+    ensures sent_by_splits { (servers : List ServerCell) (s range : ℕ) (key : List ℕ) → MaySendAll (server_splits servers s range key).packets }
+    ensures shown_of_splits { (servers : List ServerCell) (s range : ℕ) (key : List ℕ) → ArePlain (server_splits servers s range key).notes }
 {}
 
 /// Whatever servers and the map do, each event is some moves of the stream layer.

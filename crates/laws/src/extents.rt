@@ -49,8 +49,9 @@ pub fn fences()
 /// which an extent is sealed for good. Groups that were read begin what was appended to the extent, up to where it was asked.
 /// Blocks that were appended stand at the answered offset, as the ones of this request and its generation, and are
 /// acknowledged there: from then on no place ends before them, and no seal cuts them off. The list of a log begins at index 0,
-/// or where a Trim named it, which one that is no user had sent under the generation that was the log's fence when it came.
-/// Nothing is said of a check that is answered with no length, nor of bytes and refusals.
+/// or where a Trim named it, which one that is no user had sent under the generation that was the log's fence when it came; or,
+/// where the log was built from others, so it was with the first of them by then. Nothing is said of a check that is answered with
+/// no length, nor of bytes and refusals.
 pub fn answers()
     ensures opened { (nodes target : ℕ) (moves : List Move) → OpeningsAnswered moves (start nodes target) }
     ensures confirmed { (nodes target : ℕ) (moves : List Move) → ConfirmationsAnswered moves (start nodes target) }
@@ -60,10 +61,12 @@ pub fn answers()
     ensures bases { (nodes target : ℕ) (moves : List Move) → BasesTrimmed moves (start nodes target) }
 {}
 
-/// Whatever is lost, repeated, reordered or stopped: each extent of a stream is in the manager's catalog; while it is open it
-/// stands in one list, once; a list only grows, with those that have left it. Extents leave logs alone, never the last one, and
-/// for good. In each list but those of blob streams, to which extents of logs come, they stand in the order in which they were
-/// made, and each but the last is sealed.
+/// Whatever is lost, repeated, reordered or stopped: each extent of a stream is in the manager's catalog; a list only grows, with
+/// those that have left it. Extents leave logs alone, never the last one, and for good. In each list but those of blob streams, to
+/// which extents of logs come, each extent but the last is sealed, and while one is open it stands in no other list, and once in
+/// its own; what is open in a blob stream stands in blob streams alone. A stream that is built has the lists of others of its kind,
+/// so that an extent that is sealed may stand in several lists, and in one more than once. Where none of some streams is built from
+/// more than one stream, which is one of them too, their extents stand in the order in which they were made, but for blob streams.
 pub fn listed()
     ensures grow { (nodes target : ℕ) (before after : List Move) → ListsGrow before after (start nodes target) }
 {}

@@ -1,7 +1,7 @@
 //! Laws of tables, and of the streams that they are loaded from. Runs of a range and of those that it was split from are defined
 //! in `laws_tables`, and all else that is said here in `model_partition`.
 
-ghost use Rattle.std.specs.Prelude.{◌≡◌, List, ℕ, suc};
+ghost use Rattle.std.specs.Prelude.{◌≡◌, ◌++◌, List, ℕ, suc};
 ghost use Rattle.wire.specs.declared.note.Note.{Note};
 ghost use Rattle.wire.specs.declared.rows.Row.{Row};
 ghost use Rattle.memtable.specs.declared.cell.Place.{Place};
@@ -9,11 +9,13 @@ ghost use Rattle.commitlog.specs.Replay.{Numbered as Group};
 ghost use Rattle.model_partition.specs.StreamMachine.{after, Extended, In, IsRun, MachineStep};
 ghost use Rattle.model_partition.specs.Past.{Bytes, Transaction, Replays, table_notes, first_range};
 ghost use Rattle.model_partition.specs.Range.{RangeState};
-ghost use Rattle.model_partition.specs.ServedTables.{AreFirst, AreSeenAs, IsAtLine, ServesAt, StreamsInOrder};
+ghost use Rattle.model_partition.specs.ServedTables.{AreFirst, AreSeenAs, AreUnsplit, IsAtLine, ServesAt, StreamsInOrder};
 ghost use Rattle.model_partition.specs.ServerRun.{ServerEvent, log_name, run_of};
 ghost use Rattle.model_partition.specs.Story.{KeepsOrder, EndsRise};
 ghost use Rattle.model_partition.specs.ServerTurns.{after_all, AreMoves, Growing, Move};
+ghost use Rattle.laws_tables.specs.Built.{KeepsSource};
 ghost use Rattle.laws_tables.specs.Ends.{StandsBehind};
+ghost use Rattle.laws_tables.specs.Families.{IsFamily};
 ghost use Rattle.laws_tables.specs.Layers.{Layer};
 ghost use Rattle.laws_tables.specs.Runs.{Beginning, ChainReplays, IsBeginning, IsChainRun, KeepsKeys, Run, ShowsLayers, first_beginning, log_of, meta_of, seen};
 
@@ -24,6 +26,12 @@ ghost use Rattle.laws_tables.specs.Runs.{Beginning, ChainReplays, IsBeginning, I
 /// Where nothing narrows the keys of the first range, all that is observed of it replays, and observations of extents may stand
 /// between those of tables (`law`). `rows` are what each load shows, by its number in the log's story, and `layer_at` is what the
 /// index at a place says.
+///
+/// What is observed of all ranges together replays, where they are a family (`families`): each of which anything is told is the
+/// first, or a split made it of one of them. A child's streams are its parent's as they stood at one moment; they keep their order
+/// as they go on, and so do the parent's. The generation that split the parent had been loaded by then, all that it formed was
+/// answered, nothing is told of the parent under a higher one, and each load of the child has a higher one and the keys that the
+/// split left to it. Whatever the parent still shows late stands in the child's loads too.
 pub fn tables_replay()
     ensures chain { (layer_at : Place → Layer) (b : Beginning) (rows : ℕ → List Row) (run : Run) (order : KeepsOrder (log_of run)) →
         IsBeginning layer_at b → IsChainRun layer_at b run → ShowsLayers layer_at b rows run → EndsRise (log_of run) → StandsBehind b.place (log_of run) order
@@ -31,23 +39,24 @@ pub fn tables_replay()
     ensures law { (layer_at : Place → Layer) (rows : ℕ → List Row) (run : Run) (h : List Note) → IsChainRun layer_at first_beginning run → KeepsKeys run
         → ShowsLayers layer_at first_beginning rows run → KeepsOrder (log_of run) → EndsRise (log_of run) → KeepsOrder (meta_of run)
         → table_notes h ≡ seen first_beginning rows first_range run → Replays h }
+    ensures families { (layer_at : Place → Layer) (h : List Note) → IsFamily layer_at h → Replays h }
 {}
 
-/// Whatever comes to servers, from whomever and however often, wherever they stop, start, give up or make checkpoints: if what they see
-/// of the metadata and the log of a range keeps its order, no generation is confirmed twice, loads of that log end in the order of
+/// Where no range is split, whatever comes to servers, from whomever and however often, wherever they stop, start, give up or make
+/// checkpoints: if what they see of the metadata and the log of a range keeps its order, no generation is confirmed twice, loads of that log end in the order of
 /// their generations, and what reads were shown and appends were answered for keeps its bytes, then what they load replays, where the
 /// map assigns the first range alone (`law`). The tables of any range that is served, its indexes among them, are at any moment the
 /// table of the line that ends at its log position, whatever other ranges its server holds (`steps`), and whichever copies of the log
 /// each load is taken for (`served`). Nothing is said of who answers them: any streams, of any number of any machines, are allowed that
 /// keep their order.
 pub fn servers_replay()
-    ensures law { (batch servers : ℕ) (texts : ℕ → Bytes) (events : List ServerEvent) (notes : List Note) → AreFirst events →
+    ensures law { (batch servers : ℕ) (texts : ℕ → Bytes) (events : List ServerEvent) (notes : List Note) → AreUnsplit events → AreFirst events →
         StreamsInOrder texts first_range (run_of batch servers events) →
         AreSeenAs texts (run_of batch servers events).notes (table_notes notes) → Replays notes }
-    ensures steps { (batch servers : ℕ) (texts : ℕ → Bytes) (events : List ServerEvent) (s range : ℕ) (r : RangeState) →
+    ensures steps { (batch servers : ℕ) (texts : ℕ → Bytes) (events : List ServerEvent) (s range : ℕ) (r : RangeState) → AreUnsplit events →
         (p : StreamsInOrder texts range (run_of batch servers events)) →
         ServesAt (run_of batch servers events) s range r → IsAtLine texts ((run_of batch servers events).story (log_name range)) p.log.copies r }
-    ensures served { (batch servers : ℕ) (texts : ℕ → Bytes) (events : List ServerEvent) (s range : ℕ) (r : RangeState) →
+    ensures served { (batch servers : ℕ) (texts : ℕ → Bytes) (events : List ServerEvent) (s range : ℕ) (r : RangeState) → AreUnsplit events →
         StreamsInOrder texts range (run_of batch servers events) →
         ServesAt (run_of batch servers events) s range r → (log : KeepsOrder ((run_of batch servers events).story (log_name range))) →
         IsAtLine texts ((run_of batch servers events).story (log_name range)) log.copies r }
@@ -55,7 +64,9 @@ pub fn servers_replay()
 
 /// What the loads of one stream show keeps its order: for servers that do whatever what they know allows (`law`), and for
 /// servers that follow their table (`table`), whose own count of the stream's extents is then right (`index`) and whose loads end
-/// in the order of their generations (`ends`).
+/// in the order of their generations (`ends`). A stream that was built of another's, and so begins with all that had been done on
+/// its source, keeps its order with the source, and shows each append that the source answers, then or ever, if it was made under
+/// a lower generation than the source's last load by then, or under that one and answered by then (`built`).
 pub fn streams_keep_order()
     ensures law { (generation : ℕ → ℕ) (steps : List (MachineStep (Group Transaction))) → IsRun (Group Transaction) generation steps →
         KeepsOrder (after (Group Transaction) generation steps).story }
@@ -66,4 +77,7 @@ pub fn streams_keep_order()
         In (Extended i n m) (after_all (Group Transaction) generation moves).state.facts → m ≡ suc n }
     ensures ends { (generation : ℕ → ℕ) (moves : List (Move (Group Transaction) generation)) → AreMoves (Group Transaction) generation moves →
         EndsRise (after_all (Group Transaction) generation moves).state.story }
+    ensures built { (generation : ℕ → ℕ) (early late own : List (Move (Group Transaction) generation)) →
+        AreMoves (Group Transaction) generation (late ++ early) → AreMoves (Group Transaction) generation (own ++ early) →
+        KeepsSource (Group Transaction) generation early late own }
 {}

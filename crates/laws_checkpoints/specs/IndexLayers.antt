@@ -1,11 +1,11 @@
 -- What indexes and their pages say, where the bytes of extents are known; and where those of some entries stand.
-use Rattle.std.specs.Prelude.{◌≡◌, ℕ, List, [], ◌∷◌, ◌++◌, length, map, take, drop, Option, Some, None}
+use Rattle.std.specs.Prelude.{◌≡◌, ℕ, List, [], ◌∷◌, length, map, Option, Some, None}
 use Rattle.memtable.specs.declared.cell.Place.{Place}
 use Rattle.memtable.specs.Entries.{Entries}
 use Rattle.metadata.specs.declared.record.IndexRange.{IndexRange}
 use Rattle.checkpoint_format.specs.declared.index.Index.{Index}
 use Rattle.checkpoint_format.specs.declared.index.PageAt.{PageAt}
-use Rattle.checkpoint_format.specs.Page.{entries_at, page_bytes, pages_of}
+use Rattle.checkpoint_format.specs.Page.{page_bytes, pages_of}
 use Rattle.checkpoint_format.specs.Index.{index_at, index_text, IsIndex, HasPlaces}
 use Rattle.checkpoint.specs.Pages.{IndexContent}
 use Rattle.checkpoint.specs.Contents.{AreEntries}

@@ -1,19 +1,17 @@
 -- What is appended to the metadata of a range says checkpoints, and so does what stands there.
-use Rattle.std.proofs.Common.{◌≡◌, ⊎_elim, ℕ, suc, ◌^◌, ◌<◌, ◌&&◌, ◌==◌, nat_lt, nat_le, Bool, true, false, List, [], ◌∷◌, ◌++◌, length, Option, Some, None, refl, sym, ap, ◌∙◌, subst, inl, inr, arith, if◌then◌else◌}
+use Rattle.std.proofs.Common.{◌≡◌, ℕ, suc, ◌^◌, ◌<◌, ◌==◌, nat_le, Bool, true, false, List, ◌++◌, length, Option, Some, None, sym, ap, ◌∙◌, subst, arith, if◌then◌else◌}
 use Rattle.std.proofs.lemmas.Bool.{ltb-true}
 use Rattle.blocks.specs.Format.{◌>>=◌, number_at, pair_at, whole}
 use Rattle.blocks.specs.Record.{number}
 use Rattle.blocks.proofs.Formats.{bind_some, number1, number8}
-use Rattle.replica.specs.Groups.{Group}
-use Rattle.streams.specs.declared.table.Position.{Position}
 use Rattle.memtable.specs.declared.cell.Place.{Place}
 use Rattle.metadata.specs.declared.record.MetaItem.{MetaItem}
 use Rattle.metadata.specs.declared.record.MetaItem.TheVariants.{Checkpoint}
 use Rattle.metadata.specs.declared.record.MetaRecord.{MetaRecord}
-use Rattle.metadata.specs.Record.{spelling, item as item_text, flag, place, position}
-use Rattle.metadata.specs.Reading.{flag_at, place_at, position_at, next_at, checkpoint_at, item_at, record_at, group_at}
+use Rattle.metadata.specs.Record.{flag, place, position}
+use Rattle.metadata.specs.Reading.{flag_at, place_at, position_at, next_at, checkpoint_at, item_at, record_at}
 use Rattle.model_partition.specs.CheckpointStates.{CheckpointState}
-use Rattle.model_partition.specs.Checkpoints.{checkpoint_record, has_record_number}
+use Rattle.model_partition.specs.Checkpoints.{has_record_number}
 use Rattle.model_partition.specs.Range.{RangeState}
 use Rattle.model_partition.specs.StreamActions.{record_group}
 use Rattle.laws_log_reads.specs.Reads.{IsCheckpoint, SaysCheckpoint}

@@ -1,5 +1,5 @@
 -- What stands in a stream, and what a check has found there, is of groups that were formed.
-use Rattle.std.proofs.Common.{◌≡◌, ℕ, zero, suc, Bool, true, false, List, [], ◌∷◌, ◌++◌, length, map, Option, Some, None, refl, sym, subst, inl, inr, if◌then◌else◌, ◌==◌}
+use Rattle.std.proofs.Common.{◌≡◌, ℕ, zero, suc, Bool, true, false, List, [], ◌∷◌, ◌++◌, length, Option, Some, None, sym, subst, inl, inr, if◌then◌else◌, ◌==◌}
 use Rattle.replica.specs.Groups.{Group}
 use Rattle.model_partition.specs.Story.{Copy, StreamEvent, Made, Story, event_at}
 use Rattle.model_partition.specs.StreamMachine.{In, SealedExtent, OpenExtent, StreamCore, all_shut, all_copies, shut_at, Fact, Checked as Found_there, MachineState, MachineStep, TakesOpen, TakesExtend, TakesConfirm, TakesCheck, AnswersCheck, AnswersLate, TakesAppend, Keeps, AnswersAppend, Seals, Opens, Checks, ReadsSealed, ReadsChecked, Begins, Appends, Extends, TakesConfirmed, TakesAppended, Extended, extend_facts, May, next}

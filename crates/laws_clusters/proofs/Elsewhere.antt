@@ -15,7 +15,7 @@ use Rattle.model_streams.specs.StreamSystem.{StreamSystem}
 use Rattle.model_partition.specs.Range.{RangeState}
 use Rattle.model_partition.specs.ServerTurns.{Whole}
 use Rattle.laws_stream_machine.specs.Refinement.{Purpose, Sent, purpose_of, asked_number, IsAt, IsUnsealedAt, IsAsked, OfExtent, OfStream}
-use Rattle.laws_ranges.specs.Serves.{Side, metadata_of, log_of, rows_of, IsOfRows, AskedOfBoth}
+use Rattle.laws_ranges.specs.Serves.{Side, metadata_of, log_of, rows_of, IsOfRows, BuildsNone, AskedOfBoth}
 use Rattle.laws_clusters.proofs.StreamMachines.{AllAskedOf}
 
 -- what never is a number's purpose leaves it none
@@ -93,25 +93,26 @@ module _ (generation : ℕ → ℕ) (range : ℕ) (w : StreamSystem) (i : ℕ) (
         of_another h (inl known) = known (one.elsewhere (not_one h)) (two.elsewhere (not_two h))
         of_another h (inr rows) = not_rows h rows.0
 
-    asked_elsewhere : (body : Body) → IsAsked generation (metadata_of range) w n.stand.state n.sent body → IsAsked generation (log_of range) w k.stand.state k.sent body → IsRowsElse sent body →
+    asked_elsewhere : (body : Body) → IsAsked generation (metadata_of range) w n.stand.state n.sent body → IsAsked generation (log_of range) w k.stand.state k.sent body → IsRowsElse sent body → BuildsNone body →
         IsAsked generation name w whole.state sent body
-    asked_elsewhere (bodies.Append (appends.Append e g blocks q)) one two rows = of_extent e q one two (owner q (rows q refl))
-    asked_elsewhere (bodies.Append body) one two rows = tt
-    asked_elsewhere (bodies.Check (checks.Check e g q)) one two rows = of_extent e q one two (owner q (λ a b. absurd (rows q refl a b).0))
-    asked_elsewhere (bodies.Check body) one two rows = tt
-    asked_elsewhere (bodies.Read (reads.ReadGroups e upto sealed q)) one two rows = of_extent e q one two (owner q (λ a b. absurd (rows q refl a b).0))
-    asked_elsewhere (bodies.Read body) one two rows = tt
-    asked_elsewhere (bodies.Seal (seals.SealExtent e q)) one two rows = of_extent e q one two (owner q (rows q refl))
-    asked_elsewhere (bodies.Seal body) one two rows = tt
-    asked_elsewhere (bodies.Stream (streams.OpenStreams r g q)) one two rows = of_stream q one two (owner q (rows q refl)) (λ h a. apart (sym h ∙ a)) (λ h a. apart (sym h ∙ a)) (λ h a. a)
-    asked_elsewhere (bodies.Stream (streams.Confirm r g q)) one two rows = of_stream q one two (owner q (rows q refl)) (λ h a. apart (sym h ∙ a)) (λ h a. apart (sym h ∙ a)) (λ h a. a)
-    asked_elsewhere (bodies.Stream (streams.Extend stream g last pick q)) one two rows =
+    asked_elsewhere (bodies.Append (appends.Append e g blocks q)) one two rows builds = of_extent e q one two (owner q (rows q refl))
+    asked_elsewhere (bodies.Append body) one two rows builds = tt
+    asked_elsewhere (bodies.Check (checks.Check e g q)) one two rows builds = of_extent e q one two (owner q (λ a b. absurd (rows q refl a b).0))
+    asked_elsewhere (bodies.Check body) one two rows builds = tt
+    asked_elsewhere (bodies.Read (reads.ReadGroups e upto sealed q)) one two rows builds = of_extent e q one two (owner q (λ a b. absurd (rows q refl a b).0))
+    asked_elsewhere (bodies.Read body) one two rows builds = tt
+    asked_elsewhere (bodies.Seal (seals.SealExtent e q)) one two rows builds = of_extent e q one two (owner q (rows q refl))
+    asked_elsewhere (bodies.Seal body) one two rows builds = tt
+    asked_elsewhere (bodies.Stream (streams.OpenStreams r g q)) one two rows builds = of_stream q one two (owner q (rows q refl)) (λ h a. apart (sym h ∙ a)) (λ h a. apart (sym h ∙ a)) (λ h a. a)
+    asked_elsewhere (bodies.Stream (streams.Confirm r g q)) one two rows builds = of_stream q one two (owner q (rows q refl)) (λ h a. apart (sym h ∙ a)) (λ h a. apart (sym h ∙ a)) (λ h a. a)
+    asked_elsewhere (bodies.Stream (streams.Extend stream g last pick q)) one two rows builds =
         of_stream q one two (owner q (rows q refl)) (λ h a. apart (ap (λ (z : StreamName). z.range) (sym h ∙ a))) (λ h a. apart (ap (λ (z : StreamName). z.range) (sym h ∙ a)))
         (λ h a. apart (ap (λ (z : StreamName). z.range) (sym h ∙ a)))
-    asked_elsewhere (bodies.Stream body) one two rows = tt
-    asked_elsewhere body one two rows = tt
+    asked_elsewhere (bodies.Stream (streams.MultiModify list q)) one two rows builds = λ m among same. absurd (builds m among)
+    asked_elsewhere (bodies.Stream body) one two rows builds = tt
+    asked_elsewhere body one two rows builds = tt
 
     -- what is asked of both streams of the range is asked as another range's stream sees it
     pub all_elsewhere : (nodes target : ℕ) (after : Option RangeState) (ps : List Packet) → AskedOfBoth generation range w i after n k ps → AreRowsElse sent ps → AllAskedOf generation nodes target name w whole sent ps
     all_elsewhere nodes target after [] asked rows = tt
-    all_elsewhere nodes target after (p ∷ ps) asked rows = (asked_elsewhere p.body asked.0.0 asked.0.1 rows.0, all_elsewhere nodes target after ps asked.1 rows.1)
+    all_elsewhere nodes target after (p ∷ ps) asked rows = (asked_elsewhere p.body asked.0.0 asked.0.1 rows.0 asked.0.3, all_elsewhere nodes target after ps asked.1 rows.1)

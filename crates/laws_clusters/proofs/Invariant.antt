@@ -1,6 +1,6 @@
 -- Where a cluster stands: the machines of each range's streams beside its run, the incarnation that each range at a server is of,
 -- the numbers of requests, and what its servers have made of what came to them.
-use Rattle.std.proofs.Common.{◌≡◌, ◌⊎◌, ℕ, ◌<◌, ◌≤◌, true, List, [], Option, Some, None, Contains}
+use Rattle.std.proofs.Common.{◌≡◌, ◌⊎◌, ℕ, ◌<◌, ◌≤◌, true, false, List, [], Option, Some, None, Contains}
 use Rattle.wire.specs.declared.actor.ActorId.{ActorId}
 use Rattle.wire.specs.declared.actor.ActorId.TheVariants.{Map, Server}
 use Rattle.wire.specs.declared.actor.ReqNo.{ReqNo}
@@ -34,7 +34,7 @@ use Rattle.laws_server_runs.specs.Places.{AreAscending}
 use Rattle.laws_clusters.proofs.ClientJobs.{AsksBy}
 use Rattle.laws_clusters.proofs.Copies.{AllSay}
 use Rattle.laws_clusters.proofs.ObservedBytes.{AreObserved}
-use Rattle.laws_clusters.proofs.OneRange.{IsWord, AreFirst}
+use Rattle.laws_clusters.proofs.OneRange.{is_range_change, IsWord, AreFirst}
 use Rattle.laws_clusters.proofs.RequestNumbers.{IsPast, AreNumbersPast}
 
 -- a server that runs holds a range
@@ -145,6 +145,8 @@ module _ (generation : ℕ → ℕ) (nodes target : ℕ) where
     pub numbers : AreNumbersPast c.servers c.stream_layer.post
     pub rows : AllRowsOut generation c.servers machines c.stream_layer.post
     pub from_map : (to : ActorId) (body : Body) → Contains c.stream_layer.post (packet Map to body) → IsWord body
+    -- nobody asks the map for a split or a merge, so that it has the first range alone
+    pub no_change : (p : Packet) → Contains c.stream_layer.post p → is_range_change p.body ≡ false
     pub first_range : AreFirst c.map.ranges
     -- the incarnation that a range at a server is of, if it has one; those from a bound on have done nothing
     pub incarnation : (server range : ℕ) → Option ℕ

@@ -22,6 +22,9 @@ pub mod RequestNumbers
 pub mod OtherEvents
 pub mod RangeRules
 pub mod MapSteps
+pub mod Leases
+pub mod LeaseRules
+pub mod LeasesInRuns
 pub mod Senders
 pub mod Invariant
 pub mod RowSteps

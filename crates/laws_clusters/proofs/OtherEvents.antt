@@ -43,7 +43,7 @@ use Rattle.laws_clusters.proofs.Copies.{AllSay}
 use Rattle.laws_clusters.proofs.ObservedBytes.{AreObserved}
 use Rattle.laws_clusters.proofs.StreamMachines.{Further, all_told}
 use Rattle.laws_clusters.proofs.OtherRanges.{onward_same, holds_on, held_on}
-use Rattle.laws_clusters.proofs.OneRange.{IsWord, AreFirst, word_told, word_plain, word_unasked}
+use Rattle.laws_clusters.proofs.OneRange.{is_range_change, IsWord, AreFirst, word_told, word_changes_none, word_plain, word_unasked}
 use Rattle.laws_loads.proofs.Entries.{entry_set, entry_other, entry_unmapped}
 use Rattle.laws_clusters.proofs.RequestNumbers.{PastAt, IsPast, AreNumbersPast, past_on, past_step, past_stops, past_starts, past_moment}
 use Rattle.laws_clusters.proofs.Invariant.{Machines, HeldAt, RowsOut, AllRowsOut, AreBeside, here, m_side, l_side, Holds, IsHeld, Runs, Standing}
@@ -205,6 +205,7 @@ module _ (generation : ℕ → ℕ) (nodes target : ℕ) where
     numbers = λ server to body there q number. past q (x.numbers server to body (subst (λ (v : StreamSystem). Contains v.post (packet (Server server) to body)) same there) q number);
     rows = all_rows;
     from_map = λ to body there. x.from_map to body (subst (λ (v : StreamSystem). Contains v.post (packet Map to body)) same there);
+    no_change = λ p there. x.no_change p (subst (λ (v : StreamSystem). Contains v.post p) same there);
     first_range = first;
     incarnation = x.incarnation;
     bound = x.bound;
@@ -391,7 +392,7 @@ module _ (generation : ℕ → ℕ) (nodes target : ℕ) where
 
   module _ (c : Cluster) (y : ServerRun) (x : Standing generation nodes target c y) (p : Packet) (may : MaySend p)
       (plain : (name : StreamName) (m : extents.MachineState Group) (sent : List Sent) → IsAsked generation name (here generation nodes target x.moves) m sent p.body)
-      (unasked : (q : ReqNo) → asked_number p.body ≡ Some q → ⊥) (word : p.from ≡ Map → IsWord p.body) where
+      (unasked : (q : ReqNo) → asked_number p.body ≡ Some q → ⊥) (word : p.from ≡ Map → IsWord p.body) (none : is_range_change p.body ≡ false) where
     abbrev w : StreamSystem
     w = here generation nodes target x.moves
 
@@ -436,6 +437,12 @@ module _ (generation : ℕ → ℕ) (nodes target : ℕ) where
       | inr now ↦ (let same : p ≡ packet Map other body = only_one (packet Map other body) now in subst (λ (z : Packet). IsWord z.body) same (word (ap (λ (z : Packet). z.from) same)))
     ]
 
+    still_no_change : (q : Packet) → Contains (c.stream_layer.post ++ p ∷ []) q → is_range_change q.body ≡ false
+    still_no_change q there = elim (Contains-append_cases c.stream_layer.post (p ∷ []) q there) [
+      | inl old ↦ x.no_change q old
+      | inr now ↦ subst (λ (z : Packet). is_range_change z.body ≡ false) (only_one q now) none
+    ]
+
     still_rows : AllRowsOut generation c.servers x.machines (c.stream_layer.post ++ p ∷ [])
     still_rows s range r h q waits =
         let old : RowsOut generation c.servers x.machines c.stream_layer.post s range r q = x.rows s range r h q waits in
@@ -475,6 +482,7 @@ module _ (generation : ℕ → ℕ) (nodes target : ℕ) where
       numbers = still_numbers;
       rows = still_rows;
       from_map = still_from_map;
+      no_change = still_no_change;
       first_range = x.first_range;
       incarnation = x.incarnation;
       bound = x.bound;
@@ -495,8 +503,9 @@ module _ (generation : ℕ → ℕ) (nodes target : ℕ) where
       Standing generation nodes target (record c { stream_layer = sent_more c.stream_layer (packet Map to body ∷ []) }) y
   map_says_stands c y x to body word =
       says_stands c y x (packet Map to body) (inr (word_told body word)) (λ name m sent. word_plain generation (here generation nodes target x.moves) body word name m sent) (word_unasked body word) (λ from. word)
+      (word_changes_none body word)
 
   -- a server refuses what a user asks
   pub refuses_stands : (c : Cluster) (y : ServerRun) → Standing generation nodes target c y → (d : ServerContext) (to : ActorId) (q : ReqNo) (why : Refusal) →
       Standing generation nodes target (record c { stream_layer = sent_more c.stream_layer (refuses d to q why ∷ []) }) y
-  refuses_stands c y x d to q why = says_stands c y x (refuses d to q why) (inr refl) (λ name m sent. tt) (λ v number. absurd cc) (λ from. absurd cc)
+  refuses_stands c y x d to q why = says_stands c y x (refuses d to q why) (inr refl) (λ name m sent. tt) (λ v number. absurd cc) (λ from. absurd cc) refl

@@ -90,16 +90,16 @@ module _ (generation : ℕ → ℕ) (nodes target : ℕ) (c : Cluster) (y : Serv
   both = record {
     metadata = record {
       made = below_made generation (metadata_of range) nodes target x.moves (after_all Group generation z.m) z.m_sent metadata_below;
-      once = below_index generation (metadata_of range) nodes target (λ k. cc) x.moves;
+      once = below_index generation (metadata_of range) nodes target (λ k. cc) x.moves (after_all Group generation z.m) z.m_sent metadata_below;
     };
     log = record {
       made = below_made generation (log_of range) nodes target x.moves (after_all Group generation z.l) z.l_sent log_below;
-      once = below_index generation (log_of range) nodes target (λ k. cc) x.moves;
+      once = below_index generation (log_of range) nodes target (λ k. cc) x.moves (after_all Group generation z.l) z.l_sent log_below;
     };
-    apart = λ j k e one two unsealed. below_alone generation (log_of range) nodes target x.moves (metadata_of range) (kinds_differ range) j k e one (two, unsealed);
+    apart = λ j k e one two unsealed. below_alone generation (log_of range) nodes target (λ u. cc) x.moves (metadata_of range) (kinds_differ range) j k e one (two, unsealed);
     rows_made = λ e there. rows_made nodes target x.moves range e there;
-    rows_metadata = λ k e there at unsealed. below_alone generation (metadata_of range) nodes target x.moves (rows_of range) (rows_differ range kinds.Metadata (λ z. cc)) there.0 k e there.1 (at, unsealed);
-    rows_log = λ k e there at unsealed. below_alone generation (log_of range) nodes target x.moves (rows_of range) (rows_differ range kinds.Log (λ z. cc)) there.0 k e there.1 (at, unsealed);
+    rows_metadata = λ k e there at unsealed. below_alone generation (metadata_of range) nodes target (λ u. cc) x.moves (rows_of range) (rows_differ range kinds.Metadata (λ z. cc)) there.0 k e there.1 (at, unsealed);
+    rows_log = λ k e there at unsealed. below_alone generation (log_of range) nodes target (λ u. cc) x.moves (rows_of range) (rows_differ range kinds.Log (λ z. cc)) there.0 k e there.1 (at, unsealed);
   }
 
   module _ (i : ℕ) (d : ServerContext) where

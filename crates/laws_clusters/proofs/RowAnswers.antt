@@ -1,6 +1,6 @@
 -- What a range is told of row data is of the manager's list, what it is told was appended there was acknowledged, and bytes that come
 -- with an answer were observed.
-use Rattle.std.proofs.Common.{◌≡◌, ◌⊎◌, ℕ, zero, suc, ◌+◌, ◌<◌, List, [], ◌∷◌, ◌++◌, length, Bool, true, false, ◌==◌, Option, Some, None, Contains, slice_get, refl, sym, ap, ◌∙◌, subst, inl, inr, arith, append_assoc, append-nil}
+use Rattle.std.proofs.Common.{◌≡◌, ◌⊎◌, ℕ, zero, suc, ◌+◌, List, [], ◌∷◌, ◌++◌, length, true, false, Option, Some, None, Contains, slice_get, refl, sym, ap, ◌∙◌, subst, inl, inr, arith, append_assoc}
 use Rattle.std.proofs.lemmas.Bool.{cases_eq}
 use Rattle.std.proofs.lemmas.Option.{slice_get_within}
 use Rattle.block_types.specs.declared.record.Nodes.{Nodes}
@@ -23,7 +23,7 @@ use Rattle.client.specs.declared.job.Job.TheVariants as jobs
 use Rattle.client.specs.declared.job.News.TheVariants as news
 use Rattle.client.specs.declared.load.LoadPhase.{LoadPhase}
 use Rattle.client.specs.declared.load.LoadPhase.TheVariants as phases
-use Rattle.client.specs.Client.{ClientState, awaits, reply_rule}
+use Rattle.client.specs.Client.{awaits, reply_rule}
 use Rattle.client.specs.Load.{load_awaits}
 use Rattle.client.specs.Requests.{is_same}
 use Rattle.model_streams.specs.declared.extent.Extent.{Extent}
@@ -40,11 +40,10 @@ use Rattle.laws_streams.proofs.ContentAnswers.{content_answered}
 use Rattle.laws_streams.proofs.Invariant.{run_moves_push}
 use Rattle.laws_streams.proofs.Listings.{lists_grow}
 use Rattle.laws_streams.proofs.StreamAnswers.{openings_answered, extensions_answered}
-use Rattle.laws_stream_machine.specs.Refinement.{Sent, purpose_of, asked_number, extents_of, IsAt}
+use Rattle.laws_stream_machine.specs.Refinement.{asked_number, extents_of, IsAt}
 use Rattle.laws_stream_machine.proofs.LowerLayer.{Below}
 use Rattle.laws_stream_machine.proofs.MachineCore.{get_same}
-use Rattle.laws_stream_machine.proofs.ServerRequests.{same_request}
-use Rattle.laws_ranges.specs.Serves.{Side, metadata_of, log_of, rows_of, IsOfRows, RowsTold, StageIs, Follows}
+use Rattle.laws_ranges.specs.Serves.{Side, metadata_of, rows_of, IsOfRows, RowsTold, StageIs, Follows}
 use Rattle.model_partition.specs.ServerTurns.{Whole}
 use Rattle.laws_clusters.proofs.AckedAppends.{appended_tells}
 use Rattle.laws_clusters.proofs.ClientJobs.{AsksBy}

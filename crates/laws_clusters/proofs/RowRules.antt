@@ -1,5 +1,5 @@
 -- What each rule of a range leaves of the job of its row data, and that each request about extents is one that a client's job waits for.
-use Rattle.std.proofs.Common.{◌≡◌, ◌⊎◌, ℕ, suc, true, not, ◌≤◌, ◌<◌, Bool, ◌&&◌, nat_lt, List, [], ◌∷◌, ◌++◌, Option, Some, None, refl, sym, ◌∙◌, inl, inr, map, flat_map, slice_get, option_map, drop, length, ◌-◌, ◌+◌, ◌^◌, take, is_some, arith}
+use Rattle.std.proofs.Common.{◌≡◌, ◌⊎◌, ℕ, suc, true, not, ◌≤◌, ◌<◌, Bool, ◌&&◌, nat_lt, List, [], ◌∷◌, ◌++◌, Option, Some, None, refl, ◌∙◌, inl, inr, map, flat_map, slice_get, option_map, drop, length, ◌-◌, ◌+◌, ◌^◌, take, is_some, arith}
 use Rattle.std.specs.Prelude.{option_to_list}
 use Rattle.wire.specs.declared.actor.ActorId.{ActorId}
 use Rattle.wire.specs.declared.actor.ReqNo.{ReqNo}
@@ -47,12 +47,12 @@ use Rattle.model_partition.specs.declared.stage.Stage.TheVariants.{Checking, Rea
 use Rattle.model_partition.specs.declared.waiting.PlaceRead.{PlaceRead}
 use Rattle.model_partition.specs.declared.waiting.WaitingGet.{WaitingGet}
 use Rattle.model_partition.specs.declared.waiting.WaitingTransaction.{WaitingTransaction}
-use Rattle.model_partition.specs.Range.{OutGroup, RangeState, RangeOutcome, request, used, refuses, waiting_out, refused_users, dropped, given, picking, is_serving}
-use Rattle.model_partition.specs.Serving.{record_of, group_count, appends as appends_next, forms, transact_fault, lease_ended, transacts, transact_rule, committed, out_size, after_these, applies, log_done}
+use Rattle.model_partition.specs.Range.{OutGroup, RangeState, RangeOutcome, request, used, refuses, waiting_out, refused_users, given, picking, is_serving}
+use Rattle.model_partition.specs.Serving.{record_of, group_count, appends as appends_next, forms, transact_fault, transacts, transact_rule, committed, out_size, applies, log_done}
 use Rattle.model_partition.specs.Server.{users_of}
 use Rattle.model_partition.specs.PlaceReads.{is_place, place_of, places_of, reads_under, reads_page, moved_on, asks_again}
 use Rattle.model_partition.specs.Loading.{Group, said_after, replayed, read_by, read_of, asks_index, index_named, reads_named, reads_index, installs, index_read, index_bytes, reads_log, first_position, reads_log_from, checks_log, begins_log, reads_metadata, begins_metadata, opens, says, metadata_news, replays, log_read, log_news, open_region, serves_from, serves, has_position}
-use Rattle.model_partition.specs.Getting.{Lookup, Is, Needs, Tried, asks_place, answered, try, try_all, get_fault, gets, get_rule, are_no_page, bytes_rule, came, used_for, held_at, gives_up_read, gives_up_get, look, read_at, standing, without}
+use Rattle.model_partition.specs.Getting.{Lookup, Is, Needs, asks_place, answered, try_fault, try_unless, try, try_all, get_fault, gets, get_rule, are_no_page, bytes_rule, came, used_for, held_at, gives_up_read, gives_up_get, look, read_at, standing, without}
 use Rattle.model_partition.specs.CheckpointStates.{CheckpointState}
 use Rattle.model_partition.specs.declared.checkpoint_job.CheckpointPhase.{CheckpointPhase}
 use Rattle.model_partition.specs.declared.checkpoint_job.CheckpointPhase.TheVariants as checkpoints
@@ -334,8 +334,11 @@ module _ (d : ServerContext) where
       go (Some places) = (inl tt, tt)
 
   try_in : (k : ServerContext) (n r : RangeState) (g : WaitingGet) → AllIn n (try k r g).packets
-  try_in k n r g =
-      if_elim (λ (t : Tried). AllIn n t.packets) (lease_ended k r) _ _ (λ t. (inl tt, tt)) (λ f. answered_in k n r g (look r.held r.indexes g.key (standing r g.key)))
+  try_in k n r g = go (try_fault k r)
+    where
+      go : (fault : Option Refusal) → AllIn n (try_unless k r g fault).packets
+      go (Some why) = (inl tt, tt)
+      go None = answered_in k n r g (look r.held r.indexes g.key (standing r g.key))
 
   try_all_in : (k : ServerContext) (n r : RangeState) (gs : List WaitingGet) → AllIn n (try_all k r gs).packets
   try_all_in k n r [] = tt

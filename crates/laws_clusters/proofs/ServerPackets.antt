@@ -33,7 +33,7 @@ use Rattle.client.specs.Client.{awaits}
 use Rattle.model_partition.specs.Cluster.{Cluster, servers_perform}
 use Rattle.model_partition.specs.Getting.{get_rule}
 use Rattle.model_partition.specs.Range.{RangeState, RangeOutcome, request, used, refuses, waiting_out}
-use Rattle.model_partition.specs.Server.{ServerState, ServerOutcome, range_of, awaiting, rests, sends_one, stepped, new_range, users_of, is_newer, assign_rule, told_by_map, map_rule, transacts_in, gets_in, table_rule, answer_in, answer_of, numbered_rule, taken_rule, has_numbers, server_rule, gives_up, picked, give_up_rule, checkpoint_refused, checkpoints_in, server_checkpoint}
+use Rattle.model_partition.specs.Server.{ServerState, ServerOutcome, range_of, awaiting, rests, sends_one, set_split, split_of, stepped, stepped_alone, new_range, users_of, is_newer, assign_rule, told_by_map, map_rule, transacts_in, gets_in, table_rule, answer_in, answer_of, numbered_rule, taken_rule, has_numbers, server_rule, given_up, gives_up, picked, give_up_rule, busy_if, checkpoint_refused, checkpoints_in, server_checkpoint}
 use Rattle.model_partition.specs.ServerRun.{ServerRun, RangeEffect, Begins, Does, Rests, Takes, GivesUp, Checkpoints, first_history, with_effect, with_outcome, after_event, told_effect, map_effect, transact_effect, table_effect, answer_effect, awaited_effect, numbered_effect, packet_effect, server_effect, cell_effect}
 use Rattle.model_partition.specs.Serving.{transact_rule}
 use Rattle.model_partition.specs.StreamActions.{StreamAction, transact_actions, answer_actions}
@@ -45,18 +45,19 @@ use Rattle.laws_ranges.proofs.LogRules.{refused_plain}
 use Rattle.laws_ranges.proofs.BothStreamsAtOnce.{taken}
 use Rattle.laws_ranges.proofs.BothStreams.{asked_joined}
 use Rattle.laws_server_runs.specs.RunInvariant.{view_at}
-use Rattle.laws_servers.specs.Sending.{AllFromServers}
-use Rattle.laws_servers.proofs.ClientPackets.{all_both, may_send_all}
+use Rattle.laws_servers.specs.Sending.{AllFromRanges}
+use Rattle.laws_servers.proofs.ClientPackets.{all_both, from_servers, may_send_all}
 use Rattle.laws_servers.proofs.ServerSteps.{users_all}
 use Rattle.laws_servers.proofs.RangeSteps.{transact_tidy, get_tidy, checkpoint_tidy, answer_shows, give_up_tidy}
 use Rattle.laws_clusters.proofs.RangeSteps as going
 use Rattle.laws_loads.proofs.Entries.{entry_set, set_twice}
 use Rattle.laws_server_runs.proofs.Actions.{same_test}
+use Rattle.laws_server_runs.proofs.Unsplit.{stepped_is, given_up_is, unawaited, not_refused, HaveNoSplits}
 use Rattle.laws_server_runs.proofs.RangeLists.{inserted_here, inserted_other, ascending_inserted, left_here, left_other, ascending_left}
 use Rattle.laws_clusters.proofs.OtherEvents.{told_nothing, refuses_stands, renew_stands, rule_done, run_done, rests_quiet, quiet_stands, picks_stand, still_runs, StandsAfter, nobody_stands, cell_stands}
 use Rattle.laws_clusters.proofs.RangeRules.{Done, both, transact_done, get_done, give_up_done, checkpoint_done, answer_done, assigned_done}
 use Rattle.laws_clusters.proofs.RangeActions.{SeesBytes}
-use Rattle.laws_clusters.proofs.Senders.{none_from_map}
+use Rattle.laws_clusters.proofs.Senders.{all_of_ranges}
 use Rattle.laws_clusters.proofs.OneRange.{IsWord, IsMapWord, word_counted}
 use Rattle.laws_clusters.proofs.Invariant.{HeldAt, RowsOut, Machines, here, m_side, l_side, Holds, IsHeld, Runs, Standing}
 use Rattle.laws_clusters.proofs.ServerRules as steps
@@ -76,7 +77,7 @@ begun_here : (y : ServerRun) (s range : ℕ) → (with_effect s y (Begins range)
 begun_here y s range = ap (λ b. if b && (range == range) then first_history else y.history s range) (same_test s) ∙ ap (λ b. if b then first_history else y.history s range) (same_test range)
 
 module _ (generation : ℕ → ℕ) (plenty : (g n : ℕ) → (i : ℕ) × (n ≤ i) × (generation i ≡ g)) (nodes target : ℕ) where
-  module _ (c : Cluster) (y : ServerRun) (x : Standing generation nodes target c y) (s : ℕ) (cell : ServerCell) (st : ServerState) (at : entry_at c.servers s ≡ Some cell) (is : cell.state ≡ Some st) where
+  module _ (c : Cluster) (y : ServerRun) (x : Standing generation nodes target c y) (s : ℕ) (cell : ServerCell) (st : ServerState) (at : entry_at c.servers s ≡ Some cell) (is : cell.state ≡ Some st) (none : st.splits ≡ []) where
     abbrev w : StreamSystem
     w = here generation nodes target x.moves
 
@@ -118,11 +119,11 @@ module _ (generation : ℕ → ℕ) (plenty : (g n : ℕ) → (i : ℕ) × (n �
 
       -- what a rule of the range leaves
       done_good : (i : ℕ) → ((t j : ℕ) → x.incarnation t j ≡ Some i → (t ≡ s) × (j ≡ range)) → BeganAt ((y.history s range).append kinds.Metadata) ((after_all Group generation z.m).phase i) → BeganAt ((y.history s range).append kinds.Log) ((after_all Group generation z.l).phase i) → (o : RangeOutcome) (actions : List StreamAction) →
-          Done generation nodes target c y x range counted i st.context (view_at range y s) o actions → AllFromServers o.packets → steps.RowsAfter st range o o.packets →
+          Done generation nodes target c y x range counted i st.context (view_at range y s) o actions → AllFromRanges o.packets → steps.RowsAfter st range o o.packets →
           (after : ServerState) → after.context ≡ record st.context { count = o.count } → steps.AreLeft st.ranges after.ranges range o.after →
           Good (Does range (generation i) actions) (record { after = after; packets = o.packets; notes = o.notes })
       done_good i alone record_began began o actions k senders rows after context_is shape =
-          steps.stepped generation nodes target c y x s cell st at is range counted i alone y same_run record_began began o actions k o.packets (may_send_all o.packets senders) rows k.rule.goes.asked (none_from_map o.packets senders) after
+          steps.stepped generation nodes target c y x s cell st at is range counted i alone y same_run record_began began o actions k o.packets (may_send_all o.packets (from_servers o.packets senders)) rows k.rule.goes.asked (all_of_ranges o.packets senders) after
           context_is shape
 
       -- ---- it is taken
@@ -164,7 +165,7 @@ module _ (generation : ℕ → ℕ) (plenty : (g n : ℕ) → (i : ℕ) × (n �
           others = λ j apart. inserted_other st.ranges range next j apart;
         }
 
-        taken_good : Good (Begins range) (record { after = record { context = used st.context; ranges = insert_entry nat_cmp st.ranges range next }; packets = users_of st.context known ++ open_packet st.context.server range (generation i) (request st.context) ∷ []; notes = [] })
+        taken_good : Good (Begins range) (record { after = record { context = used st.context; ranges = insert_entry nat_cmp st.ranges range next; splits = set_split st.splits range None }; packets = users_of st.context known ++ open_packet st.context.server range (generation i) (request st.context) ∷ []; notes = [] })
         taken_good =
             let a : Side = going.m_after generation nodes target x.moves range z i st.context o k.rule.goes in
             let b : Side = going.l_after generation nodes target x.moves range z i st.context o k.rule.goes in
@@ -174,13 +175,13 @@ module _ (generation : ℕ → ℕ) (plenty : (g n : ℕ) → (i : ℕ) × (n �
               λ q waits. absurd (let next_is : Some next ≡ Some n = is_next in let same : next ≡ n = cc in let none : false ≡ true = ap (λ (u : RangeState). awaits u.rows.job q) same ∙ waits in cc),
               in_both n (users_of st.context known) (opened ∷ []) (users_in st.context n known) (inl tt, tt),
             )) in
-            let senders : AllFromServers (users_of st.context known ++ o.packets) = all_both (users_of st.context known) o.packets (users_all st.context known) ((st.context.server, refl, inl refl), tt) in
+            let senders : AllFromRanges (users_of st.context known ++ o.packets) = all_both (users_of st.context known) o.packets (users_all st.context known) ((st.context.server, refl, inl refl), tt) in
             steps.stepped generation nodes target c y x s cell st at is range counted i (fresh_alone i free) begun near (fresh_recorded i ((begun.history s range).append kinds.Metadata) free) (fresh_began i ((begun.history s range).append kinds.Log) free) o [] k
-            (users_of st.context known ++ o.packets) (may_send_all (users_of st.context known ++ o.packets) senders) rows
+            (users_of st.context known ++ o.packets) (may_send_all (users_of st.context known ++ o.packets) (from_servers (users_of st.context known ++ o.packets) senders)) rows
             (asked_joined generation range w i (both generation nodes target c y x range counted) o.after a b (users_of st.context known) o.packets
             (asked_of_both generation range w i (both generation nodes target c y x range counted) o.after a b k.rule.goes.sent_by.apart (users_of st.context known) (users_plain (log_of range) b.stand b.sent known)) k.rule.goes.asked)
-            (none_from_map (users_of st.context known ++ o.packets) senders)
-            (record { context = used st.context; ranges = insert_entry nat_cmp st.ranges range next }) refl inserted
+            (all_of_ranges (users_of st.context known ++ o.packets) senders)
+            (record { context = used st.context; ranges = insert_entry nat_cmp st.ranges range next; splits = set_split st.splits range None }) refl inserted
 
       assign_good : (known : Option RangeState) (g until : ℕ) → Good (if is_newer g known then Begins range else Rests) (assign_rule st range g until known)
       assign_good known g until = go (is_newer g known)
@@ -190,10 +191,10 @@ module _ (generation : ℕ → ℕ) (plenty : (g n : ℕ) → (i : ℕ) × (n �
 
           go : (b : Bool) →
               Good (if b then Begins range else Rests)
-              (if b then record { after = record { context = used st.context; ranges = insert_entry nat_cmp st.ranges range (new_range st.context range g until) }; packets = users_of st.context known ++ open_packet st.context.server range g (request st.context) ∷ []; notes = [] } else rests st)
+              (if b then record { after = record { context = used st.context; ranges = insert_entry nat_cmp st.ranges range (new_range st.context range g until); splits = set_split st.splits range None }; packets = users_of st.context known ++ open_packet st.context.server range g (request st.context) ∷ []; notes = [] } else rests st)
           go true =
               subst
-              (λ n. Good (Begins range) (record { after = record { context = used st.context; ranges = insert_entry nat_cmp st.ranges range (new_range st.context range n until) }; packets = users_of st.context known ++ open_packet st.context.server range n (request st.context) ∷ []; notes = [] }))
+              (λ n. Good (Begins range) (record { after = record { context = used st.context; ranges = insert_entry nat_cmp st.ranges range (new_range st.context range n until); splits = set_split st.splits range None }; packets = users_of st.context known ++ open_packet st.context.server range n (request st.context) ∷ []; notes = [] }))
               fresh.2 (taken_good known until fresh.0 fresh.1)
           go false = rests_good
 
@@ -242,16 +243,17 @@ module _ (generation : ℕ → ℕ) (plenty : (g n : ℕ) → (i : ℕ) × (n �
           from (inl (inr same)) stream q waits = inl (r, found, record { job = same.0; group = same.1; stream = stream })
           from (inr fresh) stream q waits = inr (fresh q waits)
 
-      step_good : (o : RangeOutcome) (actions : List StreamAction) → Done generation nodes target c y x range held.counted i st.context (view_at range y s) o actions → AllFromServers o.packets → LeavesRows st.context r.rows o →
+      step_good : (o : RangeOutcome) (actions : List StreamAction) → Done generation nodes target c y x range held.counted i st.context (view_at range y s) o actions → AllFromRanges o.packets → LeavesRows st.context r.rows o →
           Good (Does range r.load.generation actions) (stepped st range o)
       step_good o actions k senders left =
-          subst (λ g. Good (Does range g actions) (stepped st range o)) (sym h.follows.under)
-          (done_good range held.counted i alone h.record_append h.append o actions k senders (rows_after o actions k left) (stepped st range o).after refl
+          subst (Good (Does range r.load.generation actions)) (sym (stepped_is st none range o))
+          (subst (λ g. Good (Does range g actions) (stepped_alone st range o)) (sym h.follows.under)
+          (done_good range held.counted i alone h.record_append h.append o actions k senders (rows_after o actions k left) (stepped_alone st range o).after refl
           (record {
             ascending = ascending_left st.ranges range o.after run.ascending;
             here = λ u there. sym (left_here st.ranges range r o.after run.ascending found) ∙ there;
             others = λ j apart. left_other st.ranges range o.after j apart;
-          }))
+          })))
 
       transact_held : (p : Packet) (changes : List Change) (q : ReqNo) → Good (transact_effect st p range changes q (Some r)) (transacts_in st p range changes q (Some r))
       transact_held p changes q =
@@ -273,13 +275,14 @@ module _ (generation : ℕ → ℕ) (plenty : (g n : ℕ) → (i : ℕ) × (n �
 
       give_up_held : (o : ServerOutcome) → gives_up st range (Some r) ≡ Some o → Good Rests o
       give_up_held o e =
-          let same : (if has_numbers st.context then stepped st range (give_up_all st.context r) else rests st) ≡ o = cc in
+          let same : (if has_numbers st.context then given_up st range (split_of st.splits range) (give_up_all st.context r) else rests st) ≡ o = cc in
           subst (Good Rests) same (go (has_numbers st.context))
         where
-          go : (b : Bool) → Good Rests (if b then stepped st range (give_up_all st.context r) else rests st)
+          go : (b : Bool) → Good Rests (if b then given_up st range (split_of st.splits range) (give_up_all st.context r) else rests st)
           go true =
-              step_good (give_up_all st.context r) [] (give_up_done generation nodes target c y x range held.counted i st.context (by range held.counted) (view_at range y s) (seen_here range) r h past) (give_up_tidy st.context r).0
-              (give_up_leaves st.context r unread)
+              subst (Good Rests) (stepped_is st none range (give_up_all st.context r) ∙ sym (given_up_is st none range (give_up_all st.context r)))
+              (step_good (give_up_all st.context r) [] (give_up_done generation nodes target c y x range held.counted i st.context (by range held.counted) (view_at range y s) (seen_here range) r h past) (give_up_tidy st.context r).0
+              (give_up_leaves st.context r unread))
           go false = rests_good
 
       -- a checkpoint begins
@@ -314,7 +317,7 @@ module _ (generation : ℕ → ℕ) (plenty : (g n : ℕ) → (i : ℕ) × (n �
 
     awaited_good : (p : Packet) → Contains w.post (packet p.from (Server s) p.body) → is_answerer p.from p.body ≡ true → (v : ReqNo) → answered_number p.body ≡ Some v → (o : Option ℕ) →
         Good (awaited_effect st p v o) (answer_of st p v o)
-    awaited_good p there gives v number None = rests_good
+    awaited_good p there gives v number None = subst (Good Rests) (sym (unawaited st none p v)) rests_good
     awaited_good p there gives v number (Some range) = answer_good p there gives v number range (range_of st.ranges range) refl
 
     numbered_good : (p : Packet) → Contains w.post (packet p.from (Server s) p.body) → (o : Option ReqNo) → answered_number p.body ≡ o → Good (numbered_effect st p o) (numbered_rule st p o)
@@ -379,13 +382,16 @@ module _ (generation : ℕ → ℕ) (plenty : (g n : ℕ) → (i : ℕ) × (n �
     checkpoint_good : (range : ℕ) (combine : Bool) → Good Rests (server_checkpoint st range combine)
     checkpoint_good range combine = by_range (range_of st.ranges range) refl
       where
-        by_fault : (r : RangeState) → range_of st.ranges range ≡ Some r → (fault : Option Refusal) → checkpoint_fault r ≡ fault → Good Rests (if is_some fault then rests st else checkpoints_in st range combine (Some r))
-        by_fault r found None may = checkpoint_held range r found combine may
+        splits : Bool
+        splits = is_some (split_of st.splits range)
+
+        by_fault : (r : RangeState) → range_of st.ranges range ≡ Some r → (fault : Option Refusal) → busy_if splits (checkpoint_fault r) ≡ fault → Good Rests (if is_some fault then rests st else checkpoints_in st range combine (Some r))
+        by_fault r found None may = checkpoint_held range r found combine (not_refused splits (checkpoint_fault r) may)
         by_fault r found (Some why) refused = rests_good
 
-        by_range : (known : Option RangeState) → range_of st.ranges range ≡ known → Good Rests (if is_some (checkpoint_refused known) then rests st else checkpoints_in st range combine known)
+        by_range : (known : Option RangeState) → range_of st.ranges range ≡ known → Good Rests (if is_some (checkpoint_refused splits known) then rests st else checkpoints_in st range combine known)
         by_range None found = rests_good
-        by_range (Some r) found = by_fault r found (checkpoint_fault r) refl
+        by_range (Some r) found = by_fault r found (busy_if splits (checkpoint_fault r)) refl
 
   -- ---- events
 
@@ -397,7 +403,7 @@ module _ (generation : ℕ → ℕ) (plenty : (g n : ℕ) → (i : ℕ) × (n �
       (cell_stands generation nodes target c y s (λ z. z) (λ z n k past. past) (λ z st found up. still_runs c.servers s z st found up) x)
 
   -- a server takes a packet
-  module _ (c : Cluster) (y : ServerRun) (x : Standing generation nodes target c y) (s : ℕ) (p : Packet) (there : Contains c.stream_layer.post p) (to : p.to ≡ Server s) where
+  module _ (c : Cluster) (y : ServerRun) (x : Standing generation nodes target c y) (unsplit : HaveNoSplits c.servers) (s : ℕ) (p : Packet) (there : Contains c.stream_layer.post p) (to : p.to ≡ Server s) where
     -- a cluster after this, and the run where servers do this with streams
     abbrev Took : RangeEffect → ServersOutcome → ServersOutcome → Type 0
     Took effect o seen = IsLaid (with_outcome (with_effect s y effect) seen) →
@@ -408,7 +414,7 @@ module _ (generation : ℕ → ℕ) (plenty : (g n : ℕ) → (i : ℕ) × (n �
 
     state_takes : (cell : ServerCell) → entry_at c.servers s ≡ Some cell → (o : Option ServerState) → cell.state ≡ o → Took (server_effect p o) (cell_after cell o) (cell_after cell o)
     state_takes cell at None is = λ laid. stopped c y x s cell at
-    state_takes cell at (Some st) is = rule_good c y x s cell st at is p there to
+    state_takes cell at (Some st) is = rule_good c y x s cell st at is (unsplit s cell at st is) p there to
 
     cell_takes_so : (o : Option ServerCell) → entry_at c.servers s ≡ o →
         Took (cell_effect p o) (at_server c.servers s (λ cell. cell_takes cell p cell.state) o) (at_server c.servers s (λ cell. cell_takes cell p cell.state) o)
@@ -420,7 +426,7 @@ module _ (generation : ℕ → ℕ) (plenty : (g n : ℕ) → (i : ℕ) × (n �
         subst (λ l. Took (cell_effect p (entry_at l s)) (server_takes c.servers s p) (server_takes l s p)) x.cells (cell_takes_so (entry_at c.servers s) refl)
 
   -- a server is told to give up
-  module _ (c : Cluster) (y : ServerRun) (x : Standing generation nodes target c y) (s range : ℕ) (pick : Nodes) where
+  module _ (c : Cluster) (y : ServerRun) (x : Standing generation nodes target c y) (unsplit : HaveNoSplits c.servers) (s range : ℕ) (pick : Nodes) where
     abbrev GaveUp : ServersOutcome → ServersOutcome → Type 0
     GaveUp o seen = IsLaid (with_outcome y seen) → Standing generation nodes target (servers_perform c o) (with_outcome y seen)
 
@@ -430,9 +436,9 @@ module _ (generation : ℕ → ℕ) (plenty : (g n : ℕ) → (i : ℕ) × (n �
     abbrev state_after : ServerCell → Option ServerState → ServersOutcome
     state_after cell o = record { servers = slice_set c.servers (s - 1) (cell_gives_up cell range pick o).cell; packets = (cell_gives_up cell range pick o).packets; notes = (cell_gives_up cell range pick o).notes }
 
-    given_up : (cell : ServerCell) (st : ServerState) → entry_at c.servers s ≡ Some cell → cell.state ≡ Some st → (o : ServerOutcome) →
+    gave_up : (cell : ServerCell) (st : ServerState) → entry_at c.servers s ≡ Some cell → cell.state ≡ Some st → (o : ServerOutcome) →
         gives_up (picked st pick) range (range_of st.ranges range) ≡ Some o → GaveUp (rule_after cell (Some o)) (rule_after cell (Some o))
-    given_up cell st at is o e =
+    gave_up cell st at is o e =
         let now : ServerState = picked st pick in
         let next : ServerCell = record cell { state = Some now } in
         let servers : List ServerCell = slice_set c.servers (s - 1) next in
@@ -442,14 +448,14 @@ module _ (generation : ℕ → ℕ) (plenty : (g n : ℕ) → (i : ℕ) × (n �
         let given : GaveUp
         (record { servers = slice_set servers (s - 1) (cell_performs cell o).cell; packets = o.packets; notes = o.notes })
         (record { servers = slice_set servers (s - 1) (cell_performs cell o).cell; packets = o.packets; notes = o.notes }) =
-        give_up_rule_good d z stands s next now (entry_set c.servers s cell next at) refl range o e in
+        give_up_rule_good d z stands s next now (entry_set c.servers s cell next at) refl (unsplit s cell at st is) range o e in
         subst (λ l. GaveUp (record { servers = l; packets = o.packets; notes = o.notes }) (record { servers = l; packets = o.packets; notes = o.notes }))
         (set_twice c.servers (s - 1) next (cell_performs cell o).cell) given
 
     rule_gives : (cell : ServerCell) (st : ServerState) → entry_at c.servers s ≡ Some cell → cell.state ≡ Some st → (o : Option ServerOutcome) → give_up_rule st range pick ≡ o →
         GaveUp (rule_after cell o) (rule_after cell o)
     rule_gives cell st at is None e = λ laid. stopped c y x s cell at
-    rule_gives cell st at is (Some o) e = given_up cell st at is o e
+    rule_gives cell st at is (Some o) e = gave_up cell st at is o e
 
     state_gives : (cell : ServerCell) → entry_at c.servers s ≡ Some cell → (o : Option ServerState) → cell.state ≡ o → GaveUp (state_after cell o) (state_after cell o)
     state_gives cell at None is = λ laid. stopped c y x s cell at
@@ -465,7 +471,7 @@ module _ (generation : ℕ → ℕ) (plenty : (g n : ℕ) → (i : ℕ) × (n �
     gives_up_stands = subst (λ l. GaveUp (server_gives_up c.servers s range pick) (server_gives_up l s range pick)) x.cells (cell_gives (entry_at c.servers s) refl)
 
   -- a server is told to make a checkpoint
-  module _ (c : Cluster) (y : ServerRun) (x : Standing generation nodes target c y) (s range : ℕ) (combine : Bool) where
+  module _ (c : Cluster) (y : ServerRun) (x : Standing generation nodes target c y) (unsplit : HaveNoSplits c.servers) (s range : ℕ) (combine : Bool) where
     abbrev Made : ServersOutcome → ServersOutcome → Type 0
     Made o seen = IsLaid (with_outcome y seen) → Standing generation nodes target (servers_perform c o) (with_outcome y seen)
 
@@ -479,7 +485,7 @@ module _ (generation : ℕ → ℕ) (plenty : (g n : ℕ) → (i : ℕ) × (n �
 
     state_makes : (cell : ServerCell) → entry_at c.servers s ≡ Some cell → (o : Option ServerState) → cell.state ≡ o → Made (made_after cell o) (made_after cell o)
     state_makes cell at None is = λ laid. stopped c y x s cell at
-    state_makes cell at (Some st) is = checkpoint_good c y x s cell st at is range combine
+    state_makes cell at (Some st) is = checkpoint_good c y x s cell st at is (unsplit s cell at st is) range combine
 
     cell_makes : (o : Option ServerCell) → entry_at c.servers s ≡ o →
         Made (at_server c.servers s (λ cell. cell_checkpoints cell range combine cell.state) o) (at_server c.servers s (λ cell. cell_checkpoints cell range combine cell.state) o)

@@ -42,7 +42,8 @@ use Rattle.laws_servers.specs.Sending.{MaySendAll}
 use Rattle.laws_server_runs.specs.Places.{AreAscending, TablesWithin, bytes_of}
 use Rattle.laws_clusters.proofs.Invariant.{SeesAll, IsOther, HeldAt, Machines, HasNumber, HasNone, AllRowsOut, AreDistinct, IsIdle, AreBeside, here, m_side, l_side, Holds, IsHeld, Runs, Standing}
 use Rattle.laws_clusters.proofs.ObservedBytes.{AreObserved, observed_on, observed_both, before_tells, tables_behind, seen_all}
-use Rattle.laws_clusters.proofs.OneRange.{IsWord}
+use Rattle.laws_clusters.proofs.OneRange.{is_range_change, IsWord}
+use Rattle.laws_clusters.proofs.Senders.{IsOfServer}
 use Rattle.laws_clusters.proofs.OtherRanges.{noted_keeps, onward_same, holds_on, held_on, own_if}
 use Rattle.laws_clusters.proofs.RangeActions.{actions_aside, actions_say}
 use Rattle.laws_clusters.proofs.Copies.{AllSay}
@@ -187,7 +188,7 @@ module _ (generation : ℕ → ℕ) (nodes target : ℕ) where
         (began : BeganAt ((b.history s range).append kinds.Log) ((after_all Group generation (x.machines range).l).phase i)) (o : RangeOutcome) (actions : List StreamAction)
         (k : Done generation nodes target c y x range counted i st.context (view_at range b s) o actions) (ps : List Packet) (may : MaySendAll ps)
         (rows : RowsAfter st range o ps) (asked : AskedOfBoth generation range w i o.after (m_after generation nodes target x.moves range (x.machines range) i st.context o k.rule.goes) (l_after generation nodes target x.moves range (x.machines range) i st.context o k.rule.goes) ps)
-        (senders : (p : Packet) → Contains ps p → p.from ≡ Map → ⊥)
+        (senders : (p : Packet) → Contains ps p → IsOfServer p)
         (after : ServerState) (context_is : after.context ≡ record st.context { count = o.count }) (shape : AreLeft st.ranges after.ranges range o.after) where
       abbrev z : Machines generation
       z = x.machines range
@@ -432,10 +433,10 @@ module _ (generation : ℕ → ℕ) (nodes target : ℕ) where
           apart_name name other differ e = differ (sym (ap (λ (u : StreamName). u.range) e))
 
           metadata_alone : (other : StreamName) → (other ≡ metadata_of j → ⊥) → (n m e : ℕ) → IsAt w other n e → IsUnsealedAt w (metadata_of j) m e → ⊥
-          metadata_alone = below_alone generation (metadata_of j) nodes target x.moves
+          metadata_alone = below_alone generation (metadata_of j) nodes target (λ u. cc) x.moves
 
           log_alone : (other : StreamName) → (other ≡ log_of j → ⊥) → (n m e : ℕ) → IsAt w other n e → IsUnsealedAt w (log_of j) m e → ⊥
-          log_alone = below_alone generation (log_of j) nodes target x.moves
+          log_alone = below_alone generation (log_of j) nodes target (λ u. cc) x.moves
 
       all_beside : (j : ℕ) → AreBeside generation nodes target later j (next_machines j)
       all_beside =
@@ -446,7 +447,11 @@ module _ (generation : ℕ → ℕ) (nodes target : ℕ) where
 
       map_tells : (to : ActorId) (body : Body) → Contains (c.stream_layer.post ++ ps) (packet Map to body) → IsWord body
       map_tells to body there =
-          ⊎_elim {C = IsWord body} (λ old. x.from_map to body old) (λ new. absurd (senders (packet Map to body) new refl)) (Contains-append_cases c.stream_layer.post ps (packet Map to body) there)
+          ⊎_elim {C = IsWord body} (λ old. x.from_map to body old) (λ new. absurd ((senders (packet Map to body) new).0 refl)) (Contains-append_cases c.stream_layer.post ps (packet Map to body) there)
+
+      nobody_changes : (p : Packet) → Contains (c.stream_layer.post ++ ps) p → is_range_change p.body ≡ false
+      nobody_changes p there =
+          ⊎_elim {C = is_range_change p.body ≡ false} (λ old. x.no_change p old) (λ new. (senders p new).1) (Contains-append_cases c.stream_layer.post ps p there)
 
       -- ---- incarnations
 
@@ -647,6 +652,7 @@ module _ (generation : ℕ → ℕ) (nodes target : ℕ) where
         numbers = all_numbers;
         rows = all_rows;
         from_map = map_tells;
+        no_change = nobody_changes;
         first_range = x.first_range;
         incarnation = inc;
         bound = x.bound + suc i;

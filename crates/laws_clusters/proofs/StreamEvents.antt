@@ -1,4 +1,5 @@
--- What an event does in the stream layer: it shows nothing of tables, and sends nothing in the name of a server or of the map.
+-- What an event does in the stream layer: it shows nothing of tables, sends nothing in the name of a server or of the map, and asks
+-- the map for no split and no merge.
 use Rattle.std.proofs.Common.{◌≡◌, ◌⊎◌, ℕ, Bool, true, false, not, ◌&&◌, ◌||◌, ◌==◌, nat_lt, List, [], ◌∷◌, ◌++◌, take, Option, Some, None, Result, Ok, Err, slice_get, Contains, refl, sym, ap, ◌∙◌, subst, inl, inr, append-nil}
 use Rattle.std.proofs.lemmas.List.Elements.{Contains-append_cases}
 use Rattle.block_types.specs.declared.record.Nodes.{Nodes}
@@ -16,6 +17,7 @@ use Rattle.wire.specs.declared.body.ReadBody.{ReadBody}
 use Rattle.wire.specs.declared.body.ReadBody.TheVariants as reads
 use Rattle.wire.specs.declared.body.StreamBody.{StreamBody}
 use Rattle.wire.specs.declared.body.StreamBody.TheVariants.{CreateStream, OpenStreams, Confirm, Confirmed, Extend, Trim, MultiModify}
+use Rattle.wire.specs.declared.body.MapBody.TheVariants as maps
 use Rattle.wire.specs.declared.body.Body.{Body}
 use Rattle.wire.specs.declared.body.Body.TheVariants as bodies
 use Rattle.wire.specs.declared.note.Note.{Note}
@@ -49,6 +51,7 @@ use Rattle.laws_streams.proofs.ManagerAnswers as manager
 use Rattle.laws_streams.proofs.NodeAnswers as node
 use Rattle.laws_streams.proofs.DecisionAnswers as decision
 use Rattle.laws_clusters.specs.Senders.{IsOfLayer}
+use Rattle.laws_clusters.proofs.OneRange.{is_range_change}
 
 -- it shows nothing of tables
 abbrev IsBare : {S : Type 0} → Outcome S → Type 0
@@ -247,9 +250,6 @@ module _ (b : Catalog) (p : Packet) where
       by_answer (Ok false) = refl
       by_answer (Ok true) = refl
 
-  no_users_bare : (q : ReqNo) → IsBare (catalog.no_users b p q)
-  no_users_bare q = if_elim IsBare (is_user p.from) (refused b Manager p q Stale) (silent b) (λ t. refl) (λ t. refl)
-
   stream_body_bare : (body : StreamBody) → IsBare (catalog.stream_body_rule b p body)
   stream_body_bare (CreateStream s fence q) =
       unless_bare b Manager p q (catalog.create_refusal b p s) (catalog.create_taken b p s (generation_of p.from fence) q) refl
@@ -259,7 +259,7 @@ module _ (b : Catalog) (p : Packet) where
       unless_bare b Manager p q (catalog.confirm_refusal b p range generation) (catalog.answer b p (Confirmed q)) refl
   stream_body_bare (Extend s generation last pick q) = extend_bare s (generation_of p.from generation) last pick q
   stream_body_bare (Trim range generation before to_blob q) = trim_bare range generation before to_blob q
-  stream_body_bare (MultiModify list q) = no_users_bare q
+  stream_body_bare (MultiModify list q) = unless_bare b Manager p q (catalog.modify_refusal b p list) (catalog.modify_taken b p list q) refl
   stream_body_bare body = refl
 
   seal_asked_bare : (e : ℕ) (q : ReqNo) (x : Extent) (o : Option ℕ) → IsBare (catalog.seal_asked b p e q x o)
@@ -320,26 +320,29 @@ decide_bare b e (Some x) =
 
 -- ---- one event
 
--- each of these packets has a sender of the layer
+-- its sender is of the layer, and the map is not asked for other ranges
+abbrev IsLayerPacket : Packet → Type 0
+IsLayerPacket p = IsOfLayer p.from × (is_range_change p.body ≡ false)
+
 abbrev AreOfLayer : List Packet → Type 0
-AreOfLayer ps = (p : Packet) → Contains ps p → IsOfLayer p.from
+AreOfLayer ps = (p : Packet) → Contains ps p → IsLayerPacket p
 
 -- the second stream system shows no more of tables than the first, and whatever else is in its post is of the layer
 record Leaves (w v : StreamSystem) : Type 0 where
   tables : table_notes v.notes ≡ table_notes w.notes
-  senders : (p : Packet) → Contains v.post p → Contains w.post p ⊎ IsOfLayer p.from
+  sends : (p : Packet) → Contains v.post p → Contains w.post p ⊎ IsLayerPacket p
 
 tables_same : (xs ys : List Note) → table_notes ys ≡ [] → table_notes (xs ++ ys) ≡ table_notes xs
 tables_same xs ys bare = others-append xs ys ∙ ap (λ l. table_notes xs ++ l) bare ∙ append-nil (table_notes xs)
 
 unsent_leaves : (w v : StreamSystem) → v.post ≡ w.post → table_notes v.notes ≡ table_notes w.notes → Leaves w v
-unsent_leaves w v same tables = record { tables = tables; senders = λ p c. inl (subst (λ xs. Contains xs p) same c) }
+unsent_leaves w v same tables = record { tables = tables; sends = λ p c. inl (subst (λ xs. Contains xs p) same c) }
 
 -- these are sent and shown
 more_leaves : (w v : StreamSystem) (ps : List Packet) (xs : List Note) → v.post ≡ w.post ++ ps → v.notes ≡ w.notes ++ xs → AreOfLayer ps → table_notes xs ≡ [] → Leaves w v
 more_leaves w v ps xs post notes layer bare = record {
   tables = ap table_notes notes ∙ tables_same w.notes xs bare;
-  senders = λ p c. elim (Contains-append_cases w.post ps p (subst (λ l. Contains l p) post c)) [ inl a ↦ inl a | inr a ↦ inr (layer p a) ];
+  sends = λ p c. elim (Contains-append_cases w.post ps p (subst (λ l. Contains l p) post c)) [ inl a ↦ inl a | inr a ↦ inr (layer p a) ];
 }
 
 node_leaves : (w : StreamSystem) (n e : ℕ) (o : Outcome (Option Replica)) → AreOfLayer o.packets → IsBare o → Leaves w (node_performs w n e o)
@@ -358,23 +361,41 @@ manager_leaves w o layer bare =
     (λ t. unsent_leaves w (manager_halted w) refl refl))
     (λ s. more_leaves w _ o.packets o.notes refl refl layer bare)
 
+node_no_change : (s : Option Replica) (k : ℕ) (taken : Packet) (notes : List Note) (to : ActorId) (body : Body) → node.BodyTells s k taken notes to body → is_range_change body ≡ false
+node_no_change s k taken notes to (bodies.Map body) tells = absurd tells
+node_no_change s k taken notes to body tells = refl
+
+manager_no_change : (b : Catalog) (taken : Packet) (to : ActorId) (body : Body) → manager.BodyTells b taken to body → is_range_change body ≡ false
+manager_no_change b taken to (bodies.Map body) tells = absurd tells
+manager_no_change b taken to body tells = refl
+
+decision_no_change : (b : Catalog) (e : ℕ) (after : Catalog) (to : ActorId) (body : Body) → decision.BodyTells b e after to body → is_range_change body ≡ false
+decision_no_change b e after to (bodies.Map body) tells = absurd tells
+decision_no_change b e after to body tells = refl
+
+-- no user asks for it
+request_no_change : (body : Body) → is_request body ≡ true → is_range_change body ≡ false
+request_no_change (bodies.Map (maps.Route key q)) asked = refl
+request_no_change (bodies.Map body) asked = absurd cc
+request_no_change body asked = refl
+
 node_of_layer : (n : ℕ) (s : Option Replica) (p : Packet) → AreOfLayer (table.node_rule n s p p.body).packets
 node_of_layer n s p x c =
     let o = table.node_rule n s p p.body in
-    let from : x.from ≡ Node n = (each-contains (node.NodeTells n s (table.extent_of p.body) p o.notes) o.packets x (node.node_tells n s p) c).0 in
-    subst IsOfLayer (sym from) tt
+    let (from, tells) = each-contains (node.NodeTells n s (table.extent_of p.body) p o.notes) o.packets x (node.node_tells n s p) c in
+    (subst IsOfLayer (sym from) tt, node_no_change s (table.extent_of p.body) p o.notes x.to x.body tells)
 
 manager_of_layer : (b : Catalog) (p : Packet) → AreOfLayer (catalog.manager_rule b p p.body).packets
 manager_of_layer b p x c =
     let o = catalog.manager_rule b p p.body in
-    let from : x.from ≡ Manager = (each-contains (manager.ManagerTells b p) o.packets x (manager.manager_tells b p) c).0 in
-    subst IsOfLayer (sym from) tt
+    let (from, tells) = each-contains (manager.ManagerTells b p) o.packets x (manager.manager_tells b p) c in
+    (subst IsOfLayer (sym from) tt, manager_no_change b p x.to x.body tells)
 
 decision_of_layer : (b : Catalog) (e : ℕ) → AreOfLayer (catalog.decide_rule b e (b.extent e)).packets
 decision_of_layer b e x c =
     let o = catalog.decide_rule b e (b.extent e) in
-    let from : x.from ≡ Manager = (each-contains (decision.DecisionTells b e o.after) o.packets x (decision.decision_tells b e) c).0 in
-    subst IsOfLayer (sym from) tt
+    let (from, tells) = each-contains (decision.DecisionTells b e o.after) o.packets x (decision.decision_tells b e) c in
+    (subst IsOfLayer (sym from) tt, decision_no_change b e o.after x.to x.body tells)
 
 delivered_leaves : (w : StreamSystem) (p : Packet) (to : ActorId) → Leaves w (delivered w p to)
 delivered_leaves w p (Node n) =
@@ -417,17 +438,17 @@ restart_leaves w Map = unsent_leaves w w refl refl
 restart_leaves w (Server s) = unsent_leaves w w refl refl
 restart_leaves w (User u) = unsent_leaves w w refl refl
 
-submit_leaves : (w : StreamSystem) (user : ℕ) (to : ActorId) (body : Body) → Leaves w (sent_more w (packet (User user) to body ∷ []))
-submit_leaves w user to body = record {
+submit_leaves : (w : StreamSystem) (user : ℕ) (to : ActorId) (body : Body) → is_request body ≡ true → Leaves w (sent_more w (packet (User user) to body ∷ []))
+submit_leaves w user to body asked = record {
   tables = refl;
-  senders = λ p c. elim (contains_pushed w.post (packet (User user) to body) p c) [
+  sends = λ p c. elim (contains_pushed w.post (packet (User user) to body) p c) [
     | inl a ↦ inl a
-    | inr same ↦ inr (subst (λ (x : Packet). IsOfLayer x.from) (sym same) tt)
+    | inr same ↦ inr (subst IsLayerPacket (sym same) (tt, request_no_change body asked))
   ];
 }
 
 happens_leaves : (w : StreamSystem) (event : Event) → Leaves w (happens w event)
-happens_leaves w (Submit user to body) = if_elim (Leaves w) (is_request body) _ w (λ t. submit_leaves w user to body) (λ t. unsent_leaves w w refl refl)
+happens_leaves w (Submit user to body) = if_elim (Leaves w) (is_request body) _ w (λ t. submit_leaves w user to body t) (λ t. unsent_leaves w w refl refl)
 happens_leaves w (Deliver number) = delivered_if_leaves w (slice_get w.post number)
 happens_leaves w (Stop actor call keep) = stop_leaves w actor call keep
 happens_leaves w (Restart actor) = restart_leaves w actor
@@ -451,15 +472,20 @@ pub happens_tables : (w : StreamSystem) (event : Event) → table_notes (happens
 happens_tables w event = (happens_leaves w event).tables
 
 -- what is sent is of the layer
-pub happens_from : (w : StreamSystem) (event : Event) (p : Packet) → Contains (happens w event).post p → Contains w.post p ⊎ IsOfLayer p.from
-happens_from w event p c = (happens_leaves w event).senders p c
+happens_sends : (w : StreamSystem) (event : Event) (p : Packet) → Contains (happens w event).post p → Contains w.post p ⊎ IsLayerPacket p
+happens_sends w event p c = (happens_leaves w event).sends p c
 
 -- no packet of a server comes in
 pub happens_servers : (w : StreamSystem) (event : Event) (server : ℕ) (to : ActorId) (body : Body) →
     Contains (happens w event).post (packet (Server server) to body) → Contains w.post (packet (Server server) to body)
-happens_servers w event server to body c = elim (happens_from w event (packet (Server server) to body) c) [ inl a ↦ a | inr a ↦ absurd a ]
+happens_servers w event server to body c = elim (happens_sends w event (packet (Server server) to body) c) [ inl a ↦ a | inr a ↦ absurd a.0 ]
 
 -- and none of the map
 pub happens_map : (w : StreamSystem) (event : Event) (to : ActorId) (body : Body) →
     Contains (happens w event).post (packet Map to body) → Contains w.post (packet Map to body)
-happens_map w event to body c = elim (happens_from w event (packet Map to body) c) [ inl a ↦ a | inr a ↦ absurd a ]
+happens_map w event to body c = elim (happens_sends w event (packet Map to body) c) [ inl a ↦ a | inr a ↦ absurd a.0 ]
+
+-- nobody asks the map for other ranges
+pub happens_no_change : (w : StreamSystem) (event : Event) → ((p : Packet) → Contains w.post p → is_range_change p.body ≡ false) →
+    (p : Packet) → Contains (happens w event).post p → is_range_change p.body ≡ false
+happens_no_change w event none p c = elim (happens_sends w event p c) [ inl a ↦ none p a | inr a ↦ a.1 ]

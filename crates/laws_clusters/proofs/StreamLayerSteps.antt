@@ -27,7 +27,7 @@ use Rattle.laws_ranges.specs.Serves.{metadata_of, log_of, rows_of, Wider}
 use Rattle.model_streams.specs.Maps.{entry_at}
 use Rattle.laws_clusters.proofs.RowAnswers.{still_at}
 use Rattle.laws_clusters.proofs.LayerSteps.{layer_same}
-use Rattle.laws_clusters.proofs.StreamEvents.{happens_tables, happens_servers, happens_map}
+use Rattle.laws_clusters.proofs.StreamEvents.{happens_tables, happens_servers, happens_map, happens_no_change}
 use Rattle.laws_clusters.proofs.ObservedBytes.{observed_on, tells_fewer}
 use Rattle.laws_clusters.proofs.Invariant.{Machines, HasNumber, HasNone, RowsOut, AllRowsOut, AreBeside, here, IsHeld, Runs, Standing}
 use Rattle.laws_clusters.proofs.OtherRanges.{holds_on, held_on}
@@ -181,6 +181,7 @@ module _ (generation : ℕ → ℕ) (nodes target : ℕ) where
       numbers = λ server to body there. x.numbers server to body (happens_servers c.stream_layer event server to body there);
       rows = all_rows;
       from_map = λ to body there. x.from_map to body (happens_map c.stream_layer event to body there);
+      no_change = happens_no_change c.stream_layer event x.no_change;
       first_range = x.first_range;
       incarnation = x.incarnation;
       bound = x.bound;

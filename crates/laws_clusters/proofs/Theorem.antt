@@ -22,9 +22,9 @@ use Rattle.model_partition.specs.Cluster.{Cluster, delivered_to, delivers, stops
 use Rattle.model_partition.specs.Past.{Bytes, Replays, first_range}
 use Rattle.model_partition.specs.Range.{RangeState}
 use Rattle.model_partition.specs.Server.{ServerState, range_of, started}
-use Rattle.model_partition.specs.ServedTables.{IsAtLine, IsOfFirst, AreFirst, LoadsOnce, StreamsInOrder, ServesAt}
+use Rattle.model_partition.specs.ServedTables.{IsAtLine, IsOfFirst, AreFirst, AreUnsplit, LoadsOnce, StreamsInOrder, ServesAt}
 use Rattle.model_partition.specs.ServerTurns.{AreMoves}
-use Rattle.model_partition.specs.ServerRun.{ServerRun, ServerEvent, Takes, GivesUp, Checkpoints, Stops as StopsSo, Starts as StartsSo, Moment as MomentSo, stream_named, first_run, run_of, log_name}
+use Rattle.model_partition.specs.ServerRun.{ServerRun, ServerEvent, Takes, GivesUp, Checkpoints, Moment as MomentSo, stream_named, first_run, run_of, log_name}
 use Rattle.model_partition.specs.Story.{Copy, KeepsOrder, Story, EndsRise}
 use Rattle.model_partition.specs.TableContents.{AllTellRightly}
 use Rattle.laws_stream_machine.proofs.LowerLayer.{below_start}
@@ -32,10 +32,11 @@ use Rattle.laws_ranges.specs.Serves.{Apart, metadata_of, log_of}
 use Rattle.laws_streams.proofs.Choices.{contains_get}
 use Rattle.laws_server_runs.proofs.LoadedWithin.{loaded_within}
 use Rattle.laws_server_runs.proofs.Theorem.{run_replays, served_at_line}
+use Rattle.laws_server_runs.proofs.Unsplit.{HaveNoSplits, unsplit as no_splits}
 use Rattle.laws_clusters.specs.Orders.{ComesOfStreams}
 use Rattle.laws_clusters.specs.ServerEvents.{packet_events, delivery_events, stop_events, start_events, server_events, server_events_after, servers_of_run}
 use Rattle.laws_clusters.proofs.Generations.{generation_at, plenty}
-use Rattle.laws_clusters.proofs.Invariant.{HeldAt, Machines, HasNumber, AreBeside, IsHeld, Runs, Standing}
+use Rattle.laws_clusters.proofs.Invariant.{HeldAt, Machines, HasNumber, AreBeside, Runs, Standing}
 use Rattle.laws_clusters.proofs.MapSteps.{map_takes_stand, assigns_stand, renews_stand, map_stops_stand, map_starts_stand}
 use Rattle.laws_clusters.proofs.ObservedBytes.{observed_stand}
 use Rattle.laws_clusters.proofs.OneRange.{IsWord}
@@ -90,6 +91,7 @@ module _ (nodes target batch count : ℕ) where
   record StandsWith (c : Cluster) (coming : List ServerEvent) : Type 0 where
     stands : Stands c (run coming)
     first : AreFirst coming
+    unsplit : AreUnsplit coming
 
   -- ---- at first
 
@@ -121,6 +123,7 @@ module _ (nodes target batch count : ℕ) where
       numbers = λ server to body there. absurd (let l = there.1 in omega (arith, l));
       rows = λ s range r held q waits. absurd (none_held s range r held);
       from_map = λ to body there. absurd (let l = there.1 in omega (arith, l));
+      no_change = λ p there. absurd (let l = there.1 in omega (arith, l));
       first_range = (refl, tt);
       incarnation = λ s range. None;
       bound = 0;
@@ -136,6 +139,7 @@ module _ (nodes target batch count : ℕ) where
       told = λ texts all. tt;
     };
     first = tt;
+    unsplit = tt;
   }
     where
       first_runs : (s : ℕ) (cell : ServerCell) (st : ServerState) → entry_at (first_servers batch 1 count) s ≡ Some cell → cell.state ≡ Some st →
@@ -158,16 +162,20 @@ module _ (nodes target batch count : ℕ) where
 
   -- ---- events
 
-  run_laid : (coming : List ServerEvent) → IsLaid (run coming)
-  run_laid coming texts order = loaded_within texts batch count coming order
+  run_laid : (coming : List ServerEvent) → AreUnsplit coming → IsLaid (run coming)
+  run_laid coming unsplit texts order = loaded_within texts batch count coming unsplit order
 
   module _ (c : Cluster) (coming : List ServerEvent) (x : StandsWith c coming) where
     abbrev y : ServerRun
     y = run coming
 
+    -- no server splits a range
+    none : HaveNoSplits c.servers
+    none = subst HaveNoSplits (sym x.stands.cells) (no_splits batch count coming x.unsplit)
+
     -- nothing comes to servers
     aside : (d : Cluster) → Stands d y → StandsWith d coming
-    aside d stands = record { stands = stands; first = x.first }
+    aside d stands = record { stands = stands; first = x.first; unsplit = x.unsplit }
 
     -- the map assigns the first range alone
     is_first : (p : Packet) → Contains c.stream_layer.post p → IsOfFirst p.from p.body
@@ -189,32 +197,36 @@ module _ (nodes target batch count : ℕ) where
     takes_all : (s : ℕ) (p : Packet) → Contains c.stream_layer.post p → p.to ≡ Server s → StandsWith (delivered_to c p (Server s)) (Takes s p ∷ coming)
     takes_all s p there to =
         let first : AreFirst (Takes s p ∷ coming) = (is_first p there, x.first) in
-        record { stands = takes_stands generation_at plenty nodes target c y x.stands s p there to (run_laid (Takes s p ∷ coming)); first = first }
+        let unsplit : AreUnsplit (Takes s p ∷ coming) = (tt, x.unsplit) in
+        record { stands = takes_stands generation_at plenty nodes target c y x.stands none s p there to (run_laid (Takes s p ∷ coming) unsplit); first = first; unsplit = unsplit }
 
     delivers_all : (number : ℕ) (o : Option Packet) → slice_get c.stream_layer.post number ≡ o → StandsWith (delivers c o) (delivery_events o ++ coming)
     delivers_all number None at = x
     delivers_all number (Some p) at = go p.to refl
       where
+        there : Contains c.stream_layer.post p
+        there = contains_get c.stream_layer.post number p at
+
         layer_takes : (to : ActorId) → p.to ≡ to → Stands (record c { stream_layer = delivered c.stream_layer p to }) y
         layer_takes to is =
             subst (λ z. Stands (record c { stream_layer = z }) y) (ap (delivered_if c.stream_layer) at ∙ ap (delivered c.stream_layer p) is) (happens_stands generation_at nodes target c y x.stands (Deliver number))
 
         go : (to : ActorId) → p.to ≡ to → StandsWith (delivered_to c p to) (packet_events to p ++ coming)
-        go (Server s) is = takes_all s p (contains_get c.stream_layer.post number p at) is
+        go (Server s) is = takes_all s p there is
         go (Node n) is = aside _ (layer_takes (Node n) is)
         go Manager is = aside _ (layer_takes Manager is)
-        go Map is = aside _ (map_takes_stand generation_at nodes target y c p x.stands)
+        go Map is = aside _ (map_takes_stand generation_at nodes target y c p (x.stands.no_change p there) x.stands)
         go (User u) is = aside _ (layer_takes (User u) is)
 
     stops_all : (actor : ActorId) (call : ℕ) (keep : Bool) → StandsWith (stops c actor call keep) (stop_events actor call ++ coming)
-    stops_all (Server s) call keep = record { stands = stops_stand generation_at nodes target c y s call x.stands; first = (tt, x.first) }
+    stops_all (Server s) call keep = record { stands = stops_stand generation_at nodes target c y s call x.stands; first = (tt, x.first); unsplit = (tt, x.unsplit) }
     stops_all (Node n) call keep = aside _ (happens_stands generation_at nodes target c y x.stands (Stop (Node n) call keep))
     stops_all Manager call keep = aside _ (happens_stands generation_at nodes target c y x.stands (Stop Manager call keep))
     stops_all Map call keep = aside _ (map_stops_stand generation_at nodes target y c call keep x.stands)
     stops_all (User u) call keep = aside _ (happens_stands generation_at nodes target c y x.stands (Stop (User u) call keep))
 
     restarts_all : (actor : ActorId) → StandsWith (restarts c actor) (start_events c actor ++ coming)
-    restarts_all (Server s) = record { stands = starts_stand generation_at nodes target c y s c.now c.batch x.stands; first = (tt, x.first) }
+    restarts_all (Server s) = record { stands = starts_stand generation_at nodes target c y s c.now c.batch x.stands; first = (tt, x.first); unsplit = (tt, x.unsplit) }
     restarts_all (Node n) = aside _ (happens_stands generation_at nodes target c y x.stands (Restart (Node n)))
     restarts_all Manager = aside _ (happens_stands generation_at nodes target c y x.stands (Restart Manager))
     restarts_all Map = aside _ (map_starts_stand generation_at nodes target y c x.stands)
@@ -225,17 +237,19 @@ module _ (nodes target batch count : ℕ) where
       where
         go : (b : Bool) → StandsWith (if b then c else record c { now = now; servers = map (told_moment now) c.servers }) ((if b then [] else MomentSo now ∷ []) ++ coming)
         go true = x
-        go false = record { stands = moment_stands generation_at nodes target c y now x.stands; first = (tt, x.first) }
+        go false = record { stands = moment_stands generation_at nodes target c y now x.stands; first = (tt, x.first); unsplit = (tt, x.unsplit) }
 
     gives_up_all : (s range : ℕ) (pick : Nodes) → StandsWith (cluster_after c (GiveUp s range pick)) (GivesUp s range pick ∷ coming)
     gives_up_all s range pick =
         let first : AreFirst (GivesUp s range pick ∷ coming) = (tt, x.first) in
-        record { stands = gives_up_stands generation_at plenty nodes target c y x.stands s range pick (run_laid (GivesUp s range pick ∷ coming)); first = first }
+        let unsplit : AreUnsplit (GivesUp s range pick ∷ coming) = (tt, x.unsplit) in
+        record { stands = gives_up_stands generation_at plenty nodes target c y x.stands none s range pick (run_laid (GivesUp s range pick ∷ coming) unsplit); first = first; unsplit = unsplit }
 
     checkpoints_all : (s range : ℕ) (combine : Bool) → StandsWith (cluster_after c (Checkpoint s range combine)) (Checkpoints s range combine ∷ coming)
     checkpoints_all s range combine =
         let first : AreFirst (Checkpoints s range combine ∷ coming) = (tt, x.first) in
-        record { stands = checkpoints_stand generation_at plenty nodes target c y x.stands s range combine (run_laid (Checkpoints s range combine ∷ coming)); first = first }
+        let unsplit : AreUnsplit (Checkpoints s range combine ∷ coming) = (tt, x.unsplit) in
+        record { stands = checkpoints_stand generation_at plenty nodes target c y x.stands none s range combine (run_laid (Checkpoints s range combine ∷ coming) unsplit); first = first; unsplit = unsplit }
 
     -- whatever comes
     comes_stands : (event : Event) → StandsWith (cluster_after c event) (server_events c event ++ coming)
@@ -306,13 +320,13 @@ module _ (nodes target batch count : ℕ) where
       let o : ComesOfStreams c (run coming) = stands_ordered c (run coming) x.stands in
       let bytes : ℕ → Bytes = (o.contents).0 in
       let right : AllTellRightly bytes c.stream_layer.notes = (o.contents).1 in
-      run_replays bytes batch count coming c.stream_layer.notes x.first (all_in_order c (run coming) x.stands bytes right first_range) (o.told bytes right)
+      run_replays bytes batch count coming c.stream_layer.notes x.unsplit x.first (all_in_order c (run coming) x.stands bytes right first_range) (o.told bytes right)
 
   -- each range that is served is at its line, over any texts that have all that was observed
   stands_at_line : (c : Cluster) (coming : List ServerEvent) → StandsWith c coming → (texts : ℕ → Bytes) → AllTellRightly texts c.stream_layer.notes → (s range : ℕ) (r : RangeState) →
       ServesAt (run coming) s range r → (order : KeepsOrder ((run coming).story (log_name range))) → IsAtLine texts ((run coming).story (log_name range)) order.copies r
   stands_at_line c coming x texts all s range r at order =
-      served_at_line texts batch count coming s range r (all_in_order c (run coming) x.stands texts all range) at order
+      served_at_line texts batch count coming s range r x.unsplit (all_in_order c (run coming) x.stands texts all range) at order
 
 abbrev pub after_run : (nodes servers target batch : ℕ) → List Event → Cluster
 after_run nodes servers target batch events = cluster_after_all (first_cluster nodes servers target batch) events

@@ -14,7 +14,7 @@ use Rattle.metadata.specs.Keys.{within}
 use Rattle.model_streams.proofs.Tests.{if_elim, none_met}
 use Rattle.model_partition.specs.declared.server_context.ServerContext.{ServerContext}
 use Rattle.model_partition.specs.declared.waiting.WaitingTransaction.{WaitingTransaction}
-use Rattle.model_partition.specs.Range.{RangeState, is_serving}
+use Rattle.model_partition.specs.Range.{RangeState, is_serving, takes_no_transaction}
 use Rattle.model_partition.specs.Serving.{record_of, fits_a_group, grown, group_count, appends, is_key, value_size, lease_ended, waiting_count, is_full, transact_fault}
 use Rattle.laws_loads.proofs.Renaming.{mapped_length, more_length}
 use Rattle.laws_loads.specs.Sound.{AreTransactions, IsSound, IsSoundIf}
@@ -75,6 +75,7 @@ changes_fit (c ∷ changes) keys values =
 abbrev pub tests : ServerContext → RangeState → List Change → List (Refusal × Bool)
 tests d r changes =
     (refusals.Loading, not (is_serving r.stage))
+    ∷ (refusals.Paused, takes_no_transaction r.pause)
     ∷ (refusals.LeaseEnded, lease_ended d r)
     ∷ (refusals.TooLarge, (length changes == 0) || nat_lt 32 (length changes))
     ∷ (refusals.BadKey, list_any (λ c. not (is_key c.key)) changes)
@@ -91,10 +92,10 @@ taken_served d r changes e = let unmet = none_met (tests d r changes) e in not-f
 taken_fits : (d : ServerContext) (r : RangeState) (changes : List Change) → transact_fault d r changes ≡ None → IsTransaction changes × (waiting_count r < 1024)
 taken_fits d r changes e =
     let unmet = none_met (tests d r changes) e in
-    let count = or_parts (length changes == 0) (nat_lt 32 (length changes)) unmet.1.1.0 in
-    let full = or_parts (nat_le 1024 (waiting_count r)) (nat_le 67108864 (entries_size r.live + size_of r.fixed)) unmet.1.1.1.1.1.1.0 in
+    let count = or_parts (length changes == 0) (nat_lt 32 (length changes)) unmet.1.1.1.0 in
+    let full = or_parts (nat_le 1024 (waiting_count r)) (nat_le 67108864 (entries_size r.live + size_of r.fixed)) unmet.1.1.1.1.1.1.1.0 in
     let some : length changes ≡ 0 → ⊥ = eqb-false (length changes) 0 count.0 in
-    ((((some_more (length changes) some, ltb-false 32 (length changes) count.1)), changes_fit changes unmet.1.1.1.0 unmet.1.1.1.1.0), leb-false 1024 (waiting_count r) full.0)
+    ((((some_more (length changes) some, ltb-false 32 (length changes) count.1)), changes_fit changes unmet.1.1.1.1.0 unmet.1.1.1.1.1.0), leb-false 1024 (waiting_count r) full.0)
   where
     some_more : (n : ℕ) → (n ≡ 0 → ⊥) → 1 ≤ n
     some_more zero h = absurd (h refl)

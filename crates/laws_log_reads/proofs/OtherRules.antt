@@ -21,7 +21,7 @@ use Rattle.model_partition.specs.declared.server_context.ServerContext.{ServerCo
 use Rattle.model_partition.specs.declared.stage.Stage.{Stage}
 use Rattle.model_partition.specs.declared.stage.Stage.TheVariants as stages
 use Rattle.model_partition.specs.declared.waiting.WaitingGet.{WaitingGet}
-use Rattle.model_partition.specs.Range.{OutGroup, RangeState, RangeOutcome, request, used, goes, answers, if_there, is_serving}
+use Rattle.model_partition.specs.Range.{OutGroup, RangeState, RangeOutcome, request, used, goes, answers, if_there, is_serving, is_paused}
 use Rattle.model_partition.specs.ServerRun.{RangeHistory, first_history}
 use Rattle.model_partition.specs.Serving.{group_count, appends, forms, transact_fault, transacts, transact_rule, record_of, out_size, log_done}
 use Rattle.model_partition.specs.StreamActions.{Forms, group_of, transact_actions}
@@ -172,4 +172,4 @@ module _ (generation : ℕ → ℕ) (range : ℕ) (w : StreamSystem) (i : ℕ) (
   checkpoint_left combine e = layer_left range w i m.stand.state l.stand.state v.history d r (is_served r (none_met faults e).0) combine
     where
       faults : List (Refusal × Bool)
-      faults = (refusals.Loading, not (is_serving r.stage)) ∷ (refusals.Busy, is_some r.control || is_some r.fixed) ∷ []
+      faults = (refusals.Loading, not (is_serving r.stage)) ∷ (refusals.Paused, is_paused r.pause) ∷ (refusals.Busy, is_some r.control || is_some r.fixed) ∷ []

@@ -106,7 +106,7 @@ module _ (nodes target : ℕ) (moves : List Move) where
 
     noted_by : SentIn moves first told → IsShown w.notes e groups
     noted_by a = elim a.sends [
-      | inl x ↦ elim x [ inl t ↦ absurd cc | inr t ↦ elim t [ inl y ↦ absurd cc | inr y ↦ absurd cc ] ]
+      | inl x ↦ elim x [ inl t ↦ absurd cc | inr t ↦ elim t [ inl y ↦ absurd (let c = y.2 in cc) | inr y ↦ absurd cc ] ]
       | inr x ↦ elim x [
         | inl m ↦ by_node a m
         | inr y ↦ elim y [

@@ -25,7 +25,7 @@ use Rattle.laws_ranges.specs.Serves.{Stand, Side, after_turns, metadata_of, log_
 use Rattle.laws_ranges.specs.Quiet.{GoesQuietly}
 use Rattle.laws_ranges.proofs.MachineSteps.{purposes_on}
 use Rattle.laws_ranges.proofs.LogRules.{asked_if}
-use Rattle.laws_ranges.proofs.ServedRules.{kinds_differ, unused_on, apart_on, asked_of_both, own_known}
+use Rattle.laws_ranges.proofs.ServedRules.{kinds_differ, unused_on, apart_on, asked_of_both, own_known, own_builds}
 
 -- ---- numbers
 
@@ -105,7 +105,7 @@ module _ (generation : ℕ → ℕ) (range : ℕ) (w : StreamSystem) (i : ℕ) (
   asked_of_metadata after n k a [] asked = tt
   asked_of_metadata after n k a (p ∷ ps) (inl plain, asked) = ((asked_of_both generation range w i both after n k a (p ∷ []) (inl plain, tt)).0, asked_of_metadata after n k a ps asked)
   asked_of_metadata after n k a (p ∷ ps) (inr own, asked) =
-      ((own.0, metadata_elsewhere k.stand.state n.sent k.sent a p.body own.1, λ q is one two. absurd (own_known generation range w i both (metadata_of range) n.sent p.body own.1 q is one)), asked_of_metadata after n k a ps asked)
+      ((own.0, metadata_elsewhere k.stand.state n.sent k.sent a p.body own.1, λ q is one two. absurd (own_known generation range w i both (metadata_of range) n.sent p.body own.1 q is one), own_builds generation range w i both (metadata_of range) n.sent p.body own.1), asked_of_metadata after n k a ps asked)
 
   pub asked_joined : (after : Option RangeState) (n k : Side) (ps qs : List Packet) → AskedOfBoth generation range w i after n k ps → AskedOfBoth generation range w i after n k qs → AskedOfBoth generation range w i after n k (ps ++ qs)
   asked_joined after n k [] qs a b = b

@@ -88,7 +88,7 @@ module _ (generation : ℕ → ℕ) (range : ℕ) (w : StreamSystem) (i : ℕ) (
           log = two.then.0;
         };
       })
-      ((metadata_asked, log_asked, λ v is none other. (let same : q ≡ v = cc in let k : Some (Confirms i one.then.0.read one.then.0.end) ≡ None = sym one.then.0.for ∙ ap (purpose_of n.sent) same ∙ none in cc)), tt)
+      ((metadata_asked, log_asked, λ v is none other. (let same : q ≡ v = cc in let k : Some (Confirms i one.then.0.read one.then.0.end) ≡ None = sym one.then.0.for ∙ ap (purpose_of n.sent) same ∙ none in cc), tt), tt)
 
   -- what is left of a range that is taken
   abbrev pub taken : ℕ → RangeOutcome
@@ -119,4 +119,4 @@ module _ (generation : ℕ → ℕ) (range : ℕ) (w : StreamSystem) (i : ℕ) (
           log_idle = refl;
         };
       })
-      ((open_asked generation (metadata_of range) w i n.stand n.sent q one.then.0, open_asked generation (log_of range) w i k.stand k.sent q two.then.0, λ v is none other. (let same : q ≡ v = cc in let k : Some (Opens i) ≡ None = sym one.then.0.for ∙ ap (purpose_of n.sent) same ∙ none in cc)), tt)
+      ((open_asked generation (metadata_of range) w i n.stand n.sent q one.then.0, open_asked generation (log_of range) w i k.stand k.sent q two.then.0, λ v is none other. (let same : q ≡ v = cc in let k : Some (Opens i) ≡ None = sym one.then.0.for ∙ ap (purpose_of n.sent) same ∙ none in cc), tt), tt)

@@ -25,7 +25,7 @@ use Rattle.model_partition.specs.declared.checkpoint_job.CheckpointPhase.TheVari
 use Rattle.model_partition.specs.declared.server_context.ServerContext.{ServerContext}
 use Rattle.model_partition.specs.declared.stage.Stage.TheVariants as stages
 use Rattle.model_partition.specs.declared.waiting.PlaceRead.{PlaceRead}
-use Rattle.model_partition.specs.Range.{RangeState, RangeOutcome, request, given, picking, goes, answers, dropped, is_serving}
+use Rattle.model_partition.specs.Range.{RangeState, RangeOutcome, request, given, picking, goes, answers, dropped, is_serving, is_paused}
 use Rattle.model_partition.specs.PlaceReads.{reads_place}
 use Rattle.model_partition.specs.Checkpoints.{checkpoint_fault, number_to_apply, have_bytes, combines, with_fixed, begins_pages, begins_combining, checkpoint_rule, new_job, new_combining_job, combined_pages, combined_job, merges, next_append, index_if_fit, with_phase, writes_pages, rows_go, pages_stand, index_stands, rows_stand, rows_told, rows_may_stand, rows_reply, may_record}
 use Rattle.model_partition.specs.StreamActions.{StreamAction, Stores, index_stood_in, index_stood, rows_told_actions, rows_actions}
@@ -145,7 +145,7 @@ module _ (generation : ℕ → ℕ) (range : ℕ) (w : StreamSystem) (i : ℕ) (
           merges_elim (λ o. GoesQuietly generation range w i m l d o) d r job
           (aside_quietly r b rest metadata_idle None r.control [] none rest.trims tt)
           (λ merge. aside_quietly r b rest metadata_idle None (Some (merged job merge)) [] (unrecorded merge) (merging merge) tt)
-          (λ merge place places is told. aside_quietly r b rest metadata_idle (Some (read_of d place)) (Some (merged job merge)) (reads_place d places (read_of d place) ∷ []) (unrecorded merge) (merging merge) ((tt, tt, λ q e. absurd cc), tt))
+          (λ merge place places is told. aside_quietly r b rest metadata_idle (Some (read_of d place)) (Some (merged job merge)) (reads_place d places (read_of d place) ∷ []) (unrecorded merge) (merging merge) ((tt, tt, λ q e. absurd cc, tt), tt))
           (λ merge newer is fixed. writes_quietly (unread r) unread_both unread_rest metadata_idle (combined_job (merged job merge) newer) (combined_begins (merged job merge) newer begins) (combined_merged (merged job merge) newer))
 
   -- ---- a checkpoint begins
@@ -160,14 +160,14 @@ module _ (generation : ℕ → ℕ) (range : ℕ) (w : StreamSystem) (i : ℕ) (
         if_elim (GoesQuietly generation range w i m l d) (have_bytes r.live r.position (number_to_apply r.out r.next)) _ _
         (λ t. if_elim (GoesQuietly generation range w i m l d) (combines combine r.indexes) _ _ (λ c. combining_quietly) (λ c. begins_quietly)) (λ f. still_whole generation range w i m l d both by r (suc d.count) [] b rest (omega arith) tt)
       where
-        unmet : (not (is_serving r.stage) ≡ false) × (((is_some r.control || is_some r.fixed) ≡ false) × Unit {0})
-        unmet = none_met ((refusals.Loading, not (is_serving r.stage)) ∷ (refusals.Busy, is_some r.control || is_some r.fixed) ∷ []) may
+        unmet : (not (is_serving r.stage) ≡ false) × ((is_paused r.pause ≡ false) × (((is_some r.control || is_some r.fixed) ≡ false) × Unit {0}))
+        unmet = none_met ((refusals.Loading, not (is_serving r.stage)) ∷ (refusals.Paused, is_paused r.pause) ∷ (refusals.Busy, is_some r.control || is_some r.fixed) ∷ []) may
 
         stage : r.stage ≡ stages.Serving
         stage = serving_only r.stage (not-false (is_serving r.stage) unmet.0)
 
         none : r.control ≡ None
-        none = none_there r.control (or_parts (is_some r.control) (is_some r.fixed) unmet.1.0).0
+        none = none_there r.control (or_parts (is_some r.control) (is_some r.fixed) unmet.1.1.0).0
 
         b : ServesBoth generation range w i m l r
         b = served_both generation range w i m l r f stage

@@ -18,9 +18,8 @@ use Rattle.model_streams.specs.StreamSystem.{StreamSystem}
 use Rattle.model_partition.specs.declared.server_context.ServerContext.{ServerContext}
 use Rattle.model_partition.specs.declared.waiting.WaitingGet.{WaitingGet}
 use Rattle.model_partition.specs.Range.{RangeState, RangeOutcome, refuses, answers, dropped}
-use Rattle.model_partition.specs.Serving.{lease_ended}
 use Rattle.model_partition.specs.PlaceReads.{place_of, places_of}
-use Rattle.model_partition.specs.Getting.{Lookup, Is, Needs, Tried, asks_place, answered, try, try_all, get_fault, gets, get_rule, are_no_page, bytes_come, bytes_rule, came, look, read_at, standing, used_for, without}
+use Rattle.model_partition.specs.Getting.{Lookup, Is, Needs, Tried, asks_place, answered, try_fault, try_unless, try, try_all, get_fault, gets, get_rule, are_no_page, bytes_come, bytes_rule, came, look, read_at, standing, used_for, without}
 use Rattle.model_partition.specs.Answering.{bytes_reply, gets_reply, load_refused}
 use Rattle.laws_stream_machine.specs.Refinement.{Sent}
 use Rattle.laws_ranges.specs.Serves.{Stand, Side, log_of, AreAsked, Follows, BothListed, IsSentBy}
@@ -38,18 +37,18 @@ module _ (generation : ℕ → ℕ) (range : ℕ) (w : StreamSystem) (i : ℕ) (
 
   place_try : (d : ServerContext) (g : WaitingGet) (page : Bool) (place : Place) (places : Option Nodes) → IsTry d (asks_place d g page place places)
   place_try d g page place None = (omega arith, tt)
-  place_try d g page place (Some places) = (omega arith, (inl (λ n s z. tt), tt))
+  place_try d g page place (Some places) = (omega arith, (inl (λ u n s z. tt), tt))
 
   found_try : (d : ServerContext) (r : RangeState) (g : WaitingGet) (found : Lookup) → IsTry d (answered d r g found)
-  found_try d r g (Is value) = (omega arith, (inl (λ n s z. tt), tt))
+  found_try d r g (Is value) = (omega arith, (inl (λ u n s z. tt), tt))
   found_try d r g (Needs page place) = place_try d g page place (places_of r place.extent)
 
   pub one_try : (d : ServerContext) (r : RangeState) (g : WaitingGet) → IsTry d (try d r g)
-  one_try d r g = go (lease_ended d r)
+  one_try d r g = go (try_fault d r)
     where
-      go : (t : Bool) → IsTry d (if t then record { waiting = []; count = d.count; packets = refuses d g.from g.request refusals.LeaseEnded ∷ [] } else answered d r g (look r.held r.indexes g.key (standing r g.key)))
-      go true = (omega arith, (inl (λ n s z. tt), tt))
-      go false = found_try d r g (look r.held r.indexes g.key (standing r g.key))
+      go : (fault : Option Refusal) → IsTry d (try_unless d r g fault)
+      go (Some why) = (omega arith, (inl (λ u n s z. tt), tt))
+      go None = found_try d r g (look r.held r.indexes g.key (standing r g.key))
 
   pub all_try : (d : ServerContext) (r : RangeState) (gs : List WaitingGet) → IsTry d (try_all d r gs)
   all_try d r [] = (omega arith, tt)
@@ -70,7 +69,7 @@ module _ (generation : ℕ → ℕ) (range : ℕ) (w : StreamSystem) (i : ℕ) (
     Holds (record { after = Some (record r { gets = gets; held = held }); count = count; packets = packets; notes = [] }))
     (gone : Holds (dropped d r)) where
   pub refused_is : (from : ActorId) (v : ReqNo) (why : Refusal) → Holds (answers d r (refuses d from v why ∷ []))
-  refused_is from v why = still r.gets r.held d.count (refuses d from v why ∷ []) (omega arith) (inl (λ n s z. tt), tt)
+  refused_is from v why = still r.gets r.held d.count (refuses d from v why ∷ []) (omega arith) (inl (λ u n s z. tt), tt)
 
   gets_is : (from : ActorId) (v : ReqNo) (key : List ℕ) (fault : Option Refusal) → Holds (gets d r from v key fault)
   gets_is from v key (Some why) = refused_is from v why

@@ -19,7 +19,7 @@ module _ (generation : ℕ → ℕ) (range : ℕ) (w : StreamSystem) (i : ℕ) w
   -- reads of what stands at a place are plain
   again_plain : (name : StreamName) (x : Stand) (sent : List Sent) (d : ServerContext) (read : PlaceRead) (o : Option Nodes) → AreAsked generation range w i name x sent (asks_again d read o)
   again_plain name x sent d read None = tt
-  again_plain name x sent d read (Some places) = (inl (λ n s m. tt), tt)
+  again_plain name x sent d read (Some places) = (inl (λ u n s m. tt), tt)
 
   read_plain : (name : StreamName) (x : Stand) (sent : List Sent) (d : ServerContext) (r : RangeState) (g : WaitingGet) (o : Option PlaceRead) → AreAsked generation range w i name x sent (gives_up_read d r g o).1
   read_plain name x sent d r g None = tt

@@ -23,7 +23,7 @@ use Rattle.model_partition.specs.Answering.{gives_up_reading, give_up_all}
 use Rattle.model_partition.specs.CheckpointStates.{CheckpointState}
 use Rattle.model_partition.specs.Checkpoints.{trim_again}
 use Rattle.laws_stream_machine.specs.Refinement.{Sent, purpose_of, Opens, Confirms, IsAsked}
-use Rattle.laws_ranges.specs.Serves.{RowsStand, HasNoCheckpoint, Stand, Side, after_turns, sent_with, metadata_of, log_of, Goes, Apart, AreUnused, LoadingIs, UnreadIs, OpeningIs, ConfirmingIs, IsOpening, LoadsMetadata, LoadsLog, LoadsIndexes, IsConfirming, StageIs, Follows, BothListed, IsSentBy, IsKnown, AskedOfBoth, RuleGoes}
+use Rattle.laws_ranges.specs.Serves.{RowsStand, HasNoCheckpoint, Stand, Side, after_turns, sent_with, metadata_of, log_of, Goes, Apart, AreUnused, LoadingIs, UnreadIs, OpeningIs, ConfirmingIs, IsOpening, LoadsMetadata, LoadsLog, LoadsIndexes, IsConfirming, StageIs, Follows, BothListed, IsSentBy, IsKnown, BuildsNone, AskedOfBoth, RuleGoes}
 use Rattle.laws_ranges.proofs.RowData.{rows_idle}
 use Rattle.laws_ranges.proofs.MachineSteps.{purposes_on}
 use Rattle.laws_ranges.proofs.AppendJob.{rests}
@@ -143,7 +143,7 @@ module _ (generation : ℕ → ℕ) (range : ℕ) (w : StreamSystem) (i : ℕ) (
     rows_left n k = rows_idle range w m.sent l.sent n.sent k.sent (record r.rows { pick = d.pick }) calm.0 (record { stream = rows.stream; listed = rows.listed; job = rows.job })
 
     abbrev AskedTwice : Option RangeState → Side → Side → Body → Type 0
-    AskedTwice after n k body = IsAsked generation (metadata_of range) w n.stand.state n.sent body × IsAsked generation (log_of range) w k.stand.state k.sent body × IsKnown generation range w i after n.sent k.sent body
+    AskedTwice after n k body = IsAsked generation (metadata_of range) w n.stand.state n.sent body × IsAsked generation (log_of range) w k.stand.state k.sent body × IsKnown generation range w i after n.sent k.sent body × BuildsNone body
 
     -- what is asked for the range and its generation
     of_load : (after : Option RangeState) (n k : Side) (about : ℕ → ℕ → Body) → AskedTwice after n k (about range (generation i)) → AskedTwice after n k (about r.load.range r.load.generation)
@@ -164,7 +164,7 @@ module _ (generation : ℕ → ℕ) (range : ℕ) (w : StreamSystem) (i : ℕ) (
           stage = subst (λ s. StageIs generation range w i n k (gave_up a z) s) (sym stage)
               (record { q = b.q; phase = b.phase; metadata = one.then; log = two.then; metadata_idle = b.metadata_idle; log_idle = b.log_idle });
         })
-        (of_load (Some (gave_up a z)) n k (λ g h. bodies.Stream (streams.OpenStreams g h b.q)) (open_asked generation (metadata_of range) w i n.stand n.sent b.q one.then, open_asked generation (log_of range) w i k.stand k.sent b.q two.then, λ v is none other. absurd (known v is none)), tt))
+        (of_load (Some (gave_up a z)) n k (λ g h. bodies.Stream (streams.OpenStreams g h b.q)) (open_asked generation (metadata_of range) w i n.stand n.sent b.q one.then, open_asked generation (log_of range) w i k.stand k.sent b.q two.then, λ v is none other. absurd (known v is none), tt), tt))
       where
         a : Outcome
         a = metadata_gives jobs.Idle
@@ -207,7 +207,7 @@ module _ (generation : ℕ → ℕ) (range : ℕ) (w : StreamSystem) (i : ℕ) (
           stage = subst (λ s. StageIs generation range w i n k (gave_up a z) s) (sym stage) (record { q = b.q; phase = b.phase; metadata = one.then; log = two.then });
         }) (
           of_load (Some (gave_up a z)) n k (λ g h. bodies.Stream (streams.Confirm g h b.q))
-              (confirm_asked generation (metadata_of range) w i n.stand n.sent a.after b.q one.then, confirm_asked generation (log_of range) w i k.stand k.sent z.after b.q two.then, λ v is none other. absurd (known v is none)),
+              (confirm_asked generation (metadata_of range) w i n.stand n.sent a.after b.q one.then, confirm_asked generation (log_of range) w i k.stand k.sent z.after b.q two.then, λ v is none other. absurd (known v is none), tt),
           tt,
         ))
       where

@@ -38,7 +38,7 @@ use Rattle.laws_ranges.proofs.GiveUp.{reading_plain, gets_plain}
 module _ (generation : ℕ → ℕ) (range : ℕ) (w : StreamSystem) (i : ℕ) where
   -- a Trim says nothing of any extent of a stream
   phase_plain : (name : StreamName) (x : Stand) (sent : List Sent) (d : ServerContext) (r : RangeState) (phase : CheckpointPhase) → AreAsked generation range w i name x sent (phase_again d r phase)
-  phase_plain name x sent d r (checkpoints.Trim before to_blob q) = (inl (λ n s m. tt), tt)
+  phase_plain name x sent d r (checkpoints.Trim before to_blob q) = (inl (λ u n s m. tt), tt)
   phase_plain name x sent d r phase = tt
 
   trim_plain : (name : StreamName) (x : Stand) (sent : List Sent) (d : ServerContext) (r : RangeState) (control : Option CheckpointState) → AreAsked generation range w i name x sent (trim_again d r control)

@@ -100,12 +100,12 @@ module _ (generation : ℕ → ℕ) (range : ℕ) (w : StreamSystem) (i : ℕ) w
   pub refused_plain : (name : StreamName) (x : Stand) (sent : List Sent) (d : ServerContext) (ts : List WaitingTransaction) (gs : List WaitingGet) (why : Refusal) →
       AreAsked generation range w i name x sent (map (λ t. refuses d t.from t.request why) ts ++ map (λ g. refuses d g.from g.request why) gs)
   refused_plain name x sent d [] [] why = tt
-  refused_plain name x sent d [] (g ∷ gs) why = (inl (λ n s m. tt), refused_plain name x sent d [] gs why)
-  refused_plain name x sent d (t ∷ ts) gs why = (inl (λ n s m. tt), refused_plain name x sent d ts gs why)
+  refused_plain name x sent d [] (g ∷ gs) why = (inl (λ u n s m. tt), refused_plain name x sent d [] gs why)
+  refused_plain name x sent d (t ∷ ts) gs why = (inl (λ u n s m. tt), refused_plain name x sent d ts gs why)
 
   committed_plain : (name : StreamName) (x : Stand) (sent : List Sent) (d : ServerContext) (s : ℕ) (ts : List WaitingTransaction) → AreAsked generation range w i name x sent (committed d s ts)
   committed_plain name x sent d s [] = tt
-  committed_plain name x sent d s (t ∷ ts) = (inl (λ n z m. tt), committed_plain name x sent d (suc s) ts)
+  committed_plain name x sent d s (t ∷ ts) = (inl (λ u n z m. tt), committed_plain name x sent d (suc s) ts)
 
   module _ (listed : Listed w (log_of range)) (d : ServerContext) where
     -- nothing is asked, and the range is served as before
@@ -188,7 +188,7 @@ module _ (generation : ℕ → ℕ) (range : ℕ) (w : StreamSystem) (i : ℕ) w
       transacts_rule : (r : RangeState) (from : ActorId) (v : ReqNo) (changes : List Change) (fault : Option Refusal) → ServesLog generation range w i x sent r →
           LogRule generation range w i x sent d (transacts d r from v changes fault) (actions.transact_actions r (transacts d r from v changes fault))
       transacts_rule r from v changes (Some refusal) b =
-          calm x sent r b (transacts d r from v changes (Some refusal)) refl (inr refl) (inl (λ n s m. tt), tt) (actions.transact_actions r (transacts d r from v changes (Some refusal))) (none_formed r.out)
+          calm x sent r b (transacts d r from v changes (Some refusal)) refl (inr refl) (inl (λ u n s m. tt), tt) (actions.transact_actions r (transacts d r from v changes (Some refusal))) (none_formed r.out)
       transacts_rule r from v changes None b =
           forms_rule (record r { queue = r.queue ++ record { from = from; request = v; changes = changes } ∷ [] })
           (record { range_is = b.range_is; under = b.under; client = b.client; out = b.out; stage = b.stage })

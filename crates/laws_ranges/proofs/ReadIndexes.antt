@@ -39,7 +39,7 @@ module _ (generation : ℕ → ℕ) (range : ℕ) (w : StreamSystem) (i : ℕ) (
         rows = rows_idle range w m.sent l.sent _ _ r.rows b.calm.0 b.rows;
         stage = record { phase = opened; metadata = b.metadata; metadata_idle = b.metadata_idle; log = b.log; log_idle = b.log_idle };
       })
-      (omega arith) (inl (λ n s z. tt), tt)
+      (omega arith) (inl (λ u n s z. tt), tt)
 
   reads_named_both : (r : RangeState) → AllRead generation range w i m l d by r → r.load.phase ≡ phases.Opened → (position : ℕ) (named : Option IndexRange) →
       RuleGoes generation range w i m l d (reads_named d r position named)

@@ -188,7 +188,7 @@ module _ (generation : ℕ → ℕ) (range : ℕ) (w : StreamSystem) (i : ℕ) (
             record_is = subst (λ j. JobIs (IsRecord after) (is_recording_in after.control ≡ false) j c.group) (sym idle) refl;
             stage = b.stage;
           };
-          asked = (inl (λ n s m. tt), tt);
+          asked = (inl (λ u n s m. tt), tt);
         })
       where
         said : RangeState

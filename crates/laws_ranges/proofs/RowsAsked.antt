@@ -17,7 +17,7 @@ use Rattle.model_streams.specs.StreamSystem.{StreamSystem}
 use Rattle.model_partition.specs.Range.{RangeState}
 use Rattle.model_partition.specs.StreamMachine as machine
 use Rattle.laws_stream_machine.specs.Refinement.{Sent, purpose_of, IsAt, IsAsked, OfExtent}
-use Rattle.laws_ranges.specs.Serves.{Side, metadata_of, log_of, rows_of, IsOfRows, IsAside, BothListed, IsKnown, AskedOfBoth}
+use Rattle.laws_ranges.specs.Serves.{Side, metadata_of, log_of, rows_of, IsOfRows, IsAside, BothListed, IsKnown, BuildsNone, AskedOfBoth}
 use Rattle.laws_ranges.proofs.RowData.{IsRequest, IsRequestIf}
 
 no_metadata : (range : ℕ) → rows_of range ≡ metadata_of range → ⊥
@@ -55,6 +55,10 @@ module _ (generation : ℕ → ℕ) (range : ℕ) (w : StreamSystem) (i : ℕ) (
   known_rows m l after (bodies.Stream body) b = absurd b
   known_rows m l after body b = absurd b
 
+  rows_build : (m l : List Sent) (after : RangeState) (body : Body) → IsRequest range w m l after.rows body → BuildsNone body
+  rows_build m l after (bodies.Stream (streams.MultiModify list q)) b = absurd b
+  rows_build m l after body b = tt
+
   -- what the client of row data sends
   pub rows_asked : (after : RangeState) (n k : Side) (p : Option Packet) → IsRequestIf range w n.sent k.sent after.rows p → AskedOfBoth generation range w i (Some after) n k (option_to_list p)
   rows_asked after n k None b = tt
@@ -63,6 +67,7 @@ module _ (generation : ℕ → ℕ) (range : ℕ) (w : StreamSystem) (i : ℕ) (
       unseen (metadata_of range) n.stand.state n.sent k.sent n.sent (no_metadata range) both.rows_metadata (λ q a. a.0) after p.body b,
       unseen (log_of range) k.stand.state n.sent k.sent k.sent (no_log range) both.rows_log (λ q a. a.1) after p.body b,
       known_rows n.sent k.sent after p.body b,
+      rows_build n.sent k.sent after p.body b,
     ),
     tt,
   )

@@ -32,7 +32,7 @@ use Rattle.model_partition.specs.StreamMachine as machine
 use Rattle.replica.specs.Groups.{Group}
 use Rattle.laws_stream_machine.specs.Refinement.{Purpose, Sent, purpose_of, asked_number, Opens, Checks, Seals, Reads, Confirms, Appends, Extends, IsAt, AsksToAppend, AsksToCheck, AsksToRead, AsksToSeal, OfExtent, IsAsked}
 use Rattle.laws_stream_machine.proofs.ServerRequests.{same_request}
-use Rattle.laws_ranges.specs.Serves.{Side, IsPlain, metadata_of, log_of, is_alone, sent_with, IsNumbered, IsOwn, AreAsked, Apart, BothListed, AreUnused, AskedOfBoth}
+use Rattle.laws_ranges.specs.Serves.{Side, IsPlain, metadata_of, log_of, is_alone, sent_with, IsNumbered, IsOwn, AreAsked, Apart, BothListed, AreUnused, BuildsNone, AskedOfBoth}
 use Rattle.laws_ranges.proofs.MachineSteps.{newest}
 
 -- ---- numbers
@@ -130,7 +130,23 @@ module _ (generation : ℕ → ℕ) (range : ℕ) (w : StreamSystem) (i : ℕ) (
   own_known name sent (bodies.Stream body) b v is none = absurd b
   own_known name sent body b v is none = absurd b
 
-  -- what says nothing of any stream has no purpose
+  pub own_builds : (name : StreamName) (sent : List Sent) (body : Body) → IsOwn generation name w i sent body → BuildsNone body
+  own_builds name sent (bodies.Stream (streams.MultiModify list q)) b = absurd b
+  own_builds name sent body b = tt
+
+  -- what says nothing of any stream builds none
+  plain_builds : (p : Packet) → IsPlain generation range w i p → BuildsNone p.body
+  plain_builds p plain = go p.body (λ name. plain bare name (machine.nothing Group generation) [])
+    where
+      -- where there is no stream
+      bare : StreamSystem
+      bare = record w { catalog = record w.catalog { stream = λ range kind. None } }
+
+      go : (body : Body) → ((name : StreamName) → IsAsked generation name bare (machine.nothing Group generation) [] body) → BuildsNone body
+      go (bodies.Stream (streams.MultiModify list q)) asked = λ m among. let (x, there) = asked m.stream m among refl in cc
+      go body asked = tt
+
+  -- and has no purpose
   abbrev Marked : ReqNo → Purpose → List Sent
   Marked q p = record { request = q; purpose = p } ∷ []
 
@@ -145,43 +161,43 @@ module _ (generation : ℕ → ℕ) (range : ℕ) (w : StreamSystem) (i : ℕ) (
 
       go : (body : Body) → p.body ≡ body → asked_number body ≡ Some q → ⊥
       go (bodies.Append (appends.Append e g blocks v)) b t =
-          let a = subst (IsAsked generation (log_of range) w s (Marked q (Opens i))) b (plain (log_of range) s (Marked q (Opens i))) in
+          let a = subst (IsAsked generation (log_of range) w s (Marked q (Opens i))) b (plain w (log_of range) s (Marked q (Opens i))) in
           let same : v ≡ q = cc in
           let here : purpose_of (Marked q (Opens i)) v ≡ Some (Opens i) = ap (purpose_of (Marked q (Opens i))) same ∙ at (Opens i) in
           let (index, there, y) = a.known (Opens i) here in
           let k : Some (Opens i) ≡ Some (Appends y.i index y.append blocks) = sym here ∙ y.for in
           cc
       go (bodies.Check (checks.Check e g v)) b t =
-          let a = subst (IsAsked generation (log_of range) w s (Marked q (Opens i))) b (plain (log_of range) s (Marked q (Opens i))) in
+          let a = subst (IsAsked generation (log_of range) w s (Marked q (Opens i))) b (plain w (log_of range) s (Marked q (Opens i))) in
           let same : v ≡ q = cc in
           let here : purpose_of (Marked q (Opens i)) v ≡ Some (Opens i) = ap (purpose_of (Marked q (Opens i))) same ∙ at (Opens i) in
           let (index, there, y) = a.known (Opens i) here in
           let k : Some (Opens i) ≡ Some (Checks y.i index) = sym here ∙ y.for in
           cc
       go (bodies.Read (reads.ReadGroups e upto sealed v)) b t =
-          let a = subst (IsAsked generation (log_of range) w s (Marked q (Opens i))) b (plain (log_of range) s (Marked q (Opens i))) in
+          let a = subst (IsAsked generation (log_of range) w s (Marked q (Opens i))) b (plain w (log_of range) s (Marked q (Opens i))) in
           let same : v ≡ q = cc in
           let here : purpose_of (Marked q (Opens i)) v ≡ Some (Opens i) = ap (purpose_of (Marked q (Opens i))) same ∙ at (Opens i) in
           let (index, there, y) = a.known (Opens i) here in
           let k : Some (Opens i) ≡ Some (Reads y.i index upto) = sym here ∙ y.for in
           cc
       go (bodies.Seal (seals.SealExtent e v)) b t =
-          let a = subst (IsAsked generation (log_of range) w s (Marked q (Opens i))) b (plain (log_of range) s (Marked q (Opens i))) in
+          let a = subst (IsAsked generation (log_of range) w s (Marked q (Opens i))) b (plain w (log_of range) s (Marked q (Opens i))) in
           let same : v ≡ q = cc in
           let here : purpose_of (Marked q (Opens i)) v ≡ Some (Opens i) = ap (purpose_of (Marked q (Opens i))) same ∙ at (Opens i) in
           let (index, there, y) = a.known (Opens i) here in
           let k : Some (Opens i) ≡ Some (Seals y.i index) = sym here ∙ y.for in
           cc
       go (bodies.Stream (streams.OpenStreams r g v)) b t =
-          let a = subst (IsAsked generation (log_of range) w s (Marked q (Checks i 0))) b (plain (log_of range) s (Marked q (Checks i 0))) in
+          let a = subst (IsAsked generation (log_of range) w s (Marked q (Checks i 0))) b (plain w (log_of range) s (Marked q (Checks i 0))) in
           let none = a.elsewhere (λ here. (let y = a.here here in let same : v ≡ q = cc in let k : Some (Checks i 0) ≡ Some (Opens y.i) = sym (at (Checks i 0)) ∙ ap (purpose_of (Marked q (Checks i 0))) (sym same) ∙ y.for in cc)) in
           let same : v ≡ q = cc in let k : Some (Checks i 0) ≡ None = sym (at (Checks i 0)) ∙ ap (purpose_of (Marked q (Checks i 0))) (sym same) ∙ none in cc
       go (bodies.Stream (streams.Confirm r g v)) b t =
-          let a = subst (IsAsked generation (log_of range) w s (Marked q (Opens i))) b (plain (log_of range) s (Marked q (Opens i))) in
+          let a = subst (IsAsked generation (log_of range) w s (Marked q (Opens i))) b (plain w (log_of range) s (Marked q (Opens i))) in
           let none = a.elsewhere (λ here. (let y = a.here here in let same : v ≡ q = cc in let k : Some (Opens i) ≡ Some (Confirms y.i y.read y.end) = sym (at (Opens i)) ∙ ap (purpose_of (Marked q (Opens i))) (sym same) ∙ y.for in cc)) in
           let same : v ≡ q = cc in let k : Some (Opens i) ≡ None = sym (at (Opens i)) ∙ ap (purpose_of (Marked q (Opens i))) (sym same) ∙ none in cc
       go (bodies.Stream (streams.Extend stream g last pick v)) b t =
-          let a = subst (IsAsked generation (log_of range) w s (Marked q (Opens i))) b (plain (log_of range) s (Marked q (Opens i))) in
+          let a = subst (IsAsked generation (log_of range) w s (Marked q (Opens i))) b (plain w (log_of range) s (Marked q (Opens i))) in
           let none = a.elsewhere (λ here. (let y = a.here here in let same : v ≡ q = cc in let k : Some (Opens i) ≡ Some (Extends y.i y.n) = sym (at (Opens i)) ∙ ap (purpose_of (Marked q (Opens i))) (sym same) ∙ y.for in cc)) in
           let same : v ≡ q = cc in let k : Some (Opens i) ≡ None = sym (at (Opens i)) ∙ ap (purpose_of (Marked q (Opens i))) (sym same) ∙ none in cc
       go body b t = absurd cc
@@ -189,8 +205,8 @@ module _ (generation : ℕ → ℕ) (range : ℕ) (w : StreamSystem) (i : ℕ) (
   pub asked_of_both : (after : Option RangeState) (n k : Side) → Apart n.sent k.sent → (ps : List Packet) → AreAsked generation range w i (log_of range) k.stand k.sent ps → AskedOfBoth generation range w i after n k ps
   asked_of_both after n k a [] asked = tt
   asked_of_both after n k a (p ∷ ps) (inl plain, asked) =
-      ((plain (metadata_of range) n.stand.state n.sent, plain (log_of range) k.stand.state k.sent, λ q is one two. absurd (plain_unasked p plain q is)), asked_of_both after n k a ps asked)
-  asked_of_both after n k a (p ∷ ps) (inr own, asked) = ((log_elsewhere n.stand.state n.sent k.sent a p.body own.1, own.0, λ q is one two. absurd (own_known (log_of range) k.sent p.body own.1 q is two)), asked_of_both after n k a ps asked)
+      ((plain w (metadata_of range) n.stand.state n.sent, plain w (log_of range) k.stand.state k.sent, λ q is one two. absurd (plain_unasked p plain q is), plain_builds p plain), asked_of_both after n k a ps asked)
+  asked_of_both after n k a (p ∷ ps) (inr own, asked) = ((log_elsewhere n.stand.state n.sent k.sent a p.body own.1, own.0, λ q is one two. absurd (own_known (log_of range) k.sent p.body own.1 q is two), own_builds (log_of range) k.sent p.body own.1), asked_of_both after n k a ps asked)
 
   -- ---- what a rule of a range that is served keeps
 

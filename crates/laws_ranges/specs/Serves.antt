@@ -12,6 +12,7 @@ use Rattle.wire.specs.declared.body.ReadBody.TheVariants as reads
 use Rattle.wire.specs.declared.body.SealBody.TheVariants as seals
 use Rattle.wire.specs.declared.body.StreamBody.TheVariants as streams
 use Rattle.wire.specs.declared.packet.Packet.{Packet}
+use Rattle.wire.specs.declared.streams.Modify.{Modify}
 use Rattle.wire.specs.declared.streams.StreamExtent.{StreamExtent}
 use Rattle.wire.specs.declared.streams.StreamKind.TheVariants as kinds
 use Rattle.wire.specs.declared.streams.StreamName.{StreamName}
@@ -506,9 +507,9 @@ IsCounted i x = (n m append : ℕ) (group : Group) → x.phase ≡ turns.Growing
 -- ---- a range that is served, as its log has it
 
 module _ (generation : ℕ → ℕ) (range : ℕ) (w : StreamSystem) (i : ℕ) where
-  -- it says nothing of any stream's extents: what users are told, and reads of values
+  -- it says nothing of any stream's extents, whatever there is: what users are told, and reads of values
   abbrev pub IsPlain : Packet → Type 0
-  IsPlain p = (name : StreamName) (s : machine.MachineState Group) (sent : List Sent) → IsAsked generation name w s sent p.body
+  IsPlain p = (u : StreamSystem) (name : StreamName) (s : machine.MachineState Group) (sent : List Sent) → IsAsked generation name u s sent p.body
 
   abbrev pub AreAsked : StreamName → Stand → List Sent → List Packet → Type 0
   AreAsked name x sent [] = Unit {0}
@@ -563,6 +564,11 @@ pub record Adds (d : ServerContext) (sent more : List Sent) : Type 0 where
   pub purpose : Option Purpose
   pub is : more ≡ sent_with (requests.Server d.server d.session number) purpose sent
 
+-- it asks for no stream to be built
+abbrev pub BuildsNone : Body → Type 0
+BuildsNone (bodies.Stream (streams.MultiModify list q)) = (m : Modify) → Contains list m → ⊥
+BuildsNone body = Unit {0}
+
 module _ (generation : ℕ → ℕ) (range : ℕ) (w : StreamSystem) (i : ℕ) where
   abbrev pub FollowsIf : Option RangeState → Side → Side → Type 0
   FollowsIf None n k = Unit {0}
@@ -576,7 +582,7 @@ module _ (generation : ℕ → ℕ) (range : ℕ) (w : StreamSystem) (i : ℕ) w
   abbrev pub AskedOfBoth : Option RangeState → Side → Side → List Packet → Type 0
   AskedOfBoth after n k [] = Unit {0}
   AskedOfBoth after n k (p ∷ ps) =
-      (IsAsked generation (metadata_of range) w n.stand.state n.sent p.body × IsAsked generation (log_of range) w k.stand.state k.sent p.body × IsKnown after n.sent k.sent p.body) × AskedOfBoth after n k ps
+      (IsAsked generation (metadata_of range) w n.stand.state n.sent p.body × IsAsked generation (log_of range) w k.stand.state k.sent p.body × IsKnown after n.sent k.sent p.body × BuildsNone p.body) × AskedOfBoth after n k ps
 
   -- What a rule does: turns of the incarnation in both machines, each allowed, and requests of the server's next numbers; then this
   -- is so of the range and of where the machines stand, and all that is sent is asked.

@@ -10,7 +10,7 @@ use Rattle.model_streams.specs.Maps.{changed, entry_at}
 use Rattle.model_partition.specs.Loading.{Group}
 use Rattle.model_partition.specs.Story.{StreamEvent, Story, Made, Answered, Showed}
 use Rattle.model_partition.specs.StreamActions.{StreamAction, Reads, Forms, Stands, Shows, Finds, Stores, PlacedBytes}
-use Rattle.model_partition.specs.ServerRun.{ServerRun, RangeHistory, ServerEvent, Takes, GivesUp, Checkpoints, Stops, Starts, Moment, RangeEffect, Begins, Does, Rests, after_action, after_actions, with_event, with_effect, cell_effect, after_event, is_kind, is_stream, one_more_read, begun_at, stream_named, place_number, placed_reads, placed_behind, bytes_read}
+use Rattle.model_partition.specs.ServerRun.{ServerRun, RangeHistory, ServerEvent, Takes, GivesUp, Checkpoints, Splits, Stops, Starts, Moment, RangeEffect, Begins, Does, Rests, after_action, after_actions, with_event, with_effect, cell_effect, after_event, is_kind, is_stream, one_more_read, begun_at, stream_named, place_number, placed_reads, placed_behind, bytes_read}
 use Rattle.laws_loads.specs.RangeView.{view_after, view_after_all}
 use Rattle.laws_server_runs.specs.RangeInvariant.{IsLonger}
 use Rattle.laws_server_runs.specs.RunInvariant.{view_at}
@@ -182,6 +182,7 @@ event_longer x (Takes s p) =
     record { story = l.story; shown = l.shown; answered = l.answered }
 event_longer x (GivesUp s range pick) = record { story = λ n. longer_same (x.story n); shown = λ k. longer_same (x.shown k); answered = λ k. longer_same (x.answered k) }
 event_longer x (Checkpoints s range combine) = record { story = λ n. longer_same (x.story n); shown = λ k. longer_same (x.shown k); answered = λ k. longer_same (x.answered k) }
+event_longer x (Splits s range key) = record { story = λ n. longer_same (x.story n); shown = λ k. longer_same (x.shown k); answered = λ k. longer_same (x.answered k) }
 event_longer x (Stops s call) = record { story = λ n. longer_same (x.story n); shown = λ k. longer_same (x.shown k); answered = λ k. longer_same (x.answered k) }
 event_longer x (Starts s now batch) = record { story = λ n. longer_same (x.story n); shown = λ k. longer_same (x.shown k); answered = λ k. longer_same (x.answered k) }
 event_longer x (Moment now) = record { story = λ n. longer_same (x.story n); shown = λ k. longer_same (x.shown k); answered = λ k. longer_same (x.answered k) }

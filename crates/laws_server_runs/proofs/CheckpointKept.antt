@@ -9,7 +9,7 @@ use Rattle.model_partition.specs.declared.stage.Stage.{Stage}
 use Rattle.model_partition.specs.declared.stage.Stage.TheVariants as stages
 use Rattle.model_partition.specs.CheckpointStates.{CheckpointState}
 use Rattle.model_partition.specs.Past.{Bytes}
-use Rattle.model_partition.specs.Range.{RangeState, RangeOutcome, is_serving}
+use Rattle.model_partition.specs.Range.{RangeState, RangeOutcome, is_serving, is_paused}
 use Rattle.model_partition.specs.ServedTables.{AreSeenAs}
 use Rattle.model_partition.specs.StreamActions.{StreamAction}
 use Rattle.laws_loads.specs.RangeView.{RangeView, view_after_all}
@@ -165,12 +165,14 @@ module _ (texts : ℕ → Bytes) (subject : ℕ) (run : Run) (v : RangeView) (r 
 
   -- it may begin where the range is served and has none
   may_begin : checkpoint_fault r ≡ None → (is_serving r.stage ≡ true) × (r.control ≡ None)
-  may_begin may = by (is_serving r.stage) refl (is_some r.control || is_some r.fixed) refl may
+  may_begin may = by (is_serving r.stage) refl (is_paused r.pause) (is_some r.control || is_some r.fixed) refl may
     where
-      by : (a : Bool) → is_serving r.stage ≡ a → (b : Bool) → (is_some r.control || is_some r.fixed) ≡ b → first_met ((refusals.Loading, not a) ∷ (refusals.Busy, b) ∷ []) ≡ None → (is_serving r.stage ≡ true) × (r.control ≡ None)
-      by false s b x e = absurd cc
-      by true s true x e = absurd cc
-      by true s false x e = (s, none_under_way r.control (both_false (is_some r.control) (is_some r.fixed) x))
+      by : (a : Bool) → is_serving r.stage ≡ a → (p b : Bool) → (is_some r.control || is_some r.fixed) ≡ b → first_met ((refusals.Loading, not a) ∷ (refusals.Paused, p) ∷ (refusals.Busy, b) ∷ []) ≡ None →
+          (is_serving r.stage ≡ true) × (r.control ≡ None)
+      by false s p b x e = absurd cc
+      by true s true b x e = absurd cc
+      by true s false true x e = absurd cc
+      by true s false false x e = (s, none_under_way r.control (both_false (is_some r.control) (is_some r.fixed) x))
 
   -- where pages can have its memory table, but for the numbers of extents
   pub checkpoint_kept : (combine : Bool) → checkpoint_fault r ≡ None → AreLow r.live → StepKept texts subject run v r [] (checkpoint_rule d r combine)

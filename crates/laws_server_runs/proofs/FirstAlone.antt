@@ -10,9 +10,9 @@ use Rattle.model_partition.specs.Past.{Bytes, first_range}
 use Rattle.model_partition.specs.Range.{RangeState}
 use Rattle.model_partition.specs.Server.{ServerState, ServerOutcome, range_of, new_range}
 use Rattle.model_partition.specs.Servers.{ServerCell}
-use Rattle.model_partition.specs.ServerRun.{ServerRun, RangeEffect, ServerEvent, Takes, GivesUp, Checkpoints, Stops, Starts, Moment, run_of, after_event}
+use Rattle.model_partition.specs.ServerRun.{ServerRun, RangeEffect, ServerEvent, Takes, GivesUp, Checkpoints, Splits, Stops, Starts, Moment, run_of, after_event}
 use Rattle.model_partition.specs.StreamActions.{PlacedBytes}
-use Rattle.model_partition.specs.ServedTables.{IsOfFirst, IsFirst, AreFirst, AreSeenAs}
+use Rattle.model_partition.specs.ServedTables.{IsOfFirst, IsFirst, AreFirst, AreUnsplit, AreSeenAs}
 use Rattle.laws_loads.proofs.Entries.{entry_set, entry_other}
 use Rattle.laws_loads.specs.RangeView.{view_after_all}
 use Rattle.laws_server_runs.specs.Places.{NotesWithin, StepLaid, RunLaid}
@@ -23,6 +23,7 @@ use Rattle.laws_server_runs.proofs.LaidRuns.{rule_laid, bare, all_laid, event_no
 use Rattle.laws_server_runs.proofs.OwnNotes.{only_both, own_notes}
 use Rattle.laws_server_runs.proofs.RangeLists.{inserted_other, left_other}
 use Rattle.laws_server_runs.proofs.RunSteps.{AllAssigned, event_step}
+use Rattle.laws_server_runs.proofs.Unsplit.{unsplit}
 
 abbrev IsTheFirst : ℕ → Type 0
 IsTheFirst range = range ≡ first_range
@@ -31,6 +32,7 @@ first_assigned : (event : ServerEvent) → IsFirst event → AllAssigned IsTheFi
 first_assigned (Takes s p) first = λ range generation until from body. subst (λ b. IsOfFirst actors.Map b) body (subst (λ a. IsOfFirst a p.body) from first)
 first_assigned (GivesUp s range pick) first = tt
 first_assigned (Checkpoints s range combine) first = tt
+first_assigned (Splits s range key) first = tt
 first_assigned (Stops s call) first = tt
 first_assigned (Starts s now batch) first = tt
 first_assigned (Moment now) first = tt
@@ -122,8 +124,8 @@ module _ (texts : ℕ → Bytes) (batch servers : ℕ) where
     holds : HoldsFirst x.servers
     seen : (notes : List Note) → AreSeenAs texts x.notes notes → only first_range notes ≡ notes
 
-  one_more : (event : ServerEvent) (earlier : List ServerEvent) → IsFirst event → IsOfTheFirst (run_of batch servers earlier) → IsOfTheFirst (run_of batch servers (event ∷ earlier))
-  one_more event earlier first old = record { holds = step.0; seen = all }
+  one_more : (event : ServerEvent) (earlier : List ServerEvent) → AreUnsplit (event ∷ earlier) → IsFirst event → IsOfTheFirst (run_of batch servers earlier) → IsOfTheFirst (run_of batch servers (event ∷ earlier))
+  one_more event earlier are first old = record { holds = step.0; seen = all }
     where
       x : ServerRun
       x = run_of batch servers earlier
@@ -132,7 +134,7 @@ module _ (texts : ℕ → Bytes) (batch servers : ℕ) where
       more = (outcome_of x.servers event).notes
 
       step : HoldsFirst (after_event x event).servers × AreOfFirst more
-      step = step_first x (all_laid batch servers earlier) old.holds more (after_event x event) (event_step IsTheFirst x event (first_assigned event first))
+      step = step_first x (all_laid batch servers earlier are.1) old.holds more (after_event x event) (event_step IsTheFirst x (unsplit batch servers earlier are.1) event are.0 (first_assigned event first))
 
       all : (notes : List Note) → AreSeenAs texts (after_event x event).notes notes → only first_range notes ≡ notes
       all notes seen =
@@ -150,9 +152,9 @@ module _ (texts : ℕ → Bytes) (batch servers : ℕ) where
       nothing [] seen = refl
       nothing (note ∷ notes) seen = absurd seen
 
-  of_first : (events : List ServerEvent) → AreFirst events → IsOfTheFirst (run_of batch servers events)
-  of_first [] first = none_yet
-  of_first (event ∷ earlier) first = one_more event earlier first.0 (of_first earlier first.1)
+  of_first : (events : List ServerEvent) → AreUnsplit events → AreFirst events → IsOfTheFirst (run_of batch servers events)
+  of_first [] are first = none_yet
+  of_first (event ∷ earlier) are first = one_more event earlier are first.0 (of_first earlier are.1 first.1)
 
-  pub only_first : (events : List ServerEvent) → AreFirst events → (notes : List Note) → AreSeenAs texts (run_of batch servers events).notes notes → only first_range notes ≡ notes
-  only_first events first notes seen = (of_first events first).seen notes seen
+  pub only_first : (events : List ServerEvent) → AreUnsplit events → AreFirst events → (notes : List Note) → AreSeenAs texts (run_of batch servers events).notes notes → only first_range notes ≡ notes
+  only_first events are first notes seen = (of_first events are first).seen notes seen

@@ -30,7 +30,7 @@ use Rattle.model_partition.specs.declared.server_context.ServerContext.{ServerCo
 use Rattle.model_partition.specs.Answering.{load_refused, page_reply, trim_reply}
 use Rattle.model_partition.specs.Checkpoints.{checkpoint_fault, new_job, new_combining_job, combines, with_phase, index_if_fit, next_append, rows_go, writes_pages, combined_pages, combined_job, merges, with_fixed, begins_pages, begins_combining, checkpoint_rule, have_bytes, number_to_apply, pages_stand, may_record, index_place, records, rows_stand, rows_told, rows_may_stand, rows_reply, has_record_number, recorded, record_stands, record_told, trims, trim_told, trim_reply_in}
 use Rattle.model_partition.specs.Loading.{Group}
-use Rattle.model_partition.specs.Range.{RangeState, RangeOutcome, request, answers, goes, given, picking, is_serving}
+use Rattle.model_partition.specs.Range.{RangeState, RangeOutcome, request, answers, goes, given, picking, is_serving, is_paused}
 use Rattle.model_partition.specs.Servers.{entries_if}
 use Rattle.model_partition.specs.StreamActions.{StreamAction, Forms, Stands, Stores, PlacedBytes, last_position, record_group, record_stood_in, record_stood, record_actions, index_stood_in, index_stood, rows_told_actions, rows_actions}
 use Rattle.laws_loads.proofs.PageAnswers.{merged, unread, merges_elim, page_reply_elim}
@@ -120,8 +120,8 @@ module _ (k : ℕ) (v : RangeView) (r : RangeState) (d : ServerContext) where
 
     may_parts : checkpoint_fault r ≡ None → (is_serving r.stage ≡ true) × (r.control ≡ None)
     may_parts may =
-        let unmet = none_met ((refusals.Loading, not (is_serving r.stage)) ∷ (refusals.Busy, is_some r.control || is_some r.fixed) ∷ []) may in
-        (not-false (is_serving r.stage) unmet.0, none_there r.control (is_some r.fixed) unmet.1.0)
+        let unmet = none_met ((refusals.Loading, not (is_serving r.stage)) ∷ (refusals.Paused, is_paused r.pause) ∷ (refusals.Busy, is_some r.control || is_some r.fixed) ∷ []) may in
+        (not-false (is_serving r.stage) unmet.0, none_there r.control (is_some r.fixed) unmet.1.1.0)
       where
         none_there : (x : Option CheckpointState) (b : Bool) → (is_some x || b) ≡ false → x ≡ None
         none_there None b e = refl

@@ -13,7 +13,8 @@ use Rattle.model_partition.specs.Range.{RangeState, RangeOutcome}
 use Rattle.model_partition.specs.Server.{ServerState, ServerOutcome, range_of, set_range, new_range, started}
 use Rattle.model_partition.specs.Servers.{ServerCell, first_pick, first_server, first_servers}
 use Rattle.model_partition.specs.StreamActions.{StreamAction, PlacedBytes}
-use Rattle.model_partition.specs.ServerRun.{ServerRun, RangeEffect, Begins, Does, Rests, ServerEvent, Takes, GivesUp, Checkpoints as EventCheckpoints, Stops, Starts, Moment, RangeHistory, first_history, cell_effect, with_effect, with_outcome, after_actions, after_event, first_run, run_of, bytes_read}
+use Rattle.model_partition.specs.ServedTables.{AreUnsplit}
+use Rattle.model_partition.specs.ServerRun.{ServerRun, RangeEffect, Begins, Does, Rests, ServerEvent, Takes, GivesUp, Checkpoints as EventCheckpoints, Splits, Stops, Starts, Moment, RangeHistory, first_history, cell_effect, with_effect, with_outcome, after_actions, after_event, first_run, run_of, bytes_read}
 use Rattle.laws_loads.proofs.Entries.{entry_set, entry_other}
 use Rattle.laws_loads.specs.RangeView.{RangeView, view_after_all}
 use Rattle.laws_server_runs.specs.Places.{IsWithin, IsLaid, placed_of, bytes_of, RangeLaid, RangeLaidIf, StepLaid, RuleLaid, AreAscending, RunLaid}
@@ -27,6 +28,7 @@ use Rattle.laws_server_runs.proofs.LaidServed.{transact_laid}
 use Rattle.laws_server_runs.proofs.LaidSteps.{new_laid, get_laid, give_up_laid, renewed_laid, answer_laid}
 use Rattle.laws_server_runs.proofs.RangeLists.{inserted_here, inserted_other, ascending_inserted, left_here, left_other, ascending_left}
 use Rattle.laws_server_runs.proofs.RunSteps.{IsAny, any_assigned, event_step}
+use Rattle.laws_server_runs.proofs.Unsplit.{unsplit}
 use Rattle.laws_server_runs.proofs.Actions.{same_test, other_test, actions_here, actions_apart, actions_rest, Longer, actions_longer}
 
 -- each rule
@@ -232,17 +234,18 @@ effect_rests s x (Does range g actions) = (actions_rest s range g x actions).1
 effect_rests s x Rests = refl
 
 module _ (batch servers : ℕ) where
-  pub all_laid : (events : List ServerEvent) → RunLaid (run_of batch servers events)
-  all_laid [] = first_laid batch servers
-  all_laid (event ∷ earlier) =
+  pub all_laid : (events : List ServerEvent) → AreUnsplit events → RunLaid (run_of batch servers events)
+  all_laid [] are = first_laid batch servers
+  all_laid (event ∷ earlier) are =
       let x : ServerRun = run_of batch servers earlier in
-      step_laid x (all_laid earlier) (outcome_of x.servers event).notes (after_event x event) (event_step IsAny x event (any_assigned event))
+      step_laid x (all_laid earlier are.1) (outcome_of x.servers event).notes (after_event x event) (event_step IsAny x (unsplit batch servers earlier are.1) event are.0 (any_assigned event))
 
   -- what an event adds
   pub event_notes : (x : ServerRun) (event : ServerEvent) → (after_event x event).notes ≡ x.notes ++ (outcome_of x.servers event).notes
   event_notes x (Takes s p) = ap (λ l. l ++ (outcome_of x.servers (Takes s p)).notes) (effect_rests s x (cell_effect p (entry_at x.servers s)))
   event_notes x (GivesUp s range pick) = refl
   event_notes x (EventCheckpoints s range combine) = refl
+  event_notes x (Splits s range key) = refl
   event_notes x (Stops s call) = refl
   event_notes x (Starts s now batch) = refl
   event_notes x (Moment now) = sym (append-nil x.notes)

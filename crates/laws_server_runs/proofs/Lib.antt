@@ -55,6 +55,7 @@ mod LaidCheckpoints
 mod LaidServed
 pub mod LaidSteps
 pub mod RangeLists
+pub mod Unsplit
 pub mod RunSteps
 pub mod Actions
 pub mod LaidRuns

@@ -1,4 +1,5 @@
--- The premises of the law of servers, but that of bytes, are needed: for each there are events that lack it alone, and do not replay.
+-- The premises of the law of servers, but those of bytes and of splits, are needed: for each there are events that lack it alone, and
+-- do not replay.
 use Rattle.std.proofs.Common.{◌≡◌, ◌⊎◌, inl, inr, ℕ, suc, ◌<◌, List, [], ◌∷◌, ◌++◌, length, Some, None, refl, sym, ap, ◌∙◌, subst, arith}
 use Rattle.blocks.specs.Record as numbers
 use Rattle.commitlog.specs.Reading as reading
@@ -21,7 +22,7 @@ use Rattle.model_partition.specs.Past.{Bytes, Transaction, Past, From_nothing, F
 use Rattle.model_partition.specs.Loading.{Group}
 use Rattle.model_partition.specs.Story.{StreamEvent, Showed, event_at, KeepsOrder, EndsRise}
 use Rattle.model_partition.specs.ServerRun.{ServerRun, ServerEvent, run_of, log_name, metadata_name}
-use Rattle.model_partition.specs.ServedTables.{AllStand, LoadsOnce, AreFirst, AreSeenAs, StreamsInOrder}
+use Rattle.model_partition.specs.ServedTables.{AllStand, LoadsOnce, AreFirst, AreUnsplit, AreSeenAs, StreamsInOrder}
 use Rattle.model_partition.specs.TableContents.{StandsAt}
 use Rattle.laws_tables.specs.Fenced.{Seen, Fenced, LogRun, IsLogRun}
 use Rattle.laws_tables.proofs.Fenced.{keeps_order, ends_rise}
@@ -160,22 +161,22 @@ stands = record { before = []; behind = []; is = sym (append-nil (joined group))
 module _ (texts : ℕ → Bytes) (x : ServerRun) where
   abbrev WithoutOrder : List ServerEvent → Type 0
   WithoutOrder events =
-      AreFirst events × KeepsOrder (x.story (metadata_name first_range)) × LoadsOnce (x.story (log_name first_range)) × EndsRise (x.story (log_name first_range)) × AllStand texts (x.shown first_range)
+      AreUnsplit events × AreFirst events × KeepsOrder (x.story (metadata_name first_range)) × LoadsOnce (x.story (log_name first_range)) × EndsRise (x.story (log_name first_range)) × AllStand texts (x.shown first_range)
 
   abbrev WithoutMetadata : List ServerEvent → Type 0
   WithoutMetadata events =
-      AreFirst events × KeepsOrder (x.story (log_name first_range)) × LoadsOnce (x.story (log_name first_range)) × EndsRise (x.story (log_name first_range)) × AllStand texts (x.shown first_range)
+      AreUnsplit events × AreFirst events × KeepsOrder (x.story (log_name first_range)) × LoadsOnce (x.story (log_name first_range)) × EndsRise (x.story (log_name first_range)) × AllStand texts (x.shown first_range)
 
   abbrev WithoutOnce : List ServerEvent → Type 0
   WithoutOnce events =
-      AreFirst events × KeepsOrder (x.story (metadata_name first_range)) × KeepsOrder (x.story (log_name first_range)) × EndsRise (x.story (log_name first_range)) × AllStand texts (x.shown first_range)
+      AreUnsplit events × AreFirst events × KeepsOrder (x.story (metadata_name first_range)) × KeepsOrder (x.story (log_name first_range)) × EndsRise (x.story (log_name first_range)) × AllStand texts (x.shown first_range)
 
   abbrev WithoutFirst : List ServerEvent → Type 0
-  WithoutFirst events = StreamsInOrder texts first_range x
+  WithoutFirst events = AreUnsplit events × StreamsInOrder texts first_range x
 
 pub order_is_needed : Law WithoutOrder → ⊥
 order_is_needed law = not_invented rows (law 1 1 texts invented h
-    ((tt, (tt, (tt, (tt, (refl, tt))))), subst KeepsOrder (sym invented_makes.2) (one_keeps Group), subst LoadsOnce (sym invented_makes.1) (one_once Group _), subst EndsRise (sym invented_makes.1) (one_ends Group _), subst (AllStand texts) (sym invented_makes.3) (stands, tt))
+    ((tt, (tt, (tt, (tt, (tt, tt))))), (tt, (tt, (tt, (tt, (refl, tt))))), subst KeepsOrder (sym invented_makes.2) (one_keeps Group), subst LoadsOnce (sym invented_makes.1) (one_once Group _), subst EndsRise (sym invented_makes.1) (one_ends Group _), subst (AllStand texts) (sym invented_makes.3) (stands, tt))
     (subst (λ told. AreSeenAs texts told h) (sym invented_makes.0) ((rows, refl, rows_say texts [] loaded (tt, tt) tt), tt)))
   where
     rows : List Row
@@ -186,7 +187,7 @@ order_is_needed law = not_invented rows (law 1 1 texts invented h
 
 pub metadata_is_needed : Law WithoutMetadata → ⊥
 metadata_is_needed law = not_invented [] (law 1 1 texts lied h
-    ((tt, (tt, (tt, (tt, (refl, tt))))), subst KeepsOrder (sym lied_makes.1) (one_keeps Group), subst LoadsOnce (sym lied_makes.1) (one_once Group _), subst EndsRise (sym lied_makes.1) (one_ends Group _), subst (AllStand texts) (sym lied_makes.2) tt)
+    ((tt, (tt, (tt, (tt, (tt, tt))))), (tt, (tt, (tt, (tt, (refl, tt))))), subst KeepsOrder (sym lied_makes.1) (one_keeps Group), subst LoadsOnce (sym lied_makes.1) (one_once Group _), subst EndsRise (sym lied_makes.1) (one_ends Group _), subst (AllStand texts) (sym lied_makes.2) tt)
     (subst (λ told. AreSeenAs texts told h) (sym lied_makes.0) (([], refl, λ key. refl), tt)))
   where
     h : List Note
@@ -194,22 +195,24 @@ metadata_is_needed law = not_invented [] (law 1 1 texts lied h
 
 pub once_is_needed : Law WithoutOnce → ⊥
 once_is_needed law = not_twice (law 1 2 texts twice h
-    ((tt, (tt, (refl, (tt, (tt, (refl, tt)))))), subst KeepsOrder (sym twice_makes.2) (two_keep Group), subst KeepsOrder (sym twice_makes.1) (two_keep Group), subst EndsRise (sym twice_makes.1) (two_end Group), subst (AllStand texts) (sym twice_makes.3) tt)
+    ((tt, (tt, (tt, (tt, (tt, (tt, tt)))))), (tt, (tt, (refl, (tt, (tt, (refl, tt)))))), subst KeepsOrder (sym twice_makes.2) (two_keep Group), subst KeepsOrder (sym twice_makes.1) (two_keep Group), subst EndsRise (sym twice_makes.1) (two_end Group), subst (AllStand texts) (sym twice_makes.3) tt)
     (subst (λ told. AreSeenAs texts told h) (sym twice_makes.0) (([], refl, λ key. refl), (([], refl, λ key. refl), tt))))
   where
     h : List Note
     h = Loaded 1 1 [] 1 ∷ Loaded 1 1 [] 1 ∷ []
 
 pub first_is_needed : Law WithoutFirst → ⊥
-first_is_needed law = not_second (law 1 1 texts second_range h
-    (record {
-      metadata = subst KeepsOrder (sym second_makes.2) (keeps_order Group [] tt);
-      log = subst KeepsOrder (sym second_makes.1) (keeps_order Group [] tt);
-      once = subst LoadsOnce (sym second_makes.1) (λ l m g start end start' end' groups groups' one two. absurd cc);
-      ends = subst EndsRise (sym second_makes.1) (ends_rise Group [] tt);
-      shown = subst (AllStand texts) (sym second_makes.3) tt;
-      answered = subst (AllStand texts) (sym second_makes.4) tt;
-    })
+first_is_needed law = not_second (law 1 1 texts second_range h (
+  (tt, (tt, (tt, tt))),
+  record {
+    metadata = subst KeepsOrder (sym second_makes.2) (keeps_order Group [] tt);
+    log = subst KeepsOrder (sym second_makes.1) (keeps_order Group [] tt);
+    once = subst LoadsOnce (sym second_makes.1) (λ l m g start end start' end' groups groups' one two. absurd cc);
+    ends = subst EndsRise (sym second_makes.1) (ends_rise Group [] tt);
+    shown = subst (AllStand texts) (sym second_makes.3) tt;
+    answered = subst (AllStand texts) (sym second_makes.4) tt;
+  },
+)
     (subst (λ told. AreSeenAs texts told h) (sym second_makes.0) (([], refl, λ key. refl), tt)))
   where
     h : List Note

@@ -20,16 +20,18 @@ use Rattle.model_partition.specs.Checkpoints.{checkpoint_fault, checkpoint_rule}
 use Rattle.wire.specs.declared.transaction.Change.{Change}
 use Rattle.client.specs.Load.{open_packet}
 use Rattle.model_streams.specs.Maps.{entry_at}
-use Rattle.model_partition.specs.Range.{RangeState, request, used, refuses}
+use Rattle.model_partition.specs.Range.{RangeState, RangeOutcome, request, used, refuses}
 use Rattle.model_partition.specs.Serving.{transact_rule}
 use Rattle.model_partition.specs.Getting.{get_rule}
 use Rattle.model_partition.specs.Answering.{answered_number, is_answerer, answer_rule, give_up_all}
-use Rattle.model_partition.specs.Server.{ServerState, ServerOutcome, range_of, set_range, awaiting, rests, sends_one, stepped, new_range, is_newer, users_of, assign_rule, renew_rule, told_by_map, map_rule, transacts_in, gets_in, table_rule, answer_in, answer_of, numbered_rule, taken_rule, has_numbers, server_rule, moment_rule, gives_up, picked, give_up_rule, started, checkpoint_refused, checkpoint_refusal, checkpoints_in, server_checkpoint}
+use Rattle.model_partition.specs.Server.{ServerState, ServerOutcome, range_of, set_range, set_split, split_of, awaiting, rests, sends_one, stepped, stepped_alone, new_range, is_newer, users_of, assign_rule, renew_rule, told_by_map, map_rule, transacts_in, gets_in, table_rule, answer_in, answer_of, numbered_rule, taken_rule, has_numbers, server_rule, moment_rule, given_up, gives_up, picked, give_up_rule, started, checkpoint_refused, checkpoint_refusal, checkpoints_in, server_checkpoint}
 use Rattle.model_partition.specs.Servers.{ServerCell, cell_rests, cell_takes, cell_given_up, cell_gives_up, cell_checkpoints, cell_stops, cell_starts, at_server, first_pick, told_moment}
-use Rattle.model_partition.specs.StreamActions.{transact_actions, answer_actions}
-use Rattle.model_partition.specs.ServerRun.{ServerRun, Begins, Rests as RestsSo, ServerEvent, Takes, GivesUp, Checkpoints, Stops, Starts, Moment, with_effect, with_outcome, after_event, told_effect, map_effect, transact_effect, table_effect, answer_effect, awaited_effect, numbered_effect, packet_effect, server_effect, cell_effect}
+use Rattle.model_partition.specs.StreamActions.{StreamAction, transact_actions, answer_actions}
+use Rattle.model_partition.specs.ServerRun.{ServerRun, Begins, Does, Rests as RestsSo, ServerEvent, Takes, GivesUp, Checkpoints, Splits, Stops, Starts, Moment, with_effect, with_outcome, after_event, told_effect, map_effect, transact_effect, table_effect, answer_effect, awaited_effect, numbered_effect, packet_effect, server_effect, cell_effect}
+use Rattle.model_partition.specs.ServedTables.{IsUnsplit}
 use Rattle.laws_loads.proofs.Entries.{entry_set, entry_other, entry_unmapped}
-use Rattle.laws_server_runs.specs.Turns.{Transacts, Answers, Gets, Yields, Checkpoints as BeginsCheckpoint, Renews, Turn, Idles, Opens, Acts, Calms, outcome_of, HoldNoMore, RunStep, Keeps, Passes, Turns}
+use Rattle.laws_server_runs.specs.Turns.{IsRule, Transacts, Answers, Gets, Yields, Checkpoints as BeginsCheckpoint, Renews, Turn, Idles, Opens, Acts, Calms, outcome_of, HoldNoMore, RunStep, Keeps, Passes, Turns}
+use Rattle.laws_server_runs.proofs.Unsplit.{stepped_is, given_up_is, unawaited, not_refused, HaveNoSplits}
 
 -- ---- what the map assigns
 
@@ -49,30 +51,40 @@ pub any_assigned : (event : ServerEvent) → AllAssigned IsAny event
 any_assigned (Takes s p) = λ range generation until from body. tt
 any_assigned (GivesUp s range pick) = tt
 any_assigned (Checkpoints s range combine) = tt
+any_assigned (Splits s range key) = tt
 any_assigned (Stops s call) = tt
 any_assigned (Starts s now batch) = tt
 any_assigned (Moment now) = tt
 
 -- ---- one server
 
-module _ (IsAssigned : ℕ → Type 0) (st : ServerState) where
+module _ (IsAssigned : ℕ → Type 0) (st : ServerState) (none : st.splits ≡ []) where
   rests_turn : Turn IsAssigned st RestsSo (rests st)
   rests_turn = Idles st [] refl
 
   sends_turn : (p : Packet) → Turn IsAssigned st RestsSo (sends_one st p)
   sends_turn p = Idles st (p ∷ []) refl
 
+  -- a range that is not split takes a turn
+  acts_turn : (range : ℕ) (r : RangeState) → range_of st.ranges range ≡ Some r → (actions : List StreamAction) (o : RangeOutcome) → IsRule r actions o →
+      Turn IsAssigned st (Does range r.load.generation actions) (stepped st range o)
+  acts_turn range r held actions o rule =
+      subst (λ z. Turn IsAssigned st (Does range r.load.generation actions) z) (sym (stepped_is st none range o))
+      (Acts range r held actions o rule (stepped_alone st range o).after refl)
+
+  calms_turn : (range : ℕ) (r : RangeState) → range_of st.ranges range ≡ Some r → (o : RangeOutcome) → IsRule r [] o → Turn IsAssigned st RestsSo (stepped st range o)
+  calms_turn range r held o rule = subst (λ z. Turn IsAssigned st RestsSo z) (sym (stepped_is st none range o)) (Calms range r held o rule (stepped_alone st range o).after refl)
+
   transact_turn : (p : Packet) (range : ℕ) (changes : List Change) (q : ReqNo) (o : Option RangeState) → range_of st.ranges range ≡ o →
       Turn IsAssigned st (transact_effect st p range changes q o) (transacts_in st p range changes q o)
   transact_turn p range changes q None held = sends_turn (refuses st.context p.from q refusals.NotOwner)
   transact_turn p range changes q (Some r) held =
-      Acts range r held (transact_actions r (transact_rule st.context r p.from q changes)) (transact_rule st.context r p.from q changes) (Transacts st.context p.from q changes)
-      (stepped st range (transact_rule st.context r p.from q changes)).after refl
+      acts_turn range r held (transact_actions r (transact_rule st.context r p.from q changes)) (transact_rule st.context r p.from q changes) (Transacts st.context p.from q changes)
 
   get_turn : (p : Packet) (range : ℕ) (key : List ℕ) (q : ReqNo) (o : Option RangeState) → range_of st.ranges range ≡ o → Turn IsAssigned st RestsSo (gets_in st p range key q o)
   get_turn p range key q None held = sends_turn (refuses st.context p.from q refusals.NotOwner)
   get_turn p range key q (Some r) held =
-      Calms range r held (get_rule st.context r p.from q key) (Gets st.context p.from q key) (stepped st range (get_rule st.context r p.from q key)).after refl
+      calms_turn range r held (get_rule st.context r p.from q key) (Gets st.context p.from q key)
 
   table_turn : (p : Packet) (body : TableBody) → Turn IsAssigned st (table_effect st p body) (table_rule st p body)
   table_turn p (tables.Transact range changes q) = transact_turn p range changes q (range_of st.ranges range) refl
@@ -82,16 +94,23 @@ module _ (IsAssigned : ℕ → Type 0) (st : ServerState) where
   assign_turn : (range generation until : ℕ) → IsAssigned range → Turn IsAssigned st (told_effect st (maps.Assign range generation until)) (assign_rule st range generation until (range_of st.ranges range))
   assign_turn range generation until assigned = go (is_newer generation (range_of st.ranges range))
     where
+      begun : ServerState
+      begun = record {
+        context = used st.context;
+        ranges = insert_entry nat_cmp st.ranges range (new_range st.context range generation until);
+        splits = set_split st.splits range None;
+      }
+
       go : (b : Bool) →
           Turn IsAssigned st (if b then Begins range else RestsSo)
           (if b then record {
-            after = record { context = used st.context; ranges = insert_entry nat_cmp st.ranges range (new_range st.context range generation until) };
+            after = begun;
             packets = users_of st.context (range_of st.ranges range) ++ open_packet st.context.server range generation (request st.context) ∷ [];
             notes = [];
           }
           else rests st)
       go true =
-          Opens range assigned st.context generation until (record { context = used st.context; ranges = insert_entry nat_cmp st.ranges range (new_range st.context range generation until) })
+          Opens range assigned st.context generation until begun
           (users_of st.context (range_of st.ranges range) ++ open_packet st.context.server range generation (request st.context) ∷ []) refl
       go false = rests_turn
 
@@ -120,11 +139,10 @@ module _ (IsAssigned : ℕ → Type 0) (st : ServerState) where
   answer_turn : (p : Packet) (w : ReqNo) (range : ℕ) (o : Option RangeState) → range_of st.ranges range ≡ o → Turn IsAssigned st (answer_effect st p w range o) (answer_in st p w range o)
   answer_turn p w range None held = rests_turn
   answer_turn p w range (Some r) held =
-      Acts range r held (answer_actions st.context r w p.body (answer_rule st.context r w p.body)) (answer_rule st.context r w p.body) (Answers st.context w p.body)
-      (stepped st range (answer_rule st.context r w p.body)).after refl
+      acts_turn range r held (answer_actions st.context r w p.body (answer_rule st.context r w p.body)) (answer_rule st.context r w p.body) (Answers st.context w p.body)
 
   awaited_turn : (p : Packet) (w : ReqNo) (o : Option ℕ) → Turn IsAssigned st (awaited_effect st p w o) (answer_of st p w o)
-  awaited_turn p w None = rests_turn
+  awaited_turn p w None = subst (λ z. Turn IsAssigned st RestsSo z) (sym (unawaited st none p w)) rests_turn
   awaited_turn p w (Some range) = answer_turn p w range (range_of st.ranges range) refl
 
   numbered_turn : (p : Packet) (w : Option ReqNo) → Turn IsAssigned st (numbered_effect st p w) (numbered_rule st p w)
@@ -159,15 +177,17 @@ module _ (IsAssigned : ℕ → Type 0) (st : ServerState) where
   give_up_turn : (range : ℕ) (pick : Nodes) (o : ServerOutcome) → give_up_rule st range pick ≡ Some o → Turn IsAssigned st RestsSo o
   give_up_turn range pick o is = known (range_of st.ranges range) refl is
     where
-      go : (r : RangeState) → range_of st.ranges range ≡ Some r → (b : Bool) → Turn IsAssigned st RestsSo (if b then stepped (picked st pick) range (give_up_all (picked st pick).context r) else rests (picked st pick))
+      go : (r : RangeState) → range_of st.ranges range ≡ Some r → (b : Bool) → Turn IsAssigned st RestsSo (if b then given_up (picked st pick) range (split_of st.splits range) (give_up_all (picked st pick).context r) else rests (picked st pick))
       go r held true =
-          Calms range r held (give_up_all (picked st pick).context r) (Yields (picked st pick).context) (stepped (picked st pick) range (give_up_all (picked st pick).context r)).after refl
+          let ro : RangeOutcome = give_up_all (picked st pick).context r in
+          subst (λ z. Turn IsAssigned st RestsSo z) (sym (given_up_is (picked st pick) none range ro))
+          (Calms range r held ro (Yields (picked st pick).context) (stepped_alone (picked st pick) range ro).after refl)
       go r held false = Idles (picked st pick) [] refl
 
       known : (x : Option RangeState) → range_of st.ranges range ≡ x → gives_up (picked st pick) range x ≡ Some o → Turn IsAssigned st RestsSo o
       known None held e = absurd cc
       known (Some r) held e =
-          let same : (if has_numbers (picked st pick).context then stepped (picked st pick) range (give_up_all (picked st pick).context r) else rests (picked st pick)) ≡ o = cc in
+          let same : (if has_numbers (picked st pick).context then given_up (picked st pick) range (split_of st.splits range) (give_up_all (picked st pick).context r) else rests (picked st pick)) ≡ o = cc in
           subst (λ z. Turn IsAssigned st RestsSo z) same (go r held (has_numbers (picked st pick).context))
 
   -- told to make a checkpoint
@@ -175,17 +195,17 @@ module _ (IsAssigned : ℕ → Type 0) (st : ServerState) where
   checkpoint_turn range combine = by (range_of st.ranges range) refl (checkpoint_refusal st range) refl
     where
       begins : (r : RangeState) → range_of st.ranges range ≡ Some r → checkpoint_fault r ≡ None → (b : Bool) → Turn IsAssigned st RestsSo (if b then stepped st range (checkpoint_rule st.context r combine) else rests st)
-      begins r held may true = Calms range r held (checkpoint_rule st.context r combine) (BeginsCheckpoint st.context combine may) (stepped st range (checkpoint_rule st.context r combine)).after refl
+      begins r held may true = calms_turn range r held (checkpoint_rule st.context r combine) (BeginsCheckpoint st.context combine may)
       begins r held may false = rests_turn
 
-      by : (o : Option RangeState) → range_of st.ranges range ≡ o → (fault : Option Refusal) → checkpoint_refused o ≡ fault → Turn IsAssigned st RestsSo (if is_some fault then rests st else checkpoints_in st range combine o)
+      by : (o : Option RangeState) → range_of st.ranges range ≡ o → (fault : Option Refusal) → checkpoint_refused (is_some (split_of st.splits range)) o ≡ fault → Turn IsAssigned st RestsSo (if is_some fault then rests st else checkpoints_in st range combine o)
       by o held (Some why) e = rests_turn
       by None held None e = rests_turn
-      by (Some r) held None e = begins r held e (has_numbers st.context)
+      by (Some r) held None e = begins r held (not_refused (is_some (split_of st.splits range)) (checkpoint_fault r) e) (has_numbers st.context)
 
 -- ---- all servers
 
-module _ (IsAssigned : ℕ → Type 0) (x : ServerRun) where
+module _ (IsAssigned : ℕ → Type 0) (x : ServerRun) (none : HaveNoSplits x.servers) where
   -- there is no such server
   nobody : RunStep IsAssigned x [] (with_outcome x (record { servers = x.servers; packets = []; notes = [] }))
   nobody = Keeps x.servers [] (λ t c q there up. inr (c, q, there, up, refl))
@@ -220,7 +240,7 @@ module _ (IsAssigned : ℕ → Type 0) (x : ServerRun) where
           RunStep IsAssigned x (cell_takes cell p o).notes (with_outcome (with_effect s x (server_effect p o))
           (record { servers = slice_set x.servers (s - 1) (cell_takes cell p o).cell; packets = (cell_takes cell p o).packets; notes = (cell_takes cell p o).notes }))
       by_state cell at None is = one_keeps s cell at cell (same_cell cell)
-      by_state cell at (Some st) is = Turns s cell st at is (server_effect p (Some st)) (server_rule st p p.body) (packet_turn IsAssigned st p assigned)
+      by_state cell at (Some st) is = Turns s cell st at is (server_effect p (Some st)) (server_rule st p p.body) (packet_turn IsAssigned st (none s cell at st is) p assigned)
 
       go : (o : Option ServerCell) → entry_at x.servers s ≡ o →
           RunStep IsAssigned x (at_server x.servers s (λ cell. cell_takes cell p cell.state) o).notes (with_outcome (with_effect s x (cell_effect p o)) (at_server x.servers s (λ cell. cell_takes cell p cell.state) o))
@@ -234,7 +254,7 @@ module _ (IsAssigned : ℕ → Type 0) (x : ServerRun) where
           RunStep IsAssigned x (cell_given_up cell o).notes (with_outcome x
           (record { servers = slice_set x.servers (s - 1) (cell_given_up cell o).cell; packets = (cell_given_up cell o).packets; notes = (cell_given_up cell o).notes }))
       by_rule cell st at is None e = one_keeps s cell at cell (same_cell cell)
-      by_rule cell st at is (Some o) e = Turns s cell st at is RestsSo o (give_up_turn IsAssigned st range pick o e)
+      by_rule cell st at is (Some o) e = Turns s cell st at is RestsSo o (give_up_turn IsAssigned st (none s cell at st is) range pick o e)
 
       by_state : (cell : ServerCell) → entry_at x.servers s ≡ Some cell → (o : Option ServerState) → cell.state ≡ o →
           RunStep IsAssigned x (cell_gives_up cell range pick o).notes (with_outcome x
@@ -254,7 +274,7 @@ module _ (IsAssigned : ℕ → Type 0) (x : ServerRun) where
           RunStep IsAssigned x (cell_checkpoints cell range combine o).notes (with_outcome x
           (record { servers = slice_set x.servers (s - 1) (cell_checkpoints cell range combine o).cell; packets = (cell_checkpoints cell range combine o).packets; notes = (cell_checkpoints cell range combine o).notes }))
       by_state cell at None is = one_keeps s cell at cell (same_cell cell)
-      by_state cell at (Some st) is = Turns s cell st at is RestsSo (server_checkpoint st range combine) (checkpoint_turn IsAssigned st range combine)
+      by_state cell at (Some st) is = Turns s cell st at is RestsSo (server_checkpoint st range combine) (checkpoint_turn IsAssigned st (none s cell at st is) range combine)
 
       go : (o : Option ServerCell) → entry_at x.servers s ≡ o →
           RunStep IsAssigned x (at_server x.servers s (λ cell. cell_checkpoints cell range combine cell.state) o).notes (with_outcome x (at_server x.servers s (λ cell. cell_checkpoints cell range combine cell.state) o))
@@ -303,11 +323,12 @@ module _ (IsAssigned : ℕ → Type 0) (x : ServerRun) where
           let same : moment_rule st now ≡ q = cc in
           inr (b, st, at, e, sym (ap (λ (y : ServerState). y.ranges) same))
 
-  -- whatever comes
-  pub event_step : (event : ServerEvent) → AllAssigned IsAssigned event → RunStep IsAssigned x (outcome_of x.servers event).notes (after_event x event)
-  event_step (Takes s p) assigned = takes_step s p assigned
-  event_step (GivesUp s range pick) assigned = gives_up_step s range pick
-  event_step (Checkpoints s range combine) assigned = checkpoints_step s range combine
-  event_step (Stops s call) assigned = stops_step s call
-  event_step (Starts s now batch) assigned = starts_step s now batch
-  event_step (Moment now) assigned = Passes (map (told_moment now) x.servers) (moment_like now)
+  -- whatever comes, but a split
+  pub event_step : (event : ServerEvent) → IsUnsplit event → AllAssigned IsAssigned event → RunStep IsAssigned x (outcome_of x.servers event).notes (after_event x event)
+  event_step (Takes s p) is assigned = takes_step s p assigned
+  event_step (GivesUp s range pick) is assigned = gives_up_step s range pick
+  event_step (Checkpoints s range combine) is assigned = checkpoints_step s range combine
+  event_step (Splits s range key) is assigned = absurd is
+  event_step (Stops s call) is assigned = stops_step s call
+  event_step (Starts s now batch) is assigned = starts_step s now batch
+  event_step (Moment now) is assigned = Passes (map (told_moment now) x.servers) (moment_like now)

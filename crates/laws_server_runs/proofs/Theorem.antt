@@ -9,7 +9,7 @@ use Rattle.model_partition.specs.Renaming.{decoded, decoded_record}
 use Rattle.model_partition.specs.Server.{range_of}
 use Rattle.model_partition.specs.Story.{KeepsOrder, EndsRise}
 use Rattle.model_partition.specs.ServerRun.{ServerRun, ServerEvent, after_event, first_run, run_of, log_name, metadata_name}
-use Rattle.model_partition.specs.ServedTables.{AreFirst, AreSeenAs, StreamsInOrder, IsAtLine, ServesAt}
+use Rattle.model_partition.specs.ServedTables.{AreFirst, AreUnsplit, AreSeenAs, StreamsInOrder, IsAtLine, ServesAt}
 use Rattle.laws_loads.proofs.Renaming.{renamed_keeps}
 use Rattle.laws_tables.proofs.Ends.{renamed_ends_rise}
 use Rattle.laws_tables.proofs.Final.{tables_of_first_range_replay}
@@ -28,6 +28,7 @@ use Rattle.laws_server_runs.proofs.RunSteps.{IsAny, any_assigned, event_step}
 use Rattle.laws_server_runs.proofs.SeenTables.{seen_as, all_seen}
 use Rattle.laws_server_runs.proofs.ServedNotes.{serves_of}
 use Rattle.laws_server_runs.proofs.Steps.{kept_at}
+use Rattle.laws_server_runs.proofs.Unsplit.{unsplit}
 
 module _ (texts : ℕ → Bytes) (subject : ℕ) where
   -- what is premised of a run was so before its last event
@@ -61,40 +62,40 @@ module _ (texts : ℕ → Bytes) (subject : ℕ) where
       nothing_seen (note ∷ notes) seen = absurd seen
 
   -- whatever comes
-  pub all_kept : (batch servers : ℕ) (events : List ServerEvent) → StreamsInOrder texts subject (run_of batch servers events) → RunKept texts subject (run_of batch servers events)
-  all_kept batch servers [] order = first_kept batch servers
-  all_kept batch servers (event ∷ earlier) order =
+  pub all_kept : (batch servers : ℕ) (events : List ServerEvent) → AreUnsplit events → StreamsInOrder texts subject (run_of batch servers events) → RunKept texts subject (run_of batch servers events)
+  all_kept batch servers [] are order = first_kept batch servers
+  all_kept batch servers (event ∷ earlier) are order =
       let x : ServerRun = run_of batch servers earlier in
-      let k : RunKept texts subject x = all_kept batch servers earlier (before x (after_event x event) (event_longer x event) order) in
-      step_kept texts subject x (all_laid batch servers earlier) k (outcome_of x.servers event).notes (after_event x event) (event_step IsAny x event (any_assigned event)) (of_view (after_event x event) order)
+      let k : RunKept texts subject x = all_kept batch servers earlier are.1 (before x (after_event x event) (event_longer x event) order) in
+      step_kept texts subject x (all_laid batch servers earlier are.1) k (outcome_of x.servers event).notes (after_event x event) (event_step IsAny x (unsplit batch servers earlier are.1) event are.0 (any_assigned event)) (of_view (after_event x event) order)
 
 module _ (texts : ℕ → Bytes) (batch servers : ℕ) where
   -- what is loaded replays, where the map assigns the first range alone
-  pub run_replays : (events : List ServerEvent) (h : List Note) → AreFirst events → StreamsInOrder texts first_range (run_of batch servers events) →
+  pub run_replays : (events : List ServerEvent) (h : List Note) → AreUnsplit events → AreFirst events → StreamsInOrder texts first_range (run_of batch servers events) →
       AreSeenAs texts (run_of batch servers events).notes (table_notes h) → Replays h
-  run_replays events h first order seen =
+  run_replays events h are first order seen =
       let x : ServerRun = run_of batch servers events in
-      let k : RunKept texts first_range x = all_kept texts first_range batch servers events order in
+      let k : RunKept texts first_range x = all_kept texts first_range batch servers events are order in
       let o : AreObserved texts first_range k.run (only first_range (table_notes h)) = k.seen (table_notes h) seen in
       tables_of_first_range_replay (layer_at texts) o.0 k.run h k.streams.chain k.streams.keys o.1
       (subst (λ z. KeepsOrder z) (sym k.streams.log) (renamed_keeps decoded (x.story (log_name first_range)) order.log))
       (subst (λ z. EndsRise z) (sym k.streams.log) (renamed_ends_rise decoded (x.story (log_name first_range)) order.ends))
       (subst (λ z. KeepsOrder z) (sym k.streams.metadata) (renamed_keeps decoded_record (x.story (metadata_name first_range)) order.metadata))
-      (sym (only_first texts batch servers events first (table_notes h) seen) ∙ o.2)
+      (sym (only_first texts batch servers events are first (table_notes h) seen) ∙ o.2)
 
   -- A range that is served is at its line, whichever copies belong to its loads by the order of its log.
-  pub served_at_line : (events : List ServerEvent) (s range : ℕ) (r : RangeState) → StreamsInOrder texts range (run_of batch servers events) →
+  pub served_at_line : (events : List ServerEvent) (s range : ℕ) (r : RangeState) → AreUnsplit events → StreamsInOrder texts range (run_of batch servers events) →
       ServesAt (run_of batch servers events) s range r → (log : KeepsOrder ((run_of batch servers events).story (log_name range))) →
       IsAtLine texts ((run_of batch servers events).story (log_name range)) log.copies r
-  served_at_line events s range r order at log =
+  served_at_line events s range r are order at log =
       let x : ServerRun = run_of batch servers events in
-      let k : RunKept texts range x = all_kept texts range batch servers events order in
+      let k : RunKept texts range x = all_kept texts range batch servers events are order in
       let h : RangeKept texts range k.run (view_at range x s) r = kept_at texts range x k s r at in
       let o : AreObserved texts range k.run (only range (seen_as texts x.notes)) = k.seen (seen_as texts x.notes) (all_seen texts x.notes) in
       at_line texts k.run (view_at range x s) r (streams_same texts k.run (view_at range x 0) (view_at range x s) refl refl k.streams) (serves_of texts range k.run (view_at range x s) r at.serves h)
       o.0 o.1 log order.ends order.metadata h.sound.out_fits order.answered
 
   -- and so by those that its streams are premised to have
-  pub run_at_line : (events : List ServerEvent) (s range : ℕ) (r : RangeState) (p : StreamsInOrder texts range (run_of batch servers events)) →
+  pub run_at_line : (events : List ServerEvent) (s range : ℕ) (r : RangeState) → AreUnsplit events → (p : StreamsInOrder texts range (run_of batch servers events)) →
       ServesAt (run_of batch servers events) s range r → IsAtLine texts ((run_of batch servers events).story (log_name range)) p.log.copies r
-  run_at_line events s range r p at = served_at_line events s range r p at p.log
+  run_at_line events s range r are p at = served_at_line events s range r are p at p.log

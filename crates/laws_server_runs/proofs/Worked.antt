@@ -31,6 +31,7 @@ use Rattle.commitlog.specs.Reading as reading
 use Rattle.commitlog.specs.Record.{spelling}
 use Rattle.replica.specs.Groups.{joined}
 use Rattle.model_partition.specs.declared.shown_table.ShownTable.{ShownTable}
+use Rattle.model_partition.specs.declared.pause.Pause.TheVariants.{Off}
 use Rattle.model_partition.specs.declared.stage.Stage.TheVariants as stages
 use Rattle.model_partition.specs.declared.table_note.TableNote.{TableNote}
 use Rattle.model_partition.specs.declared.table_note.TableNote.TheVariants as tables
@@ -46,7 +47,7 @@ use Rattle.model_partition.specs.Log.{line_shown}
 use Rattle.model_partition.specs.Renaming.{renamed, renamed_placed, decoded}
 use Rattle.laws_tables.proofs.Whole.{from_first}
 use Rattle.model_partition.specs.TableContents.{StandsAt, table_in}
-use Rattle.model_partition.specs.ServedTables.{line_to, AreFirst, AreSeenAs, AllStand, LoadsOnce, StreamsInOrder, IsAtLine, ServesAt}
+use Rattle.model_partition.specs.ServedTables.{line_to, AreFirst, AreUnsplit, AreSeenAs, AllStand, LoadsOnce, StreamsInOrder, IsAtLine, ServesAt}
 use Rattle.laws_tables.specs.Fenced.{Seen, Landed, Fenced, LogRun, IsLogRun, visible}
 use Rattle.laws_tables.proofs.Fenced.{keeps_order, ends_rise}
 use Rattle.laws_tables.proofs.Range.{event_cases}
@@ -162,6 +163,7 @@ abbrev pub served : RangeState
 served =
     record {
       until = 100;
+      pause = Off;
       load = record { server = 2; range = 1; generation = 2; phase = phases.Confirmed };
       stage = stages.Serving;
       metadata = client (metadata_name first_range) [] None;
@@ -184,7 +186,7 @@ served =
     }
 
 abbrev second : ServerState
-second = record { context = record (started 2 1 0 first_pick 1).context { count = 6 }; ranges = (1, served) ∷ [] }
+second = record { context = record (started 2 1 0 first_pick 1).context { count = 6 }; ranges = (1, served) ∷ []; splits = [] }
 
 serves : ServesAt run 2 1 served
 unfolding numbers.number reading.record_at reading.joined_at reading.text_at reading.body_at reading.transactions_at reading.transaction_at reading.change_at reading.counted_at reading.cell_at reading.fields_at reading.transactions_of
@@ -261,6 +263,9 @@ module _ (A : Type 0) (block : A) where
 are_first : AreFirst events
 are_first = (tt, (tt, (tt, (tt, (tt, (refl, (tt, (tt, (tt, (tt, (tt, (refl, tt))))))))))))
 
+pub are_unsplit : AreUnsplit events
+are_unsplit = (tt, (tt, (tt, (tt, (tt, (tt, (tt, (tt, (tt, (tt, (tt, (tt, tt))))))))))))
+
 -- ---- what follows, over any texts in which the group stands at the begin of its extent
 
 module _ (texts : ℕ → Bytes) (there : StandsAt (texts 7) 0 (joined group)) where
@@ -275,11 +280,11 @@ module _ (texts : ℕ → Bytes) (there : StandsAt (texts 7) 0 (joined group)) w
   }
 
   pub both_replay : (h : List Note) → AreSeenAs texts told (table_notes h) → Replays h
-  both_replay h seen = run_replays texts 1 2 events h are_first in_order (subst (λ z. AreSeenAs texts z (table_notes h)) (sym makes.2) seen)
+  both_replay h seen = run_replays texts 1 2 events h are_unsplit are_first in_order (subst (λ z. AreSeenAs texts z (table_notes h)) (sym makes.2) seen)
 
   -- the range at the second server is at its line, by any copies that belong to its loads
   pub at_line : (order : KeepsOrder log) → IsAtLine texts log order.copies served
-  at_line = subst (λ (z : Story Group). (order : KeepsOrder z) → IsAtLine texts z order.copies served) makes.0 (λ order. served_at_line texts 1 2 events 2 first_range served in_order serves order)
+  at_line = subst (λ (z : Story Group). (order : KeepsOrder z) → IsAtLine texts z order.copies served) makes.0 (λ order. served_at_line texts 1 2 events 2 first_range served are_unsplit in_order serves order)
 
   -- its line has the one transaction
   line_is : (order : KeepsOrder log) → line_to (renamed decoded (whole Group order.copies log)) 2 ≡ put ∷ []

@@ -1,5 +1,5 @@
 -- A worked example: a server serves two ranges, and each of them is at its line. The law of what is loaded does not speak of it.
-use Rattle.std.proofs.Common.{◌≡◌, ℕ, List, [], ◌∷◌, arith, refl, sym, subst, Some}
+use Rattle.std.proofs.Common.{◌≡◌, ℕ, List, [], ◌∷◌, refl, sym, subst, Some}
 use Rattle.blocks.specs.Record as numbers
 use Rattle.commitlog.specs.Reading as reading
 use Rattle.metadata.specs.Fold.{first_metadata}
@@ -21,7 +21,7 @@ use Rattle.model_partition.specs.ServedTables.{AreFirst, AllStand, LoadsOnce, St
 use Rattle.model_partition.specs.TableContents.{StandsAt}
 use Rattle.laws_server_runs.proofs.NeededPremises.{one_keeps, one_once, one_ends}
 use Rattle.laws_server_runs.proofs.Theorem.{run_at_line}
-use Rattle.laws_server_runs.proofs.Worked.{assigned_first, opened_first, served_first, formed_first, grown_first, answered_first, assigned_second, opened_second, checked_second, read_second, on_time, comes, asked, lists, group, events, log, metadata, stands, served, log_keeps, log_ends, metadata_keeps, once}
+use Rattle.laws_server_runs.proofs.Worked.{comes, asked, lists, group, events, log, metadata, stands, served, log_keeps, log_ends, metadata_keeps, once, are_unsplit}
 
 -- the second server takes another range as well
 abbrev assigned_other : List ServerEvent
@@ -55,7 +55,7 @@ other =
     }
 
 abbrev second : ServerState
-second = record { context = record (started 2 1 0 first_pick 1).context { count = 9 }; ranges = (first_range, served) ∷ ((2, other) ∷ []) }
+second = record { context = record (started 2 1 0 first_pick 1).context { count = 9 }; ranges = (first_range, served) ∷ ((2, other) ∷ []); splits = [] }
 
 serves_first : ServesAt run 2 first_range served
 unfolding numbers.number reading.record_at reading.joined_at reading.text_at reading.body_at reading.transactions_at reading.transaction_at reading.change_at reading.counted_at reading.cell_at reading.fields_at reading.transactions_of
@@ -82,7 +82,7 @@ module _ (texts : ℕ → Bytes) where
   }
 
   pub other_at_line : IsAtLine texts (run.story (log_name 2)) other_in_order.log.copies other
-  other_at_line = run_at_line texts 1 2 both 2 2 other other_in_order serves_other
+  other_at_line = run_at_line texts 1 2 both 2 2 other (tt, (tt, (tt, are_unsplit))) other_in_order serves_other
 
   -- and the first is, where the group stands at the begin of its extent
   module _ (there : StandsAt (texts 7) 0 (joined group)) where
@@ -97,4 +97,4 @@ module _ (texts : ℕ → Bytes) where
     }
 
     pub first_at_line : IsAtLine texts (run.story (log_name first_range)) first_in_order.log.copies served
-    first_at_line = run_at_line texts 1 2 both 2 first_range served first_in_order serves_first
+    first_at_line = run_at_line texts 1 2 both 2 first_range served (tt, (tt, (tt, are_unsplit))) first_in_order serves_first

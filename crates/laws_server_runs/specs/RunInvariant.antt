@@ -1,6 +1,5 @@
 -- What is kept of a range at all servers over a list of events, whatever other ranges they hold.
-use Rattle.std.specs.Prelude.{◌≡◌, ℕ, List, [], ◌∷◌, Option, Some, None}
-use Rattle.std.specs.List.{AllByRecursion}
+use Rattle.std.specs.Prelude.{◌≡◌, ℕ, List, Some}
 use Rattle.wire.specs.declared.note.Note.{Note}
 use Rattle.model_streams.specs.Maps.{entry_at}
 use Rattle.model_partition.specs.Log.{only}
@@ -8,7 +7,7 @@ use Rattle.model_partition.specs.Past.{Bytes}
 use Rattle.model_partition.specs.Range.{RangeState}
 use Rattle.model_partition.specs.Server.{ServerState, range_of}
 use Rattle.model_partition.specs.Servers.{ServerCell}
-use Rattle.model_partition.specs.ServerRun.{ServerRun, ServerEvent, stream_named, run_of}
+use Rattle.model_partition.specs.ServerRun.{ServerRun, stream_named}
 use Rattle.model_partition.specs.ServedTables.{AreSeenAs, ServesAt}
 use Rattle.laws_loads.specs.RangeView.{RangeView}
 use Rattle.laws_tables.specs.Runs.{Run}

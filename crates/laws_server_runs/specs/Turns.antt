@@ -16,9 +16,9 @@ use Rattle.model_partition.specs.Serving.{transact_rule}
 use Rattle.model_partition.specs.Getting.{get_rule}
 use Rattle.model_partition.specs.Answering.{answer_rule, give_up_all}
 use Rattle.model_partition.specs.Server.{ServerState, ServerOutcome, range_of, set_range, new_range}
-use Rattle.model_partition.specs.Servers.{ServerCell, ServersOutcome, server_takes, server_gives_up, server_checkpoints, server_stops, server_starts, told_moment}
+use Rattle.model_partition.specs.Servers.{ServerCell, ServersOutcome, server_takes, server_gives_up, server_checkpoints, server_splits, server_stops, server_starts, told_moment}
 use Rattle.model_partition.specs.StreamActions.{StreamAction, transact_actions, answer_actions}
-use Rattle.model_partition.specs.ServerRun.{ServerRun, RangeEffect, Begins, Does, Rests, ServerEvent, Takes, GivesUp, Checkpoints as MakesCheckpoint, Stops, Starts, Moment, with_effect, with_outcome}
+use Rattle.model_partition.specs.ServerRun.{ServerRun, RangeEffect, Begins, Does, Rests, ServerEvent, Takes, GivesUp, Checkpoints as MakesCheckpoint, Splits, Stops, Starts, Moment, with_effect, with_outcome}
 
 -- a rule of a range, with what it does with streams and what it leaves
 pub data IsRule (r : RangeState) : List StreamAction → RangeOutcome → Type 0 where
@@ -47,6 +47,7 @@ abbrev pub outcome_of : List ServerCell → ServerEvent → ServersOutcome
 outcome_of servers (Takes server p) = server_takes servers server p
 outcome_of servers (GivesUp server range pick) = server_gives_up servers server range pick
 outcome_of servers (MakesCheckpoint server range combine) = server_checkpoints servers server range combine
+outcome_of servers (Splits server range key) = server_splits servers server range key
 outcome_of servers (Stops server call) = server_stops servers server call
 outcome_of servers (Starts server now batch) = server_starts servers server now batch
 outcome_of servers (Moment now) = record { servers = map (told_moment now) servers; packets = []; notes = [] }

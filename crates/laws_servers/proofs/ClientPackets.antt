@@ -1,5 +1,5 @@
 -- What a client sends a server sends, and may.
-use Rattle.std.proofs.Common.{ℕ, true, false, List, [], ◌∷◌, ◌++◌, Option, Some, None, Result, Ok, Err, refl, inl, inr, map, flat_map, slice_get}
+use Rattle.std.proofs.Common.{◌≡◌, ℕ, true, false, List, [], ◌∷◌, ◌++◌, Option, Some, None, Result, Ok, Err, refl, inl, inr, map, flat_map, slice_get}
 use Rattle.std.specs.Prelude.{option_to_list}
 use Rattle.block_types.specs.declared.record.Nodes.{Nodes}
 use Rattle.wire.specs.declared.actor.ReqNo.{ReqNo}
@@ -28,44 +28,68 @@ use Rattle.client.specs.Client.{ClientState, Outcome, append_behind, append_at, 
 use Rattle.client.specs.Load.{LoadState, again}
 use Rattle.model_streams.proofs.Tests.{if_elim}
 use Rattle.model_partition.specs.Range.{given}
-use Rattle.laws_servers.specs.Sending.{MaySend, MaySendAll, IsFromServer, AllFromServers}
+use Rattle.model_streams.specs.StreamSystem.{is_told}
+use Rattle.laws_servers.specs.Sending.{MaySend, MaySendAll, is_server_answer, is_map_call, IsFromRange, AllFromRanges, IsFromServer, AllFromServers}
 
 -- ---- lists of packets
 
-abbrev pub IfFromServer : Option Packet → Type 0
-IfFromServer None = Unit {0}
-IfFromServer (Some p) = IsFromServer p
+abbrev pub IfFromRange : Option Packet → Type 0
+IfFromRange None = Unit {0}
+IfFromRange (Some p) = IsFromRange p
 
-pub all_both : (xs ys : List Packet) → AllFromServers xs → AllFromServers ys → AllFromServers (xs ++ ys)
+pub all_both : (xs ys : List Packet) → AllFromRanges xs → AllFromRanges ys → AllFromRanges (xs ++ ys)
 all_both [] ys a b = b
 all_both (x ∷ xs) ys a b = (a.0, all_both xs ys a.1 b)
 
-pub all_map : {A : Type 0} (f : A → Packet) → ((x : A) → IsFromServer (f x)) → (xs : List A) → AllFromServers (map f xs)
+pub all_map : {A : Type 0} (f : A → Packet) → ((x : A) → IsFromRange (f x)) → (xs : List A) → AllFromRanges (map f xs)
 all_map f h [] = tt
 all_map f h (x ∷ xs) = (h x, all_map f h xs)
 
-pub all_flat : {A : Type 0} (f : A → List Packet) → ((x : A) → AllFromServers (f x)) → (xs : List A) → AllFromServers (flat_map f xs)
+pub all_flat : {A : Type 0} (f : A → List Packet) → ((x : A) → AllFromRanges (f x)) → (xs : List A) → AllFromRanges (flat_map f xs)
 all_flat f h [] = tt
 all_flat f h (x ∷ xs) = all_both (f x) (flat_map f xs) (h x) (all_flat f h xs)
 
-pub listed : (p : Option Packet) → IfFromServer p → AllFromServers (option_to_list p)
+pub listed : (p : Option Packet) → IfFromRange p → AllFromRanges (option_to_list p)
 listed None h = tt
 listed (Some p) h = (h, tt)
+
+answer_told : (body : Body) → is_server_answer body ≡ true → is_told body ≡ true
+answer_told (bodies.Append body) is = is
+answer_told (bodies.Table body) is = refl
+answer_told body is = absurd cc
+
+map_call_told : (body : Body) → is_map_call body ≡ true → is_told body ≡ true
+map_call_told (bodies.Map body) is = refl
+map_call_told body is = absurd cc
 
 -- what servers send they may send
 may_send : (p : Packet) → IsFromServer p → MaySend p
 may_send p (server, from, inl call) = inl (record { server = server; from = from; call = call })
-may_send p (server, from, inr told) = inr told
+may_send p (server, from, inr (inl answer)) = inr (answer_told p.body answer)
+may_send p (server, from, inr (inr call)) = inr (map_call_told p.body call)
 
 pub may_send_all : (ps : List Packet) → AllFromServers ps → MaySendAll ps
 may_send_all [] h = tt
 may_send_all (p ∷ ps) h = (may_send p h.0, may_send_all ps h.1)
 
+-- what ranges without splits send is from servers
+range_server : (p : Packet) → IsFromRange p → IsFromServer p
+range_server p (server, from, inl call) = (server, from, inl call)
+range_server p (server, from, inr answer) = (server, from, inr (inl answer))
+
+pub from_servers : (ps : List Packet) → AllFromRanges ps → AllFromServers ps
+from_servers [] h = tt
+from_servers (p ∷ ps) h = (range_server p h.0, from_servers ps h.1)
+
+pub servers_both : (xs ys : List Packet) → AllFromServers xs → AllFromServers ys → AllFromServers (xs ++ ys)
+servers_both [] ys a b = b
+servers_both (x ∷ xs) ys a b = (a.0, servers_both xs ys a.1 b)
+
 -- ---- requests of a client
 
 -- what a client sends a server sends
 abbrev pub Calls : Outcome → Type 0
-Calls o = IfFromServer o.packet
+Calls o = IfFromRange o.packet
 
 abbrev pub CallsIf : Result Outcome ClientFault → Type 0
 CallsIf (Ok o) = Calls o
@@ -202,7 +226,7 @@ give_up_job_calls c q job = (c.server, refl, inl refl)
 pub give_up_calls : (c : ClientState) (q : ReqNo) (pick : Nodes) → Calls (give_up_rule c q pick)
 give_up_calls c q pick = give_up_job_calls (record c { pick = pick }) q c.job
 
-pub again_calls : (l : LoadState) (phase : LoadPhase) → IfFromServer (again l phase)
+pub again_calls : (l : LoadState) (phase : LoadPhase) → IfFromRange (again l phase)
 again_calls l (phases.Opening q) = (l.server, refl, inl refl)
 again_calls l (phases.Confirming q) = (l.server, refl, inl refl)
 again_calls l phase = tt

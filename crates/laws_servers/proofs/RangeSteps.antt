@@ -48,17 +48,17 @@ use Rattle.model_partition.specs.declared.waiting.PlaceRead.{PlaceRead}
 use Rattle.model_partition.specs.declared.waiting.WaitingGet.{WaitingGet}
 use Rattle.model_partition.specs.declared.waiting.WaitingTransaction.{WaitingTransaction}
 use Rattle.model_partition.specs.Range.{OutGroup, RangeState, RangeOutcome, request, used, refuses, waiting_out, refused_users, dropped, given, picking, is_serving}
-use Rattle.model_partition.specs.Serving.{record_of, group_count, began, appends as appends_next, forms, transact_fault, lease_ended, transacts, transact_rule, dones, committed, out_size, after_these, applies, log_done}
+use Rattle.model_partition.specs.Serving.{record_of, group_count, began, appends as appends_next, forms, transact_fault, transacts, transact_rule, dones, committed, out_size, after_these, applies, log_done}
 use Rattle.model_partition.specs.PlaceReads.{is_place, place_of, places_of, reads_under, reads_page, moved_on, asks_again}
 use Rattle.model_partition.specs.Loading.{Group, said_after, replayed, read_by, read_of, asks_index, index_named, reads_named, reads_index, installs, index_read, index_bytes, reads_log, first_position, reads_log_from, checks_log, begins_log, reads_metadata, begins_metadata, opens, says, metadata_news, replays, log_read, log_news, open_region, serves_from, serves, shown_table, has_position}
-use Rattle.model_partition.specs.Getting.{Lookup, Is, Needs, Tried, asks_place, answered, try, try_all, get_fault, gets, get_rule, are_no_page, bytes_rule, came, held_at, gives_up_read, gives_up_get, look, read_at, standing, without}
+use Rattle.model_partition.specs.Getting.{Lookup, Is, Needs, asks_place, answered, try_fault, try_unless, try, try_all, get_fault, gets, get_rule, are_no_page, bytes_rule, came, held_at, gives_up_read, gives_up_get, look, read_at, standing, without}
 use Rattle.model_partition.specs.CheckpointStates.{CheckpointState}
 use Rattle.model_partition.specs.declared.checkpoint_job.CheckpointPhase.{CheckpointPhase}
 use Rattle.model_partition.specs.declared.checkpoint_job.CheckpointPhase.TheVariants as checkpoints
 use Rattle.model_partition.specs.Checkpoints.{number_to_apply, have_bytes, new_job, new_combining_job, combines, with_fixed, rows_go, writes_pages, combined_job, writes_combined, asks_page, merges_next, merges, page_comes, page_read, page_bytes, page_told, begins, checkpoint_rule, pages_stand, checkpoint_record, has_record_number, may_record, index_place, records, index_stands, rows_stand, rows_told, rows_may_stand, rows_reply, record_stands, record_told, trim_awaits, trim_told, trim_reply_in, phase_again, trim_again}
 use Rattle.model_partition.specs.Answering.{load_refused, load_told, load_reply, metadata_reply, serving_news, is_taken, log_taken, log_reply, index_told, index_reply, page_reply, trim_reply, bytes_reply, gets_reply, answer_rule, gives_up_job, gives_up_reading, give_up_all, groups_of}
 use Rattle.model_partition.specs.Servers.{ArePlain, ShowsLoad}
-use Rattle.laws_servers.specs.Sending.{AllFromServers}
+use Rattle.laws_servers.specs.Sending.{AllFromRanges}
 use Rattle.laws_servers.proofs.ClientPackets.{all_both, all_map, all_flat, listed, Calls, given_calls, append_rule_calls, check_rule_calls, read_sealed_calls, read_checked_calls, reply_calls, give_up_calls, again_calls}
 
 -- ---- what is shown
@@ -78,18 +78,18 @@ dones_plain range g s (t ∷ ts) = dones_plain range g (suc s) ts
 
 -- what it sends is from a server, and it shows no loaded table
 abbrev pub IsTidy : RangeOutcome → Type 0
-IsTidy o = AllFromServers o.packets × ArePlain o.notes
+IsTidy o = AllFromRanges o.packets × ArePlain o.notes
 
 -- what it sends is from a server, and it shows no loaded table but this
 abbrev pub ShowsFrom : Option ShownTable → RangeOutcome → Type 0
-ShowsFrom loading o = AllFromServers o.packets × ShowsLoad loading o.notes
+ShowsFrom loading o = AllFromRanges o.packets × ShowsLoad loading o.notes
 
 pub tidy_shows : (loading : Option ShownTable) (o : RangeOutcome) → IsTidy o → ShowsFrom loading o
 tidy_shows loading o h = (h.0, inl h.1)
 
 -- ---- steps
 
-pub refused_all : (d : ServerContext) (r : RangeState) → AllFromServers (refused_users d r)
+pub refused_all : (d : ServerContext) (r : RangeState) → AllFromRanges (refused_users d r)
 refused_all d r =
     all_both _ _
     (all_map (λ (t : WaitingTransaction). refuses d t.from t.request refusals.NotOwner) (λ t. (d.server, refl, inr refl)) (waiting_out r.out ++ r.queue))
@@ -121,11 +121,11 @@ transacts_tidy d r from q changes None =
 pub transact_tidy : (d : ServerContext) (r : RangeState) (from : ActorId) (q : ReqNo) (changes : List Change) → IsTidy (transact_rule d r from q changes)
 transact_tidy d r from q changes = transacts_tidy d r from q changes (transact_fault d r changes)
 
-committed_all : (d : ServerContext) (s : ℕ) (ts : List WaitingTransaction) → AllFromServers (committed d s ts)
+committed_all : (d : ServerContext) (s : ℕ) (ts : List WaitingTransaction) → AllFromRanges (committed d s ts)
 committed_all d s [] = tt
 committed_all d s (t ∷ ts) = ((d.server, refl, inr refl), committed_all d (suc s) ts)
 
-after_tidy : (packets : List Packet) (notes : List TableNote) (o : RangeOutcome) → AllFromServers packets → ArePlain notes → IsTidy o → IsTidy (after_these packets notes o)
+after_tidy : (packets : List Packet) (notes : List TableNote) (o : RangeOutcome) → AllFromRanges packets → ArePlain notes → IsTidy o → IsTidy (after_these packets notes o)
 after_tidy packets notes o sent plain h = (all_both packets o.packets sent h.0, plain_both notes o.notes plain h.1)
 
 applies_tidy : (d : ServerContext) (r : RangeState) (out : OutGroup) (extent offset : ℕ) → IsTidy (applies d r out extent offset)
@@ -144,19 +144,22 @@ log_done_tidy d r (Some out) extent offset = applies_tidy d r out extent offset
 
 -- ---- Gets
 
-asks_place_sends : (d : ServerContext) (g : WaitingGet) (page : Bool) (place : Place) (places : Option Nodes) → AllFromServers (asks_place d g page place places).packets
+asks_place_sends : (d : ServerContext) (g : WaitingGet) (page : Bool) (place : Place) (places : Option Nodes) → AllFromRanges (asks_place d g page place places).packets
 asks_place_sends d g page place None = tt
 asks_place_sends d g page place (Some places) = ((d.server, refl, inl refl), tt)
 
-answered_sends : (d : ServerContext) (r : RangeState) (g : WaitingGet) (found : Lookup) → AllFromServers (answered d r g found).packets
+answered_sends : (d : ServerContext) (r : RangeState) (g : WaitingGet) (found : Lookup) → AllFromRanges (answered d r g found).packets
 answered_sends d r g (Is value) = ((d.server, refl, inr refl), tt)
 answered_sends d r g (Needs page place) = asks_place_sends d g page place (places_of r place.extent)
 
-try_sends : (d : ServerContext) (r : RangeState) (g : WaitingGet) → AllFromServers (try d r g).packets
-try_sends d r g =
-    if_elim (λ (t : Tried). AllFromServers t.packets) (lease_ended d r) _ _ (λ t. ((d.server, refl, inr refl), tt)) (λ f. answered_sends d r g (look r.held r.indexes g.key (standing r g.key)))
+try_sends : (d : ServerContext) (r : RangeState) (g : WaitingGet) → AllFromRanges (try d r g).packets
+try_sends d r g = go (try_fault d r)
+  where
+    go : (fault : Option Refusal) → AllFromRanges (try_unless d r g fault).packets
+    go (Some why) = ((d.server, refl, inr refl), tt)
+    go None = answered_sends d r g (look r.held r.indexes g.key (standing r g.key))
 
-try_all_sends : (d : ServerContext) (r : RangeState) (gs : List WaitingGet) → AllFromServers (try_all d r gs).packets
+try_all_sends : (d : ServerContext) (r : RangeState) (gs : List WaitingGet) → AllFromRanges (try_all d r gs).packets
 try_all_sends d r [] = tt
 try_all_sends d r (g ∷ gs) = all_both (try d r g).packets _ (try_sends d r g) (try_all_sends (record d { count = (try d r g).count }) r gs)
 
@@ -259,7 +262,7 @@ log_read_tidy d r position e groups =
     (λ t. replays_tidy d r position (replayed r.said.keys e (record { index = r.log.base + position; offset = 0 }) (r.regions, r.live) groups))
     (λ f. dropped_tidy d r)
 
-metadata_news_tidy : (d : ServerContext) (r : RangeState) (groups : List Group) (stage : Stage) (told : Option News) (packets : List Packet) → AllFromServers packets → IsTidy (metadata_news d r groups stage told packets)
+metadata_news_tidy : (d : ServerContext) (r : RangeState) (groups : List Group) (stage : Stage) (told : Option News) (packets : List Packet) → AllFromRanges packets → IsTidy (metadata_news d r groups stage told packets)
 metadata_news_tidy d r groups stage (Some news.Fenced) packets h = dropped_tidy d r
 metadata_news_tidy d r groups (Checking kind) (Some (news.Checked e l)) packets h = reads_metadata_tidy d r 0
 metadata_news_tidy d r groups (Checking kind) (Some (news.Sealed e l)) packets h = reads_metadata_tidy d r 0
@@ -267,7 +270,7 @@ metadata_news_tidy d r groups (Reading kind position) (Some (news.Sealed e l)) p
 metadata_news_tidy d r groups (Reading kind position) (Some (news.Content e upto)) packets h = says_tidy d r position (said_after r.said groups)
 metadata_news_tidy d r groups stage told packets h = (h, tt)
 
-log_news_tidy : (d : ServerContext) (r : RangeState) (groups : List Group) (stage : Stage) (told : Option News) (packets : List Packet) → AllFromServers packets → IsTidy (log_news d r groups stage told packets)
+log_news_tidy : (d : ServerContext) (r : RangeState) (groups : List Group) (stage : Stage) (told : Option News) (packets : List Packet) → AllFromRanges packets → IsTidy (log_news d r groups stage told packets)
 log_news_tidy d r groups stage (Some news.Fenced) packets h = dropped_tidy d r
 log_news_tidy d r groups (Checking kind) (Some (news.Checked e l)) packets h = reads_log_from_tidy d r (first_position r r.regions)
 log_news_tidy d r groups (Checking kind) (Some (news.Sealed e l)) packets h = reads_log_from_tidy d r (first_position r r.regions)
@@ -327,7 +330,7 @@ merges_tidy d r job =
     let merge : MergeState = with_at_hand (held_at r.held) r.said.keys job.merge in
     merges_next_tidy d (record r { reading = None }) (record job { merge = merge }) (next_place merge)
 
-begins_tidy : (d : ServerContext) (r : RangeState) (combine : Bool) → IsTidy (begins d r combine)
+pub begins_tidy : (d : ServerContext) (r : RangeState) (combine : Bool) → IsTidy (begins d r combine)
 begins_tidy d r combine = if_elim IsTidy (combines combine r.indexes) _ _ (λ t. merges_tidy d (with_fixed r) (new_combining_job r)) (λ f. writes_pages_tidy d (with_fixed r) (new_job r))
 
 pub checkpoint_tidy : (d : ServerContext) (r : RangeState) (combine : Bool) → IsTidy (checkpoint_rule d r combine)
@@ -366,7 +369,7 @@ rows_stand_tidy d r job checkpoints.Pages e offset = writes_pages_tidy d r (page
 rows_stand_tidy d r job checkpoints.Index e offset = index_stands_tidy d r job e offset
 rows_stand_tidy d r job phase e offset = (tt, tt)
 
-rows_told_tidy : (d : ServerContext) (r : RangeState) (job : Option CheckpointState) (told : Option News) (packets : List Packet) → AllFromServers packets → IsTidy (rows_told d r job told packets)
+rows_told_tidy : (d : ServerContext) (r : RangeState) (job : Option CheckpointState) (told : Option News) (packets : List Packet) → AllFromRanges packets → IsTidy (rows_told d r job told packets)
 rows_told_tidy d r job (Some news.Fenced) packets h = dropped_tidy d r
 rows_told_tidy d r (Some job) (Some (news.Appended e offset)) packets h = if_elim IsTidy (nat_lt e (2 ^ 64)) _ _ (λ t. rows_stand_tidy d r job job.phase e offset) (λ f. (tt, tt))
 rows_told_tidy d r job told packets h = (h, tt)
@@ -383,7 +386,7 @@ record_stands_tidy : (d : ServerContext) (r : RangeState) (job : CheckpointState
 record_stands_tidy d r job (checkpoints.Record index) = if_elim IsTidy (has_record_number r) _ _ (λ t. (((d.server, refl, inl refl), tt), tt)) (λ f. (tt, tt))
 record_stands_tidy d r job phase = (tt, tt)
 
-record_told_tidy : (d : ServerContext) (r : RangeState) (job : Option CheckpointState) (told : Option News) (packets : List Packet) → AllFromServers packets → IsTidy (record_told d r job told packets)
+record_told_tidy : (d : ServerContext) (r : RangeState) (job : Option CheckpointState) (told : Option News) (packets : List Packet) → AllFromRanges packets → IsTidy (record_told d r job told packets)
 record_told_tidy d r job (Some news.Fenced) packets h = dropped_tidy d r
 record_told_tidy d r (Some job) (Some (news.Appended e offset)) packets h = record_stands_tidy d r job job.phase
 record_told_tidy d r job told packets h = (h, tt)
@@ -396,11 +399,11 @@ trim_reply_in_tidy : (d : ServerContext) (r : RangeState) (job : Option Checkpoi
 trim_reply_in_tidy d r None body = (tt, tt)
 trim_reply_in_tidy d r (Some job) body = trim_told_tidy d r job.phase body
 
-phase_again_all : (d : ServerContext) (r : RangeState) (phase : CheckpointPhase) → AllFromServers (phase_again d r phase)
+phase_again_all : (d : ServerContext) (r : RangeState) (phase : CheckpointPhase) → AllFromRanges (phase_again d r phase)
 phase_again_all d r (checkpoints.Trim before to_blob q) = ((d.server, refl, inl refl), tt)
 phase_again_all d r phase = tt
 
-trim_again_all : (d : ServerContext) (r : RangeState) (job : Option CheckpointState) → AllFromServers (trim_again d r job)
+trim_again_all : (d : ServerContext) (r : RangeState) (job : Option CheckpointState) → AllFromRanges (trim_again d r job)
 trim_again_all d r None = tt
 trim_again_all d r (Some job) = phase_again_all d r job.phase
 
@@ -439,12 +442,12 @@ metadata_reply_tidy : (d : ServerContext) (r : RangeState) (body : Body) → IsT
 metadata_reply_tidy d r body =
     let o : Outcome = reply_rule (picking d r.metadata) (request d) body in
     let now : RangeState = record r { metadata = o.after } in
-    let all : AllFromServers (option_to_list o.packet) = listed o.packet (reply_calls (picking d r.metadata) (request d) body) in
+    let all : AllFromRanges (option_to_list o.packet) = listed o.packet (reply_calls (picking d r.metadata) (request d) body) in
     if_elim IsTidy (is_serving r.stage) _ _
     (λ t. record_told_tidy d now r.control o.news (option_to_list o.packet) all)
     (λ f. metadata_news_tidy d now (groups_of body) r.stage o.news (option_to_list o.packet) all)
 
-serving_news_tidy : (d : ServerContext) (r : RangeState) (told : Option News) (packets : List Packet) → AllFromServers packets → IsTidy (serving_news d r told packets)
+serving_news_tidy : (d : ServerContext) (r : RangeState) (told : Option News) (packets : List Packet) → AllFromRanges packets → IsTidy (serving_news d r told packets)
 serving_news_tidy d r (Some news.Fenced) packets h = dropped_tidy d r
 serving_news_tidy d r (Some (news.Appended e offset)) packets h = log_done_tidy d r r.out e offset
 serving_news_tidy d r told packets h = (h, tt)
@@ -453,7 +456,7 @@ log_taken_tidy : (d : ServerContext) (r : RangeState) (body : Body) → IsTidy (
 log_taken_tidy d r body =
     let o : Outcome = reply_rule (picking d r.log) (request d) body in
     let now : RangeState = record r { log = o.after } in
-    let all : AllFromServers (option_to_list o.packet) = listed o.packet (reply_calls (picking d r.log) (request d) body) in
+    let all : AllFromRanges (option_to_list o.packet) = listed o.packet (reply_calls (picking d r.log) (request d) body) in
     if_elim IsTidy (is_serving r.stage) _ _
     (λ t. serving_news_tidy d now o.news (option_to_list o.packet) all)
     (λ f. log_news_tidy d now (groups_of body) r.stage o.news (option_to_list o.packet) all)
@@ -527,15 +530,15 @@ answer_loads d r w body = answer_by (table_awaited r r.load.phase) d r w body (l
 
 -- ---- giving up
 
-asks_again_all : (d : ServerContext) (read : PlaceRead) (places : Option Nodes) → AllFromServers (asks_again d read places)
+asks_again_all : (d : ServerContext) (read : PlaceRead) (places : Option Nodes) → AllFromRanges (asks_again d read places)
 asks_again_all d read None = tt
 asks_again_all d read (Some places) = ((d.server, refl, inl refl), tt)
 
-gives_up_read_all : (d : ServerContext) (r : RangeState) (g : WaitingGet) (read : Option PlaceRead) → AllFromServers (gives_up_read d r g read).1
+gives_up_read_all : (d : ServerContext) (r : RangeState) (g : WaitingGet) (read : Option PlaceRead) → AllFromRanges (gives_up_read d r g read).1
 gives_up_read_all d r g None = tt
 gives_up_read_all d r g (Some read) = asks_again_all d (moved_on read) (places_of r read.place.extent)
 
-gives_up_reading_all : (d : ServerContext) (r : RangeState) (reading : Option PlaceRead) → AllFromServers (gives_up_reading d r reading)
+gives_up_reading_all : (d : ServerContext) (r : RangeState) (reading : Option PlaceRead) → AllFromRanges (gives_up_reading d r reading)
 gives_up_reading_all d r None = tt
 gives_up_reading_all d r (Some read) = asks_again_all d (moved_on read) (places_of r read.place.extent)
 

@@ -1,4 +1,4 @@
--- What a step of a server sends it may send, and what it shows is plain, but for the table that it loads.
+-- What a step of a server sends is from a server, and what it shows is plain, but for the table that it loads.
 use Rattle.std.proofs.Common.{◌≡◌, Bool, ℕ, ◌==◌, List, [], Option, Some, None, is_some, refl, sym, ap, ◌∙◌, inl, inr, subst}
 use Rattle.std.proofs.lemmas.Option.{same_Some}
 use Rattle.block_types.specs.declared.record.Nodes.{Nodes}
@@ -19,13 +19,19 @@ use Rattle.model_streams.proofs.Tests.{if_elim}
 use Rattle.model_streams.specs.Maps.{entry_at}
 use Rattle.model_partition.specs.declared.server_context.ServerContext.{ServerContext}
 use Rattle.model_partition.specs.declared.shown_table.ShownTable.{ShownTable}
-use Rattle.model_partition.specs.Range.{RangeState}
+use Rattle.model_partition.specs.declared.split_job.SplitJob.{SplitJob}
+use Rattle.model_partition.specs.declared.table_note.TableNote.{TableNote}
+use Rattle.model_partition.specs.Range.{RangeState, RangeOutcome}
+use Rattle.model_partition.specs.Serving.{transact_rule}
+use Rattle.model_partition.specs.Getting.{get_rule}
+use Rattle.model_partition.specs.Checkpoints.{checkpoint_rule}
 use Rattle.model_partition.specs.Answering.{answered_number, is_answerer, answer_rule, give_up_all}
-use Rattle.model_partition.specs.Server.{ServerState, ServerOutcome, range_of, awaiting, users_of, is_newer, assign_rule, renew_rule, told_by_map, map_rule, transacts_in, gets_in, table_rule, answer_in, answer_of, numbered_rule, taken_rule, has_numbers, server_rule, gives_up, picked, checkpoint_refusal, checkpoints_in, server_checkpoint}
-use Rattle.model_partition.specs.Servers.{ArePlain, ShowsLoad, ServerCell, ServersOutcome, range_table, table_at, loads, cell_loads, server_loads, cell_takes, cell_given_up, cell_gives_up, cell_checkpoints, cell_stops, cell_starts, at_server, server_takes, server_gives_up, server_checkpoints, server_stops, server_starts}
-use Rattle.laws_servers.specs.Sending.{MaySendAll, AllFromServers}
-use Rattle.laws_servers.proofs.ClientPackets.{all_both, may_send_all}
-use Rattle.laws_servers.proofs.RangeSteps.{ShowsFrom, table_with, refused_all, transact_tidy, get_tidy, checkpoint_tidy, answer_shows, give_up_tidy}
+use Rattle.model_partition.specs.Server.{ServerState, ServerOutcome, range_of, awaiting, users_of, is_newer, assign_rule, renew_rule, told_by_map, map_rule, transacts_in, gets_in, table_rule, answer_in, split_answer_in, split_answer, answer_of, numbered_rule, taken_rule, has_numbers, server_rule, gives_up, picked, checkpoint_refusal, checkpoints_in, server_checkpoint, split_of, split_awaiting, stepped, stepped_with, stepped_splitting, given_up, given_up_splitting, split_refusal, splits_in, server_split}
+use Rattle.model_partition.specs.Servers.{ArePlain, ShowsLoad, ServerCell, ServersOutcome, range_table, table_at, loads, cell_loads, server_loads, cell_takes, cell_given_up, cell_gives_up, cell_checkpoints, cell_splits, cell_stops, cell_starts, at_server, server_takes, server_gives_up, server_checkpoints, server_splits, server_stops, server_starts}
+use Rattle.laws_servers.specs.Sending.{AllFromRanges, AllFromServers}
+use Rattle.laws_servers.proofs.ClientPackets.{all_both, from_servers, servers_both}
+use Rattle.laws_servers.proofs.RangeSteps.{IsTidy, ShowsFrom, table_with, refused_all, transact_tidy, get_tidy, checkpoint_tidy, answer_shows, give_up_tidy}
+use Rattle.laws_servers.proofs.SplitSteps.{split_sends, split_reply_sends, follows_sends, split_gives_up_sends}
 
 -- what it sends is from a server, and it shows no loaded table
 abbrev pub AreTidy : ServerOutcome → Type 0
@@ -38,16 +44,48 @@ Shows loading o = AllFromServers o.packets × ShowsLoad loading o.notes
 plainly : (loading : Option ShownTable) (o : ServerOutcome) → AreTidy o → Shows loading o
 plainly loading o h = (h.0, inl h.1)
 
+-- ---- a step of a range, and what its split then does
+
+-- what its split then does is told as the step alone
+module _ (s : ServerState) (range : ℕ) (o : RangeOutcome) (IsShown : List TableNote → Type 0) (sent : AllFromServers o.packets) (shown : IsShown o.notes) where
+  abbrev Tells : ServerOutcome → Type 0
+  Tells t = AllFromServers t.packets × IsShown t.notes
+
+  stepped_tells : Tells (stepped s range o)
+  stepped_tells = go (split_of s.splits range)
+    where
+      by : (job : SplitJob) (a : Option RangeState) → Tells (stepped_splitting s range job o a)
+      by job None = (sent, shown)
+      by job (Some r) = (servers_both o.packets _ sent (follows_sends (record s.context { count = o.count }) r job job.phase), shown)
+
+      go : (x : Option SplitJob) → Tells (stepped_with s range x o)
+      go None = (sent, shown)
+      go (Some job) = by job o.after
+
+  given_up_tells : (x : Option SplitJob) → Tells (given_up s range x o)
+  given_up_tells None = (sent, shown)
+  given_up_tells (Some job) = by o.after
+    where
+      by : (a : Option RangeState) → Tells (given_up_splitting s range job o a)
+      by None = (sent, shown)
+      by (Some r) = (servers_both o.packets _ sent (split_gives_up_sends (record s.context { count = o.count }) r job job.phase), shown)
+
+stepped_tidy : (s : ServerState) (range : ℕ) (o : RangeOutcome) → IsTidy o → AreTidy (stepped s range o)
+stepped_tidy s range o h = stepped_tells s range o ArePlain (from_servers o.packets h.0) h.1
+
+stepped_shows : (s : ServerState) (range : ℕ) (loading : Option ShownTable) (o : RangeOutcome) → ShowsFrom loading o → Shows loading (stepped s range o)
+stepped_shows s range loading o h = stepped_tells s range o (ShowsLoad loading) (from_servers o.packets h.0) h.1
+
 -- ---- what the map tells
 
-pub users_all : (d : ServerContext) (known : Option RangeState) → AllFromServers (users_of d known)
+pub users_all : (d : ServerContext) (known : Option RangeState) → AllFromRanges (users_of d known)
 users_all d None = tt
 users_all d (Some r) = refused_all d r
 
 assign_tidy : (s : ServerState) (range generation until : ℕ) (known : Option RangeState) → AreTidy (assign_rule s range generation until known)
 assign_tidy s range generation until known =
     if_elim AreTidy (is_newer generation known) _ _
-    (λ t. (all_both (users_of s.context known) _ (users_all s.context known) ((s.context.server, refl, inl refl), tt), tt))
+    (λ t. (from_servers _ (all_both (users_of s.context known) _ (users_all s.context known) ((s.context.server, refl, inl refl), tt)), tt))
     (λ f. (tt, tt))
 
 renew_tidy : (s : ServerState) (range generation until : ℕ) (known : Option RangeState) → AreTidy (renew_rule s range generation until known)
@@ -66,12 +104,12 @@ map_tidy s from body = (tt, tt)
 -- ---- what users ask
 
 transacts_tidy : (s : ServerState) (p : Packet) (range : ℕ) (changes : List Change) (q : ReqNo) (known : Option RangeState) → AreTidy (transacts_in s p range changes q known)
-transacts_tidy s p range changes q None = (((s.context.server, refl, inr refl), tt), tt)
-transacts_tidy s p range changes q (Some r) = transact_tidy s.context r p.from q changes
+transacts_tidy s p range changes q None = (((s.context.server, refl, inr (inl refl)), tt), tt)
+transacts_tidy s p range changes q (Some r) = stepped_tidy s range (transact_rule s.context r p.from q changes) (transact_tidy s.context r p.from q changes)
 
 gets_tidy : (s : ServerState) (p : Packet) (range : ℕ) (key : List ℕ) (q : ReqNo) (known : Option RangeState) → AreTidy (gets_in s p range key q known)
-gets_tidy s p range key q None = (((s.context.server, refl, inr refl), tt), tt)
-gets_tidy s p range key q (Some r) = get_tidy s.context r p.from q key
+gets_tidy s p range key q None = (((s.context.server, refl, inr (inl refl)), tt), tt)
+gets_tidy s p range key q (Some r) = stepped_tidy s range (get_rule s.context r p.from q key) (get_tidy s.context r p.from q key)
 
 table_tidy : (s : ServerState) (p : Packet) (body : TableBody) → AreTidy (table_rule s p body)
 table_tidy s p (tables.Transact range changes q) = transacts_tidy s p range changes q (range_of s.ranges range)
@@ -96,12 +134,22 @@ answer_in_shows : (s : ServerState) (p : Packet) (w : ReqNo) (range : ℕ) (know
     range_of s.ranges range ≡ known → Shows (loads s p.body) (answer_in s p w range known)
 answer_in_shows s p w range None number waits known = (tt, inl tt)
 answer_in_shows s p w range (Some r) number waits known =
-    subst (λ (loading : Option ShownTable). ShowsFrom loading (answer_rule s.context r w p.body)) (table_loads s p.body w range r number waits known)
-    (answer_shows s.context r w p.body)
+    subst (λ (loading : Option ShownTable). Shows loading (stepped s range (answer_rule s.context r w p.body))) (table_loads s p.body w range r number waits known)
+    (stepped_shows s range (table_with r p.body) (answer_rule s.context r w p.body) (answer_shows s.context r w p.body))
+
+-- an answer to a split shows nothing
+split_answer_in_tidy : (s : ServerState) (p : Packet) (range : ℕ) (known : Option RangeState) (job : Option SplitJob) → AreTidy (split_answer_in s p range known job)
+split_answer_in_tidy s p range (Some r) (Some job) = (split_reply_sends s.context r job p.body, tt)
+split_answer_in_tidy s p range (Some r) None = (tt, tt)
+split_answer_in_tidy s p range None job = (tt, tt)
+
+split_answer_tidy : (s : ServerState) (p : Packet) (range : Option ℕ) → AreTidy (split_answer s p range)
+split_answer_tidy s p None = (tt, tt)
+split_answer_tidy s p (Some range) = split_answer_in_tidy s p range (range_of s.ranges range) (split_of s.splits range)
 
 answer_of_shows : (s : ServerState) (p : Packet) (w : ReqNo) (range : Option ℕ) → answered_number p.body ≡ Some w → awaiting s.ranges w ≡ range →
     Shows (loads s p.body) (answer_of s p w range)
-answer_of_shows s p w None number waits = (tt, inl tt)
+answer_of_shows s p w None number waits = plainly (loads s p.body) (split_answer s p (split_awaiting s.splits w)) (split_answer_tidy s p (split_awaiting s.splits w))
 answer_of_shows s p w (Some range) number waits = answer_in_shows s p w range (range_of s.ranges range) number waits refl
 
 numbered_shows : (s : ServerState) (p : Packet) (number : Option ReqNo) → answered_number p.body ≡ number → Shows (loads s p.body) (numbered_rule s p number)
@@ -130,26 +178,35 @@ server_shows s p = if_elim (Shows (loads s p.body)) (has_numbers s.context) _ _ 
 
 checkpoints_tidy : (s : ServerState) (range : ℕ) (combine : Bool) (known : Option RangeState) → AreTidy (checkpoints_in s range combine known)
 checkpoints_tidy s range combine None = (tt, tt)
-checkpoints_tidy s range combine (Some r) = if_elim AreTidy (has_numbers s.context) _ _ (λ t. checkpoint_tidy s.context r combine) (λ f. (tt, tt))
+checkpoints_tidy s range combine (Some r) = if_elim AreTidy (has_numbers s.context) _ _ (λ t. stepped_tidy s range (checkpoint_rule s.context r combine) (checkpoint_tidy s.context r combine)) (λ f. (tt, tt))
 
 pub server_checkpoint_tidy : (s : ServerState) (range : ℕ) (combine : Bool) → AreTidy (server_checkpoint s range combine)
 server_checkpoint_tidy s range combine =
     if_elim AreTidy (is_some (checkpoint_refusal s range)) _ _ (λ t. (tt, tt)) (λ f. checkpoints_tidy s range combine (range_of s.ranges range))
 
+-- ---- a split
+
+splits_tidy : (s : ServerState) (range : ℕ) (key : List ℕ) (known : Option RangeState) → AreTidy (splits_in s range key known)
+splits_tidy s range key None = (tt, tt)
+splits_tidy s range key (Some r) = if_elim AreTidy (has_numbers s.context) _ _ (λ t. (split_sends s.context r key, tt)) (λ f. (tt, tt))
+
+pub server_split_tidy : (s : ServerState) (range : ℕ) (key : List ℕ) → AreTidy (server_split s range key)
+server_split_tidy s range key = if_elim AreTidy (is_some (split_refusal s range key)) _ _ (λ t. (tt, tt)) (λ f. splits_tidy s range key (range_of s.ranges range))
+
 -- ---- servers over their starts and stops
 
--- all servers send what servers may send, and show no loaded table
+-- what all servers send is from servers, and they show no loaded table
 abbrev pub AllTidy : ServersOutcome → Type 0
-AllTidy o = MaySendAll o.packets × ArePlain o.notes
+AllTidy o = AllFromServers o.packets × ArePlain o.notes
 
--- all servers send what servers may send, and show no loaded table but this
+-- what all servers send is from servers, and they show no loaded table but this
 abbrev pub AllShow : Option ShownTable → ServersOutcome → Type 0
-AllShow loading o = MaySendAll o.packets × ShowsLoad loading o.notes
+AllShow loading o = AllFromServers o.packets × ShowsLoad loading o.notes
 
 cell_shows : (cell : ServerCell) (p : Packet) (state : Option ServerState) →
-    MaySendAll (cell_takes cell p state).packets × ShowsLoad (cell_loads state p.body) (cell_takes cell p state).notes
+    AllFromServers (cell_takes cell p state).packets × ShowsLoad (cell_loads state p.body) (cell_takes cell p state).notes
 cell_shows cell p None = (tt, inl tt)
-cell_shows cell p (Some s) = let h = server_shows s p in (may_send_all (server_rule s p p.body).packets h.0, h.1)
+cell_shows cell p (Some s) = server_shows s p
 
 takes_shows : (servers : List ServerCell) (n : ℕ) (p : Packet) (cell : Option ServerCell) →
     AllShow (server_loads cell p.body) (at_server servers n (λ x. cell_takes x p x.state) cell)
@@ -161,14 +218,18 @@ pub server_takes_shows : (servers : List ServerCell) (n : ℕ) (p : Packet) →
 server_takes_shows servers n p = takes_shows servers n p (entry_at servers n)
 
 gives_up_tidy : (s : ServerState) (range : ℕ) (known : Option RangeState) (cell : ServerCell) →
-    MaySendAll (cell_given_up cell (gives_up s range known)).packets × ArePlain (cell_given_up cell (gives_up s range known)).notes
+    AllFromServers (cell_given_up cell (gives_up s range known)).packets × ArePlain (cell_given_up cell (gives_up s range known)).notes
 gives_up_tidy s range None cell = (tt, tt)
 gives_up_tidy s range (Some r) cell =
-    if_elim (λ (o : ServerOutcome). MaySendAll o.packets × ArePlain o.notes) (has_numbers s.context) _ _
-    (λ t. let h = give_up_tidy s.context r in (may_send_all (give_up_all s.context r).packets h.0, h.1)) (λ f. (tt, tt))
+    if_elim (λ (o : ServerOutcome). AllFromServers o.packets × ArePlain o.notes) (has_numbers s.context) _ _
+    (λ t.
+    let o : RangeOutcome = give_up_all s.context r in
+    let tidy : IsTidy o = give_up_tidy s.context r in
+    given_up_tells s range o ArePlain (from_servers o.packets tidy.0) tidy.1 (split_of s.splits range))
+    (λ f. (tt, tt))
 
 cell_gives_up_tidy : (cell : ServerCell) (range : ℕ) (pick : Nodes) (state : Option ServerState) →
-    MaySendAll (cell_gives_up cell range pick state).packets × ArePlain (cell_gives_up cell range pick state).notes
+    AllFromServers (cell_gives_up cell range pick state).packets × ArePlain (cell_gives_up cell range pick state).notes
 cell_gives_up_tidy cell range pick None = (tt, tt)
 cell_gives_up_tidy cell range pick (Some s) = gives_up_tidy (picked s pick) range (range_of s.ranges range) cell
 
@@ -181,9 +242,9 @@ pub server_gives_up_tidy : (servers : List ServerCell) (n range : ℕ) (pick : N
 server_gives_up_tidy servers n range pick = given_up_tidy servers n range pick (entry_at servers n)
 
 cell_checkpoints_tidy : (cell : ServerCell) (range : ℕ) (combine : Bool) (state : Option ServerState) →
-    MaySendAll (cell_checkpoints cell range combine state).packets × ArePlain (cell_checkpoints cell range combine state).notes
+    AllFromServers (cell_checkpoints cell range combine state).packets × ArePlain (cell_checkpoints cell range combine state).notes
 cell_checkpoints_tidy cell range combine None = (tt, tt)
-cell_checkpoints_tidy cell range combine (Some s) = let h = server_checkpoint_tidy s range combine in (may_send_all (server_checkpoint s range combine).packets h.0, h.1)
+cell_checkpoints_tidy cell range combine (Some s) = server_checkpoint_tidy s range combine
 
 checkpoints_of_tidy : (servers : List ServerCell) (n range : ℕ) (combine : Bool) (cell : Option ServerCell) →
     AllTidy (at_server servers n (λ x. cell_checkpoints x range combine x.state) cell)
@@ -192,6 +253,19 @@ checkpoints_of_tidy servers n range combine (Some cell) = cell_checkpoints_tidy 
 
 pub server_checkpoints_tidy : (servers : List ServerCell) (n range : ℕ) (combine : Bool) → AllTidy (server_checkpoints servers n range combine)
 server_checkpoints_tidy servers n range combine = checkpoints_of_tidy servers n range combine (entry_at servers n)
+
+cell_splits_tidy : (cell : ServerCell) (range : ℕ) (key : List ℕ) (state : Option ServerState) →
+    AllFromServers (cell_splits cell range key state).packets × ArePlain (cell_splits cell range key state).notes
+cell_splits_tidy cell range key None = (tt, tt)
+cell_splits_tidy cell range key (Some s) = server_split_tidy s range key
+
+splits_of_tidy : (servers : List ServerCell) (n range : ℕ) (key : List ℕ) (cell : Option ServerCell) →
+    AllTidy (at_server servers n (λ x. cell_splits x range key x.state) cell)
+splits_of_tidy servers n range key None = (tt, tt)
+splits_of_tidy servers n range key (Some cell) = cell_splits_tidy cell range key cell.state
+
+pub server_splits_tidy : (servers : List ServerCell) (n range : ℕ) (key : List ℕ) → AllTidy (server_splits servers n range key)
+server_splits_tidy servers n range key = splits_of_tidy servers n range key (entry_at servers n)
 
 -- a stop and a start neither send nor show
 abbrev pub IsStill : ServersOutcome → Type 0

@@ -28,7 +28,7 @@ use Rattle.model_streams.specs.StreamSystem.{StreamSystem, ActorCell, running, a
 use Rattle.model_streams.specs.StreamSystem.Move.{Happens}
 use Rattle.model_streams.proofs.Tests.{if_elim}
 use Rattle.laws_streams.specs.Origins.{Begins}
-use Rattle.laws_streams.specs.Listings.{Listed}
+use Rattle.laws_streams.proofs.BuildRequests.{ServersAsk}
 use Rattle.laws_streams.proofs.Lists.{same_beginning, NoneEmpty}
 use Rattle.laws_streams.proofs.MoreKnown.{later_refl}
 use Rattle.laws_streams.proofs.RestsOnGround.{halted_holds, manager_halted_holds}
@@ -47,11 +47,12 @@ use Rattle.laws_stream_machine.proofs.SentPackets.{ahead_same}
 use Rattle.laws_stream_machine.proofs.Refines.{Follows, submit_follows}
 use Rattle.laws_stream_machine.proofs.SystemSteps.{ahead_goes, next_follows}
 use Rattle.laws_stream_machine.proofs.ToldLists.{sealed_or_last}
+use Rattle.laws_stream_machine.proofs.StreamRules.{IsListed}
 use Rattle.laws_stream_machine.proofs.ManagerSteps.{manager_event, decide_event}
 use Rattle.laws_stream_machine.proofs.NodeSteps.{node_event}
 
 module _ (generation : ℕ → ℕ) (name : StreamName) (sent : List Sent) (w : StreamSystem) (s : MachineState Group) (a : Follows generation name w s sent)
-    (plain : name.kind ≢ BlobData) where
+    (plain : name.kind ≢ BlobData) (asks : ServersAsk w.post) where
   abbrev Leads : StreamSystem → Type 0
   Leads v = Walk generation s (λ t. Follows generation name v t sent)
 
@@ -68,18 +69,18 @@ module _ (generation : ℕ → ℕ) (name : StreamName) (sent : List Sent) (w : 
   halted_stays n =
       stand generation s _ (next_follows generation name w s sent a (node_halted w n) s a.ground (later_refl a.ground) a.appended (halted_holds w a.ground n a.holds) (ahead_same name w s (node_halted w n) s refl (onward_refl s)) a.shaped [] (sym (append-nil w.post)) tt)
 
-  manager_halted_stays : Goes w.catalog (manager_halted w).catalog → Leads (manager_halted w)
+  manager_halted_stays : Goes w.post w.catalog (manager_halted w).catalog → Leads (manager_halted w)
   manager_halted_stays goes =
       stand generation s _ (next_follows generation name w s sent a (manager_halted w) s a.ground (later_refl a.ground) a.appended (manager_halted_holds w a.ground a.holds)
-      (ahead_goes name plain w s (manager_halted w) s goes (a.holds.catalog.fresh (suc w.catalog.count) (omega arith)) (onward_refl s)) a.shaped [] (sym (append-nil w.post)) tt)
+      (ahead_goes generation name plain w s sent a asks (manager_halted w) s goes (onward_refl s)) a.shaped [] (sym (append-nil w.post)) tt)
 
-  stop_stays : (actor : ActorId) (call : ℕ) (keep : Bool) → Goes w.catalog (stop w actor call keep).catalog → Leads (stop w actor call keep)
+  stop_stays : (actor : ActorId) (call : ℕ) (keep : Bool) → Goes w.post w.catalog (stop w actor call keep).catalog → Leads (stop w actor call keep)
   stop_stays (Node n) call keep goes =
       if_elim Leads (w.cell n).up (node_stops w n call keep) w
       (λ t. if_elim Leads (call == 0) (node_halted w n) _ (λ z. halted_stays n) (λ z. recelled_stays (changed n (armed call keep) w.cell) w.manager_cell)) (λ t. stays)
   stop_stays Manager call keep goes =
-      if_elim (λ v. Goes w.catalog v.catalog → Leads v) w.manager_cell.up (manager_stops w call keep) w
-      (λ t. if_elim (λ v. Goes w.catalog v.catalog → Leads v) (call == 0) (manager_halted w) _ (λ z. manager_halted_stays) (λ z g. recelled_stays w.cell (armed call keep))) (λ t g. stays) goes
+      if_elim (λ v. Goes w.post w.catalog v.catalog → Leads v) w.manager_cell.up (manager_stops w call keep) w
+      (λ t. if_elim (λ v. Goes w.post w.catalog v.catalog → Leads v) (call == 0) (manager_halted w) _ (λ z. manager_halted_stays) (λ z g. recelled_stays w.cell (armed call keep))) (λ t g. stays) goes
   stop_stays Map call keep goes = stays
   stop_stays (Server n) call keep goes = stays
   stop_stays (User u) call keep goes = stays
@@ -91,27 +92,27 @@ module _ (generation : ℕ → ℕ) (name : StreamName) (sent : List Sent) (w : 
   restart_stays (Server n) = stays
   restart_stays (User u) = stays
 
-  module _ (own : 1 ≤ name.range) (lawful : Lawful Group generation s) (listed : (x : Stream) → stream_of w.catalog.stream name ≡ Some x → Listed w.catalog name x) where
-    delivered_walk : (number : ℕ) (p : Packet) (to : ActorId) → p.to ≡ to → slice_get w.post number ≡ Some p → Goes w.catalog (delivered w p to).catalog → Leads (delivered w p to)
+  module _ (own : 1 ≤ name.range) (lawful : Lawful Group generation s) (listed : IsListed w name) where
+    delivered_walk : (number : ℕ) (p : Packet) (to : ActorId) → p.to ≡ to → slice_get w.post number ≡ Some p → Goes w.post w.catalog (delivered w p to).catalog → Leads (delivered w p to)
     delivered_walk number p (Node n) to at goes = node_event generation name sent w s a lawful n number p at to
-    delivered_walk number p Manager to at goes = manager_event generation name sent w s a plain own lawful listed number p at to goes
+    delivered_walk number p Manager to at goes = manager_event generation name sent w s a plain asks own lawful listed number p at to goes
     delivered_walk number p Map to at goes = stays
     delivered_walk number p (Server n) to at goes = stays
     delivered_walk number p (User u) to at goes = stays
 
-    delivered_if_walk : (number : ℕ) (o : Option Packet) → slice_get w.post number ≡ o → Goes w.catalog (delivered_if w o).catalog → Leads (delivered_if w o)
+    delivered_if_walk : (number : ℕ) (o : Option Packet) → slice_get w.post number ≡ o → Goes w.post w.catalog (delivered_if w o).catalog → Leads (delivered_if w o)
     delivered_if_walk number None at goes = stays
     delivered_if_walk number (Some p) at goes = delivered_walk number p p.to refl at goes
 
     pub happens_walk : (event : Event) → Leads (happens w event)
-    happens_walk event = by_event event (moved_goes w (a.holds.catalog.fresh (suc w.catalog.count) (omega arith)) (Happens event))
+    happens_walk event = by_event event (moved_goes w (a.holds.catalog.fresh (suc w.catalog.count) (omega arith)) asks (Happens event))
       where
-        by_event : (event : Event) → Goes w.catalog (happens w event).catalog → Leads (happens w event)
+        by_event : (event : Event) → Goes w.post w.catalog (happens w event).catalog → Leads (happens w event)
         by_event (Submit user to body) goes = stand generation s _ (submit_follows generation name s sent w user to body a)
         by_event (Deliver number) goes = delivered_if_walk number (slice_get w.post number) refl goes
         by_event (Stop actor call keep) goes = stop_stays actor call keep goes
         by_event (Restart actor) goes = restart_stays actor
-        by_event (Decide e) goes = decide_event generation name sent w s a plain e goes
+        by_event (Decide e) goes = decide_event generation name sent w s a plain asks e goes
         by_event (GiveUp server range pick) goes = stays
         by_event (Assign range server until) goes = stays
         by_event (Renew range server until) goes = stays

@@ -13,3 +13,4 @@ pub mod NodeSteps
 pub mod EventSteps
 pub mod ServerRequests
 pub mod LowerLayer
+pub mod BuiltStreams

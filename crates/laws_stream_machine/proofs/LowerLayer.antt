@@ -1,5 +1,5 @@
 -- The nodes and the manager are the lower layer of the machine of one stream of a range, whatever happens.
-use Rattle.std.proofs.Common.{◌≡◌, ◌≢◌, ℕ, suc, ◌≤◌, true, List, [], ◌∷◌, ◌++◌, Option, Some, None, slice_get, refl, sym, ap, ◌∙◌, arith, subst}
+use Rattle.std.proofs.Common.{◌≡◌, ◌≢◌, ℕ, suc, ◌≤◌, true, List, [], ◌∷◌, ◌++◌, Option, Some, None, slice_get, refl, sym, ap, ◌∙◌, inl, inr, arith, subst}
 use Rattle.wire.specs.declared.actor.ActorId.{ActorId}
 use Rattle.wire.specs.declared.body.Body.{Body}
 use Rattle.wire.specs.declared.note.Note.{Note}
@@ -11,7 +11,7 @@ use Rattle.model_streams.specs.declared.event.Event.{Event}
 use Rattle.model_streams.specs.Manager.{sealed_in}
 use Rattle.model_streams.specs.StreamSystem.{StreamSystem, start, is_server_call, Move, moved, run_moves}
 use Rattle.model_streams.specs.StreamSystem.Move.{Happens, Asks, Says, Observes}
-use Rattle.laws_streams.specs.Listings.{Listed}
+use Rattle.laws_streams.proofs.BuildRequests.{ServersAsk, servers_ask}
 use Rattle.laws_streams.proofs.RestsOnGround.{places_of}
 use Rattle.laws_streams.proofs.Invariant.{run_moves_push}
 use Rattle.laws_streams.proofs.Listings.{moved_goes, lists_grow}
@@ -24,7 +24,7 @@ use Rattle.laws_stream_machine.proofs.StepSequences.{Onward, Walk, all_onward, b
 use Rattle.laws_stream_machine.proofs.SentPackets.{Ahead}
 use Rattle.laws_stream_machine.proofs.Refines.{Follows, start_follows, says_follows, asks_follows, observes_follows}
 use Rattle.laws_stream_machine.proofs.SystemSteps.{ahead_goes}
-use Rattle.laws_stream_machine.proofs.StreamRules.{same_index}
+use Rattle.laws_stream_machine.proofs.StreamRules.{IsListed, same_index}
 use Rattle.laws_stream_machine.proofs.EventSteps.{happens_walk, all_mean}
 use Rattle.laws_stream_machine.proofs.ServerRequests.{Unused, turn_upper, upper_follows, sent_follows}
 
@@ -40,7 +40,7 @@ module _ (generation : ℕ → ℕ) (name : StreamName) (nodes target : ℕ) whe
     pub asked : AllAsked generation name (system moves) whole.state sent
     pub mean : AllMean generation name (system moves) whole.state sent
 
-  is_below : (moves : List Move) (whole : Whole Group generation) (sent : List Sent) → Follows generation name (system moves) whole.state sent → Below moves whole sent
+  pub is_below : (moves : List Move) (whole : Whole Group generation) (sent : List Sent) → Follows generation name (system moves) whole.state sent → Below moves whole sent
   is_below moves whole sent a = record { follows = a; asked = a.asked; mean = all_mean generation name sent nodes target moves whole.state a }
 
   -- one more move
@@ -67,8 +67,15 @@ module _ (generation : ℕ → ℕ) (name : StreamName) (nodes target : ℕ) whe
   phase_stays ms [] i = refl
   phase_stays ms (x ∷ steps) i = phase_stays ms steps i
 
-  listed_now : (moves : List Move) (s : StreamName) (x : Stream) → stream_of (system moves).catalog.stream s ≡ Some x → Listed (system moves).catalog s x
-  listed_now moves s x there = (lists_grow nodes target moves []).listed s x there
+  -- ---- the manager's lists
+
+  asks_now : (moves : List Move) → ServersAsk (system moves).post
+  asks_now moves = servers_ask nodes target moves
+
+  pub listed_now : name.kind ≢ BlobData → (moves : List Move) (whole : Whole Group generation) (sent : List Sent) → Below moves whole sent → IsListed (system moves) name
+  listed_now plain moves whole sent a =
+      let lists = lists_grow nodes target moves [] in
+      record { listed = lists.listed name; rising = a.follows.rising }
 
   -- lists grow by new extents alone
   pub below_ahead : name.kind ≢ BlobData → (moves : List Move) (whole : Whole Group generation) (sent : List Sent) → Below moves whole sent → (move : Move) (t : MachineState Group) → Onward whole.state t →
@@ -76,14 +83,15 @@ module _ (generation : ℕ → ℕ) (name : StreamName) (nodes target : ℕ) whe
   below_ahead plain moves whole sent a move t on =
       let w : StreamSystem = system moves in
       let fresh = a.follows.holds.catalog.fresh (suc w.catalog.count) (omega arith) in
-      subst (λ v. Ahead name w whole.state v t) (sym (run_moves_push moves move (start nodes target))) (ahead_goes name plain w whole.state (moved w move) t (moved_goes w fresh move) fresh on)
+      subst (λ v. Ahead name w whole.state v t) (sym (run_moves_push moves move (start nodes target)))
+      (ahead_goes generation name plain w whole.state sent a.follows (asks_now moves) (moved w move) t (moved_goes w fresh (asks_now moves) move) on)
 
   pub below_happens : 1 ≤ name.range → name.kind ≢ BlobData → (ms : List (machine.Move Group generation)) → AreMoves Group generation ms → (moves : List Move) (sent : List Sent) →
       Below moves (after_all Group generation ms) sent → (event : Event) → Happened ms moves event sent
   below_happens own plain ms are moves sent a event =
       let whole : Whole Group generation = after_all Group generation ms in
       let walk : Walk generation whole.state (λ t. Follows generation name (moved (system moves) (Happens event)) t sent) =
-      happens_walk generation name sent (system moves) whole.state a.follows plain own (lawful Group generation ms are) (λ x there. listed_now moves name x there) event in
+      happens_walk generation name sent (system moves) whole.state a.follows plain (asks_now moves) own (lawful Group generation ms are) (listed_now plain moves whole sent a) event in
       let (all, same) = walked generation ms are walk.steps walk.run walk.layer in
       let next : Whole Group generation = after_all Group generation (below_all generation walk.steps ++ ms) in
       record {
@@ -131,18 +139,21 @@ module _ (generation : ℕ → ℕ) (name : StreamName) (nodes target : ℕ) whe
   stream_at (Some x) index e at = (x, refl)
 
   -- an extent of the stream stands at one index
-  pub below_index : name.kind ≢ BlobData → (moves : List Move) (i j e : ℕ) → IsAt (system moves) name i e → IsAt (system moves) name j e → i ≡ j
-  below_index plain moves i j e at there =
+  pub below_index : name.kind ≢ BlobData → (moves : List Move) (whole : Whole Group generation) (sent : List Sent) → Below moves whole sent → (i j e : ℕ) → IsAt (system moves) name i e → IsAt (system moves) name j e → i ≡ j
+  below_index plain moves whole sent a i j e at there =
       let w : StreamSystem = system moves in
       let (x, is) = stream_at (stream_of w.catalog.stream name) i e at in
-      same_index w.catalog name x plain (listed_now moves name x is) i j e (subst (λ o. slice_get (extents_of o) i ≡ Some e) is at) (subst (λ o. slice_get (extents_of o) j ≡ Some e) is there)
+      same_index x ((listed_now plain moves whole sent a).rising x is) i j e (subst (λ o. slice_get (extents_of o) i ≡ Some e) is at) (subst (λ o. slice_get (extents_of o) j ≡ Some e) is there)
 
   -- while it is not sealed it stands in no other list
-  pub below_alone : (moves : List Move) (other : StreamName) → (other ≡ name → ⊥) → (i j e : ℕ) → IsAt (system moves) other i e → IsUnsealedAt (system moves) name j e → ⊥
-  below_alone moves other apart i j e here there =
+  pub below_alone : name.kind ≢ BlobData → (moves : List Move) (other : StreamName) → (other ≡ name → ⊥) → (i j e : ℕ) → IsAt (system moves) other i e → IsUnsealedAt (system moves) name j e → ⊥
+  below_alone plain moves other apart i j e here there =
       let w : StreamSystem = system moves in
       let (z, is) = stream_at (stream_of w.catalog.stream other) i e here in
       let (x, own) = stream_at (stream_of w.catalog.stream name) j e there.0 in
-      let l = listed_now moves other z is in
+      let l = (lists_grow nodes target moves []).listed other z is in
       let (y, made) = l.there i e (subst (λ o. slice_get (extents_of o) i ≡ Some e) is here) in
-      apart (l.alone name x i j e y own made (ap sealed_in (sym made) ∙ there.1) (subst (λ o. slice_get (extents_of o) i ≡ Some e) is here) (subst (λ o. slice_get (extents_of o) j ≡ Some e) own there.0)).0
+      elim (l.alone name x i j e y own made (ap sealed_in (sym made) ∙ there.1) (subst (λ o. slice_get (extents_of o) i ≡ Some e) is here) (subst (λ o. slice_get (extents_of o) j ≡ Some e) own there.0)) [
+        | inl k ↦ apart k.0
+        | inr k ↦ plain k.1
+      ]

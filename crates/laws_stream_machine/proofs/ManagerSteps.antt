@@ -11,12 +11,12 @@ use Rattle.wire.specs.declared.packet.Packet.{Packet}
 use Rattle.wire.specs.declared.streams.StreamKind.TheVariants.{BlobData}
 use Rattle.wire.specs.declared.streams.StreamName.{StreamName}
 use Rattle.replica.specs.Groups.{Group}
-use Rattle.streams.specs.Streams.{Stream, stream_of}
+use Rattle.streams.specs.Streams.{stream_of}
 use Rattle.model_streams.specs.Manager.{Catalog, manager_rule, decide_rule}
 use Rattle.model_streams.specs.Outcome.{Outcome, packet}
 use Rattle.model_streams.specs.StreamSystem.{StreamSystem, burnt, stops_in, stands_in, unsent, manager_halted, after_manager_rule, manager_performs, manager_takes, manager_decides}
 use Rattle.model_streams.proofs.Tests.{if_elim}
-use Rattle.laws_streams.specs.Listings.{Listed}
+use Rattle.laws_streams.proofs.BuildRequests.{ServersAsk}
 use Rattle.laws_streams.proofs.Choices.{Each, each-get, contains_get}
 use Rattle.laws_streams.proofs.Ground.{Ground, FinePacket}
 use Rattle.laws_streams.proofs.MoreKnown.{later_refl}
@@ -36,14 +36,14 @@ use Rattle.laws_stream_machine.proofs.MachineCore.{Shaped, ground_walk}
 use Rattle.laws_stream_machine.proofs.SentPackets.{Called, manager_calls_not, decision_calls_not, AllAppended, unmoved_appended, Ahead, ahead_same, stream_on}
 use Rattle.laws_stream_machine.proofs.Refines.{Follows}
 use Rattle.laws_stream_machine.proofs.SystemSteps.{ahead_goes, Answered, next_follows}
-use Rattle.laws_stream_machine.proofs.StreamRules.{ToldOf, rule_walk}
+use Rattle.laws_stream_machine.proofs.StreamRules.{IsListed, ToldOf, rule_walk}
 
 -- no append is delivered
 abbrev no_append : Moment
 no_append = record { told = []; number = 0; packet = packet Manager Manager (bodies.Seal (SealExtent 0 NoRequest)) }
 
 module _ (generation : ℕ → ℕ) (name : StreamName) (sent : List Sent) (w : StreamSystem) (s : MachineState Group) (a : Follows generation name w s sent)
-    (plain : name.kind ≢ BlobData) where
+    (plain : name.kind ≢ BlobData) (asks : ServersAsk w.post) where
   abbrev pub Leads : StreamSystem → Type 0
   Leads v = Walk generation s (λ t. Follows generation name v t sent)
 
@@ -120,43 +120,43 @@ module _ (generation : ℕ → ℕ) (name : StreamName) (sent : List Sent) (w : 
     appended : AllAppended w.post h
     appended = unmoved_appended w.post a.ground h rule_fine.unmoved a.appended
 
-    pub does_walk : Goes w.catalog (manager_performs w o).catalog → Leads (manager_performs w o)
+    pub does_walk : Goes w.post w.catalog (manager_performs w o).catalog → Leads (manager_performs w o)
     does_walk =
-        if_elim (λ v. Goes w.catalog v.catalog → Leads v) (stops_in w.manager_cell o.written) _ _
-        (λ stops. if_elim (λ v. Goes w.catalog v.catalog → Leads v) (stands_in w.manager_cell) _ _
+        if_elim (λ v. Goes w.post w.catalog v.catalog → Leads v) (stops_in w.manager_cell o.written) _ _
+        (λ stops. if_elim (λ v. Goes w.post w.catalog v.catalog → Leads v) (stands_in w.manager_cell) _ _
         (λ stands goes. walk_weaker generation s _ _ performed
         (λ t on there. next_follows generation name w s sent a (manager_halted (after_manager_rule w (unsent o))) t h rule_fine.later appended
         (manager_halted_holds (after_manager_rule w (unsent o)) h (manager_rule_holds News w a.ground h (unsent o) a.holds (manager_rule_unsent News w.notes a.ground h o rule_fine)))
-        (ahead_goes name plain w s (manager_halted (after_manager_rule w (unsent o))) t goes fresh_is on) there.0 [] refl tt))
+        (ahead_goes generation name plain w s sent a asks (manager_halted (after_manager_rule w (unsent o))) t goes on) there.0 [] refl tt))
         (λ lost goes. stand generation s _
         (next_follows generation name w s sent a (manager_halted w) s a.ground (later_refl a.ground) a.appended (manager_halted_holds w a.ground a.holds)
-        (ahead_goes name plain w s (manager_halted w) s goes fresh_is (onward_refl s)) a.shaped [] (sym (append-nil w.post)) tt)))
+        (ahead_goes generation name plain w s sent a asks (manager_halted w) s goes (onward_refl s)) a.shaped [] (sym (append-nil w.post)) tt)))
         (λ runs goes. walk_weaker generation s _ _ performed
         (λ t on there.
         let v : StreamSystem = after_manager_rule (record w { manager_cell = burnt w.manager_cell o.written }) o in
         next_follows generation name w s sent a v t h rule_fine.later appended
         (manager_rule_holds News (record w { manager_cell = burnt w.manager_cell o.written }) a.ground h o (recelled w w.cell (burnt w.manager_cell o.written) a.ground a.holds) rule_fine)
-        (ahead_goes name plain w s v t goes fresh_is on) there.0 o.packets refl (all_answered (after_manager_rule w o) v t h refl o.packets from there.1)))
+        (ahead_goes generation name plain w s sent a asks v t goes on) there.0 o.packets refl (all_answered (after_manager_rule w o) v t h refl o.packets from there.1)))
 
   -- ---- a packet to the manager, and a decision
 
-  pub manager_event : 1 ≤ name.range → Lawful Group generation s → ((x : Stream) → stream_of w.catalog.stream name ≡ Some x → Listed w.catalog name x) → (number : ℕ) (p : Packet) →
-      slice_get w.post number ≡ Some p → p.to ≡ Manager → Goes w.catalog (manager_takes w p).catalog → Leads (manager_takes w p)
+  pub manager_event : 1 ≤ name.range → Lawful Group generation s → IsListed w name → (number : ℕ) (p : Packet) →
+      slice_get w.post number ≡ Some p → p.to ≡ Manager → Goes w.post w.catalog (manager_takes w p).catalog → Leads (manager_takes w p)
   manager_event own lawful listed number p at to =
       let stood : Contains w.post p = contains_get w.post number p at in
       let (h, rule_fine) = manager_keeps (λ e l. Unit {0}) w.notes a.ground w.catalog p p.body a.holds.sound a.holds.catalog (each-get (FinePacket a.ground) w.post number p a.holds.packets at) in
-      if_elim (λ v. Goes w.catalog v.catalog → Leads v) w.manager_cell.up (manager_performs w (manager_rule w.catalog p p.body)) w
+      if_elim (λ v. Goes w.post w.catalog v.catalog → Leads v) w.manager_cell.up (manager_performs w (manager_rule w.catalog p p.body)) w
       (λ up. does_walk (λ e l. Unit {0}) (manager_rule w.catalog p p.body) h rule_fine (from_rule w.catalog p (manager_rule w.catalog p p.body).packets (manager.manager_tells w.catalog p))
       (λ t on shaped.
-      rule_walk generation name sent w s a.asked a.called lawful listed h t on shaped (λ e none. (rule_fine.unmoved e).0 ∙ (a.holds.sound.unmade e (a.holds.catalog.places e ∙ ap places_of none)).0) fresh_is p stood to own plain p.body refl rule_fine.catalog))
+      rule_walk generation name sent w s a.asked a.called lawful listed asks h t on shaped (λ e none. (rule_fine.unmoved e).0 ∙ (a.holds.sound.unmade e (a.holds.catalog.places e ∙ ap places_of none)).0) fresh_is p stood to own plain p.body refl rule_fine.catalog))
       (λ down goes. stand generation s _ a)
 
-  pub decide_event : (e : ℕ) → Goes w.catalog (manager_decides w e).catalog → Leads (manager_decides w e)
+  pub decide_event : (e : ℕ) → Goes w.post w.catalog (manager_decides w e).catalog → Leads (manager_decides w e)
   decide_event e =
       let o = decide_rule w.catalog e (w.catalog.extent e) in
       let (h, rule_fine) = decide_keeps w.notes a.ground w.catalog e (w.catalog.extent e) refl a.holds.sound a.holds.catalog in
       let tells = decision.decision_tells w.catalog e in
-      if_elim (λ v. Goes w.catalog v.catalog → Leads v) w.manager_cell.up (manager_performs w o) w
+      if_elim (λ v. Goes w.post w.catalog v.catalog → Leads v) w.manager_cell.up (manager_performs w o) w
       (λ up. does_walk (SealsNow e (w.catalog.extent e)) o h rule_fine (from_decision w.catalog e o.after o.packets tells)
       (λ t on shaped. stand generation t _ (
         subst (λ z. Shaped (stream_of z name) h t sent) (sym (decide_same w.catalog e (w.catalog.extent e))) shaped,

@@ -8,7 +8,7 @@ use Rattle.wire.specs.declared.body.AppendBody.TheVariants.{Append, Appended}
 use Rattle.wire.specs.declared.body.CheckBody.TheVariants.{Checked as CheckedAt}
 use Rattle.wire.specs.declared.body.ReadBody.TheVariants.{Groups}
 use Rattle.wire.specs.declared.body.StreamBody.{StreamBody}
-use Rattle.wire.specs.declared.body.StreamBody.TheVariants.{CreateStream, OpenStreams, Confirm, Extend, Trim}
+use Rattle.wire.specs.declared.body.StreamBody.TheVariants.{CreateStream, OpenStreams, Confirm, Extend, Trim, MultiModify}
 use Rattle.wire.specs.declared.body.Body.{Body}
 use Rattle.wire.specs.declared.body.Body.TheVariants as bodies
 use Rattle.wire.specs.declared.note.Note.{Note}
@@ -21,6 +21,7 @@ use Rattle.model_streams.specs.declared.event.Event.TheVariants.{Submit}
 use Rattle.model_streams.specs.StreamSystem.Move.{Says, Asks, Observes}
 use Rattle.model_streams.specs.StreamSystem.{StreamSystem, moved, happens, is_server_call, is_told, is_table_note, is_request, sent_more, start}
 use Rattle.model_streams.proofs.Tests.{if_elim}
+use Rattle.laws_streams.specs.Listings.{IsRising}
 use Rattle.laws_streams.proofs.Choices.{contains_pushed, contains_left}
 use Rattle.laws_streams.proofs.Ground.{Ground, FineBody}
 use Rattle.laws_streams.proofs.MoreKnown.{later_refl}
@@ -31,13 +32,14 @@ use Rattle.model_partition.specs.StreamMachine.{MachineState}
 use Rattle.laws_stream_machine.specs.Refinement.{Sent, IsAsked, AllAsked, StreamMeans, purpose_if, stream_meant}
 use Rattle.laws_stream_machine.proofs.StepSequences.{onward_refl}
 use Rattle.laws_stream_machine.proofs.MachineCore.{Shaped}
-use Rattle.laws_stream_machine.proofs.SentPackets.{Called, AllRead, reading_on, AllAppended, appended_more, Ahead, ahead_same, asked_on, Meant, meant_on}
+use Rattle.laws_stream_machine.proofs.SentPackets.{Called, Rises, AllRead, reading_on, AllAppended, appended_more, Ahead, ahead_same, asked_on, Meant, meant_on}
 
 -- the stream of the stream system is the core of the machine, and what is in the post is what the facts of the machine say
 pub record Follows (generation : ℕ → ℕ) (name : StreamName) (w : StreamSystem) (s : MachineState Group) (sent : List Sent) : Type 0 where
   pub ground : Ground
   pub holds : Holds w ground
   pub shaped : Shaped (stream_of w.catalog.stream name) ground s sent
+  pub rising : Rises name w
   pub asked : AllAsked generation name w s sent
   pub called : (p : Packet) → Contains w.post p → Called p
   pub read : AllRead w.post ground
@@ -82,6 +84,9 @@ start_follows generation name nodes target =
       holds = good.holds;
       shaped = first_shaped (stream_of (start nodes target).catalog.stream name) good.ground []
           (λ x. if_elim (λ o. o ≡ Some x → empty_stream 0 ≡ x) ((name.range == 1) && nat_le (kind_number name.kind) 3) (Some (empty_stream 0)) None (λ t is. cc) (λ t is. absurd cc));
+      rising = λ x.
+          if_elim (λ o. o ≡ Some x → IsRising x) ((name.range == 1) && nat_le (kind_number name.kind) 3) (Some (empty_stream 0)) None
+          (λ t is. let c : empty_stream 0 ≡ x = cc in subst IsRising c (λ i j e f l at next. absurd cc)) (λ t is. absurd cc);
       asked = λ server to body c. absurd (nothing_in _ c);
       called = λ p c. absurd (nothing_in p c);
       read = λ from server q e groups c. absurd (nothing_in _ c);
@@ -118,6 +123,7 @@ stream_call_number (OpenStreams r g q) t = refl
 stream_call_number (Confirm r g q) t = refl
 stream_call_number (Extend s g l p q) t = refl
 stream_call_number (Trim r g n k q) t = refl
+stream_call_number (MultiModify list q) t = refl
 stream_call_number b t = absurd cc
 
 stream_request_number : (b : StreamBody) → is_request (bodies.Stream b) ≡ true → stream_meant b ≡ None
@@ -159,6 +165,7 @@ module _ (generation : ℕ → ℕ) (name : StreamName) (s : MachineState Group)
         ground = a.ground;
         holds = sent_holds w (p ∷ []) a.ground a.holds (fine, tt);
         shaped = a.shaped;
+        rising = a.rising;
         asked = λ server who b c. asked_on name generation w s v s ahead sent b (elim (contains_pushed w.post p (packet (Server server) who b) c) [
           | inl old ↦ a.asked server who b old
           | inr new ↦
@@ -224,6 +231,7 @@ module _ (generation : ℕ → ℕ) (name : StreamName) (s : MachineState Group)
         ground = a.ground;
         holds = shown_holds w note t a.ground a.holds;
         shaped = a.shaped;
+        rising = a.rising;
         asked = λ server who b c. asked_on name generation w s v s ahead sent b (a.asked server who b c);
         called = a.called;
         read = a.read;

@@ -11,7 +11,7 @@ use Rattle.wire.specs.declared.body.CheckBody.TheVariants.{Check, Checked as Che
 use Rattle.wire.specs.declared.body.ReadBody.TheVariants.{ReadAt, ReadGroups, Groups}
 use Rattle.wire.specs.declared.body.SealBody.TheVariants.{SealExtent}
 use Rattle.wire.specs.declared.body.StreamBody.{StreamBody}
-use Rattle.wire.specs.declared.body.StreamBody.TheVariants.{CreateStream, OpenStreams, Opened, Confirm, Confirmed, Extend, Extended, Trim}
+use Rattle.wire.specs.declared.body.StreamBody.TheVariants.{CreateStream, OpenStreams, Opened, Confirm, Confirmed, Extend, Extended, Trim, MultiModify}
 use Rattle.wire.specs.declared.body.Body.{Body}
 use Rattle.wire.specs.declared.body.Body.TheVariants as bodies
 use Rattle.wire.specs.declared.note.Note.{Note}
@@ -19,12 +19,13 @@ use Rattle.wire.specs.declared.packet.Packet.{Packet}
 use Rattle.wire.specs.declared.streams.StreamList.{StreamList}
 use Rattle.wire.specs.declared.streams.StreamName.{StreamName}
 use Rattle.replica.specs.Groups.{Group, text_length}
-use Rattle.streams.specs.Streams.{stream_of}
+use Rattle.streams.specs.Streams.{Stream, stream_of}
 use Rattle.model_streams.specs.Actors.{generation_of}
 use Rattle.model_streams.specs.Manager.{Catalog, sealed_lengths}
 use Rattle.model_streams.specs.Node.{Replica}
 use Rattle.model_streams.specs.Outcome.{packet}
 use Rattle.model_streams.specs.StreamSystem.{StreamSystem, is_server_call}
+use Rattle.laws_streams.specs.Listings.{IsRising}
 use Rattle.laws_streams.specs.Origins.{Origin, Begins}
 use Rattle.laws_streams.proofs.Lists.{begins_refl, begins_trans, get_left}
 use Rattle.laws_streams.proofs.Ground.{Ground}
@@ -34,7 +35,7 @@ use Rattle.laws_streams.proofs.NodeAnswers as node
 use Rattle.laws_streams.proofs.ManagerAnswers as manager
 use Rattle.laws_streams.proofs.DecisionAnswers as decision
 use Rattle.model_partition.specs.StreamMachine as machine
-use Rattle.laws_stream_machine.specs.Refinement.{Purpose, Opens, Checks, Confirms, Appends, Extends, Sent, purpose_of, extents_of, extents_in, IsAt, last_known, known_of, AsksToOpen, AsksToConfirm, AsksToExtend, AsksToCheck, AsksToAppend, AsksToRead, AsksToSeal, OfExtent, OfStream, IsAsked, Tells, list_of, AppendMeans, CheckMeans, StreamMeans, purpose_if, stream_meant}
+use Rattle.laws_stream_machine.specs.Refinement.{Purpose, Opens, Checks, Confirms, Appends, Extends, Sent, purpose_of, extents_of, extents_in, IsAt, IsThere, last_known, known_of, AsksToOpen, AsksToConfirm, AsksToExtend, AsksToCheck, AsksToAppend, AsksToRead, AsksToSeal, OfExtent, OfStream, IsAsked, Tells, list_of, AppendMeans, CheckMeans, StreamMeans, purpose_if, stream_meant}
 use Rattle.laws_stream_machine.proofs.MachineCore.{get_same}
 use Rattle.laws_stream_machine.proofs.StepSequences.{Onward}
 
@@ -72,6 +73,7 @@ manager_calls_not b taken to (bodies.Stream (OpenStreams r g q)) tells t = tells
 manager_calls_not b taken to (bodies.Stream (Confirm r g q)) tells t = tells
 manager_calls_not b taken to (bodies.Stream (Extend s g l p q)) tells t = tells
 manager_calls_not b taken to (bodies.Stream (Trim r g n k q)) tells t = tells
+manager_calls_not b taken to (bodies.Stream (MultiModify list q)) tells t = tells
 manager_calls_not b taken to body tells t = cc
 
 pub decision_calls_not : (b : Catalog) (e : ℕ) (after : Catalog) (to : ActorId) (body : Body) → decision.BodyTells b e after to body → is_server_call body ≡ true → ⊥
@@ -141,6 +143,10 @@ unmoved_appended post g h same a e k from is = a e k from (subst (λ z. slice_ge
 
 -- ---- from one stream system and state to a later one
 
+-- where the stream is there its list rises
+abbrev pub Rises : StreamName → StreamSystem → Type 0
+Rises name w = (x : Stream) → stream_of w.catalog.stream name ≡ Some x → IsRising x
+
 module _ (name : StreamName) where
   pub record Ahead (w : StreamSystem) (s : machine.MachineState Group) (v : StreamSystem) (t : machine.MachineState Group) : Type 0 where
     pub begins : Begins (extents_in w name) (extents_in v name)
@@ -149,6 +155,9 @@ module _ (name : StreamName) where
     pub made : (e : ℕ) → (w.catalog.extent e ≡ None → ⊥) → v.catalog.extent e ≡ None → ⊥
     -- what is not sealed was not sealed before
     pub unsealed : (e : ℕ) → (w.catalog.extent e ≡ None → ⊥) → sealed_lengths v.catalog e ≡ None → sealed_lengths w.catalog e ≡ None
+    -- it stays there, and its list goes on rising
+    pub there : IsThere w name → IsThere v name
+    pub rising : Rises name w → Rises name v
     pub onward : Onward s t
 
   -- the catalog is the same
@@ -158,6 +167,8 @@ module _ (name : StreamName) where
     back = λ index e made at. subst (λ (b : Catalog). slice_get (extents_of (stream_of b.stream name)) index ≡ Some e) same at;
     made = λ e made none. made (ap (λ (b : Catalog). b.extent e) (sym same) ∙ none);
     unsealed = λ e made none. ap (λ (b : Catalog). sealed_lengths b e) (sym same) ∙ none;
+    there = λ x. (x.0, ap (λ (b : Catalog). stream_of b.stream name) same ∙ x.1);
+    rising = λ old x is. old x (ap (λ (b : Catalog). stream_of b.stream name) (sym same) ∙ is);
     onward = onward;
   }
 
@@ -210,6 +221,7 @@ module _ (name : StreamName) where
           last_is = y.last_is ∙ sym (last_stays (extents_in w name) a.begins.rest y.n y.known) ∙ ap (λ xs. last_known xs y.n) (sym a.begins.is);
           fact = a.onward.facts _ y.fact;
         }) x
+    asked_on (bodies.Stream (MultiModify list q)) x = λ m among same. a.there (x m among same)
     asked_on body x = tt
 
     -- ---- answers

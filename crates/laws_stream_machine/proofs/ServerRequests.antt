@@ -12,7 +12,7 @@ use Rattle.wire.specs.declared.body.CheckBody.TheVariants.{Check, Checked as Che
 use Rattle.wire.specs.declared.body.ReadBody.TheVariants.{ReadGroups}
 use Rattle.wire.specs.declared.body.SealBody.TheVariants.{SealExtent}
 use Rattle.wire.specs.declared.body.StreamBody.{StreamBody}
-use Rattle.wire.specs.declared.body.StreamBody.TheVariants.{OpenStreams, Opened, Confirm, Confirmed, Extend, Extended}
+use Rattle.wire.specs.declared.body.StreamBody.TheVariants.{OpenStreams, Opened, Confirm, Confirmed, Extend, Extended, MultiModify}
 use Rattle.wire.specs.declared.body.Body.{Body}
 use Rattle.wire.specs.declared.body.Body.TheVariants as bodies
 use Rattle.wire.specs.declared.packet.Packet.{Packet}
@@ -146,6 +146,7 @@ upper_follows generation name w s t sent u a =
       ground = a.ground;
       holds = a.holds;
       shaped = upper_shaped (stream_of w.catalog.stream name) a.ground s t sent u a.shaped;
+      rising = a.rising;
       asked = λ server to body c. asked_on name generation w s w t ahead sent body (a.asked server to body c);
       called = a.called;
       read = a.read;
@@ -232,6 +233,7 @@ module _ (generation : ℕ → ℕ) (name : StreamName) (w : StreamSystem) (s : 
   more_asked (bodies.Stream (Extend stream g last pick q)) same a =
       of_stream (stream ≡ name) q (same q refl) (AsksToExtend generation name w s sent g last q) (AsksToExtend generation name w s (x ∷ sent) g last q)
       (λ y. record { i = y.i; n = y.n; for = same q refl ∙ y.for; under = y.under; known = y.known; last_is = y.last_is; fact = y.fact }) a
+  more_asked (bodies.Stream (MultiModify list q)) same a = a
   more_asked body same a = tt
 
   more_append : (z : Option Purpose) (b : AppendBody) → AppendMeans generation name w s sent z b → AppendMeans generation name w s (x ∷ sent) z b
@@ -278,6 +280,7 @@ module _ (generation : ℕ → ℕ) (name : StreamName) (w : StreamSystem) (s : 
         ground = a.ground;
         holds = a.holds;
         shaped = more_shaped (stream_of w.catalog.stream name) a.ground (none_under unused a) a.shaped;
+        rising = a.rising;
         asked = λ server to body c. more_asked body (λ q is. other_purpose q (unused (packet (Server server) to body) c server q (inl (refl, is)))) (a.asked server to body c);
         called = a.called;
         read = a.read;

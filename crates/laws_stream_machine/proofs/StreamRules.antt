@@ -13,26 +13,28 @@ use Rattle.wire.specs.declared.body.Body.TheVariants as bodies
 use Rattle.wire.specs.declared.packet.Packet.{Packet}
 use Rattle.wire.specs.declared.refusal.Refusal.{Refusal}
 use Rattle.wire.specs.declared.refusal.Refusal.TheVariants.{Stale, BadPick}
+use Rattle.wire.specs.declared.streams.Modify.{Modify}
 use Rattle.wire.specs.declared.streams.StreamExtent.{StreamExtent}
 use Rattle.wire.specs.declared.streams.StreamKind.{StreamKind}
 use Rattle.wire.specs.declared.streams.StreamKind.TheVariants as kinds
 use Rattle.wire.specs.declared.streams.StreamList.{StreamList}
 use Rattle.wire.specs.declared.streams.StreamName.{StreamName}
 use Rattle.replica.specs.Groups.{Group}
-use Rattle.streams.specs.Streams.{Stream, Streams, base_of, whole, stream_of, kind_number, empty_stream, created, opened as opened_at, fenced_at, all_pass, passes, extending, last_of, longer, extended_if, shorter, trimmed, trimming}
+use Rattle.streams.specs.Streams.{Stream, Streams, base_of, whole, stream_of, kind_number, empty_stream, created, opened as opened_at, fenced_at, all_pass, passes, extending, last_of, longer, extended_if, shorter, joined, built, modified, trimmed, trimming}
 use Rattle.model_streams.specs.declared.extent.Extent.{Extent}
 use Rattle.model_streams.specs.Actors.{is_user, generation_of}
-use Rattle.model_streams.specs.Manager.{Catalog, told_stream, told_streams, open_tests, open_refusal, open_taken, confirm_tests, confirm_refusal, answer, create_tests, create_refusal, create_taken, trim_answered, trim_rule, no_users, open_rule, confirm_rule, stream_body_rule, seal_body_rule, manager_rule, is_foreign, is_pick, new_extent, sealed_in, sealed_lengths, extend_made, last_told, extend_answered, extend_rule}
-use Rattle.model_streams.specs.Outcome.{Outcome, silent, refused, or_refused}
+use Rattle.model_streams.specs.Manager.{Catalog, told_stream, told_streams, open_tests, open_refusal, open_taken, confirm_tests, confirm_refusal, answer, create_tests, create_refusal, create_taken, trim_answered, trim_rule, modify_refusal, modify_taken, modify_rule, open_rule, confirm_rule, stream_body_rule, seal_body_rule, manager_rule, is_foreign, is_pick, new_extent, sealed_in, sealed_lengths, extend_made, last_told, extend_answered, extend_rule}
+use Rattle.model_streams.specs.Outcome.{Outcome, refused, or_refused}
 use Rattle.model_streams.specs.StreamSystem.{StreamSystem, after_manager_rule, is_server_call}
 use Rattle.model_streams.proofs.Tests.{if_elim, none_met}
 use Rattle.laws_streams.specs.Answers.{MayGrow}
-use Rattle.laws_streams.specs.Listings.{Listed}
+use Rattle.laws_streams.specs.Listings.{Listed, IsRising}
+use Rattle.laws_streams.proofs.BuildRequests.{ServersAsk}
+use Rattle.laws_streams.proofs.BuildTests.{modified_keeps, builds_of}
 use Rattle.laws_streams.proofs.Choices.{Each, changed-same, changed-other}
 use Rattle.laws_streams.proofs.Lists.{get_left, get_next}
 use Rattle.laws_streams.proofs.WholeLists.{whole_get, whole_last, whole_longer}
-use Rattle.laws_streams.proofs.TrimTests.{Trims, trims, shorter_whole}
-use Rattle.laws_streams.proofs.ListRules.{trimmed_elim}
+use Rattle.laws_streams.proofs.TrimTests.{Trims, trims, trimmed_elim, shorter_whole}
 use Rattle.laws_streams.proofs.KeptStreams.{seal_same}
 use Rattle.laws_streams.proofs.Ground.{Ground}
 use Rattle.laws_streams.proofs.RestsOnGround.{places_of, sealed_of, FineCatalog}
@@ -78,12 +80,17 @@ known_index es (suc index) e is =
     let z : (suc index == 0) ≡ false = unequal (suc index) 0 (λ c. omega (arith, c)) in
     (index, refl, subst (λ i. slice_get es i ≡ Some e) e1 (subst (λ c. (if c then None else slice_get es (suc index - 1)) ≡ Some e) z is))
 
--- no extent stands twice in a list
-pub same_index : (b : Catalog) (name : StreamName) (x : Stream) → name.kind ≢ kinds.BlobData → Listed b name x → (i j e : ℕ) → slice_get (whole x) i ≡ Some e → slice_get (whole x) j ≡ Some e → i ≡ j
-same_index b name x plain listed i j e at there = elim (cases_lt i j) [
-  | inl below ↦ let m = listed.rising plain i j e e below at there in absurd (omega (arith, m))
+-- the manager's list of the stream, and its order
+pub record IsListed (w : StreamSystem) (name : StreamName) : Type 0 where
+  pub listed : (x : Stream) → stream_of w.catalog.stream name ≡ Some x → Listed w.catalog name x
+  pub rising : (x : Stream) → stream_of w.catalog.stream name ≡ Some x → IsRising x
+
+-- no extent stands twice in a list that rises
+pub same_index : (x : Stream) → IsRising x → (i j e : ℕ) → slice_get (whole x) i ≡ Some e → slice_get (whole x) j ≡ Some e → i ≡ j
+same_index x rising i j e at there = elim (cases_lt i j) [
+  | inl below ↦ let m = rising i j e e below at there in absurd (omega (arith, m))
   | inr le ↦ elim (cases_lt j i) [
-    | inl below ↦ let m = listed.rising plain j i e e below there at in absurd (omega (arith, m))
+    | inl below ↦ let m = rising j i e e below there at in absurd (omega (arith, m))
     | inr ge ↦ omega (arith, le, ge)
   ]
 ]
@@ -223,7 +230,7 @@ module _ (generation : ℕ → ℕ) (name : StreamName) (sent : List Sent) where
   }
 
   module _ (w : StreamSystem) (before : MachineState Group) (asked : AllAsked generation name w before sent) (called : (p : Packet) → Contains w.post p → Called p) (lawful : Lawful Group generation before)
-      (listed : (x : Stream) → stream_of w.catalog.stream name ≡ Some x → Listed w.catalog name x) (g : Ground) (s : MachineState Group) (on : Onward before s)
+      (list : IsListed w name) (from_servers : ServersAsk w.post) (g : Ground) (s : MachineState Group) (on : Onward before s)
       (shaped : Shaped (stream_of w.catalog.stream name) g s sent) (unmade : (e : ℕ) → w.catalog.extent e ≡ None → g.script e ≡ []) (fresh : w.catalog.extent (suc w.catalog.count) ≡ None)
       (p : Packet) (stood : Contains w.post p) (to : p.to ≡ Manager) where
     abbrev b : Catalog
@@ -346,11 +353,11 @@ module _ (generation : ℕ → ℕ) (name : StreamName) (sent : List Sent) where
         means : (i : ℕ) (x : Stream) → stream_of b.stream name ≡ Some x → (v : StreamSystem) (t : MachineState Group) → In (machine.Opened i (count s.core)) t.facts → extents_in v name ≡ whole x →
             Shaped (Some (record x { fence = k })) g t sent → StreamMeans generation name v t sent (Some (Opens i)) (Opened q (told_streams b range))
         means i x there v t fact same shape =
-            let list = listed x there in
+            let own = list.listed x there in
             let counted : count s.core ≡ known_of (told_stream b.extent (Some x)) =
-            omega (arith, told_count b x list, (subst (λ z. Shaped z g s sent) there shaped).settled.counts) in
+            omega (arith, told_count b x own, (subst (λ z. Shaped z g s sent) there shaped).settled.counts) in
             let first : In (machine.Opened i (known_of (told_stream b.extent (Some x)))) t.facts × Tells generation name v t sent (told_stream b.extent (Some x)) =
-            (subst (λ n. In (machine.Opened i n) t.facts) counted fact, opened_tells v b x (Some (record x { fence = k })) g t list catalog same refl shape) in
+            (subst (λ n. In (machine.Opened i n) t.facts) counted fact, opened_tells v b x (Some (record x { fence = k })) g t own catalog same refl shape) in
             let path : list_of generation name v t sent name.kind (told_streams b range) ≡ told_stream b.extent (Some x) =
             ap (λ r. list_of generation name v t sent name.kind (told_streams b r)) here ∙ list_is v t b ∙ ap (told_stream b.extent) there in
             subst (λ (l : StreamList). In (machine.Opened i (known_of l)) t.facts × Tells generation name v t sent l) (sym path) first
@@ -420,7 +427,7 @@ module _ (generation : ℕ → ℕ) (name : StreamName) (sent : List Sent) where
         last_is = asks.last_is ∙ ap (λ z. last_known (extents_of z) asks.n) there
 
         last_whole : last_of (whole x) ≡ last_of x.extents
-        last_whole = whole_last x (listed x there).ends
+        last_whole = whole_last x (list.listed x there).ends
 
         abbrev extend_fact : ℕ → MachineState Group
         extend_fact m = record s { facts = machine.Extended asks.i asks.n m ∷ s.facts }
@@ -515,10 +522,10 @@ module _ (generation : ℕ → ℕ) (name : StreamName) (sent : List Sent) where
                 none_open (omega (arith, zero_is)) (let m = known_is in omega (arith, m, zero_is))
             | inr (e, end, named, (l, sealed)) ↦
                 let (index, at, suc_is) = last_index (whole x) e (last_whole ∙ end) in
-                let list = listed x there in
+                let own = list.listed x there in
                 let known = known_index (whole x) asks.n e (sym last_is ∙ named) in
-                let same : known.0 ≡ index = same_index b name x plain list known.0 index e known.2 at in
-                let shut = (sealed_or_last (Some x) g s sent now_shaped index e at).sealed l (sealed_here e l (list.there index e at) sealed) in
+                let same : known.0 ≡ index = same_index x (list.rising x there) known.0 index e known.2 at in
+                let shut = (sealed_or_last (Some x) g s sent now_shaped index e at).sealed l (sealed_here e l (own.there index e at) sealed) in
                 let within = shut_within index s.core.shut shut.0 shut.1 in
                 none_open (omega (arith, within, suc_is)) (omega (arith, known.1, same, suc_is))
           ]
@@ -637,7 +644,7 @@ module _ (generation : ℕ → ℕ) (name : StreamName) (sent : List Sent) where
     -- what leaves the log stays in its whole list
     trimmed_shape : name.kind ≢ kinds.BlobData → (range k index : ℕ) (to_blob : Bool) → Trims b.stream range k index → Shaped (stream_of (trimmed b.stream range index to_blob) name) g s sent
     trimmed_shape plain range k index to_blob t =
-        trimmed_elim b range k index to_blob t (λ o. Shaped o g s sent) name
+        trimmed_elim b.stream range k index to_blob t (λ o. Shaped o g s sent) name
         (λ is. absurd (plain (ap (λ (u : StreamName). u.kind) is)))
         (λ is. same_shape t.log (shorter index t.log) g s sent (shorter_whole index t.log) refl (subst (λ o. Shaped o g s sent) (ap (stream_of b.stream) is ∙ t.log_is) shaped))
         shaped
@@ -695,8 +702,26 @@ module _ (generation : ℕ → ℕ) (name : StreamName) (sent : List Sent) where
             (λ t. by_stream (stream_of b.stream other)) (λ t. refl)
         by_end (Ok (Some e)) = by_extent e (b.extent e)
 
-    no_users_same : (q : ReqNo) → stream_of (no_users b p q).after.stream name ≡ stream_of b.stream name
-    no_users_same q = if_elim (λ (o : Outcome Catalog). stream_of o.after.stream name ≡ stream_of b.stream name) (is_user p.from) (refused b Manager p q Stale) (silent b) (λ t. refl) (λ t. refl)
+    -- ---- streams that are built, none of which is this one where it is not there yet
+
+    not_built : (list : List Modify) (streams : Streams) → ((m : Modify) → Contains list m → m.stream ≡ name → ⊥) → stream_of (modified streams list) name ≡ stream_of streams name
+    not_built [] streams apart = refl
+    not_built (m ∷ list) streams apart =
+        not_built list (built streams m) (λ n among. let (k, below, is) = among in apart n (suc k, omega (arith, below), is))
+        ∙ with_other streams m.stream name (joined streams m.sources) (apart m (0, omega arith, refl))
+
+    modify_same : (list : List Modify) (q : ReqNo) → p.body ≡ bodies.Stream (MultiModify list q) → (x : Option Refusal) → modify_refusal b p list ≡ x →
+        stream_of (or_refused b Manager p q x (modify_taken b p list q)).after.stream name ≡ stream_of b.stream name
+    modify_same list q is (Some refusal) none = refl
+    modify_same list q is None none = by_stream (stream_of b.stream name) refl
+      where
+        by_stream : (o : Option Stream) → stream_of b.stream name ≡ o → stream_of (modified b.stream list) name ≡ stream_of b.stream name
+        by_stream None absent =
+            let ((server, from), kinds) = from_servers p list q stood is in
+            not_built list b.stream (λ m among same.
+            let (x, there) = asked_for server (bodies.Stream (MultiModify list q)) from is m among same in
+            let c : None ≡ Some x = sym absent ∙ there in cc)
+        by_stream (Some x) there = modified_keeps (sealed_lengths b) list b.stream (builds_of b p list none).1 name x there ∙ sym there
 
     not_stream : (body : StreamBody) → p.body ≡ bodies.Stream body → ((r j : ℕ) (v : ReqNo) → body ≡ OpenStreams r j v → ⊥) → ((r j : ℕ) (v : ReqNo) → body ≡ Confirm r j v → ⊥) →
         ((o : StreamName) (j : ℕ) (l : Option ℕ) (r : Nodes) (v : ReqNo) → body ≡ Extend o j l r v → ⊥) → Elsewhere
@@ -747,7 +772,7 @@ module _ (generation : ℕ → ℕ) (name : StreamName) (sent : List Sent) where
             }) (extend_rule b p other (generation_of p.from k) last pick q) tells (extended_elsewhere other apart (generation_of p.from k) last pick q)
     stream_walk own plain (Trim range k index to_blob q) is tells catalog = trim_walk plain range k index to_blob q
     stream_walk own plain (MultiModify list q) is tells catalog =
-        quiet_walk (not_stream (MultiModify list q) is (λ r j w' at. cc) (λ r j w' at. cc) (λ o j l r w' at. cc)) (no_users b p q) tells (no_users_same q)
+        quiet_walk (not_stream (MultiModify list q) is (λ r j w' at. cc) (λ r j w' at. cc) (λ o j l r w' at. cc)) (modify_rule b p list q) tells (modify_same list q is (modify_refusal b p list) refl)
     stream_walk own plain body is tells catalog = stand generation s _ (shaped, tt)
 
     pub rule_walk : 1 ≤ name.range → name.kind ≢ kinds.BlobData → (body : Body) → p.body ≡ body → FineCatalog g (manager_rule b p body).after → RuleWalk (manager_rule b p body)

@@ -13,9 +13,10 @@ use Rattle.wire.specs.declared.body.ReadBody.TheVariants.{ReadGroups, Groups}
 use Rattle.wire.specs.declared.body.SealBody.{SealBody}
 use Rattle.wire.specs.declared.body.SealBody.TheVariants.{SealExtent, SealedIs}
 use Rattle.wire.specs.declared.body.StreamBody.{StreamBody}
-use Rattle.wire.specs.declared.body.StreamBody.TheVariants.{OpenStreams, Opened, Confirm, Confirmed, Extend, Extended}
+use Rattle.wire.specs.declared.body.StreamBody.TheVariants.{OpenStreams, Opened, Confirm, Confirmed, Extend, Extended, MultiModify}
 use Rattle.wire.specs.declared.body.Body.{Body}
 use Rattle.wire.specs.declared.body.Body.TheVariants as bodies
+use Rattle.wire.specs.declared.streams.Modify.{Modify}
 use Rattle.wire.specs.declared.streams.StreamExtent.{StreamExtent}
 use Rattle.wire.specs.declared.streams.StreamKind.{StreamKind}
 use Rattle.wire.specs.declared.streams.StreamKind.TheVariants as kinds
@@ -68,6 +69,10 @@ extents_in w name = extents_of (stream_of w.catalog.stream name)
 -- the extent of an index
 abbrev pub IsAt : StreamSystem → StreamName → ℕ → ℕ → Type 0
 IsAt w name index e = slice_get (extents_in w name) index ≡ Some e
+
+-- there is the stream
+abbrev pub IsThere : StreamSystem → StreamName → Type 0
+IsThere w name = (x : Stream) × (stream_of w.catalog.stream name ≡ Some x)
 
 -- the same of an extent that is not sealed
 abbrev pub IsUnsealedAt : StreamSystem → StreamName → ℕ → ℕ → Type 0
@@ -196,6 +201,8 @@ module _ (generation : ℕ → ℕ) (name : StreamName) (w : StreamSystem) (s : 
   StreamAsked (OpenStreams range g q) = OfStream (range ≡ name.range) q (AsksToOpen g q)
   StreamAsked (Confirm range g q) = OfStream (range ≡ name.range) q (AsksToConfirm g q)
   StreamAsked (Extend stream g last pick q) = OfStream (stream ≡ name) q (AsksToExtend g last q)
+  -- none of these is this stream, unless it is there already
+  StreamAsked (MultiModify list q) = (m : Modify) → Contains list m → m.stream ≡ name → IsThere w name
   StreamAsked body = Unit {0}
 
   -- what a server asks, under a number, is what this number is for

@@ -21,7 +21,7 @@ use Rattle.model_streams.specs.declared.extent.Asker.{Asker}
 use Rattle.model_streams.specs.declared.extent.Extent.{Extent}
 use Rattle.model_streams.specs.declared.extent.PlaceReport.{PlaceReport}
 use Rattle.model_streams.specs.Actors.{is_node, is_user, generation_of}
-use Rattle.model_streams.specs.Manager.{Catalog, is_there, forgotten_if, catalog_stopped, new_extent, with_extent, extended, create_refusal, create_taken, open_refusal, open_taken, confirm_refusal, answer, is_foreign, is_pick, sealed_lengths, extend_made, last_told, extend_answered, extend_rule, trim_answered, trim_rule, no_users, seal_asked, seal_extent_rule, with_report, noted, frozen_to, frozen_rule, known_sealed, is_sealed_rule, place_of, first_sealed, asks_tail, short_rule, decided_if, least_told, decide_rule, stream_body_rule, seal_body_rule, manager_rule, reminders}
+use Rattle.model_streams.specs.Manager.{Catalog, is_there, forgotten_if, catalog_stopped, new_extent, with_extent, extended, create_refusal, create_taken, open_refusal, open_taken, confirm_refusal, answer, is_foreign, is_pick, sealed_lengths, extend_made, last_told, extend_answered, extend_rule, trim_answered, trim_rule, modify_refusal, modify_taken, seal_asked, seal_extent_rule, with_report, noted, frozen_to, frozen_rule, known_sealed, is_sealed_rule, place_of, first_sealed, asks_tail, short_rule, decided_if, least_told, decide_rule, stream_body_rule, seal_body_rule, manager_rule, reminders}
 use Rattle.model_streams.specs.Node.{extent_of, node_rule}
 use Rattle.model_streams.specs.Outcome.{Outcome, packet, silent, sends, refused, or_refused}
 use Rattle.model_streams.specs.StreamSystem.{StreamSystem, stops_in, stands_in, node_halted, node_performs, manager_halted, manager_performs, delivered, delivered_if, is_request, node_stops, manager_stops, stop, is_present, restart, happens, is_server_call, is_told, is_table_note, start, Move, moved, run_moves}
@@ -94,17 +94,13 @@ module _ (p : Packet) (b : Catalog) where
       by_answer (Ok false) = same_askers
       by_answer (Ok true) = same_askers
 
-  no_users_askers : (q : ReqNo) → Askers p b (no_users b p q).after
-  no_users_askers q =
-      if_elim (λ (o : Outcome Catalog). Askers p b o.after) (is_user p.from) (refused b Manager p q Stale) (silent b) (λ t. same_askers) (λ t. same_askers)
-
   stream_askers : (body : StreamBody) → Askers p b (stream_body_rule b p body).after
   stream_askers (CreateStream s fence q) = unless_askers q (create_refusal b p s) (create_taken b p s (generation_of p.from fence) q) same_askers
   stream_askers (OpenStreams range generation q) = unless_askers q (open_refusal b p range generation) (open_taken b p range generation q) same_askers
   stream_askers (Confirm range generation q) = unless_askers q (confirm_refusal b p range generation) (answer b p (Confirmed q)) same_askers
   stream_askers (Extend s generation last pick q) = extend_askers s (generation_of p.from generation) last pick q
   stream_askers (Trim range generation before to_blob q) = trim_askers range generation before to_blob q
-  stream_askers (MultiModify list q) = no_users_askers q
+  stream_askers (MultiModify list q) = unless_askers q (modify_refusal b p list) (modify_taken b p list q) same_askers
   stream_askers body = same_askers
 
   reported_askers : (e : ℕ) (from : ActorId) (news : PlaceReport → PlaceReport) (x : Extent) → b.extent e ≡ Some x →

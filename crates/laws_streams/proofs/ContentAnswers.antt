@@ -147,7 +147,7 @@ module _ (nodes target : ℕ) (before after : List Move) where
 
       read_by : SentIn before first reading → ReadBy before after first ground.script from to q e groups
       read_by a = elim a.sends [
-        | inl x ↦ elim x [ inl t ↦ absurd cc | inr t ↦ elim t [ inl y ↦ absurd cc | inr y ↦ absurd cc ] ]
+        | inl x ↦ elim x [ inl t ↦ absurd cc | inr t ↦ elim t [ inl y ↦ absurd (let c = y.2 in cc) | inr y ↦ absurd cc ] ]
         | inr x ↦ elim x [
           | inl m ↦ by_node m
           | inr y ↦ elim y [
@@ -176,7 +176,7 @@ module _ (nodes target : ℕ) (before after : List Move) where
 
       seen_by : SentIn before first sight → (n : ℕ) × Contains (run_moves before first).notes (Seen e n offset bytes)
       seen_by a = elim a.sends [
-        | inl x ↦ elim x [ inl t ↦ absurd cc | inr t ↦ elim t [ inl y ↦ absurd cc | inr y ↦ absurd cc ] ]
+        | inl x ↦ elim x [ inl t ↦ absurd cc | inr t ↦ elim t [ inl y ↦ absurd (let c = y.2 in cc) | inr y ↦ absurd cc ] ]
         | inr x ↦ elim x [
           | inl m ↦ by_node m
           | inr y ↦ elim y [
@@ -206,7 +206,7 @@ module _ (nodes target : ℕ) (before after : List Move) where
 
       appended_by : SentIn before first answer → AppendedBy before after first ground.script ground.origin from to q e o
       appended_by a = elim a.sends [
-        | inl x ↦ elim x [ inl t ↦ absurd cc | inr t ↦ elim t [ inl y ↦ absurd cc | inr y ↦ absurd cc ] ]
+        | inl x ↦ elim x [ inl t ↦ absurd cc | inr t ↦ elim t [ inl y ↦ absurd (let c = y.2 in cc) | inr y ↦ absurd cc ] ]
         | inr x ↦ elim x [
           | inl m ↦ by_node m
           | inr y ↦ elim y [

@@ -2,6 +2,8 @@ pub mod Lists
 pub mod WholeLists
 pub mod TrimTests
 pub mod Choices
+pub mod StreamNames
+pub mod BuildTests
 pub mod Ground
 pub mod MoreKnown
 pub mod RestsOnGround
@@ -27,6 +29,7 @@ pub mod ManagerAnswers
 pub mod NodeAnswers
 pub mod DecisionAnswers
 pub mod StreamAnswers
+pub mod BuildRequests
 pub mod ListRules
 pub mod KeptStreams
 pub mod TrimmedBases
@@ -39,3 +42,4 @@ pub mod Examples
 pub mod SealedExamples
 pub mod CheckExamples
 pub mod TrimExamples
+pub mod BuildExamples

@@ -1,5 +1,5 @@
 -- Lists of groups that begin one another, and what is shown of a text.
-use Rattle.std.proofs.Common.{◌≡◌, ℕ, zero, suc, ◌+◌, ◌<◌, ◌≤◌, Some, slice_get, List, [], ◌∷◌, ◌++◌, length, get_or, take, drop, refl, sym, ap, subst, ◌∙◌, append_assoc, append-nil, arith, length-append, length-take, length-drop}
+use Rattle.std.proofs.Common.{◌≡◌, ◌⊎◌, inl, inr, ℕ, zero, suc, ◌+◌, ◌<◌, ◌≤◌, Some, slice_get, List, [], ◌∷◌, ◌++◌, length, get_or, take, drop, refl, sym, ap, subst, ◌∙◌, append_assoc, append-nil, arith, length-append, length-take, length-drop}
 use Rattle.std.proofs.lemmas.Grind.{common_steps}
 use Rattle.replica.specs.Groups.{Group, size, text_length}
 use Rattle.replica.proofs.Lengths.{text_length-append}
@@ -38,6 +38,12 @@ pub take_left : {A : Type 0} (xs ys : List A) (i : ℕ) (x : A) → slice_get xs
 take_left [] ys i x is = absurd cc
 take_left (y ∷ xs) ys zero x is = refl
 take_left (y ∷ xs) ys (suc i) x is = ap (λ zs. y ∷ zs) (take_left xs ys i x is)
+
+-- what stands in two lists, one behind the other
+pub get_joined : {A : Type 0} (xs ys : List A) (i : ℕ) (e : A) → slice_get (xs ++ ys) i ≡ Some e → (slice_get xs i ≡ Some e) ⊎ ((j : ℕ) × (slice_get ys j ≡ Some e))
+get_joined [] ys i e is = inr (i, is)
+get_joined (x ∷ xs) ys zero e is = inl is
+get_joined (x ∷ xs) ys (suc i) e is = get_joined xs ys i e is
 
 -- ---- beginnings of scripts
 

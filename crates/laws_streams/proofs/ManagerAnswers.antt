@@ -1,5 +1,5 @@
 -- What each rule of the manager's table sends: an answer to the packet that asked, or to the one who asked for a seal before.
-use Rattle.std.proofs.Common.{◌≡◌, ℕ, suc, Bool, true, false, ◌++◌, Option, Some, None, Result, Ok, Err, refl, sym, subst}
+use Rattle.std.proofs.Common.{◌≡◌, ℕ, suc, Bool, true, false, List, ◌++◌, Option, Some, None, Result, Ok, Err, refl, sym, subst}
 use Rattle.block_types.specs.declared.record.Nodes.{Nodes}
 use Rattle.wire.specs.declared.actor.ActorId.{ActorId}
 use Rattle.wire.specs.declared.actor.ActorId.TheVariants.{Manager}
@@ -17,12 +17,13 @@ use Rattle.wire.specs.declared.body.Body.TheVariants as bodies
 use Rattle.wire.specs.declared.packet.Packet.{Packet}
 use Rattle.wire.specs.declared.refusal.Refusal.{Refusal}
 use Rattle.wire.specs.declared.refusal.Refusal.TheVariants.{Stale, BadPick}
+use Rattle.wire.specs.declared.streams.Modify.{Modify}
 use Rattle.wire.specs.declared.streams.StreamLists.{StreamLists}
 use Rattle.wire.specs.declared.streams.StreamName.{StreamName}
 use Rattle.streams.specs.Streams.{stream_of, extending, trimming}
 use Rattle.model_streams.specs.declared.extent.Extent.{Extent}
 use Rattle.model_streams.specs.Actors.{is_user, generation_of}
-use Rattle.model_streams.specs.Manager.{Catalog, each_place, create_refusal, create_taken, told_streams, open_refusal, open_taken, confirm_refusal, answer, is_foreign, is_pick, sealed_lengths, extend_made, last_told, extend_answered, extend_rule, trim_answered, trim_rule, no_users, closes, reminders, told_sealed, seal_asked, seal_extent_rule, with_report, noted, frozen_to, frozen_rule, known_sealed, is_sealed_rule, place_of, first_sealed, asks_tail, short_rule, stream_body_rule, seal_body_rule, manager_rule, is_there}
+use Rattle.model_streams.specs.Manager.{Catalog, each_place, create_refusal, create_taken, told_streams, open_refusal, open_taken, confirm_refusal, answer, is_foreign, is_pick, sealed_lengths, extend_made, last_told, extend_answered, extend_rule, trim_answered, trim_rule, modify_refusal, modify_taken, closes, reminders, told_sealed, seal_asked, seal_extent_rule, with_report, noted, frozen_to, frozen_rule, known_sealed, is_sealed_rule, place_of, first_sealed, asks_tail, short_rule, stream_body_rule, seal_body_rule, manager_rule, is_there}
 use Rattle.model_streams.specs.Outcome.{Outcome, packet, silent, refused, or_refused}
 use Rattle.model_streams.proofs.Tests.{if_elim}
 use Rattle.laws_streams.proofs.Choices.{Each, each-append}
@@ -79,6 +80,7 @@ StreamTells b taken to (OpenStreams range generation q) = ⊥
 StreamTells b taken to (Confirm range generation q) = ⊥
 StreamTells b taken to (Extend s generation last pick q) = ⊥
 StreamTells b taken to (Trim range generation before to_blob q) = ⊥
+StreamTells b taken to (MultiModify list q) = ⊥
 StreamTells b taken to _ = Unit {0}
 
 abbrev pub SealTells : Catalog → Packet → ActorId → SealBody → Type 0
@@ -103,8 +105,7 @@ BodyTells b taken to (bodies.Stream body) = StreamTells b taken to body
 BodyTells b taken to (bodies.Seal body) = SealTells b taken to body
 BodyTells b taken to (bodies.Append body) = AppendTells body
 BodyTells b taken to (bodies.Read body) = ReadTells body
-BodyTells b taken to (bodies.Check body) = ⊥
-BodyTells b taken to _ = Unit {0}
+BodyTells b taken to _ = ⊥
 
 -- what the manager sends, having taken a packet
 abbrev pub ManagerTells : Catalog → Packet → Packet → Type 0
@@ -181,8 +182,9 @@ module _ (b : Catalog) (p : Packet) where
       by_answer (Ok false) = ((refl, tt), tt)
       by_answer (Ok true) = ((refl, tt), tt)
 
-  no_users_tells : (q : ReqNo) → Tells b p (no_users b p q)
-  no_users_tells q = if_elim (Tells b p) (is_user p.from) (refused b Manager p q Stale) (silent b) (λ t. refused_tells q Stale) (λ t. tt)
+  modify_tells : (list : List Modify) (q : ReqNo) (x : Option Refusal) → Tells b p (or_refused b Manager p q x (modify_taken b p list q))
+  modify_tells list q (Some refusal) = refused_tells q refusal
+  modify_tells list q None = ((refl, tt), tt)
 
   stream_tells : (body : StreamBody) → p.body ≡ bodies.Stream body → Tells b p (stream_body_rule b p body)
   stream_tells (CreateStream s fence q) is = create_tells s (generation_of p.from fence) q (create_refusal b p s)
@@ -190,7 +192,7 @@ module _ (b : Catalog) (p : Packet) where
   stream_tells (Confirm range generation q) is = confirm_tells range generation q is (confirm_refusal b p range generation) refl
   stream_tells (Extend s generation last pick q) is = extend_tells s generation last pick q is
   stream_tells (Trim range generation before to_blob q) is = trim_tells range generation before to_blob q
-  stream_tells (MultiModify list q) is = no_users_tells q
+  stream_tells (MultiModify list q) is = modify_tells list q (modify_refusal b p list)
   stream_tells body is = tt
 
   -- ---- seals

@@ -13,15 +13,16 @@ use Rattle.wire.specs.declared.note.Note.{Note}
 use Rattle.wire.specs.declared.packet.Packet.{Packet}
 use Rattle.wire.specs.declared.refusal.Refusal.{Refusal}
 use Rattle.wire.specs.declared.refusal.Refusal.TheVariants.{Stale, BadPick}
+use Rattle.wire.specs.declared.streams.Modify.{Modify}
 use Rattle.wire.specs.declared.streams.StreamName.{StreamName}
 use Rattle.replica.specs.Groups.{Group}
-use Rattle.streams.specs.Streams.{Streams, stream_of, created, opened, extending, trimmed, trimming}
+use Rattle.streams.specs.Streams.{Streams, stream_of, created, opened, extending, modified, trimmed, trimming}
 use Rattle.model_streams.specs.Actors.{is_user, generation_of}
 use Rattle.model_streams.specs.Maps.{changed}
 use Rattle.model_streams.specs.declared.extent.Extent.{Extent}
 use Rattle.model_streams.specs.declared.manager_record.ManagerRecord.TheVariants as manager_records
-use Rattle.model_streams.specs.Manager.{Catalog, new_extent, writes, answer, with_streams, create_refusal, create_taken, open_refusal, open_taken, confirm_refusal, is_foreign, is_pick, sealed_lengths, extend_made, extend_picked, last_told, extend_answered, extend_rule, trim_answered, trim_rule, no_users, stream_body_rule, seal_body_rule, manager_rule}
-use Rattle.model_streams.specs.Outcome.{silent, refused, or_refused}
+use Rattle.model_streams.specs.Manager.{Catalog, new_extent, writes, answer, with_streams, create_refusal, create_taken, open_refusal, open_taken, confirm_refusal, is_foreign, is_pick, sealed_lengths, extend_made, extend_picked, last_told, extend_answered, extend_rule, trim_answered, trim_rule, modify_refusal, modify_taken, stream_body_rule, seal_body_rule, manager_rule}
+use Rattle.model_streams.specs.Outcome.{refused, or_refused}
 use Rattle.model_streams.proofs.Tests.{if_elim}
 use Rattle.laws_streams.proofs.Lists.{begins_refl}
 use Rattle.laws_streams.proofs.Choices.{changed_elim, changed-same, changed-other, Each}
@@ -177,12 +178,16 @@ module _ (News : ℕ → ℕ → Type 0) (told : List Note) (g : Ground) (b : Ca
       if_elim (Rules News told g) (is_user p.from) (refused b Manager p q Stale) (trim_answered b p range before to_blob q (trimming b.stream range generation before))
       (λ t. refused_rule News told g b sound catalog p q Stale) (λ f. trim_answered_keeps (trimming b.stream range generation before))
 
--- ---- all rules
+-- ---- MultiModify
 
-no_users_keeps : (News : ℕ → ℕ → Type 0) (told : List Note) (g : Ground) (b : Catalog) (p : Packet) (q : ReqNo) → Sound g → FineCatalog g b → Rules News told g (no_users b p q)
-no_users_keeps News told g b p q sound catalog =
-    if_elim (Rules News told g) (is_user p.from) (refused b Manager p q Stale) (silent b)
-    (λ t. refused_rule News told g b sound catalog p q Stale) (λ f. silent_rule News told g b sound catalog)
+modify_keeps : (News : ℕ → ℕ → Type 0) (told : List Note) (g : Ground) (b : Catalog) (p : Packet) (list : List Modify) (q : ReqNo) (x : Option Refusal) →
+    Sound g → FineCatalog g b → Rules News told g (or_refused b Manager p q x (modify_taken b p list q))
+modify_keeps News told g b p list q (Some refusal) sound catalog = refused_rule News told g b sound catalog p q refusal
+modify_keeps News told g b p list q None sound catalog =
+    written_rule News told g (with_streams b (modified b.stream list)) sound (streams_fine g b (modified b.stream list) catalog)
+    (writes (manager_records.MultiModify list)) _ (tt, tt)
+
+-- ---- all rules
 
 stream_body_keeps : (News : ℕ → ℕ → Type 0) (told : List Note) (g : Ground) (b : Catalog) (p : Packet) (body : StreamBody) → Sound g → FineCatalog g b → Rules News told g (stream_body_rule b p body)
 stream_body_keeps News told g b p (CreateStream s fence q) sound catalog = create_keeps News told g b p s (generation_of p.from fence) q (create_refusal b p s) sound catalog
@@ -190,7 +195,7 @@ stream_body_keeps News told g b p (OpenStreams range generation q) sound catalog
 stream_body_keeps News told g b p (Confirm range generation q) sound catalog = confirm_keeps News told g b p q (confirm_refusal b p range generation) sound catalog
 stream_body_keeps News told g b p (Extend s generation last pick q) sound catalog = extend_keeps News told g b sound catalog pick p s (generation_of p.from generation) last q
 stream_body_keeps News told g b p (Trim range generation before to_blob q) sound catalog = trim_keeps News told g b p range before to_blob q sound catalog generation
-stream_body_keeps News told g b p (MultiModify list q) sound catalog = no_users_keeps News told g b p q sound catalog
+stream_body_keeps News told g b p (MultiModify list q) sound catalog = modify_keeps News told g b p list q (modify_refusal b p list) sound catalog
 stream_body_keeps News told g b p body sound catalog = silent_rule News told g b sound catalog
 
 seal_body_keeps : (News : ℕ → ℕ → Type 0) (told : List Note) (g : Ground) (b : Catalog) (p : Packet) (body : SealBody) → Sound g → FineCatalog g b → FineSeal g p.from body →

@@ -101,8 +101,7 @@ BodyTells s k taken notes to (bodies.Append body) = AppendTells s k notes to bod
 BodyTells s k taken notes to (bodies.Read body) = ReadTells s k taken notes to body
 BodyTells s k taken notes to (bodies.Check body) = CheckTells s k taken to body
 BodyTells s k taken notes to (bodies.Seal body) = SealTells body
-BodyTells s k taken notes to (bodies.Stream body) = ⊥
-BodyTells s k taken notes to _ = Unit {0}
+BodyTells s k taken notes to _ = ⊥
 
 -- what node n with replica s of extent k sends, having taken a packet
 abbrev pub NodeTells : ℕ → Option Replica → ℕ → Packet → List Note → Packet → Type 0

@@ -19,9 +19,9 @@ use Rattle.laws_streams.proofs.Choices.{contains_get, contains_pushed}
 
 -- ---- who sends
 
--- a user, a server or the map asks or tells it
-abbrev pub IsSpoken : Body → Type 0
-IsSpoken body = (is_request body ≡ true) ⊎ ((is_server_call body ≡ true) ⊎ (is_told body ≡ true))
+-- a user or a server asks it, or somebody tells what no node takes
+abbrev pub IsSpoken : Packet → Type 0
+IsSpoken p = (is_request p.body ≡ true) ⊎ (((server : ℕ) × (p.from ≡ Server server) × (is_server_call p.body ≡ true)) ⊎ (is_told p.body ≡ true))
 
 -- the rule of a packet that is delivered to a node
 abbrev pub rule_of : StreamSystem → ℕ → Packet → Outcome (Option Replica)
@@ -51,7 +51,7 @@ pub record DecisionSends (w v : StreamSystem) (p : Packet) : Type 0 where
   pub catalog : v.catalog ≡ (decide_rule w.catalog extent (w.catalog.extent extent)).after
 
 abbrev pub Sends : StreamSystem → Move → StreamSystem → Packet → Type 0
-Sends w move v p = IsSpoken p.body ⊎ (NodeSends w move v p ⊎ (ManagerSends w move v p ⊎ DecisionSends w v p))
+Sends w move v p = IsSpoken p ⊎ (NodeSends w move v p ⊎ (ManagerSends w move v p ⊎ DecisionSends w v p))
 
 -- the second stream system has the post and the notes of the first, and whatever else is in its post is sent by the move
 pub record Gains (w : StreamSystem) (move : Move) (v : StreamSystem) : Type 0 where
@@ -72,13 +72,13 @@ same_gains w move v same more notes = record {
 unmoved_gains : (w : StreamSystem) (move : Move) (v : StreamSystem) → v.post ≡ w.post → v.notes ≡ w.notes → Gains w move v
 unmoved_gains w move v same notes = same_gains w move v same [] (notes ∙ sym (append-nil w.notes))
 
-spoken_gains : (w : StreamSystem) (move : Move) (from to : ActorId) (body : Body) → IsSpoken body → Gains w move (sent_more w (packet from to body ∷ []))
+spoken_gains : (w : StreamSystem) (move : Move) (from to : ActorId) (body : Body) → IsSpoken (packet from to body) → Gains w move (sent_more w (packet from to body ∷ []))
 spoken_gains w move from to body spoken = record {
   post = λ p c. Contains-append_left w.post (packet from to body ∷ []) p c;
   notes = λ x c. c;
   sends = λ p c. elim (contains_pushed w.post (packet from to body) p c) [
     | inl a ↦ inl a
-    | inr s ↦ inr (inl (subst (λ (x : Packet). IsSpoken x.body) (sym s) spoken))
+    | inr s ↦ inr (inl (subst IsSpoken (sym s) spoken))
   ];
 }
 
@@ -186,7 +186,7 @@ pub moved_gains : (w : StreamSystem) (move : Move) → Gains w move (moved w mov
 moved_gains w (Happens event) = happens_gains w event
 moved_gains w (Asks server to body) =
     let move = Asks server to body in
-    if_elim (Gains w move) (is_server_call body) _ w (λ t. spoken_gains w move (Server server) to body (inr (inl t))) (λ f. unmoved_gains w move w refl refl)
+    if_elim (Gains w move) (is_server_call body) _ w (λ t. spoken_gains w move (Server server) to body (inr (inl (server, refl, t)))) (λ f. unmoved_gains w move w refl refl)
 moved_gains w (Says from to body) =
     let move = Says from to body in
     if_elim (Gains w move) (is_told body) _ w (λ t. spoken_gains w move from to body (inr (inr t))) (λ f. unmoved_gains w move w refl refl)

@@ -14,6 +14,7 @@ use Rattle.wire.specs.declared.body.Body.TheVariants as bodies
 use Rattle.wire.specs.declared.packet.Packet.{Packet}
 use Rattle.wire.specs.declared.refusal.Refusal.{Refusal}
 use Rattle.wire.specs.declared.refusal.Refusal.TheVariants.{Stale, BadPick}
+use Rattle.wire.specs.declared.streams.Modify.{Modify}
 use Rattle.wire.specs.declared.streams.StreamKind.{StreamKind}
 use Rattle.wire.specs.declared.streams.StreamKind.TheVariants.{Metadata, Log, RowData, BlobData}
 use Rattle.wire.specs.declared.streams.StreamName.{StreamName}
@@ -24,7 +25,7 @@ use Rattle.model_streams.specs.declared.event.Event.TheVariants as events
 use Rattle.model_streams.specs.declared.extent.Extent.{Extent}
 use Rattle.model_streams.specs.declared.extent.PlaceReport.{PlaceReport}
 use Rattle.model_streams.specs.Actors.{is_node, is_user, generation_of}
-use Rattle.model_streams.specs.Manager.{Catalog, is_there, forgotten_if, catalog_stopped, new_extent, with_extent, extended, create_tests, create_refusal, create_taken, open_tests, open_refusal, open_taken, confirm_refusal, answer, is_foreign, is_pick, sealed_lengths, extend_made, last_told, extend_answered, extend_rule, with_streams, trim_answered, trim_rule, no_users, seal_asked, seal_extent_rule, with_report, noted, frozen_to, frozen_rule, known_sealed, is_sealed_rule, place_of, first_sealed, asks_tail, short_rule, decided_if, least_told, decide_rule, stream_body_rule, seal_body_rule, manager_rule, reminders}
+use Rattle.model_streams.specs.Manager.{Catalog, is_there, forgotten_if, catalog_stopped, new_extent, with_extent, extended, create_tests, create_refusal, create_taken, open_tests, open_refusal, open_taken, confirm_refusal, answer, is_foreign, is_pick, sealed_lengths, extend_made, last_told, extend_answered, extend_rule, with_streams, trim_answered, trim_rule, modify_refusal, modify_taken, seal_asked, seal_extent_rule, with_report, noted, frozen_to, frozen_rule, known_sealed, is_sealed_rule, place_of, first_sealed, asks_tail, short_rule, decided_if, least_told, decide_rule, stream_body_rule, seal_body_rule, manager_rule, reminders}
 use Rattle.model_streams.specs.Node.{extent_of, node_rule}
 use Rattle.model_streams.specs.Outcome.{Outcome, silent, sends, refused, or_refused}
 use Rattle.model_streams.specs.StreamSystem.{StreamSystem, stops_in, stands_in, node_halted, node_performs, node_takes, manager_halted, manager_performs, delivered, delivered_if, is_request, node_stops, manager_stops, stop, is_present, restart, happens, is_server_call, is_told, is_table_note, Move, moved, run_moves}
@@ -33,6 +34,7 @@ use Rattle.model_streams.proofs.Tests.{if_elim, none_met}
 use Rattle.laws_streams.specs.Fences.{Risen, FencesRise, MadeWithFences}
 use Rattle.laws_streams.proofs.Choices.{changed_elim}
 use Rattle.laws_streams.proofs.TrimTests.{Trims, trims, kept_in, trimmed_is}
+use Rattle.laws_streams.proofs.BuildTests.{modified_keeps, builds_of}
 
 -- ---- catalogs
 
@@ -231,15 +233,20 @@ trim_onward b p range generation before to_blob q =
     by_answer (Ok false) is = onward_refl b
     by_answer (Ok true) is = trimmed_onward b range generation before to_blob (trims b.stream range generation before is)
 
+-- ---- MultiModify
+
+modify_onward : (b : Catalog) (p : Packet) (list : List Modify) (q : ReqNo) (x : Option Refusal) → modify_refusal b p list ≡ x → Onward b (or_refused b Manager p q x (modify_taken b p list q)).after
+modify_onward b p list q (Some refusal) is = onward_refl b
+modify_onward b p list q None is = record {
+  rises = λ s x there. same_stream _ x (modified_keeps (sealed_lengths b) list b.stream (builds_of b p list is).1 s x there);
+  makes = λ e x none there. absurd cc;
+}
+
 -- ---- the other rules
 
 confirm_onward : (b : Catalog) (p : Packet) (q : ReqNo) (x : Option Refusal) → Onward b (or_refused b Manager p q x (answer b p (Confirmed q))).after
 confirm_onward b p q (Some refusal) = onward_refl b
 confirm_onward b p q None = onward_refl b
-
-no_users_onward : (b : Catalog) (p : Packet) (q : ReqNo) → Onward b (no_users b p q).after
-no_users_onward b p q =
-    if_elim (λ (o : Outcome Catalog). Onward b o.after) (is_user p.from) (refused b Manager p q Stale) (silent b) (λ t. onward_refl b) (λ t. onward_refl b)
 
 stream_onward : (b : Catalog) (p : Packet) (body : StreamBody) → Onward b (stream_body_rule b p body).after
 stream_onward b p (CreateStream s fence q) = create_onward b p s (generation_of p.from fence) q (create_refusal b p s) refl
@@ -247,7 +254,7 @@ stream_onward b p (OpenStreams range generation q) = open_onward b p range gener
 stream_onward b p (Confirm range generation q) = confirm_onward b p q (confirm_refusal b p range generation)
 stream_onward b p (Extend s generation last pick q) = extend_onward b p s (generation_of p.from generation) last pick q
 stream_onward b p (Trim range generation before to_blob q) = trim_onward b p range generation before to_blob q
-stream_onward b p (MultiModify list q) = no_users_onward b p q
+stream_onward b p (MultiModify list q) = modify_onward b p list q (modify_refusal b p list) refl
 stream_onward b p body = onward_refl b
 
 reported_onward : (b : Catalog) (e : ℕ) (from : ActorId) (news : PlaceReport → PlaceReport) (x : Extent) → b.extent e ≡ Some x →

@@ -114,7 +114,7 @@ module _ (nodes target : ℕ) (before after : List Move) (from to : ActorId) (q 
 
   told_by : SentIn before first told → SealTold before after first from to q e l
   told_by a = elim a.sends [
-    | inl x ↦ elim x [ inl t ↦ absurd cc | inr t ↦ elim t [ inl y ↦ absurd cc | inr y ↦ absurd cc ] ]
+    | inl x ↦ elim x [ inl t ↦ absurd cc | inr t ↦ elim t [ inl y ↦ absurd (let c = y.2 in cc) | inr y ↦ absurd cc ] ]
     | inr x ↦ elim x [
       | inl n ↦ absurd (not_nodes (run_moves a.past first) a.move _ n)
       | inr y ↦ elim y [

@@ -166,7 +166,7 @@ module _ (moves : List Move) (w : StreamSystem) (from to : ActorId) (q : ReqNo) 
 
     opened_by : SentIn moves w opened → OpenedBy moves w from to q lists
     opened_by a = elim a.sends [
-      | inl x ↦ elim x [ inl t ↦ absurd cc | inr t ↦ elim t [ inl y ↦ absurd cc | inr y ↦ absurd cc ] ]
+      | inl x ↦ elim x [ inl t ↦ absurd cc | inr t ↦ elim t [ inl y ↦ absurd (let c = y.2 in cc) | inr y ↦ absurd cc ] ]
       | inr x ↦ elim x [
         | inl n ↦ absurd (not_nodes (run_moves a.past w) a.move _ from to (Opened q lists) n)
         | inr y ↦ elim y [
@@ -201,7 +201,7 @@ module _ (moves : List Move) (w : StreamSystem) (from to : ActorId) (q : ReqNo) 
 
   confirmed_by : SentIn moves w confirmed → ConfirmedBy moves w from to q
   confirmed_by a = elim a.sends [
-    | inl x ↦ elim x [ inl t ↦ absurd cc | inr t ↦ elim t [ inl y ↦ absurd cc | inr y ↦ absurd cc ] ]
+    | inl x ↦ elim x [ inl t ↦ absurd cc | inr t ↦ elim t [ inl y ↦ absurd (let c = y.2 in cc) | inr y ↦ absurd cc ] ]
     | inr x ↦ elim x [
       | inl n ↦ absurd (not_nodes (run_moves a.past w) a.move _ from to (Confirmed q) n)
       | inr y ↦ elim y [
@@ -278,7 +278,7 @@ module _ (moves : List Move) (w : StreamSystem) (from to : ActorId) (q : ReqNo) 
 
   extended_by : SentIn moves w told → ExtendedBy moves w from to q e places
   extended_by a = elim a.sends [
-    | inl x ↦ elim x [ inl t ↦ absurd cc | inr t ↦ elim t [ inl y ↦ absurd cc | inr y ↦ absurd cc ] ]
+    | inl x ↦ elim x [ inl t ↦ absurd cc | inr t ↦ elim t [ inl y ↦ absurd (let c = y.2 in cc) | inr y ↦ absurd cc ] ]
     | inr x ↦ elim x [
       | inl n ↦ absurd (not_nodes (run_moves a.past w) a.move _ from to (Extended q e places) n)
       | inr y ↦ elim y [

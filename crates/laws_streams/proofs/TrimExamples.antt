@@ -16,13 +16,13 @@ use Rattle.model_streams.specs.StreamSystem.Move.{Happens, Asks}
 use Rattle.block_types.specs.Limits as tests
 use Rattle.laws_streams.proofs.Examples.{places}
 
-abbrev own : ℕ → ReqNo
+abbrev pub own : ℕ → ReqNo
 own count = numbers.Server 1 1 count
 
 abbrev extends : StreamName → Option ℕ → ℕ → Move
 extends s last count = Asks 1 Manager (bodies.Stream (Extend s 0 last places (own count)))
 
-abbrev come : List ℕ → List Move
+abbrev pub come : List ℕ → List Move
 come [] = []
 come (k ∷ ks) = Happens (Deliver k) ∷ come ks
 

@@ -4,9 +4,11 @@ use Rattle.std.proofs.lemmas.Bool.{eqb-true, ltb-true}
 use Rattle.std.proofs.lemmas.Bool.Decides.{nat_tests}
 use Rattle.std.proofs.lemmas.List.{take-append-drop, length-take-le}
 use Rattle.wire.specs.declared.refusal.Refusal.TheVariants.{Stale, LastOpen}
+use Rattle.wire.specs.declared.streams.StreamName.{StreamName}
 use Rattle.streams.specs.Streams.{Stream, Streams, stream_of, with_stream, base_of, whole, trim_of_log, trim_of, trimming, shorter, leaving, with_extents, log_name, blob_data_name, trimmed_if, trimmed}
 use Rattle.model_streams.proofs.Tests.{if_elim}
 use Rattle.laws_streams.specs.Origins.{Begins}
+use Rattle.laws_streams.proofs.StreamNames.{with_stream_elim}
 use Rattle.laws_streams.proofs.WholeLists.{get_behind}
 
 -- the log and the blob stream of a range are there; the log has the fence, and extents below the index and behind it
@@ -50,6 +52,15 @@ pub trimmed_is : {streams : Streams} {range generation before : ℕ} (to_blob : 
     trimmed streams range before to_blob ≡ with_stream (with_stream streams (log_name range) (shorter before t.log)) (blob_data_name range) (kept_in before to_blob t.log t.blob_data)
 trimmed_is {streams} {range} {generation} {before} to_blob t =
     ap (λ o. trimmed_if streams range before to_blob o (streams range 3)) t.log_is ∙ ap (λ o. trimmed_if streams range before to_blob (Some t.log) o) t.blob_data_is
+
+-- each of the two that change, and the others
+pub trimmed_elim : (streams : Streams) (range generation before : ℕ) (to_blob : Bool) (t : Trims streams range generation before) (P : Option Stream → Type 0) (s : StreamName) →
+    (s ≡ blob_data_name range → P (Some (kept_in before to_blob t.log t.blob_data))) → (s ≡ log_name range → P (Some (shorter before t.log))) → P (stream_of streams s) →
+    P (stream_of (trimmed streams range before to_blob) s)
+trimmed_elim streams range generation before to_blob t P s of_blob of_log other =
+    let log = shorter before t.log in
+    rw (trimmed_is to_blob t) (with_stream_elim P (with_stream streams (log_name range) log) (blob_data_name range) (kept_in before to_blob t.log t.blob_data) s of_blob
+    (with_stream_elim P streams (log_name range) log s of_log other))
 
 -- ---- lists
 

@@ -1,6 +1,6 @@
 -- What an answer says for good: what it answers was asked, under the same number, by the one who is answered; and it tells
 -- what the one who answers had then, which is kept.
-use Rattle.std.specs.Prelude.{◌≡◌, ◌≢◌, ◌⊎◌, ℕ, ◌+◌, ◌≤◌, Bool, true, false, List, ◌∷◌, ◌++◌, take, Option, Some, None, slice_get, Contains}
+use Rattle.std.specs.Prelude.{◌≡◌, ◌≢◌, ◌⊎◌, ℕ, ◌+◌, ◌≤◌, Bool, true, false, List, [], ◌∷◌, ◌++◌, take, Option, Some, None, slice_get, Contains}
 use Rattle.block_types.specs.declared.record.Nodes.{Nodes}
 use Rattle.wire.specs.declared.actor.ActorId.{ActorId}
 use Rattle.wire.specs.declared.actor.ActorId.TheVariants.{Node, Manager}
@@ -8,9 +8,11 @@ use Rattle.wire.specs.declared.actor.ReqNo.{ReqNo}
 use Rattle.wire.specs.declared.body.AppendBody.TheVariants.{Append, Appended}
 use Rattle.wire.specs.declared.body.ReadBody.TheVariants.{ReadGroups, Groups, Bytes}
 use Rattle.wire.specs.declared.body.SealBody.TheVariants.{SealExtent, SealedIs}
-use Rattle.wire.specs.declared.body.StreamBody.TheVariants.{OpenStreams, Opened, Confirm, Confirmed, Extend, Extended, Trim}
+use Rattle.wire.specs.declared.body.StreamBody.TheVariants.{OpenStreams, Opened, Confirm, Confirmed, Extend, Extended, Trim, MultiModify}
 use Rattle.wire.specs.declared.body.Body.TheVariants as bodies
 use Rattle.wire.specs.declared.note.Note.TheVariants.{Acked, SealedAt, Seen}
+use Rattle.wire.specs.declared.streams.Modify.{Modify}
+use Rattle.wire.specs.declared.streams.Source.{Source}
 use Rattle.wire.specs.declared.streams.StreamLists.{StreamLists}
 use Rattle.wire.specs.declared.streams.StreamName.{StreamName}
 use Rattle.replica.specs.Groups.{Group, size, text_length}
@@ -130,10 +132,38 @@ pub record TrimmedBy (moves : List Move) (w : StreamSystem) (range base fence : 
   pub held : generation ≡ log.fence
   pub under : generation ≤ fence
 
--- the base of a log is 0, or was named by such a Trim
+-- one of these moves brought to the manager a MultiModify, by one that is no user, that builds the range's log, and first of all
+-- from the log of this other range, under a generation that is no higher than this fence
+pub record BuiltBy (moves : List Move) (w : StreamSystem) (range source fence : ℕ) : Type 0 where
+  pub from : ActorId
+  pub no_user : is_user from ≡ false
+  pub list : List Modify
+  pub request : ReqNo
+  pub asked : Contains (run_moves moves w).post (packet from Manager (bodies.Stream (MultiModify list request)))
+  pub past : List Move
+  pub building : Move
+  pub rest : List Move
+  pub split : moves ≡ past ++ building ∷ rest
+  pub reaches : Reaches (run_moves past w) building (packet from Manager (bodies.Stream (MultiModify list request)))
+  pub entry : Modify
+  pub among : Contains list entry
+  pub name : entry.stream ≡ log_name range
+  pub generation : ℕ
+  pub others : List Source
+  pub sources : entry.sources ≡ record { stream = log_name source; generation = generation } ∷ others
+  pub under : generation ≤ fence
+
+-- The base was named by such a Trim of the range's log; or, by the time that this one was built, of the log that it was built from;
+-- and so on. These are the ranges of the logs on the way.
+abbrev pub NamedThrough : List ℕ → List Move → StreamSystem → ℕ → ℕ → ℕ → Type 0
+NamedThrough [] moves w range base fence = TrimmedBy moves w range base fence
+NamedThrough (source ∷ through) moves w range base fence =
+    (b : BuiltBy moves w range source fence) × NamedThrough through (b.past ++ b.building ∷ []) w source base b.generation
+
+-- the base of a log is 0, or was named so
 abbrev pub BasesTrimmed : List Move → StreamSystem → Type 0
 BasesTrimmed moves w = (range : ℕ) (x : Stream) → stream_of (run_moves moves w).catalog.stream (log_name range) ≡ Some x →
-    (base_of x ≡ 0) ⊎ TrimmedBy moves w range (base_of x) x.fence
+    (base_of x ≡ 0) ⊎ ((through : List ℕ) × NamedThrough through moves w range (base_of x) x.fence)
 
 -- ---- seals
 

@@ -361,6 +361,21 @@ module _ (A : Type 0) where
         );
   }
 
+  -- the copies of a load are those that stood when the log was read under its generation
+  pub read_copies : (run : LogRun A) (ok : IsLogRun run) (l g start end : ℕ) (groups : List (Placed A)) → event_at (visible run) l ≡ Some (Showed g start end groups) →
+      (more before : LogRun A) (to : ℕ) → run ≡ more ++ Fenced g to ∷ before → (keeps_order run ok).copies l ≡ landed before
+  unfolding keeps_order
+  read_copies run ok l g start end groups h more before to e = ap (copies_of run) h ∙ ap (λ z. stood z g) e ∙ stood_is more before g to (subst IsLogRun e ok)
+
+  -- an append is made before it is answered
+  pub made_first : (run : LogRun A) → IsLogRun run → (k a from to : ℕ) → event_at (visible run) k ≡ Some (Answered a from to) → a < k
+  made_first run ok k a from to h =
+      let q : (before : LogRun A) × (after : LogRun A) × (run ≡ after ++ before) × (length (visible before) ≡ k) × IsLogRun before × ((group : A) × In (record { from = from; to = to; append = a; group = group }) (landed before)) = answer_in run ok k a from to h in
+      let s : Sound q.0 (record { from = from; to = to; append = a; group = (q.5).0 }) = sound q.0 q.4 (record { from = from; to = to; append = a; group = (q.5).0 }) (q.5).1 in
+      let b : a < length (visible q.0) = bound A (visible q.0) a (Made s.generation (q.5).0) s.made in
+      let n : length (visible q.0) ≡ k = q.3 in
+      omega arith
+
   -- each of its readings ends at or behind those before it
   pub ends_rise : (run : LogRun A) → IsLogRun run → EndsRise (visible run)
   ends_rise run ok l m g h start end start' end' groups groups' hl hm lt =

@@ -1,8 +1,12 @@
+pub mod Births
 pub mod Books
+pub mod Built
 pub mod Cut
 pub mod Ends
 pub mod Extents
 pub mod Families
+pub mod FamilyKeys
+pub mod FamilyRuns
 pub mod Fenced
 pub mod Final
 pub mod Holds
@@ -12,14 +16,18 @@ pub mod Machine
 pub mod Members
 mod Lines
 pub mod Loads
+pub mod NeededMoments
 pub mod NeededOrders
+pub mod Observed
 pub mod Others
 pub mod Points
 pub mod Range
 mod Replay
+pub mod StoryFamilies
 pub mod Theorem
 pub mod Through
 pub mod Turns
 pub mod Whole
 pub mod Worked
+pub mod WorkedFamily
 pub mod WorkedRuns

@@ -53,7 +53,7 @@ bools true = inl refl
 bools false = inr refl
 
 -- what holds of a key and of all others holds of all
-by_key : (k : Bytes) (P : Bytes → Type 0) (key : Bytes) → P k → (bytes_eq key k ≡ false → P key) → P key
+pub by_key : (k : Bytes) (P : Bytes → Type 0) (key : Bytes) → P k → (bytes_eq key k ≡ false → P key) → P key
 by_key k P key here others =
     ⊎_elim {C = P key} (λ (e : bytes_eq key k ≡ true). subst P (sym ((bytes_eq-Decides key k).0 e)) here) (λ e. others e) (bools (bytes_eq key k))
 
@@ -61,7 +61,7 @@ none_kept : (w : Bool) → None ≡ cond w (flat None) None
 none_kept true = refl
 none_kept false = refl
 
-abbrev put : ℕ → ℕ → Change
+abbrev pub put : ℕ → ℕ → Change
 put key value = record { key = key ∷ []; value = Some (value ∷ []) }
 
 abbrev pub row : ℕ → ℕ → Row

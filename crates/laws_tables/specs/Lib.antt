@@ -1,4 +1,6 @@
+pub mod Built
 pub mod Ends
+pub mod Families
 pub mod Fenced
 pub mod Layers
 pub mod Runs

@@ -3,6 +3,7 @@ ghost use Rattle.std.specs.Prelude.{◌≡◌, ◌≢◌, ◌<◌, ◌≤◌, �
 ghost use Rattle.block_types.specs.Limits.{IsTarget};
 ghost use Rattle.block_types.specs.declared.record.Record.{Record};
 ghost use Rattle.block_types.specs.declared.record.Version.{Version};
+ghost use Rattle.disk.specs.Appends.{Appends};
 ghost use Rattle.disk.specs.Disk.{IsSteady, LeavesOnly, Only};
 ghost use Rattle.disk.specs.File.{IsFileOf, IsBeforeOrAfter, HoldsAtMost};
 ghost use Rattle.disk.specs.Memory.{memory_state};
@@ -56,6 +57,21 @@ impl<D: Disk> Model for Manager<D> {
     ghost invariant = { λ m. IsMadeOf (TableIsReplay (plain m.table)) m.file.stopped m.file.records };
 }
 
+/// Adds the first record to a manager's file.
+fn write_first<D: Disk>(
+    alloc: Global,
+    file: &mut RecordFile<D>,
+    nodes: u8,
+    target: u32,
+) -> Result<(), DiskFault>
+    requires nodes { (3 ≤ nodes) × (nodes ≤ 12) }
+    requires target { IsTarget target }
+    requires running { file.old.stopped ≡ false }
+    ensures { Appends D.state file.old file.new (first_record nodes target) result }
+{
+    write(alloc, file, &ManagerRecord::First { nodes, target })
+}
+
 /// The manager of a file without a record and of the first table: its first record is written.
 fn begin<D: Disk>(
     alloc: Global,
@@ -85,8 +101,7 @@ fn begin<D: Disk>(
         (λ e. (e.0 ≢ DiskFault.Failed) × IsSteady (D.state e.1)) }
 {
     let mut file = file;
-    let first = ManagerRecord::First { nodes, target };
-    match write(alloc, &mut file, &first) {
+    match write_first(alloc, &mut file, nodes, target) {
         Ok(()) => Ok(Manager { table, file }),
         Err(fault) => Err((fault, file.into_disk())),
     }

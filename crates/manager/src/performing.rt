@@ -4,6 +4,7 @@ ghost use Rattle.block_types.specs.declared.record.Record.TheVariants as records
 ghost use Rattle.disk.specs.Appends.{Appends};
 ghost use Rattle.model_streams.specs.RecordBytes.{spelled};
 ghost use Rattle.model_streams.specs.Maps.{entry_at};
+ghost use Rattle.manager_state.specs.RecordBytes.{CanSpell};
 ghost use Rattle.manager_state.specs.Table.{plain, table_after, table_fits};
 ghost use Rattle.manager_rules.specs.Plan.{CanChange, IsReadAgain, planned, decide};
 ghost use Rattle.manager.specs.PlanPerformed.{PlanPerformed};
@@ -23,6 +24,7 @@ pub(crate) fn write<D: Disk>(
     new_record: &ManagerRecord,
 ) -> Result<(), DiskFault>
     requires running { file.old.stopped ≡ false }
+    requires can { CanSpell new_record.now }
     ensures { Appends D.state file.old file.new (records.Manage (spelled new_record.now)) result }
 {
     let text = encode(alloc, new_record)?;
@@ -38,6 +40,7 @@ fn write_and_apply<D: Disk>(
     new_record: &ManagerRecord,
 ) -> Result<(), DiskFault>
     requires running { file.old.stopped ≡ false }
+    requires can { CanSpell new_record.now }
     requires fits { table_fits (plain table.old) new_record.now ≡ true }
     ensures ok { OnOk result (plain table.new ≡ table_after (plain table.old) new_record.now) }
     ensures err { OnErr result (plain table.new ≡ plain table.old) }

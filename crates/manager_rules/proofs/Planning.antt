@@ -16,8 +16,9 @@ use Rattle.wire.specs.declared.body.Body.TheVariants as bodies
 use Rattle.wire.specs.declared.packet.Packet.{Packet}
 use Rattle.wire.specs.declared.refusal.Refusal.{Refusal}
 use Rattle.wire.specs.declared.refusal.Refusal.TheVariants.{NoSuchExtent, Stale, NoSuchStream, NameTaken, LastOpen, BadPick}
+use Rattle.wire.specs.declared.streams.Modify.{Modify}
 use Rattle.wire.specs.declared.streams.StreamName.{StreamName}
-use Rattle.streams.specs.Streams.{Stream, stream_of, has_four, all_pass, created, opened, last_of, is_number, behind, extending, base_of, trim_of, trimmed, trimming}
+use Rattle.streams.specs.Streams.{Stream, stream_of, has_four, all_pass, created, opened, last_of, is_number, behind, extending, base_of, trim_of, trimmed, trimming, modified, modify_fault}
 use Rattle.model_streams.specs.declared.extent.Asker.{Asker}
 use Rattle.model_streams.specs.declared.extent.Extent.{Extent}
 use Rattle.model_streams.specs.declared.extent.PlaceReport.{PlaceReport}
@@ -27,11 +28,12 @@ use Rattle.model_streams.specs.Maps.{entry_at}
 use Rattle.model_streams.specs.Outcome.{Outcome, packet, first_met, silent, sends, refused, or_refused}
 use Rattle.model_streams.specs.Replay.{is_closed, seal_fits, trim_fits}
 use Rattle.model_streams.specs.Manager as manager
-use Rattle.model_streams.specs.Manager.{Catalog, extended, is_there, is_pick, is_foreign, sealed_in, answer, create_taken, open_taken, extend_made, extend_picked, extend_answered, trim_answered, reminders, told_sealed, tells_asker, with_report, frozen_to, known_sealed, place_of, first_sealed, least_told, sealed_to, forgotten, forgotten_if, seal_extent_rule, frozen_rule, is_sealed_rule, short_rule, decide_rule, stream_body_rule, seal_body_rule, manager_rule}
+use Rattle.model_streams.specs.Manager.{Catalog, extended, is_there, is_pick, is_foreign, sealed_in, answer, create_taken, open_taken, extend_made, extend_picked, extend_answered, trim_answered, modify_taken, reminders, told_sealed, tells_asker, with_report, frozen_to, known_sealed, place_of, first_sealed, least_told, sealed_to, forgotten, forgotten_if, seal_extent_rule, frozen_rule, is_sealed_rule, short_rule, decide_rule, stream_body_rule, seal_body_rule, manager_rule}
 use Rattle.model_streams.proofs.Tests.{if_elim, both_elim}
 use Rattle.manager_state.specs.Table.{ManagerTableState, SameCatalog, longer, closed_if, sealed_at, may_lengthen, lengthens}
 use Rattle.manager_state.proofs.ReplaysRecords.{lengthens_there}
 use Rattle.manager_state.proofs.Tables.{catalog_of, catalog_shows, is_catalog, lengthened_shows, replaced_shows}
+use Rattle.manager_rules.proofs.ListPlans.{may_be_listed}
 use Rattle.manager_rules.specs.declared.plan.Change.TheVariants.{Nothing}
 use Rattle.manager_rules.specs.declared.plan.Plan.{Plan}
 use Rattle.manager_rules.specs.Plan as plans
@@ -186,8 +188,21 @@ module _ (t : ManagerTableState) where
     few = (omega arith, omega arith);
   }
 
-  unheard_rule : (p : Packet) (q : ReqNo) → Follows t (plans.no_users p q) (manager.no_users (catalog_of t) p q)
-  unheard_rule p q = both_elim (Follows t) (is_user p.from) _ _ _ _ (λ user. denying p q Stale) (λ other. quiet)
+  -- ---- MultiModify
+
+  modify_rules : (p : Packet) (list : List Modify) (q : ReqNo) (user : Bool) (fault : Option Refusal) → modify_fault (sealed_at t.extents) t.streams list ≡ fault →
+      Follows t (if user then denied p q Stale else plans.modify_in p list q fault)
+      (or_refused (catalog_of t) Manager p q (if user then Some Stale else fault) (modify_taken (catalog_of t) p list q))
+  modify_rules p list q true fault is = denying p q Stale
+  modify_rules p list q false (Some refusal) is = denying p q refusal
+  modify_rules p list q false None is = record {
+    after = catalog_shows (record t { streams = modified t.streams list });
+    packets = refl;
+    notes = refl;
+    written = refl;
+    can = (may_be_listed (sealed_at t.extents) t.streams list is, ap (λ (o : Option Refusal). not (is_there o)) is);
+    few = (omega arith, omega arith);
+  }
 
   stream_rules : (p : Packet) (body : StreamBody) → Follows t (plans.stream_body t p body) (stream_body_rule (catalog_of t) p body)
   stream_rules p (CreateStream s fence q) = create_rules p s (generation_of p.from fence) q (is_foreign p.from s.range) (is_there (stream_of t.streams s)) refl
@@ -198,7 +213,7 @@ module _ (t : ManagerTableState) where
       (λ own. answered_rule p s (generation_of p.from g) pick q last (extending (sealed_at t.extents) (stream_of t.streams s) (generation_of p.from g) last) refl)
   stream_rules p (Trim range g before to_blob q) =
       both_elim (Follows t) (is_user p.from) _ _ _ _ (λ user. denying p q Stale) (λ other. trim_rules p range g before to_blob q (trimming t.streams range g before) refl)
-  stream_rules p (MultiModify list q) = unheard_rule p q
+  stream_rules p (MultiModify list q) = modify_rules p list q (is_user p.from) (modify_fault (sealed_at t.extents) t.streams list) refl
   stream_rules p body = quiet
 
 module _ (t : ManagerTableState) (b : Catalog) (h : SameCatalog t b) where

@@ -10,16 +10,17 @@ use Rattle.wire.specs.declared.body.AppendBody.TheVariants.{Refused}
 use Rattle.wire.specs.declared.body.SealBody.{SealBody}
 use Rattle.wire.specs.declared.body.SealBody.TheVariants.{Make, SealExtent, Frozen, IsSealed, Short, SendTail}
 use Rattle.wire.specs.declared.body.StreamBody.{StreamBody}
-use Rattle.wire.specs.declared.body.StreamBody.TheVariants.{CreateStream, Created, OpenStreams, Opened, Confirm, Confirmed, Extend, Extended, Trim, Trimmed, MultiModify}
+use Rattle.wire.specs.declared.body.StreamBody.TheVariants.{CreateStream, Created, OpenStreams, Opened, Confirm, Confirmed, Extend, Extended, Trim, Trimmed, MultiModify, Modified}
 use Rattle.wire.specs.declared.body.Body.{Body}
 use Rattle.wire.specs.declared.body.Body.TheVariants as bodies
 use Rattle.wire.specs.declared.note.Note.TheVariants.{SealedAt}
 use Rattle.wire.specs.declared.packet.Packet.{Packet}
 use Rattle.wire.specs.declared.refusal.Refusal.{Refusal}
 use Rattle.wire.specs.declared.refusal.Refusal.TheVariants.{NoSuchExtent, Stale, BadPick}
+use Rattle.wire.specs.declared.streams.Modify.{Modify}
 use Rattle.wire.specs.declared.streams.StreamLists.{StreamLists}
 use Rattle.wire.specs.declared.streams.StreamName.{StreamName}
-use Rattle.streams.specs.Streams.{stream_of, create_fault, open_fault, confirm_fault, extending, trimming}
+use Rattle.streams.specs.Streams.{stream_of, create_fault, open_fault, confirm_fault, extending, trimming, modify_fault}
 use Rattle.model_streams.specs.declared.extent.Extent.{Extent}
 use Rattle.model_streams.specs.declared.manager_record.ManagerRecord.TheVariants as manager_records
 use Rattle.model_streams.specs.Actors.{is_user, generation_of}
@@ -166,10 +167,21 @@ abbrev pub trim : ManagerTableState → Packet → ℕ → ℕ → ℕ → Bool 
 trim t p range generation before to_blob q =
     if is_user p.from then denied p q Stale else trim_in p range before to_blob q (trimming t.streams range generation before)
 
--- ---- calls that no user makes
+-- ---- MultiModify
 
-abbrev pub no_users : Packet → ReqNo → Plan
-no_users p q = if is_user p.from then denied p q Stale else still
+abbrev pub modified_of : ReqNo → Body
+modified_of q = bodies.Stream (Modified q)
+
+abbrev pub modify_taken : Packet → List Modify → ReqNo → Plan
+modify_taken p list q = plan_of (packet Manager p.from (modified_of q) ∷ []) (Write (manager_records.MultiModify list))
+
+abbrev pub modify_in : Packet → List Modify → ReqNo → Option Refusal → Plan
+modify_in p list q None = modify_taken p list q
+modify_in p list q (Some refusal) = denied p q refusal
+
+abbrev pub multi_modify : ManagerTableState → Packet → List Modify → ReqNo → Plan
+multi_modify t p list q =
+    if is_user p.from then denied p q Stale else modify_in p list q (modify_fault (sealed_at t.extents) t.streams list)
 
 -- ---- seals
 
@@ -234,7 +246,7 @@ abbrev pub range_body : ManagerTableState → Packet → StreamBody → Plan
 range_body t p (OpenStreams range generation q) = open_streams t p range generation q
 range_body t p (Confirm range generation q) = confirm t p range generation q
 range_body t p (Trim range generation before to_blob q) = trim t p range generation before to_blob q
-range_body t p (MultiModify list q) = no_users p q
+range_body t p (MultiModify list q) = multi_modify t p list q
 range_body t p body = still
 
 -- a user counts with generation 0

@@ -5,9 +5,10 @@ ghost use Rattle.model_streams.specs.Actors.{generation_of};
 ghost use Rattle.model_streams.specs.Maps.{entry_at};
 ghost use Rattle.model_streams.specs.Manager.{is_pick};
 ghost use Rattle.manager_state.specs.Table.{plain, sealed_at};
-ghost use Rattle.manager_rules.specs.Plan.{Plans, create, create_in, open_streams, open_in, confirm, extend, extend_answered, last_told, picked, made, no_users, range_body, stream_body};
+ghost use Rattle.manager_rules.specs.Plan.{Plans, create, create_in, open_streams, open_in, confirm, extend, extend_answered, last_told, picked, made, range_body, stream_body};
 
 use crate::actors::{generation_of, is_foreign, is_user};
+use crate::modifying::multi_modify;
 use crate::plan::{Change, Plan};
 use crate::sending::{
     confirmed, created, deny, extended, makes, one, opened, send, silent, tell, with_change,
@@ -18,17 +19,6 @@ use manager_state::ManagerTable;
 use model_streams::ManagerRecord;
 use std::alloc::{AllocError, Global};
 use wire::{ExtentId, Fence, Packet, RangeId, Refusal, ReqNo, StreamBody, StreamName};
-
-/// A call that no user makes, and that nobody is answered.
-fn no_users(alloc: Global, packet: &Packet, request: ReqNo) -> Result<Plan, AllocError>
-    ensures { Plans (no_users packet.now request) result }
-{
-    if is_user(packet.from) {
-        deny(alloc, packet, request, Refusal::Stale)
-    } else {
-        Ok(silent(alloc))
-    }
-}
 
 /// What it does with a call for streams.
 pub(crate) fn stream_body(
@@ -101,7 +91,9 @@ fn range_body(
             };
             trim(alloc, table, packet, &call)
         }
-        StreamBody::MultiModify { list: _, request } => no_users(alloc, packet, *request),
+        StreamBody::MultiModify { list, request } => {
+            multi_modify(alloc, table, packet, &list.items, *request)
+        }
         _ => Ok(silent(alloc)),
     }
 }

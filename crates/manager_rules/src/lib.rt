@@ -8,6 +8,7 @@
 
 mod actors;
 mod calls;
+mod modifying;
 mod plan;
 mod sealing;
 mod sending;

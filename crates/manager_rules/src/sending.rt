@@ -4,7 +4,7 @@ ghost use Rattle.wire.specs.declared.actor.ActorId.TheVariants.{Manager};
 ghost use Rattle.wire.specs.declared.body.Body.TheVariants as bodies;
 ghost use Rattle.model_streams.specs.Manager.{each_place, closes, told_sealed, tells_asker};
 ghost use Rattle.model_streams.specs.Outcome.{packet};
-ghost use Rattle.manager_rules.specs.Plan.{Plans, still, told, denied, make_of, reminding, plan_of, created_of, opened_of, confirmed_of, extended_of, trimmed_of};
+ghost use Rattle.manager_rules.specs.Plan.{Plans, still, told, denied, make_of, reminding, plan_of, created_of, opened_of, confirmed_of, extended_of, trimmed_of, modified_of};
 ghost use Rattle.manager_rules.specs.declared.plan.Change.TheVariants as changes;
 
 use crate::plan::{Change, Plan};
@@ -59,6 +59,12 @@ pub(crate) fn trimmed(request: ReqNo) -> Body
     ensures { result ≡ trimmed_of request }
 {
     Body::Stream(StreamBody::Trimmed { request })
+}
+
+pub(crate) fn modified(request: ReqNo) -> Body
+    ensures { result ≡ modified_of request }
+{
+    Body::Stream(StreamBody::Modified { request })
 }
 
 /// The demand for a replica of an extent.

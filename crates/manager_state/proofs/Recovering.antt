@@ -4,7 +4,7 @@ use Rattle.block_types.specs.declared.record.Record.{Record}
 use Rattle.block_types.specs.declared.fault.BlockFault.{BlockFault}
 use Rattle.block_types.specs.declared.fault.BlockFault.TheVariants.{Damaged}
 use Rattle.model_streams.specs.declared.manager_record.ManagerRecord.{ManagerRecord}
-use Rattle.model_streams.specs.declared.manager_record.ManagerRecord.TheVariants.{First, CreateStream, OpenStreams, Extend, Seal, Trim}
+use Rattle.model_streams.specs.declared.manager_record.ManagerRecord.TheVariants.{First, CreateStream, OpenStreams, Extend, Seal, Trim, MultiModify}
 use Rattle.model_streams.specs.Maps.{entry_at}
 use Rattle.model_streams.specs.Manager.{Catalog, first_catalog}
 use Rattle.model_streams.specs.Replay.{catalog_after, manager_record_of, replay_from, manager_record_fits, catalog_fits}
@@ -46,6 +46,7 @@ first_made rs r t (Some (OpenStreams x g)) none is fits table = absurd cc
 first_made rs r t (Some (Extend s g p)) none is fits table = absurd cc
 first_made rs r t (Some (Seal e l)) none is fits table = absurd cc
 first_made rs r t (Some (Trim x before to_blob)) none is fits table = absurd cc
+first_made rs r t (Some (MultiModify list)) none is fits table = absurd cc
 
 next_made : (u : ManagerTableState) (rs : List Record) (r : Record) (t : ManagerTableState) (o : Option ManagerRecord) → IsMade u rs → manager_record_of r ≡ o → fits_on (Some u) o ≡ true → table_on (Some u) o ≡ Some t → IsMade t (rs ++ r ∷ [])
 next_made u rs r t None made is fits table = absurd cc
@@ -68,6 +69,7 @@ fits_first (Some (OpenStreams x g)) = refl
 fits_first (Some (Extend s g p)) = refl
 fits_first (Some (Seal e l)) = refl
 fits_first (Some (Trim x before to_blob)) = refl
+fits_first (Some (MultiModify list)) = refl
 
 fits_next : (u : ManagerTableState) (b : Catalog) → SameCatalog (forgotten_table u) b → (o : Option ManagerRecord) → fits_on (Some u) o ≡ manager_record_fits (Some b) o
 fits_next u b h None = refl

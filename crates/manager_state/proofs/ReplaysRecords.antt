@@ -1,14 +1,15 @@
 -- A record does of the table what it does of the catalog, and a table that records make stays so with one record more.
-use Rattle.std.proofs.Common.{◌≡◌, ℕ, zero, suc, Bool, true, ◌&&◌, ◌==◌, List, [], ◌∷◌, ◌++◌, length, map, Option, Some, None, slice_get, slice_set, refl, sym, ap, ◌∙◌, subst}
+use Rattle.std.proofs.Common.{◌≡◌, ℕ, zero, suc, Bool, true, not, ◌&&◌, ◌==◌, List, [], ◌∷◌, ◌++◌, length, map, Option, Some, None, slice_get, slice_set, refl, sym, ap, ◌∙◌, subst}
+use Rattle.std.proofs.Math.Path.{fun_ext}
 use Rattle.std.proofs.lemmas.Bool.{and_from, and_parts}
 use Rattle.block_types.specs.declared.record.Nodes.{Nodes}
 use Rattle.block_types.specs.declared.record.Record.{Record}
-use Rattle.streams.specs.Streams.{Stream, stream_of, created, opened, extended as extended_streams, last_of, trimmed}
+use Rattle.streams.specs.Streams.{Stream, stream_of, created, opened, extended as extended_streams, last_of, trimmed, modified, modify_fault}
 use Rattle.model_streams.specs.declared.extent.Extent.{Extent}
 use Rattle.model_streams.specs.declared.manager_record.ManagerRecord.{ManagerRecord}
-use Rattle.model_streams.specs.declared.manager_record.ManagerRecord.TheVariants.{First, CreateStream, OpenStreams, Extend, Seal, Trim}
+use Rattle.model_streams.specs.declared.manager_record.ManagerRecord.TheVariants.{First, CreateStream, OpenStreams, Extend, Seal, Trim, MultiModify}
 use Rattle.model_streams.specs.Maps.{entry_at}
-use Rattle.model_streams.specs.Manager.{Catalog, forgotten, forgotten_if, new_extent, sealed_to, is_pick}
+use Rattle.model_streams.specs.Manager.{Catalog, forgotten, forgotten_if, new_extent, sealed_in, sealed_to, is_pick, is_there}
 use Rattle.model_streams.specs.Replay.{after_record, sealed_if, extended_if, catalog_after, manager_record_of, replay_from, is_closed, may_extend, extend_fits, seal_fits, manager_record_fits, fit_from}
 use Rattle.manager_state.specs.Table.{ManagerTableState, SameCatalog, with_entry, longer, longer_extents, closed_if, forgotten_table, table_after, table_fits, may_lengthen, lengthens}
 use Rattle.manager_state.specs.Replay.{TableIsReplay}
@@ -31,6 +32,7 @@ fits_catalog t (OpenStreams range g) = refl
 fits_catalog t (Extend s g pick) = ap (λ (c : Bool). is_pick t.nodes pick && c) (same_lengthens t g (stream_of t.streams s))
 fits_catalog t (Seal e l) = refl
 fits_catalog t (Trim range before to_blob) = refl
+fits_catalog t (MultiModify list) = refl
 
 pub same_fits : (t : ManagerTableState) (b : Catalog) → SameCatalog t b → (r : ManagerRecord) → table_fits t r ≡ manager_record_fits (Some b) (Some r)
 same_fits t b h r = fits_catalog t r ∙ ap (λ (c : Catalog). manager_record_fits (Some c) (Some r)) (is_catalog t b h)
@@ -57,6 +59,7 @@ after_catalog t (Seal e l) fits =
     subst (λ (o : Option Extent). SameCatalog (closed_if t e o l) (sealed_if (catalog_of t) e o l)) (sym x.1)
     (replaced_shows t (catalog_of t) (catalog_shows t) e (sealed_to x.0 l) x.0 x.1)
 after_catalog t (Trim range before to_blob) fits = catalog_shows (record t { streams = trimmed t.streams range before to_blob })
+after_catalog t (MultiModify list) fits = catalog_shows (record t { streams = modified t.streams list })
 
 pub same_after : (t : ManagerTableState) (b : Catalog) → SameCatalog t b → (r : ManagerRecord) → table_fits t r ≡ true → SameCatalog (table_after t r) (after_record b r)
 same_after t b h r fits = subst (λ (c : Catalog). SameCatalog (table_after t r) (after_record c r)) (is_catalog t b h) (after_catalog t r fits)
@@ -77,6 +80,10 @@ seal_forgotten : (o : Option Extent) → seal_fits (forgotten_if o) ≡ seal_fit
 seal_forgotten None = refl
 seal_forgotten (Some x) = refl
 
+sealed_forgotten : (o : Option Extent) → sealed_in (forgotten_if o) ≡ sealed_in o
+sealed_forgotten None = refl
+sealed_forgotten (Some x) = refl
+
 may_forgotten : (xs : List Extent) (l : Option ℕ) → may_lengthen (map forgotten xs) l ≡ may_lengthen xs l
 may_forgotten xs None = refl
 may_forgotten xs (Some e) = ap is_closed (entry_forgotten xs e) ∙ closed_forgotten (entry_at xs e)
@@ -92,6 +99,7 @@ fits_forgotten t (OpenStreams range g) = refl
 fits_forgotten t (Extend s g pick) = ap (λ (c : Bool). is_pick t.nodes pick && c) (lengthens_forgotten t.extents g (stream_of t.streams s))
 fits_forgotten t (Seal e l) = ap seal_fits (entry_forgotten t.extents e) ∙ seal_forgotten (entry_at t.extents e)
 fits_forgotten t (Trim range before to_blob) = refl
+fits_forgotten t (MultiModify list) = ap (λ (f : ℕ → Option ℕ). not (is_there (modify_fault f t.streams list))) (fun_ext (λ e. ap sealed_in (entry_forgotten t.extents e) ∙ sealed_forgotten (entry_at t.extents e)))
 
 map_push : (xs : List Extent) (y : Extent) → map forgotten (xs ++ y ∷ []) ≡ map forgotten xs ++ forgotten y ∷ []
 map_push [] y = refl
@@ -129,6 +137,7 @@ forget_after t (Seal e l) =
     forget_closed t e (entry_at t.extents e) l
     ∙ ap (λ (o : Option Extent). closed_if (forgotten_table t) e o l) (sym (entry_forgotten t.extents e))
 forget_after t (Trim range before to_blob) = refl
+forget_after t (MultiModify list) = refl
 
 -- another extent that differs only in what a stop drops leaves the same
 set_same : (xs : List Extent) (n : ℕ) (y : Extent) → slice_get xs n ≡ Some y → slice_set xs n y ≡ xs

@@ -2,7 +2,7 @@
 use Rattle.std.proofs.Common.{◌≡◌, ℕ, zero, suc, true, not, List, [], ◌∷◌, Option, Some, None, slice_set, refl, sym, ap, ◌∙◌, subst}
 use Rattle.model_streams.specs.declared.extent.Extent.{Extent}
 use Rattle.model_streams.specs.declared.manager_record.ManagerRecord.{ManagerRecord}
-use Rattle.model_streams.specs.declared.manager_record.ManagerRecord.TheVariants.{First, CreateStream, OpenStreams, Extend, Seal, Trim}
+use Rattle.model_streams.specs.declared.manager_record.ManagerRecord.TheVariants.{First, CreateStream, OpenStreams, Extend, Seal, Trim, MultiModify}
 use Rattle.model_streams.specs.Maps.{entry_at}
 use Rattle.model_streams.specs.Manager.{is_there, sealed_to}
 use Rattle.model_streams.specs.Replay.{seal_fits}
@@ -39,6 +39,7 @@ after_room t (OpenStreams range generation) = refl
 after_room t (Extend s generation pick) = refl
 after_room t (Seal e length) = closed_after t e length (entry_at t.extents e) refl
 after_room t (Trim range before to_blob) = refl
+after_room t (MultiModify list) = refl
 
 open_none : (o : Option ℕ) → not (is_there o) ≡ true → o ≡ None
 open_none None is = refl
@@ -62,6 +63,7 @@ room_again t (OpenStreams range generation) fits = refl
 room_again t (Extend s generation pick) fits = refl
 room_again t (Seal e length) fits = opened_again t e length (entry_at t.extents e) refl fits
 room_again t (Trim range before to_blob) fits = refl
+room_again t (MultiModify list) fits = refl
 
 -- the room is there
 pub has_length : (t : ManagerTableState) (e length : ℕ) (o : Option Extent) → entry_at t.extents e ≡ o → let u = lengthened_if t e o (Some length) in HasLength (entry_at u.extents e) length

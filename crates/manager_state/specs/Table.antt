@@ -1,13 +1,14 @@
 -- The table: what a record makes of it, whether a record fits it, and what it tells of the streams of a range.
-use Rattle.std.specs.Prelude.{◌≡◌, ◌<◌, ℕ, zero, suc, Bool, true, false, not, ◌&&◌, ◌==◌, List, [], ◌∷◌, ◌++◌, length, map, Option, Some, None, slice_set}
+use Rattle.std.specs.Prelude.{◌≡◌, ◌<◌, ◌≤◌, ℕ, zero, suc, Bool, true, false, not, ◌&&◌, ◌==◌, List, [], ◌∷◌, ◌++◌, length, map, Option, Some, None, slice_set}
 use Rattle.block_types.specs.declared.record.Nodes.{Nodes}
+use Rattle.wire.specs.declared.streams.Modify.{Modify}
 use Rattle.wire.specs.declared.streams.StreamLists.{StreamLists}
 use Rattle.wire.specs.declared.streams.StreamName.{StreamName}
-use Rattle.streams.specs.Streams.{Stream, Streams, stream_of, create_fault, created, open_fault, opened, extended, last_of, trimmed}
-use Rattle.streams.specs.Table.{StreamTableState, streams_of, HasRoom, HasRoomToTrim}
+use Rattle.streams.specs.Streams.{Stream, Streams, stream_of, create_fault, created, open_fault, opened, extended, last_of, trimmed, modified, modify_fault}
+use Rattle.streams.specs.Table.{StreamTableState, streams_of, streams_with, HasRoom, HasRoomToTrim}
 use Rattle.model_streams.specs.declared.extent.Extent.{Extent}
 use Rattle.model_streams.specs.declared.manager_record.ManagerRecord.{ManagerRecord}
-use Rattle.model_streams.specs.declared.manager_record.ManagerRecord.TheVariants.{First, CreateStream, OpenStreams, Extend, Seal, Trim}
+use Rattle.model_streams.specs.declared.manager_record.ManagerRecord.TheVariants.{First, CreateStream, OpenStreams, Extend, Seal, Trim, MultiModify}
 use Rattle.model_streams.specs.Maps.{entry_at}
 use Rattle.model_streams.specs.Manager.{Catalog, first_streams, forgotten, new_extent, sealed_to, sealed_in, is_there, is_pick, told_stream}
 use Rattle.model_streams.specs.Replay.{is_closed, seal_fits, trim_fits}
@@ -19,11 +20,12 @@ pub record ManagerTableState : Type 0 where
   pub streams : Streams
   pub extents : List Extent
 
--- the table as the code has it; so many extents may be added without memory
+-- the table as the code has it, perhaps with streams that are built beside it; so many extents may be added without memory
 pub record ManagerTableValue : Type 0 where
   pub nodes : ℕ
   pub target : ℕ
   pub streams : StreamTableState
+  pub built : Option StreamTableState
   pub extents : List Extent
   pub room : ℕ
 
@@ -80,6 +82,7 @@ table_after t (OpenStreams range generation) = record t { streams = opened t.str
 table_after t (Extend s generation pick) = longer t s pick
 table_after t (Seal e length) = closed_if t e (entry_at t.extents e) length
 table_after t (Trim range before to_blob) = record t { streams = trimmed t.streams range before to_blob }
+table_after t (MultiModify list) = record t { streams = modified t.streams list }
 
 abbrev pub may_lengthen : List Extent → Option ℕ → Bool
 may_lengthen extents None = true
@@ -97,6 +100,7 @@ table_fits t (OpenStreams range generation) = not (is_there (open_fault t.stream
 table_fits t (Extend s generation pick) = is_pick t.nodes pick && lengthens t.extents generation (stream_of t.streams s)
 table_fits t (Seal e length) = seal_fits (entry_at t.extents e)
 table_fits t (Trim range before to_blob) = trim_fits (t.streams range 1) (t.streams range 3) before
+table_fits t (MultiModify list) = not (is_there (modify_fault (sealed_at t.extents) t.streams list))
 
 -- where there is the extent, with this length or open
 abbrev pub lengthened_if : ManagerTableState → ℕ → Option Extent → Option ℕ → ManagerTableState
@@ -111,6 +115,7 @@ with_room t (OpenStreams range generation) = t
 with_room t (Extend s generation pick) = t
 with_room t (Seal e length) = lengthened_if t e (entry_at t.extents e) (Some length)
 with_room t (Trim range before to_blob) = t
+with_room t (MultiModify list) = t
 
 -- without that room: the extent is open
 abbrev pub without_room : ManagerTableState → ManagerRecord → ManagerTableState
@@ -120,6 +125,7 @@ without_room t (OpenStreams range generation) = t
 without_room t (Extend s generation pick) = t
 without_room t (Seal e length) = lengthened_if t e (entry_at t.extents e) None
 without_room t (Trim range before to_blob) = t
+without_room t (MultiModify list) = t
 
 abbrev pub HasLength : Option Extent → ℕ → Type 0
 HasLength None length = Unit {0}
@@ -130,6 +136,11 @@ abbrev pub unasked_if : ManagerTableState → ℕ → Option Extent → ManagerT
 unasked_if t e None = t
 unasked_if t e (Some x) = with_entry t e (record x { asker = None })
 
+-- the streams of a list are built beside these, and may be put among them without memory
+abbrev pub AreBuilt : StreamTableState → Option StreamTableState → List Modify → Type 0
+AreBuilt t None list = ⊥
+AreBuilt t (Some made) list = (streams_with t made ≡ modified (streams_of t) list) × (length made.entries ≤ t.room)
+
 -- what a record adds takes no memory
 abbrev pub HasRoomFor : ManagerTableValue → ManagerRecord → Type 0
 HasRoomFor t (First nodes target) = Unit {0}
@@ -138,6 +149,7 @@ HasRoomFor t (OpenStreams range generation) = Unit {0}
 HasRoomFor t (Extend s generation pick) = (0 < t.room) × HasRoom t.streams s
 HasRoomFor t (Seal e length) = HasLength (entry_at t.extents e) length
 HasRoomFor t (Trim range before to_blob) = HasRoomToTrim t.streams range before to_blob
+HasRoomFor t (MultiModify list) = AreBuilt t.streams t.built list
 
 -- ---- what it tells
 

@@ -8,6 +8,7 @@
 
 mod entry;
 mod lengthening;
+mod modify_bytes;
 mod record_bytes;
 mod replay;
 mod reports;

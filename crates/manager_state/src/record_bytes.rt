@@ -3,8 +3,10 @@ ghost use Rattle.std.specs.Prelude.{◌≡◌, ◌∷◌, ◌++◌, IfOk, OnOk};
 ghost use Rattle.blocks.specs.Format.{Gives};
 ghost use Rattle.blocks.specs.Reading.{nodes_at};
 ghost use Rattle.blocks.specs.Record.{number, nodes};
+ghost use Rattle.manager_state.specs.RecordBytes.{CanSpell};
 ghost use Rattle.model_streams.specs.RecordBytes.{spelled, stream_name, flag, record_of, kind_number, kind_at, first_at, create_at, open_at, extend_at, seal_at, flag_at, trim_at, fields_at};
 
+use crate::modify_bytes::{multi_modify_at, put_multi_modify};
 use block_types::{BlockFault, MAX_NODE, MAX_TARGET, MIN_TARGET, Nodes};
 use blocks::reader::{ended, u8_at, u32_at, u64_at};
 use blocks::writer::{put_u8, put_u32, put_u64};
@@ -26,7 +28,7 @@ fn number_of(kind: StreamKind) -> u8
     }
 }
 
-fn put_stream(out: &mut Vec<u8>, stream: &StreamName) -> Result<(), AllocError>
+pub(crate) fn put_stream(out: &mut Vec<u8>, stream: &StreamName) -> Result<(), AllocError>
     ensures { OnOk result (out.new.items ≡ out.old.items ++ stream_name stream.now) }
 {
     put_u64(out, stream.range.0)?;
@@ -102,8 +104,9 @@ fn put_trim(out: &mut Vec<u8>, range: u64, before: u64, to_blob: bool) -> Result
     put_flag(out, to_blob)
 }
 
-/// The bytes of a record, at most 32 of them (docs/FORMATS.md). An error is out of memory.
+/// The bytes of a record (docs/FORMATS.md). An error is out of memory.
 pub fn encode(alloc: Global, new_record: &ManagerRecord) -> Result<Bytes, AllocError>
+    requires { CanSpell new_record.now }
     ensures { IfOk result (λ bytes. bytes ≡ spelled new_record.now) }
 {
     let mut out = Vec::new(alloc);
@@ -124,13 +127,14 @@ pub fn encode(alloc: Global, new_record: &ManagerRecord) -> Result<Bytes, AllocE
             before,
             to_blob,
         } => put_trim(&mut out, range.0, *before, *to_blob)?,
+        ManagerRecord::MultiModify { list } => put_multi_modify(&mut out, &list.items)?,
     }
     Ok(Bytes::from_vec(out)?)
 }
 
 // ---- reading
 
-fn kind_at(bytes: &[u8]) -> Result<(StreamKind, &[u8]), BlockFault>
+pub(crate) fn kind_at(bytes: &[u8]) -> Result<(StreamKind, &[u8]), BlockFault>
     ensures { Gives (λ x. (x.0, x.1.now)) result (kind_at bytes.now) }
 {
     match bytes {
@@ -145,7 +149,7 @@ fn kind_at(bytes: &[u8]) -> Result<(StreamKind, &[u8]), BlockFault>
     }
 }
 
-fn named(range: u64, kind: StreamKind) -> StreamName
+pub(crate) fn named(range: u64, kind: StreamKind) -> StreamName
     ensures { result ≡ record { range = range; kind = kind } }
 {
     StreamName {
@@ -276,7 +280,7 @@ fn trim_at(fields: &[u8]) -> Result<ManagerRecord, BlockFault>
 }
 
 #[tactic(auto, unfolding(model_streams::specs::RecordBytes::fields_at))]
-fn fields_at(kind: u8, fields: &[u8]) -> Result<ManagerRecord, BlockFault>
+fn fields_at(alloc: Global, kind: u8, fields: &[u8]) -> Result<ManagerRecord, BlockFault>
     ensures { Gives (λ r. r) result (fields_at kind fields.now) }
 {
     match kind {
@@ -286,17 +290,18 @@ fn fields_at(kind: u8, fields: &[u8]) -> Result<ManagerRecord, BlockFault>
         4 => extend_at(fields),
         5 => seal_at(fields),
         6 => trim_at(fields),
+        7 => multi_modify_at(alloc, fields),
         _ => Err(BlockFault::Damaged),
     }
 }
 
-/// The record that bytes spell. `Memory` does not come.
+/// The record that bytes spell.
 #[tactic(auto, unfolding(model_streams::specs::RecordBytes::record_of))]
-pub(crate) fn decode(text: &[u8]) -> Result<ManagerRecord, BlockFault>
+pub(crate) fn decode(alloc: Global, text: &[u8]) -> Result<ManagerRecord, BlockFault>
     ensures { Gives (λ r. r) result (record_of text.now) }
 {
     match text {
         [] => Err(BlockFault::Damaged),
-        [kind, fields @ ..] => fields_at(*kind, fields),
+        [kind, fields @ ..] => fields_at(alloc, *kind, fields),
     }
 }

@@ -1,9 +1,9 @@
 //! The table that records make.
-ghost use Rattle.std.specs.Prelude.{◌≡◌, ◌≢◌, [], true, None, IfOk, IsErrOf};
+ghost use Rattle.std.specs.Prelude.{◌≡◌, ◌≢◌, [], true, None, IfOk, OnErr, IsErrOf};
 ghost use Rattle.block_types.specs.declared.record.Record.TheVariants as records;
 ghost use Rattle.model_streams.specs.Replay.{catalog_fits};
 ghost use Rattle.manager_state.specs.Replay.{Recovers, RecoversManagerRecord, IsMade};
-ghost use Rattle.manager_state.specs.Table.{plain};
+ghost use Rattle.manager_state.specs.Table.{plain, table_after};
 
 use crate::record_bytes::decode;
 use crate::table::ManagerTable;
@@ -20,7 +20,7 @@ fn recover_text(
 ) -> Result<ManagerTable, BlockFault>
     ensures { Recovers table (records.Manage text) result }
 {
-    match decode(text.as_slice()) {
+    match decode(alloc, text.as_slice()) {
         Ok(new_record) => recover_record(alloc, table, &new_record),
         Err(fault) => Err(fault),
     }
@@ -40,8 +40,23 @@ fn recover(
     }
 }
 
-/// The table after one record more, which is read already.
+/// The table after one record more, which fits it. An error is out of memory.
 #[tactic(auto, using(crate::proofs::Rooms::after_room))]
+fn with_record(table: ManagerTable, new_record: &ManagerRecord) -> Result<ManagerTable, BlockFault>
+    ensures made { IfOk result (λ t. plain t ≡ table_after (plain table) new_record.now) }
+    ensures memory { OnErr result (IsErrOf result BlockFault.Memory) }
+{
+    let mut table = table;
+    match table.reserve(new_record) {
+        Ok(()) => {
+            table.apply(new_record);
+            Ok(table)
+        }
+        Err(_full) => Err(BlockFault::Memory),
+    }
+}
+
+/// The table after one record more, which is read already.
 fn recover_record(
     alloc: Global,
     table: Option<ManagerTable>,
@@ -52,15 +67,9 @@ fn recover_record(
     match table {
         None => first_table(alloc, new_record),
         Some(table) => {
-            if !table.fits(new_record) {
-                return Err(BlockFault::Damaged);
-            }
-            let mut table = table;
-            match table.reserve(new_record) {
-                Ok(()) => {
-                    table.apply(new_record);
-                    Ok(table)
-                }
+            match table.fits(new_record) {
+                Ok(true) => with_record(table, new_record),
+                Ok(false) => Err(BlockFault::Damaged),
                 Err(_full) => Err(BlockFault::Memory),
             }
         }

@@ -1,12 +1,12 @@
 //! The table of streams and extents.
-ghost use Rattle.std.specs.Prelude.{◌≡◌, ◌<◌, suc, length, Some, IfOk, OnOk, OnErr};
+ghost use Rattle.std.specs.Prelude.{◌≡◌, ◌<◌, suc, not, length, Some, IfOk, OnOk, OnErr};
 ghost use Rattle.std.specs.BTreeMap.{get};
 ghost use Rattle.std.specs.Ordering.{nat_cmp};
-ghost use Rattle.streams.specs.Streams.{stream_of};
+ghost use Rattle.streams.specs.Streams.{stream_of, modified, modify_fault};
 ghost use Rattle.streams.specs.Table.{HasRoom};
-ghost use Rattle.model_streams.specs.Manager.{is_pick};
+ghost use Rattle.model_streams.specs.Manager.{is_pick, is_there};
 ghost use Rattle.model_streams.specs.Maps.{entry_at};
-ghost use Rattle.manager_state.specs.Table.{plain, first_table, with_entry, table_after, table_fits, sealed_at, longer, lengthened_if, unasked_if, with_room, without_room, may_lengthen, lengthens, HasRoomFor};
+ghost use Rattle.manager_state.specs.Table.{plain, first_table, with_entry, table_after, table_fits, sealed_at, longer, lengthened_if, unasked_if, with_room, without_room, may_lengthen, lengthens, HasRoomFor, AreBuilt};
 
 use crate::entry::ExtentEntry;
 use crate::lengthening::{first_streams, lengthen, reserve_extent};
@@ -16,8 +16,8 @@ use model_streams::{Extent, ManagerRecord};
 use std::alloc::{AllocError, Global};
 use std::collections::BTreeMap;
 use std::marker::Model;
-use streams::StreamTable;
-use wire::{ExtentId, Fence, StreamName};
+use streams::{StreamFault, StreamTable};
+use wire::{ExtentId, Fence, Modify, StreamName};
 
 /// The streams by name, and the extents, numbered from 1 over all streams (after Calder et al., SOSP 2011, section 4). The
 /// length of a sealed extent stands in one place, the map of lengths.
@@ -25,6 +25,8 @@ pub struct ManagerTable {
     nodes: u8,
     target: u32,
     streams: StreamTable,
+    /// The streams that a record is to add, from before it is written until they stand among the others.
+    built: Option<StreamTable>,
     entries: Vec<ExtentEntry>,
     lengths: BTreeMap<ExtentId, u32>,
 }
@@ -36,6 +38,7 @@ impl Drop for ManagerTable {
             nodes: _,
             target: _,
             streams: _,
+            built: _,
             entries: _,
             lengths: _,
         } = self;
@@ -55,6 +58,7 @@ impl Model for ManagerTable {
       nodes = t.nodes;
       target = t.target;
       streams = t.streams;
+      built = t.built;
       extents = extents_from 1 t.entries.items (get nat_cmp t.lengths);
       room = vec_capacity t.entries - vec_len t.entries;
     } };
@@ -83,6 +87,7 @@ impl ManagerTable {
             nodes,
             target,
             streams,
+            built: None,
             entries: Vec::new(alloc),
             lengths: BTreeMap::new(alloc),
         })
@@ -168,35 +173,47 @@ impl ManagerTable {
         }
     }
 
-    /// Whether a record may be written where the table is this.
-    pub(crate) fn fits(&self, new_record: &ManagerRecord) -> bool
-        ensures { result ≡ table_fits (plain self.now) new_record.now }
+    /// Whether the streams of a list may be built. An error is out of memory.
+    fn may_modify(&self, list: &[Modify]) -> Result<bool, AllocError>
+        ensures { IfOk result (λ may. may ≡ not (is_there (modify_fault (sealed_at self.now.extents) (plain self.now).streams list.now))) }
+    {
+        match self.streams.modifying(list, self.lengths()) {
+            Ok(_built) => Ok(true),
+            Err(StreamFault::Memory) => Err(AllocError),
+            Err(_fault) => Ok(false),
+        }
+    }
+
+    /// Whether a record may be written where the table is this. An error is out of memory.
+    pub(crate) fn fits(&self, new_record: &ManagerRecord) -> Result<bool, AllocError>
+        ensures { IfOk result (λ fits. fits ≡ table_fits (plain self.now) new_record.now) }
     {
         match new_record {
             ManagerRecord::First {
                 nodes: _,
                 target: _,
-            } => false,
+            } => Ok(false),
             ManagerRecord::CreateStream { stream, fence: _ } => {
-                self.streams.stream(stream).is_none()
+                Ok(self.streams.stream(stream).is_none())
             }
             ManagerRecord::OpenStreams { range, generation } => {
-                self.streams.opening(*range, *generation).is_ok()
+                Ok(self.streams.opening(*range, *generation).is_ok())
             }
             ManagerRecord::Extend {
                 stream,
                 generation,
                 pick,
-            } => self.is_pick(pick) && self.lengthens(stream, *generation),
+            } => Ok(self.is_pick(pick) && self.lengthens(stream, *generation)),
             ManagerRecord::Seal { extent, length: _ } => match self.entry(extent.0) {
-                None => false,
-                Some(entry) => entry.sealed.is_none(),
+                None => Ok(false),
+                Some(entry) => Ok(entry.sealed.is_none()),
             },
             ManagerRecord::Trim {
                 range,
                 before,
                 to_blob: _,
-            } => loses_extents(&self.streams, *range, *before),
+            } => Ok(loses_extents(&self.streams, *range, *before)),
+            ManagerRecord::MultiModify { list } => self.may_modify(&list.items),
         }
     }
 
@@ -256,7 +273,31 @@ impl ManagerTable {
         self.lengths.remove(&extent);
     }
 
-    /// Makes room for what a record adds. The room for a length is the length itself: it stands from here on, and `release`
+    /// Builds the streams of a list beside the table, and makes room for them. Without memory nothing has changed but room.
+    fn reserve_built(&mut self, list: &[Modify]) -> Result<(), AllocError>
+        ensures same { plain self.new ≡ plain self.old }
+        ensures room { OnOk result (AreBuilt self.new.streams self.new.built list.now) }
+    {
+        let built = self.streams.build(list)?;
+        self.streams.reserve_built(&built)?;
+        self.built = Some(built);
+        Ok(())
+    }
+
+    /// Puts the streams of a list, which are built, among the others.
+    fn add_built(&mut self, list: &[Modify])
+        requires { AreBuilt self.old.streams self.old.built list.now }
+        ensures { plain self.new ≡ record (plain self.old) { streams = modified (plain self.old).streams list.now } }
+    {
+        // Read for its clause alone.
+        let _list = list;
+        if let Some(built) = self.built.take() {
+            let mut built = built;
+            self.streams.put_built(&mut built);
+        }
+    }
+
+    /// Makes room for what a record adds. Streams are built beside the table. The room for a length is the length itself: it stands from here on, and `release`
     /// takes it out where the record was not written. Without memory nothing has changed but room.
     pub fn reserve(&mut self, new_record: &ManagerRecord) -> Result<(), AllocError>
         ensures ok { OnOk result (plain self.new ≡ with_room (plain self.old) new_record.now) }
@@ -276,15 +317,19 @@ impl ManagerTable {
                 before,
                 to_blob,
             } => self.streams.reserve_trim(*range, *before, *to_blob),
+            ManagerRecord::MultiModify { list } => self.reserve_built(&list.items),
         }
     }
 
-    /// Gives back what was made ready for a record that was not written: an extent that was to be sealed is open.
+    /// Gives back what was made ready for a record that was not written: an extent that was to be sealed is open, and no stream
+    /// is built.
     pub fn release(&mut self, new_record: &ManagerRecord)
         ensures { plain self.new ≡ without_room (plain self.old) new_record.now }
     {
-        if let ManagerRecord::Seal { extent, .. } = new_record {
-            self.remove_length(*extent);
+        match new_record {
+            ManagerRecord::Seal { extent, .. } => self.remove_length(*extent),
+            ManagerRecord::MultiModify { .. } => self.built = None,
+            _ => {}
         }
     }
 
@@ -306,6 +351,7 @@ impl ManagerTable {
                 before,
                 to_blob,
             } => self.streams.cut(*range, *before, *to_blob),
+            ManagerRecord::MultiModify { list } => self.add_built(&list.items),
         }
     }
 }

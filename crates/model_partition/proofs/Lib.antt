@@ -1,3 +1,4 @@
+pub mod Numbers
 pub mod Partitions
 pub mod Spelling
 pub mod Replaying

@@ -1,17 +1,21 @@
 -- Ranges side by side have each key once, and they stay so where one changes, is split or is merged with the next.
-use Rattle.std.proofs.Common.{◌≡◌, ◌≢◌, ℕ, Bool, true, false, not, ◌&&◌, List, [], ◌∷◌, ◌++◌, Option, Some, None, refl, ap, sym, subst, ◌∙◌, if◌then◌else◌}
+use Rattle.std.proofs.Common.{◌≡◌, ℕ, Bool, true, false, not, ◌&&◌, List, [], ◌∷◌, ◌++◌, length, Option, Some, None, refl, ap, sym, subst, ◌∙◌, if◌then◌else◌}
 use Rattle.std.specs.Prelude.{map, ◌==◌}
 use Rattle.std.specs.Cmp.Lexicographic.{slice_cmp}
 use Rattle.std.specs.Ordering.{nat_cmp, is_lt}
 use Rattle.std.specs.declared.cmp.Ordering.{Ordering}
 use Rattle.std.specs.declared.cmp.Ordering.TheVariants.{Less, Equal, Greater}
+use Rattle.std.proofs.lemmas.Bool.{and_parts}
 use Rattle.std.proofs.lemmas.Cmp.{nat_list_cmp_total}
+use Rattle.block_types.specs.Limits.{is_within}
 use Rattle.metadata.specs.declared.record.KeyRange.{KeyRange}
 use Rattle.metadata.specs.Keys.{below_high, within}
 use Rattle.model_streams.proofs.Tests.{if_elim}
+use Rattle.model_partition.specs.declared.pending.Pending.{Pending}
+use Rattle.model_partition.specs.declared.pending.Pending.TheVariants as pendings
 use Rattle.model_partition.specs.declared.range_entry.RangeEntry.{RangeEntry}
-use Rattle.model_partition.specs.Map.{range_of_key, changed_if}
-use Rattle.model_partition.specs.Partition.{IsBelow, IsBelowEnd, LiesFrom, IsPartition, IsFresh, AreNumbered, NoneHas, HasKey, HaveEachKeyOnce}
+use Rattle.model_partition.specs.Map.{range_of_key, changed_if, half, halves, split_in, union, union_beside, joined, merge_in}
+use Rattle.model_partition.specs.Partition.{IsBelow, IsBelowEnd, LiesFrom, IsPartition, HasSplitKey, HaveSplitKeys, NoneHas, HasKey, HaveEachKeyOnce}
 
 -- ---- where a key is
 
@@ -100,50 +104,34 @@ routed rs key h = ap (λ (xs : List RangeEntry). range_of_key xs key) h.is ∙ r
 keys_kept : (range : ℕ) (change : RangeEntry → RangeEntry) → ((r : RangeEntry) → (change r).keys ≡ r.keys) → (r : RangeEntry) → (changed_if range change r).keys ≡ r.keys
 keys_kept range change keeps r = if_elim (λ (x : RangeEntry). x.keys ≡ r.keys) (r.range == range) (change r) r (λ t. keeps r) (λ f. refl)
 
-number_kept : (range : ℕ) (change : RangeEntry → RangeEntry) → ((r : RangeEntry) → (change r).range ≡ r.range) → (r : RangeEntry) → (changed_if range change r).range ≡ r.range
-number_kept range change keeps r = if_elim (λ (x : RangeEntry). x.range ≡ r.range) (r.range == range) (change r) r (λ t. keeps r) (λ f. refl)
-
--- what keeps the keys of a range keeps the ranges side by side
-pub change_lies : (low : List ℕ) (rs : List RangeEntry) (range : ℕ) (change : RangeEntry → RangeEntry) → ((r : RangeEntry) → (change r).keys ≡ r.keys) → LiesFrom low rs → LiesFrom low (map (changed_if range change) rs)
-change_lies low [] range change keeps lies = absurd lies
-change_lies low (r ∷ []) range change keeps lies =
-    let k = keys_kept range change keeps r in
-    (ap (λ (x : KeyRange). x.low) k ∙ lies.0, ap (λ (x : KeyRange). x.high) k ∙ lies.1)
-change_lies low (r ∷ s ∷ rs) range change keeps lies =
-    let k = keys_kept range change keeps r in
-    let next : s.keys.low ≡ (changed_if range change s).keys.low = sym (ap (λ (x : KeyRange). x.low) (keys_kept range change keeps s)) in (
-      ap (λ (x : KeyRange). x.low) k ∙ lies.0,
-      ap (λ (x : KeyRange). x.high) k ∙ lies.1 ∙ ap Some next,
+-- what keeps the keys of each range keeps the ranges side by side
+pub map_lies : (low : List ℕ) (rs : List RangeEntry) (change : RangeEntry → RangeEntry) → ((r : RangeEntry) → (change r).keys ≡ r.keys) → LiesFrom low rs → LiesFrom low (map change rs)
+map_lies low [] change keeps lies = absurd lies
+map_lies low (r ∷ []) change keeps lies = (ap (λ (x : KeyRange). x.low) (keeps r) ∙ lies.0, ap (λ (x : KeyRange). x.high) (keeps r) ∙ lies.1)
+map_lies low (r ∷ s ∷ rs) change keeps lies =
+    let next : s.keys.low ≡ (change s).keys.low = sym (ap (λ (x : KeyRange). x.low) (keeps s)) in (
+      ap (λ (x : KeyRange). x.low) (keeps r) ∙ lies.0,
+      ap (λ (x : KeyRange). x.high) (keeps r) ∙ lies.1 ∙ ap Some next,
       subst (λ (x : List ℕ). IsBelow low x) next lies.2,
-      subst (λ (x : List ℕ). LiesFrom x (map (changed_if range change) (s ∷ rs))) next (change_lies s.keys.low (s ∷ rs) range change keeps lies.3),
+      subst (λ (x : List ℕ). LiesFrom x (map change (s ∷ rs))) next (map_lies s.keys.low (s ∷ rs) change keeps lies.3),
     )
 
-fresh_kept : (n : ℕ) (rs : List RangeEntry) (range : ℕ) (change : RangeEntry → RangeEntry) → ((r : RangeEntry) → (change r).range ≡ r.range) → IsFresh n rs → IsFresh n (map (changed_if range change) rs)
-fresh_kept n [] range change keeps fresh = tt
-fresh_kept n (r ∷ rs) range change keeps fresh =
-    (subst (λ (x : ℕ). x ≢ n) (sym (number_kept range change keeps r)) fresh.0, fresh_kept n rs range change keeps fresh.1)
-
--- what keeps the number of a range keeps the numbers apart
-pub change_numbered : (rs : List RangeEntry) (range : ℕ) (change : RangeEntry → RangeEntry) → ((r : RangeEntry) → (change r).range ≡ r.range) → AreNumbered rs → AreNumbered (map (changed_if range change) rs)
-change_numbered [] range change keeps numbered = tt
-change_numbered (r ∷ rs) range change keeps numbered = (
-  subst (λ (x : ℕ). IsFresh x (map (changed_if range change) rs)) (sym (number_kept range change keeps r)) (fresh_kept r.range rs range change keeps numbered.0),
-  change_numbered rs range change keeps numbered.1,
-)
+pub change_lies : (low : List ℕ) (rs : List RangeEntry) (range : ℕ) (change : RangeEntry → RangeEntry) → ((r : RangeEntry) → (change r).keys ≡ r.keys) → LiesFrom low rs → LiesFrom low (map (changed_if range change) rs)
+change_lies low rs range change keeps lies = map_lies low rs (changed_if range change) (keys_kept range change keeps) lies
 
 -- ---- splits and merges
 
--- what stands after may become other ranges from the same key on
-behind_lies : (low : List ℕ) (before : List RangeEntry) (r : RangeEntry) (rs : List RangeEntry) (s : RangeEntry) (ss : List RangeEntry) → s.keys.low ≡ r.keys.low →
-    ((from : List ℕ) → LiesFrom from (r ∷ rs) → LiesFrom from (s ∷ ss)) → LiesFrom low (before ++ (r ∷ rs)) → LiesFrom low (before ++ (s ∷ ss))
-behind_lies low [] r rs s ss same turn lies = turn low lies
-behind_lies low (x ∷ []) r rs s ss same turn lies = (
-  lies.0,
-  lies.1 ∙ ap Some (sym same),
-  subst (λ (k : List ℕ). IsBelow low k) (sym same) lies.2,
-  subst (λ (k : List ℕ). LiesFrom k (s ∷ ss)) (sym same) (turn r.keys.low lies.3),
+-- a range before others that lie side by side
+next_lies : (low next : List ℕ) (r : RangeEntry) (rs : List RangeEntry) → r.keys.low ≡ low → r.keys.high ≡ Some next → IsBelow low next → LiesFrom next rs → LiesFrom low (r ∷ rs)
+next_lies low next r [] begins ends below lies = absurd lies
+next_lies low next r (s ∷ []) begins ends below lies =
+    (begins, ends ∙ ap Some (sym lies.0), subst (λ (k : List ℕ). IsBelow low k) (sym lies.0) below, (refl, lies.1))
+next_lies low next r (s ∷ t ∷ rs) begins ends below lies = (
+  begins,
+  ends ∙ ap Some (sym lies.0),
+  subst (λ (k : List ℕ). IsBelow low k) (sym lies.0) below,
+  (refl, lies.1, subst (λ (k : List ℕ). IsBelow k t.keys.low) (sym lies.0) lies.2, lies.3),
 )
-behind_lies low (x ∷ y ∷ before) r rs s ss same turn lies = (lies.0, lies.1, lies.2, behind_lies y.keys.low (y ∷ before) r rs s ss same turn lies.3)
 
 lows : (keys : KeyRange) (low : List ℕ) (high : Option (List ℕ)) → keys ≡ record { low = low; high = high } → keys.low ≡ low
 lows keys low high is = ap (λ (k : KeyRange). k.low) is
@@ -175,11 +163,31 @@ split_first r c d (s ∷ behind) key above below cs ds from lies =
       (refl, last ∙ lies.1, subst (λ (k : List ℕ). IsBelow k s.keys.low) (sym next) under, lies.3),
     )
 
--- a range split at one of its keys above the lowest
-pub split_lies : (low : List ℕ) (before : List RangeEntry) (r c d : RangeEntry) (behind : List RangeEntry) (key : List ℕ) → IsBelow r.keys.low key → IsBelowEnd key r.keys.high →
-    c.keys ≡ record { low = r.keys.low; high = Some key } → d.keys ≡ record { low = key; high = r.keys.high } → LiesFrom low (before ++ (r ∷ behind)) → LiesFrom low (before ++ (c ∷ d ∷ behind))
-split_lies low before r c d behind key above below cs ds lies =
-    behind_lies low before r behind c (d ∷ behind) (lows c.keys r.keys.low (Some key) cs) (split_first r c d behind key above below cs ds) lies
+is_below : (x : List ℕ) (key : List ℕ) → is_lt (slice_cmp nat_cmp x key) ≡ true → IsBelow x key
+is_below x key e = below_is (slice_cmp nat_cmp x key) e
+
+is_below_end : (key : List ℕ) (high : Option (List ℕ)) → below_high high key ≡ true → IsBelowEnd key high
+is_below_end key None e = tt
+is_below_end key (Some high) e = is_below key high e
+
+halves_lie : (low : List ℕ) (r : RangeEntry) (rs : List RangeEntry) (p : Option Pending) → HasSplitKey r.keys p → LiesFrom low (r ∷ rs) → LiesFrom low (halves r p ++ rs)
+halves_lie low r rs None splits lies = lies
+halves_lie low r rs (Some (pendings.Split key c d)) splits lies =
+    let ends = and_parts (is_within 1 256 (length key) && is_lt (slice_cmp nat_cmp r.keys.low key)) (below_high r.keys.high key) splits in
+    let above = and_parts (is_within 1 256 (length key)) (is_lt (slice_cmp nat_cmp r.keys.low key)) ends.0 in
+    split_first r (half r c (record { low = r.keys.low; high = Some key })) (half r d (record { low = key; high = r.keys.high })) rs key (is_below r.keys.low key above.1)
+    (is_below_end key r.keys.high ends.1) refl refl low lies
+halves_lie low r rs (Some (pendings.Merge right into)) splits lies = lies
+
+-- the halves of a range lie where it lay
+pub split_lies : (low : List ℕ) (range : ℕ) (rs : List RangeEntry) → HaveSplitKeys rs → LiesFrom low rs → LiesFrom low (split_in rs range)
+split_lies low range [] have lies = absurd lies
+split_lies low range (r ∷ []) have lies =
+    if_elim (LiesFrom low) (r.range == range) (halves r r.pending ++ []) (r ∷ []) (λ same. halves_lie low r [] r.pending have.0 lies) (λ other. lies)
+split_lies low range (r ∷ s ∷ rs) have lies =
+    if_elim (LiesFrom low) (r.range == range) (halves r r.pending ++ s ∷ rs) (r ∷ split_in (s ∷ rs) range)
+    (λ same. halves_lie low r (s ∷ rs) r.pending have.0 lies)
+    (λ other. next_lies low s.keys.low r (split_in (s ∷ rs) range) lies.0 lies.1 lies.2 (split_lies s.keys.low range (s ∷ rs) have.1 lies.3))
 
 merged_first : (l r e : RangeEntry) (behind : List RangeEntry) → e.keys ≡ record { low = l.keys.low; high = r.keys.high } → (from : List ℕ) → LiesFrom from (l ∷ r ∷ behind) → LiesFrom from (e ∷ behind)
 merged_first l r e [] es from lies = (lows e.keys l.keys.low r.keys.high es ∙ lies.0, highs e.keys l.keys.low r.keys.high es ∙ lies.3.1)
@@ -190,7 +198,17 @@ merged_first l r e (s ∷ behind) es from lies = (
   lies.3.3,
 )
 
--- a range merged with the one above it
-pub merged_lies : (low : List ℕ) (before : List RangeEntry) (l r e : RangeEntry) (behind : List RangeEntry) → e.keys ≡ record { low = l.keys.low; high = r.keys.high } →
-    LiesFrom low (before ++ (l ∷ r ∷ behind)) → LiesFrom low (before ++ (e ∷ behind))
-merged_lies low before l r e behind es lies = behind_lies low before l (r ∷ behind) e behind (lows e.keys l.keys.low r.keys.high es) (merged_first l r e behind es) lies
+joined_lies : (low : List ℕ) (l : RangeEntry) (rs : List RangeEntry) (o : Option ℕ) → LiesFrom low (l ∷ rs) → LiesFrom low (joined l rs o)
+joined_lies low l [] o lies = lies
+joined_lies low l (r ∷ rs) None lies = lies
+joined_lies low l (r ∷ rs) (Some into) lies = merged_first l r (union l r into) rs refl low lies
+
+-- what two ranges become lies where they lay
+pub merge_lies : (low : List ℕ) (left right : ℕ) (rs : List RangeEntry) → LiesFrom low rs → LiesFrom low (merge_in rs left right)
+merge_lies low left right [] lies = absurd lies
+merge_lies low left right (l ∷ []) lies =
+    if_elim (LiesFrom low) (l.range == left) (joined l [] None) (l ∷ []) (λ same. lies) (λ other. lies)
+merge_lies low left right (l ∷ s ∷ rs) lies =
+    if_elim (LiesFrom low) (l.range == left) (joined l (s ∷ rs) (union_beside right l (s ∷ rs))) (l ∷ merge_in (s ∷ rs) left right)
+    (λ same. joined_lies low l (s ∷ rs) (union_beside right l (s ∷ rs)) lies)
+    (λ other. next_lies low s.keys.low l (merge_in (s ∷ rs) left right) lies.0 lies.1 lies.2 (merge_lies s.keys.low left right (s ∷ rs) lies.3))

@@ -44,7 +44,7 @@ use Rattle.model_partition.specs.CheckpointStates.{CheckpointState, last_job}
 use Rattle.model_partition.specs.declared.checkpoint_job.CheckpointPhase.{CheckpointPhase}
 use Rattle.model_partition.specs.declared.checkpoint_job.CheckpointPhase.TheVariants as phases
 use Rattle.model_partition.specs.declared.server_context.ServerContext.{ServerContext}
-use Rattle.model_partition.specs.Range.{OutGroup, RangeState, RangeOutcome, request, tells, answers, goes, dropped, given, picking, is_serving}
+use Rattle.model_partition.specs.Range.{OutGroup, RangeState, RangeOutcome, request, tells, answers, goes, dropped, given, picking, is_serving, is_paused}
 use Rattle.model_partition.specs.declared.waiting.PlaceRead.{PlaceRead}
 use Rattle.model_partition.specs.Loading.{Group}
 use Rattle.model_partition.specs.PlaceReads.{is_place, place_of, places_of, reads_place}
@@ -55,7 +55,11 @@ use Rattle.model_partition.specs.Getting.{held_at}
 -- a layer that is fixed is that of a checkpoint under way
 abbrev pub checkpoint_fault : RangeState → Option Refusal
 checkpoint_fault r =
-    first_met ((refusals.Loading, not (is_serving r.stage)) ∷ (refusals.Busy, is_some r.control || is_some r.fixed) ∷ [])
+    first_met (
+    (refusals.Loading, not (is_serving r.stage))
+    ∷ (refusals.Paused, is_paused r.pause)
+    ∷ (refusals.Busy, is_some r.control || is_some r.fixed)
+    ∷ [])
 
 -- while a group is out its first number is the next one of a load that begins at the position
 abbrev pub number_to_apply : Option OutGroup → ℕ → ℕ

@@ -1,14 +1,16 @@
 -- Whole runs: nodes and the manager below, servers and the map above them.
-use Rattle.std.specs.Prelude.{ℕ, Bool, List, [], ◌∷◌, map, Option, Some, None, nat_lt, ◌==◌, slice_get, if◌then◌else◌}
+use Rattle.std.specs.Prelude.{ℕ, Bool, List, [], ◌∷◌, ◌++◌, map, Option, Some, None, nat_lt, ◌==◌, slice_get, if◌then◌else◌}
 use Rattle.wire.specs.declared.actor.ActorId.{ActorId}
 use Rattle.wire.specs.declared.actor.ActorId.TheVariants.{Map, Server}
+use Rattle.wire.specs.declared.note.Note.{Note}
 use Rattle.wire.specs.declared.packet.Packet.{Packet}
 use Rattle.wire.specs.declared.refusal.Refusal.{Refusal}
 use Rattle.model_streams.specs.declared.event.Event.{Event}
 use Rattle.model_streams.specs.declared.event.Event.TheVariants.{Deliver, Stop, Restart, GiveUp, Checkpoint, Assign, Renew, Moment}
 use Rattle.model_streams.specs.Outcome.{Outcome}
-use Rattle.model_streams.specs.StreamSystem.{StreamSystem, ActorCell, running, down, armed, stops_in, stands_in, burnt, happens, sent_more, delivered, start}
-use Rattle.model_partition.specs.Map.{MapState, first_map, range_at, assign_fault, assign_rule, renew_fault, renew_rule, map_rule}
+use Rattle.model_streams.specs.StreamSystem.{StreamSystem, ActorCell, running, down, armed, stops_in, stands_in, burnt, unsent, happens, delivered, start}
+use Rattle.model_partition.specs.Map.{MapState, first_map, range_at}
+use Rattle.model_partition.specs.MapRules.{assign_fault, assign_rule, renew_fault, renew_rule, map_rule}
 use Rattle.model_partition.specs.Servers.{ServerCell, ServersOutcome, with_told, server_takes, server_gives_up, server_checkpoints, server_stops, server_starts, told_moment, first_servers}
 
 -- the stream layer, with all packets and observations; the servers, numbered from 1; the map, which of one that has stopped is
@@ -37,12 +39,19 @@ shows_moment c now = if nat_lt now c.now then c else record c { now = now; serve
 abbrev pub map_halted : Cluster → Cluster
 map_halted c = record c { map_cell = down }
 
--- the map goes through a rule, or stops while it writes the rule's record; no rule of it shows anything
+-- what the map sends and shows
+abbrev pub told_by_map : StreamSystem → List Packet → List Note → StreamSystem
+told_by_map w packets notes = record w { post = w.post ++ packets; notes = w.notes ++ notes }
+
+abbrev pub after_map_rule : Cluster → Outcome MapState → Cluster
+after_map_rule c o = record c { map = o.after; stream_layer = told_by_map c.stream_layer o.packets o.notes }
+
+-- the map goes through a rule, or stops while it writes the rule's record; what the rule shows is shown where its record stands
 abbrev pub map_performs : Cluster → Outcome MapState → Cluster
 map_performs c o =
     if stops_in c.map_cell o.written
-    then (if stands_in c.map_cell then map_halted (record c { map = o.after }) else map_halted c)
-    else record c { map = o.after; map_cell = burnt c.map_cell o.written; stream_layer = sent_more c.stream_layer o.packets }
+    then (if stands_in c.map_cell then map_halted (after_map_rule c (unsent o)) else map_halted c)
+    else after_map_rule (record c { map_cell = burnt c.map_cell o.written }) o
 
 abbrev pub map_takes : Cluster → Packet → Cluster
 map_takes c p = if c.map_cell.up then map_performs c (map_rule c.map p p.body) else c

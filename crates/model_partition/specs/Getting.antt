@@ -26,7 +26,7 @@ use Rattle.metadata.specs.Keys.{within}
 use Rattle.memtable.specs.Entries.{found}
 use Rattle.memtable.specs.Layers.{found_in, or_else}
 use Rattle.model_partition.specs.declared.server_context.ServerContext.{ServerContext}
-use Rattle.model_partition.specs.Range.{RangeState, RangeOutcome, request, tells, refuses, answers, if_there, is_serving}
+use Rattle.model_partition.specs.Range.{RangeState, RangeOutcome, request, tells, refuses, answers, if_there, is_serving, is_paused}
 use Rattle.model_partition.specs.PlaceReads.{is_place, places_of, reads_place, moved_on, asks_again}
 use Rattle.model_partition.specs.Serving.{is_key, lease_ended}
 
@@ -132,11 +132,18 @@ abbrev pub answered : ServerContext → RangeState → WaitingGet → Lookup →
 answered d r g (Is value) = record { waiting = []; count = d.count; packets = tells d g.from (bodies.Table (tables.Value g.request value)) ∷ [] }
 answered d r g (Needs page place) = asks_place d g page place (places_of r place.extent)
 
--- A Get is tried: refused once the lease has ended, else answered, or one more read is sent for what is missing.
+-- why a Get that waits is answered no more
+abbrev pub try_fault : ServerContext → RangeState → Option Refusal
+try_fault d r = first_met ((refusals.Paused, is_paused r.pause) ∷ (refusals.LeaseEnded, lease_ended d r) ∷ [])
+
+abbrev pub try_unless : ServerContext → RangeState → WaitingGet → Option Refusal → Tried
+try_unless d r g (Some refusal) = record { waiting = []; count = d.count; packets = refuses d g.from g.request refusal ∷ [] }
+try_unless d r g None = answered d r g (look r.held r.indexes g.key (standing r g.key))
+
+-- A Get is tried: refused where the range is paused or the lease has ended, else answered, or one more read is sent for what is
+-- missing.
 abbrev pub try : ServerContext → RangeState → WaitingGet → Tried
-try d r g =
-    if lease_ended d r then record { waiting = []; count = d.count; packets = refuses d g.from g.request refusals.LeaseEnded ∷ [] }
-    else answered d r g (look r.held r.indexes g.key (standing r g.key))
+try d r g = try_unless d r g (try_fault d r)
 
 -- each in turn
 abbrev pub try_all : ServerContext → RangeState → List WaitingGet → Tried
@@ -152,6 +159,7 @@ abbrev pub get_fault : ServerContext → RangeState → List ℕ → Option Refu
 get_fault d r key =
     first_met (
     (refusals.Loading, not (is_serving r.stage))
+    ∷ (refusals.Paused, is_paused r.pause)
     ∷ (refusals.LeaseEnded, lease_ended d r)
     ∷ (refusals.BadKey, not (is_key key))
     ∷ (refusals.OutOfRange, not (within r.said.keys key))

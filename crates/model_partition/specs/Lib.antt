@@ -4,6 +4,7 @@ pub mod Answering
 pub mod Getting
 pub mod CheckpointStates
 pub mod Checkpoints
+pub mod Splits
 pub mod PlaceReads
 pub mod Loading
 pub mod Log
@@ -15,6 +16,7 @@ pub mod Serving
 pub mod Story
 pub mod ServerTurns
 pub mod Map
+pub mod MapRules
 pub mod Partition
 pub mod RecordBytes
 pub mod Replay

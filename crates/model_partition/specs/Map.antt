@@ -1,23 +1,14 @@
--- The partition map: which range has which keys, and which server holds it until when.
-use Rattle.std.specs.Prelude.{ℕ, suc, ◌^◌, max, Bool, false, not, ◌&&◌, ◌==◌, nat_lt, List, [], ◌∷◌, map, Option, Some, None, if◌then◌else◌}
-use Rattle.block_types.specs.declared.record.Record.{Record}
-use Rattle.block_types.specs.declared.record.Record.TheVariants.{Manage}
-use Rattle.wire.specs.declared.actor.ActorId.TheVariants.{Map, Server}
-use Rattle.wire.specs.declared.actor.ReqNo.{ReqNo}
-use Rattle.wire.specs.declared.body.Body.{Body}
-use Rattle.wire.specs.declared.body.Body.TheVariants as bodies
-use Rattle.wire.specs.declared.body.MapBody.{MapBody}
-use Rattle.wire.specs.declared.body.MapBody.TheVariants as maps
-use Rattle.wire.specs.declared.packet.Packet.{Packet}
-use Rattle.wire.specs.declared.refusal.Refusal.{Refusal}
-use Rattle.wire.specs.declared.refusal.Refusal.TheVariants.{NotOwner, LeaseHeld}
-use Rattle.model_streams.specs.Outcome.{Outcome, packet, first_met, silent, sends}
+-- The partition map: which range has which keys, which server holds it until when, and which splits and merges are begun.
+use Rattle.std.specs.Prelude.{ℕ, suc, ◌+◌, max, Bool, true, false, ◌&&◌, ◌||◌, ◌==◌, List, [], ◌∷◌, ◌++◌, length, map, Option, Some, None, bytes_eq, if◌then◌else◌}
+use Rattle.std.specs.Cmp.Lexicographic.{slice_cmp}
+use Rattle.std.specs.Ordering.{nat_cmp, is_lt}
+use Rattle.block_types.specs.Limits.{is_within}
 use Rattle.metadata.specs.Fold.{all_keys}
-use Rattle.metadata.specs.Keys.{within}
-use Rattle.model_partition.specs.declared.map_record.MapRecord.{MapRecord}
-use Rattle.model_partition.specs.declared.map_record.MapRecord.TheVariants.{Assign, Renew}
+use Rattle.metadata.specs.Keys.{within, below_high}
+use Rattle.metadata.specs.declared.record.KeyRange.{KeyRange}
+use Rattle.model_partition.specs.declared.pending.Pending.{Pending}
+use Rattle.model_partition.specs.declared.pending.Pending.TheVariants as pendings
 use Rattle.model_partition.specs.declared.range_entry.RangeEntry.{RangeEntry}
-use Rattle.model_partition.specs.RecordBytes.{spelled}
 use Rattle.model_partition.specs.Past.{first_range}
 
 -- the ranges in the order of their keys, and the number of the next range
@@ -25,9 +16,9 @@ pub record MapState : Type 0 where
   pub ranges : List RangeEntry
   pub next : ℕ
 
--- the first range has all keys, and nobody holds it
+-- the first range has all keys, nobody holds it, and nothing is begun at it
 abbrev pub first_entry : RangeEntry
-first_entry = record { range = first_range; keys = all_keys; generation = 0; holder = None; until = 0 }
+first_entry = record { range = first_range; keys = all_keys; generation = 0; holder = None; until = 0; pending = None }
 
 abbrev pub first_map : MapState
 first_map = record { ranges = first_entry ∷ []; next = suc first_range }
@@ -60,70 +51,112 @@ assigned server until r = record r { generation = suc r.generation; holder = Som
 abbrev pub renewed : ℕ → RangeEntry → RangeEntry
 renewed until r = record r { until = max r.until until }
 
--- ---- rules
+-- ---- what is begun
 
-abbrev pub is_holder : Option ℕ → ℕ → Bool
-is_holder None server = false
-is_holder (Some holder) server = holder == server
+-- the pending merge of a range with this one, the right one
+abbrev pub is_merge_with : ℕ → Option Pending → Bool
+is_merge_with range (Some (pendings.Merge right into)) = right == range
+is_merge_with range pending = false
 
-abbrev pub is_other : Option ℕ → ℕ → Bool
-is_other None server = false
-is_other (Some holder) server = not (holder == server)
+-- Nothing is pending at the range of a number any more. A pair is pending at both its ranges, so it goes from both: it stands at
+-- the left one alone, and goes from there where the right one drops it.
+abbrev pub dropped_if : ℕ → RangeEntry → RangeEntry
+dropped_if range r = if r.range == range || is_merge_with range r.pending then record r { pending = None } else r
 
--- what the map writes
-abbrev pub writes : MapRecord → Option Record
-writes r = Some (Manage (spelled r))
+abbrev pub drop_pending : MapState → ℕ → MapState
+drop_pending m range = record m { ranges = map (dropped_if range) m.ranges }
 
--- to a server
-abbrev pub tells : ℕ → MapBody → List Packet
-tells server body = packet Map (Server server) (bodies.Map body) ∷ []
+abbrev pub with_pending : Pending → RangeEntry → RangeEntry
+with_pending pending r = record r { pending = Some pending }
 
--- why a range is not assigned: there is none of this number, or another server holds it and its lease has not ended
-abbrev pub assign_fault : ℕ → ℕ → Option RangeEntry → Option Refusal
-assign_fault server now None = Some NotOwner
-assign_fault server now (Some r) = first_met ((LeaseHeld, is_other r.holder server && nat_lt now r.until) ∷ [])
-
--- the server is told of the lease; nothing happens where no generation of 64 bits is left
-abbrev pub assign_taken : MapState → ℕ → ℕ → ℕ → RangeEntry → Outcome MapState
-assign_taken m range server until r =
-    if nat_lt (suc r.generation) (2 ^ 64)
-    then record {
-      after = with_range m range (assigned server until);
-      written = writes (Assign range server until);
-      packets = tells server (maps.Assign range (suc r.generation) (max r.until until));
-      notes = [];
-    }
-    else silent m
-
-abbrev pub assign_rule : MapState → ℕ → ℕ → ℕ → Option RangeEntry → Outcome MapState
-assign_rule m range server until None = silent m
-assign_rule m range server until (Some r) = assign_taken m range server until r
-
--- why a lease is not renewed: there is no range of this number, or the server does not hold it
-abbrev pub renew_fault : ℕ → Option RangeEntry → Option Refusal
-renew_fault server None = Some NotOwner
-renew_fault server (Some r) = first_met ((NotOwner, not (is_holder r.holder server)) ∷ [])
-
-abbrev pub renew_rule : MapState → ℕ → ℕ → ℕ → Option RangeEntry → Outcome MapState
-renew_rule m range server until None = silent m
-renew_rule m range server until (Some r) =
+-- something is pending at the range of a number, in place of what was; it takes so many numbers
+abbrev pub begin : MapState → ℕ → ℕ → Pending → MapState
+begin m range count pending =
     record {
-      after = with_range m range (renewed until);
-      written = writes (Renew range until);
-      packets = tells server (maps.Renew range r.generation (max r.until until));
-      notes = [];
+      ranges = map (changed_if range (with_pending pending)) (map (dropped_if range) m.ranges);
+      next = m.next + count;
     }
 
--- who asked where a key is, is told its range, and who holds that
-abbrev pub route_rule : MapState → Packet → ReqNo → Option RangeEntry → Outcome MapState
-route_rule m p q None = silent m
-route_rule m p q (Some r) = sends m (packet Map p.from (bodies.Map (maps.RouteIs q r.range r.holder)) ∷ [])
+-- ---- assignments
 
--- what the map does with a packet; of others than these nothing comes
-abbrev pub told : MapState → Packet → MapBody → Outcome MapState
-told m p (maps.Route key q) = route_rule m p q (range_of_key m.ranges key)
-told m p body = silent m
+-- what is pending at a range is dropped where it is assigned
+abbrev pub assign : MapState → ℕ → ℕ → ℕ → MapState
+assign m range server until = with_range (drop_pending m range) range (assigned server until)
 
-abbrev pub map_rule : MapState → Packet → Body → Outcome MapState
-map_rule m p (bodies.Map body) = told m p body
-map_rule m p body = silent m
+-- ---- splits
+
+-- a key that splits a range: of 1 to 256 bytes, above its first key, and below its end
+abbrev pub is_split_key : KeyRange → List ℕ → Bool
+is_split_key keys key = is_within 1 256 (length key) && is_lt (slice_cmp nat_cmp keys.low key) && below_high keys.high key
+
+-- the numbers of the two halves, where a split at this key is pending
+abbrev pub halves_at : List ℕ → Option Pending → Option (ℕ × ℕ)
+halves_at key (Some (pendings.Split at low high)) = if bytes_eq at key then Some (low, high) else None
+halves_at key pending = None
+
+-- a split at a key is pending at a range, in place of what was; its halves have the next two numbers
+abbrev pub begin_split : MapState → ℕ → List ℕ → MapState
+begin_split m range key = begin m range 2 (pendings.Split key m.next (m.next + 1))
+
+-- some of a range's keys under a number of their own; nobody holds them, and their generation is the range's
+abbrev pub half : RangeEntry → ℕ → KeyRange → RangeEntry
+half r range keys = record { range = range; keys = keys; generation = r.generation; holder = None; until = 0; pending = None }
+
+-- what a range becomes: two where a split is pending, its keys below the key and those from it on
+abbrev pub halves : RangeEntry → Option Pending → List RangeEntry
+halves r (Some (pendings.Split key low high)) =
+    half r low (record { low = r.keys.low; high = Some key }) ∷ half r high (record { low = key; high = r.keys.high }) ∷ []
+halves r pending = r ∷ []
+
+-- the halves of the range of a number stand in its place
+abbrev pub split_in : List RangeEntry → ℕ → List RangeEntry
+split_in [] range = []
+split_in (r ∷ rs) range = if r.range == range then halves r r.pending ++ rs else r ∷ split_in rs range
+
+abbrev pub complete_split : MapState → ℕ → MapState
+complete_split m range = record m { ranges = split_in m.ranges range }
+
+-- ---- merges
+
+-- the number of what they become, where a merge with this right one is pending
+abbrev pub union_with : ℕ → Option Pending → Option ℕ
+union_with range (Some (pendings.Merge right into)) = if right == range then Some into else None
+union_with range pending = None
+
+-- the merge of two ranges is pending, in place of what was at either; what they become has the next number
+abbrev pub begin_merge : MapState → ℕ → ℕ → MapState
+begin_merge m left right = begin (drop_pending m right) left 1 (pendings.Merge right m.next)
+
+-- Where a merge of the range of a number with this right one is pending, and the right one stands behind it: the number of what
+-- they become.
+abbrev pub union_beside : ℕ → RangeEntry → List RangeEntry → Option ℕ
+union_beside right l [] = None
+union_beside right l (r ∷ rs) = if r.range == right then union_with right l.pending else None
+
+abbrev pub union_at : List RangeEntry → ℕ → ℕ → Option ℕ
+union_at [] left right = None
+union_at (l ∷ rs) left right = if l.range == left then union_beside right l rs else union_at rs left right
+
+-- all keys of two ranges under a number of their own, and the greater of their generations; nobody holds them
+abbrev pub union : RangeEntry → RangeEntry → ℕ → RangeEntry
+union l r into =
+    record {
+      range = into;
+      keys = record { low = l.keys.low; high = r.keys.high };
+      generation = max l.generation r.generation;
+      holder = None;
+      until = 0;
+      pending = None;
+    }
+
+-- a range and the one behind it become one
+abbrev pub joined : RangeEntry → List RangeEntry → Option ℕ → List RangeEntry
+joined l (r ∷ rs) (Some into) = union l r into ∷ rs
+joined l rs into = l ∷ rs
+
+abbrev pub merge_in : List RangeEntry → ℕ → ℕ → List RangeEntry
+merge_in [] left right = []
+merge_in (l ∷ rs) left right = if l.range == left then joined l rs (union_beside right l rs) else l ∷ merge_in rs left right
+
+abbrev pub complete_merge : MapState → ℕ → ℕ → MapState
+complete_merge m left right = record m { ranges = merge_in m.ranges left right }

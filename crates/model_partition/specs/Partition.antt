@@ -1,10 +1,14 @@
--- Ranges that do not overlap and have each key.
-use Rattle.std.specs.Prelude.{◌≡◌, ◌≢◌, ℕ, true, false, List, [], ◌∷◌, ◌++◌, Option, Some, None}
+-- Ranges that do not overlap and have each key, and whose numbers are their own.
+use Rattle.std.specs.Prelude.{◌≡◌, ◌≤◌, ℕ, ◌+◌, Bool, true, false, ◌==◌, nat_lt, List, [], ◌∷◌, ◌++◌, Option, Some, None, if◌then◌else◌}
 use Rattle.std.specs.Cmp.Lexicographic.{slice_cmp}
 use Rattle.std.specs.Ordering.{nat_cmp}
 use Rattle.std.specs.declared.cmp.Ordering.TheVariants.{Less}
 use Rattle.metadata.specs.Keys.{within}
+use Rattle.metadata.specs.declared.record.KeyRange.{KeyRange}
+use Rattle.model_partition.specs.declared.pending.Pending.{Pending}
+use Rattle.model_partition.specs.declared.pending.Pending.TheVariants as pendings
 use Rattle.model_partition.specs.declared.range_entry.RangeEntry.{RangeEntry}
+use Rattle.model_partition.specs.Map.{MapState, is_split_key}
 
 -- in byte order
 abbrev pub IsBelow : List ℕ → List ℕ → Type 0
@@ -26,14 +30,44 @@ LiesFrom low (r ∷ s ∷ rs) = (r.keys.low ≡ low) × (r.keys.high ≡ Some s.
 abbrev pub IsPartition : List RangeEntry → Type 0
 IsPartition rs = LiesFrom [] rs
 
--- no number stands twice
-abbrev pub IsFresh : ℕ → List RangeEntry → Type 0
-IsFresh range [] = Unit {0}
-IsFresh range (r ∷ rs) = (r.range ≢ range) × IsFresh range rs
+-- ---- numbers
 
-abbrev pub AreNumbered : List RangeEntry → Type 0
-AreNumbered [] = Unit {0}
-AreNumbered (r ∷ rs) = IsFresh r.range rs × AreNumbered rs
+abbrev pub one_if : Bool → ℕ
+one_if b = if b then 1 else 0
+
+-- how often a number is that of a range to come, of those that are pending
+abbrev pub uses_pending : ℕ → Option Pending → ℕ
+uses_pending n None = 0
+uses_pending n (Some (pendings.Split key low high)) = one_if (low == n) + one_if (high == n)
+uses_pending n (Some (pendings.Merge right into)) = one_if (into == n)
+
+-- how often a number is that of a range, or of a range to come
+abbrev pub uses : ℕ → List RangeEntry → ℕ
+uses n [] = 0
+uses n (r ∷ rs) = one_if (r.range == n) + uses_pending n r.pending + uses n rs
+
+-- a number below the next one is that of at most one of all these, and no other number is
+abbrev pub AreFresh : MapState → Type 0
+AreFresh m = (n : ℕ) → uses n m.ranges ≤ one_if (nat_lt n m.next)
+
+-- ---- splits that are pending
+
+-- the key splits the range
+abbrev pub HasSplitKey : KeyRange → Option Pending → Type 0
+HasSplitKey keys None = Unit {0}
+HasSplitKey keys (Some (pendings.Split key low high)) = is_split_key keys key ≡ true
+HasSplitKey keys (Some (pendings.Merge right into)) = Unit {0}
+
+abbrev pub HaveSplitKeys : List RangeEntry → Type 0
+HaveSplitKeys [] = Unit {0}
+HaveSplitKeys (r ∷ rs) = HasSplitKey r.keys r.pending × HaveSplitKeys rs
+
+-- ---- what each record that fits keeps
+
+pub record IsSound (m : MapState) : Type 0 where
+  pub partition : IsPartition m.ranges
+  pub fresh : AreFresh m
+  pub split_keys : HaveSplitKeys m.ranges
 
 -- ---- what that means of a key
 

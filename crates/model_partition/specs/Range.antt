@@ -22,6 +22,8 @@ use Rattle.client.specs.Client.{ClientState, Outcome, waits}
 use Rattle.client.specs.Load.{LoadState}
 use Rattle.model_partition.specs.CheckpointStates.{CheckpointState}
 use Rattle.model_partition.specs.declared.server_context.ServerContext.{ServerContext}
+use Rattle.model_partition.specs.declared.pause.Pause.{Pause}
+use Rattle.model_partition.specs.declared.pause.Pause.TheVariants as pauses
 use Rattle.model_partition.specs.declared.stage.Stage.{Stage}
 use Rattle.model_partition.specs.declared.stage.Stage.TheVariants.{Serving}
 use Rattle.model_partition.specs.declared.table_note.TableNote.{TableNote}
@@ -34,13 +36,14 @@ pub record OutGroup : Type 0 where
   pub first : ℕ
   pub transactions : List WaitingTransaction
 
--- A range at a server: the end of its lease; the opening and the confirmation of its streams; its stage; its metadata, its log
+-- A range at a server: the end of its lease, and what it takes; the opening and the confirmation of its streams; its stage; its metadata, its log
 -- and its row data, as clients know them, and its blob stream; what its metadata says; the regions of the log, each with the
 -- number that is to be applied next; the two layers of its memory table; the indexes below it, the newest first, and the index or
 -- the page that is being read; the checkpoint that is under way; the number of the next transaction; the end of what was appended
 -- to the log; the transactions that wait, and those that are being appended; the Gets that wait, and what was read for them.
 pub record RangeState : Type 0 where
   pub until : ℕ
+  pub pause : Pause
   pub load : LoadState
   pub stage : Stage
   pub metadata : ClientState
@@ -133,3 +136,15 @@ later a b = if position_le a b then b else a
 abbrev pub is_serving : Stage → Bool
 is_serving Serving = true
 is_serving _ = false
+
+-- ---- pauses
+
+abbrev pub takes_no_transaction : Pause → Bool
+takes_no_transaction pauses.Off = false
+takes_no_transaction pauses.AfterQueue = true
+takes_no_transaction pauses.On = true
+
+abbrev pub is_paused : Pause → Bool
+is_paused pauses.Off = false
+is_paused pauses.AfterQueue = false
+is_paused pauses.On = true

@@ -24,7 +24,7 @@ use Rattle.model_partition.specs.Servers.{ServerCell}
 use Rattle.model_partition.specs.Renaming.{renamed, decoded}
 use Rattle.model_partition.specs.TableContents.{StandsAt, table_in}
 use Rattle.model_partition.specs.StreamActions.{PlacedBytes}
-use Rattle.model_partition.specs.ServerRun.{ServerRun, ServerEvent, Takes, log_name, metadata_name, place_number}
+use Rattle.model_partition.specs.ServerRun.{ServerRun, ServerEvent, Takes, Splits, log_name, metadata_name, place_number}
 
 -- ---- premises
 
@@ -40,6 +40,15 @@ IsFirst event = Unit {0}
 abbrev pub AreFirst : List ServerEvent → Type 0
 AreFirst [] = Unit {0}
 AreFirst (event ∷ earlier) = IsFirst event × AreFirst earlier
+
+-- no range is split
+abbrev pub IsUnsplit : ServerEvent → Type 0
+IsUnsplit (Splits server range key) = ⊥
+IsUnsplit event = Unit {0}
+
+abbrev pub AreUnsplit : List ServerEvent → Type 0
+AreUnsplit [] = Unit {0}
+AreUnsplit (event ∷ earlier) = IsUnsplit event × AreUnsplit earlier
 
 -- no generation is confirmed twice
 abbrev pub LoadsOnce : {A : Type 0} → Story A → Type 0

@@ -29,7 +29,7 @@ use Rattle.model_partition.specs.Loading.{Group}
 use Rattle.model_partition.specs.Serving.{transact_rule}
 use Rattle.model_partition.specs.Answering.{answered_number, is_answerer, answer_rule}
 use Rattle.model_partition.specs.Server.{ServerState, range_of, is_newer, awaiting, has_numbers}
-use Rattle.model_partition.specs.Servers.{ServerCell, ServersOutcome, server_takes, server_gives_up, server_checkpoints, server_stops, server_starts, told_moment, first_servers}
+use Rattle.model_partition.specs.Servers.{ServerCell, ServersOutcome, server_takes, server_gives_up, server_checkpoints, server_splits, server_stops, server_starts, told_moment, first_servers}
 use Rattle.model_partition.specs.StreamActions.{PlacedBytes, ExtentRead, StreamAction, Reads, Forms, Stands, Shows, Finds, Stores, transact_actions, answer_actions}
 
 -- ---- places
@@ -183,12 +183,13 @@ cell_effect p (Some cell) = server_effect p cell.state
 
 -- ---- lists of events
 
--- A packet comes to a server; it is told to give up, or to make a checkpoint of a range; it stops, or stops later; it starts again at a
+-- A packet comes to a server; it is told to give up, to make a checkpoint of a range, or to split it at a key; it stops, or stops later; it starts again at a
 -- moment, for groups of at most so many transactions; a moment comes to all.
 pub data ServerEvent : Type 0 where
   Takes : (server : ℕ) (p : Packet) → ServerEvent
   GivesUp : (server range : ℕ) (pick : Nodes) → ServerEvent
   Checkpoints : (server range : ℕ) (combine : Bool) → ServerEvent
+  Splits : (server range : ℕ) (key : List ℕ) → ServerEvent
   Stops : (server call : ℕ) → ServerEvent
   Starts : (server now batch : ℕ) → ServerEvent
   Moment : (now : ℕ) → ServerEvent
@@ -206,6 +207,7 @@ abbrev pub after_event : ServerRun → ServerEvent → ServerRun
 after_event x (Takes server p) = with_outcome (with_effect server x (cell_effect p (entry_at x.servers server))) (server_takes x.servers server p)
 after_event x (GivesUp server range pick) = with_outcome x (server_gives_up x.servers server range pick)
 after_event x (Checkpoints server range combine) = with_outcome x (server_checkpoints x.servers server range combine)
+after_event x (Splits server range key) = with_outcome x (server_splits x.servers server range key)
 after_event x (Stops server call) = with_outcome x (server_stops x.servers server call)
 after_event x (Starts server now batch) = with_outcome x (server_starts x.servers server now batch)
 after_event x (Moment now) = record x { servers = map (told_moment now) x.servers }

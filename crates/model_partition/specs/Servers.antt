@@ -28,7 +28,7 @@ use Rattle.model_partition.specs.declared.table_note.TableNote.{TableNote}
 use Rattle.model_partition.specs.declared.table_note.TableNote.TheVariants as tables
 use Rattle.model_partition.specs.Loading.{shown_table}
 use Rattle.model_partition.specs.Range.{RangeState}
-use Rattle.model_partition.specs.Server.{ServerState, ServerOutcome, range_of, awaiting, server_rule, moment_rule, give_up_rule, checkpoint_refusal, server_checkpoint, started}
+use Rattle.model_partition.specs.Server.{ServerState, ServerOutcome, range_of, awaiting, server_rule, moment_rule, give_up_rule, checkpoint_refusal, server_checkpoint, split_refusal, server_split, started}
 
 -- a server: how often it was started, and its state while it runs
 pub record ServerCell : Type 0 where
@@ -197,6 +197,15 @@ abbrev pub checkpoint_fault_of : ℕ → Option ServerState → Option Refusal
 checkpoint_fault_of range None = None
 checkpoint_fault_of range (Some server) = checkpoint_refusal server range
 
+abbrev pub cell_splits : ServerCell → ℕ → List ℕ → Option ServerState → CellOutcome
+cell_splits cell range key None = cell_rests cell
+cell_splits cell range key (Some server) = cell_performs cell (server_split server range key)
+
+-- why a server begins no split of a range
+abbrev pub split_fault_of : ℕ → List ℕ → Option ServerState → Option Refusal
+split_fault_of range key None = None
+split_fault_of range key (Some server) = split_refusal server range key
+
 -- a server has no device: it stops at once, or not at all
 abbrev pub cell_stops : ℕ → ServerCell → ServerCell
 cell_stops call cell = if call == 0 then record cell { state = None } else cell
@@ -234,6 +243,9 @@ server_gives_up servers s range pick = at_server servers s (λ cell. cell_gives_
 abbrev pub server_checkpoints : List ServerCell → ℕ → ℕ → Bool → ServersOutcome
 server_checkpoints servers s range combine = at_server servers s (λ cell. cell_checkpoints cell range combine cell.state) (entry_at servers s)
 
+abbrev pub server_splits : List ServerCell → ℕ → ℕ → List ℕ → ServersOutcome
+server_splits servers s range key = at_server servers s (λ cell. cell_splits cell range key cell.state) (entry_at servers s)
+
 abbrev pub server_stops : List ServerCell → ℕ → ℕ → ServersOutcome
 server_stops servers s call = at_server servers s (λ cell. cell_rests (cell_stops call cell)) (entry_at servers s)
 
@@ -256,6 +268,10 @@ give_up_refusal range pick (Some cell) = give_up_fault range pick cell.state
 abbrev pub checkpoint_refusal_at : ℕ → Option ServerCell → Option Refusal
 checkpoint_refusal_at range None = None
 checkpoint_refusal_at range (Some cell) = checkpoint_fault_of range cell.state
+
+abbrev pub split_refusal_at : ℕ → List ℕ → Option ServerCell → Option Refusal
+split_refusal_at range key None = None
+split_refusal_at range key (Some cell) = split_fault_of range key cell.state
 
 -- a server that runs, at its first start
 abbrev pub first_server : ℕ → ℕ → ServerCell

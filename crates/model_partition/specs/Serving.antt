@@ -22,7 +22,7 @@ use Rattle.metadata.specs.Keys.{within}
 use Rattle.memtable.specs.Entries.{put_all, entries_size}
 use Rattle.memtable.specs.Layers.{size_of}
 use Rattle.model_partition.specs.declared.server_context.ServerContext.{ServerContext}
-use Rattle.model_partition.specs.Range.{OutGroup, RangeState, RangeOutcome, request, tells, refuses, goes, answers, given, picking, waiting_out, is_serving}
+use Rattle.model_partition.specs.Range.{OutGroup, RangeState, RangeOutcome, request, tells, refuses, goes, answers, given, picking, waiting_out, is_serving, takes_no_transaction}
 
 -- ---- forming a group
 
@@ -91,6 +91,7 @@ abbrev pub transact_fault : ServerContext → RangeState → List Change → Opt
 transact_fault d r changes =
     first_met (
     (refusals.Loading, not (is_serving r.stage))
+    ∷ (refusals.Paused, takes_no_transaction r.pause)
     ∷ (refusals.LeaseEnded, lease_ended d r)
     ∷ (refusals.TooLarge, (length changes == 0) || nat_lt 32 (length changes))
     ∷ (refusals.BadKey, list_any (λ c. not (is_key c.key)) changes)

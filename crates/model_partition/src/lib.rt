@@ -6,12 +6,12 @@
 //! - Story and Log: what the users of one stream see of it, the order that it keeps, and what servers may do to the log of a
 //!   range.
 //! - StreamMachine and ServerTurns: one stream as its manager, the primaries of its extents and its servers make it.
-//! - Range, PlaceReads, Loading, Serving, Getting, Checkpoints, Answering and Server: the table of a server, as functions of its state.
+//! - Range, PlaceReads, Loading, Serving, Getting, Checkpoints, Answering, Splits and Server: the table of a server, as functions of its state.
 //! - Servers: the servers of a run, and what a loaded table shows.
-//! - Map: the partition map, its ranges in the order of their keys, and its rules: which range has which keys, which server holds
-//!   it until when, and what the map does with each call and packet.
-//! - Partition: ranges that lie side by side and have each key once, as they do at first and after each rule, and as a split
-//!   or a merge leaves them.
+//! - Map: the partition map, its ranges in the order of their keys, and what changes them: assignments, renewals, splits and
+//!   merges. MapRules: what the map does with each call and packet.
+//! - Partition: ranges that lie side by side, have each key once, and have numbers of their own, as they do at first and after
+//!   each record that fits.
 //! - RecordBytes and Replay: the bytes of the map's records, written and read; the map that records make, and which records fit.
 //! - Cluster: whole runs: the stream layer, the servers above it, the map, and the clock of leases; what each event makes of all
 //!   actors, stops and restarts of the map inside its records among them.
@@ -23,6 +23,8 @@
 mod checkpoint_job;
 mod client_answers;
 mod map_record;
+mod pause;
+mod pending;
 mod place_reads;
 mod progress;
 mod range_content;
@@ -30,6 +32,7 @@ mod range_entry;
 mod requests;
 mod server_context;
 mod shown_table;
+mod split_job;
 mod stage;
 mod table_note;
 mod waiting;
@@ -37,6 +40,8 @@ mod waiting;
 pub use checkpoint_job::{CheckpointJob, CheckpointPhase};
 pub use client_answers::take_answer;
 pub use map_record::MapRecord;
+pub use pause::Pause;
+pub use pending::Pending;
 pub use place_reads::{is_at, is_same, moved_on, places_of, reads_page, reads_place};
 pub use progress::{Progress, Service};
 pub use range_content::RangeContent;
@@ -44,6 +49,7 @@ pub use range_entry::RangeEntry;
 pub use requests::next_request;
 pub use server_context::ServerContext;
 pub use shown_table::{Entries, ShownTable, TableView};
+pub use split_job::{Side, SplitJob, SplitPhase};
 pub use stage::Stage;
 pub use table_note::TableNote;
 pub use waiting::{PlaceRead, PlaceReads, WaitingGet, WaitingTransaction};

@@ -10,18 +10,19 @@ use Rattle.wire.specs.declared.actor.ReqNo.{ReqNo}
 use Rattle.wire.specs.declared.body.SealBody.{SealBody}
 use Rattle.wire.specs.declared.body.SealBody.TheVariants.{Make, SealExtent, SealedIs, Freeze, Frozen, Seal, IsSealed, Short, SendTail}
 use Rattle.wire.specs.declared.body.StreamBody.{StreamBody}
-use Rattle.wire.specs.declared.body.StreamBody.TheVariants.{CreateStream, Created, OpenStreams, Opened, Confirm, Confirmed, Extend, Extended, Trim, Trimmed, MultiModify}
+use Rattle.wire.specs.declared.body.StreamBody.TheVariants.{CreateStream, Created, OpenStreams, Opened, Confirm, Confirmed, Extend, Extended, Trim, Trimmed, MultiModify, Modified}
 use Rattle.wire.specs.declared.body.Body.{Body}
 use Rattle.wire.specs.declared.body.Body.TheVariants as bodies
 use Rattle.wire.specs.declared.note.Note.TheVariants as notes
 use Rattle.wire.specs.declared.packet.Packet.{Packet}
 use Rattle.wire.specs.declared.refusal.Refusal.{Refusal}
 use Rattle.wire.specs.declared.refusal.Refusal.TheVariants.{NoSuchExtent, Stale, NoReply, NoSuchStream, NameTaken, BadPick}
+use Rattle.wire.specs.declared.streams.Modify.{Modify}
 use Rattle.wire.specs.declared.streams.StreamExtent.{StreamExtent}
 use Rattle.wire.specs.declared.streams.StreamList.{StreamList}
 use Rattle.wire.specs.declared.streams.StreamLists.{StreamLists}
 use Rattle.wire.specs.declared.streams.StreamName.{StreamName}
-use Rattle.streams.specs.Streams.{Stream, Streams, stream_of, base_of, empty_stream, has_four, all_pass, create_fault, created, opened, extended as extended_streams, extending, trimmed, trimming}
+use Rattle.streams.specs.Streams.{Stream, Streams, stream_of, base_of, empty_stream, has_four, all_pass, create_fault, created, opened, extended as extended_streams, extending, modified, modify_fault, trimmed, trimming}
 pub use Rattle.streams.specs.Streams.{is_there}
 use Rattle.model_streams.specs.declared.extent.Asker.{Asker}
 use Rattle.model_streams.specs.declared.extent.Extent.{Extent}
@@ -252,10 +253,23 @@ trim_rule b p range generation before to_blob q =
     if is_user p.from then refused b Manager p q Stale
     else trim_answered b p range before to_blob q (trimming b.stream range generation before)
 
--- ---- calls that no user makes
+-- ---- MultiModify
 
-abbrev pub no_users : Catalog → Packet → ReqNo → Outcome Catalog
-no_users b p q = if is_user p.from then refused b Manager p q Stale else silent b
+abbrev pub modify_refusal : Catalog → Packet → List Modify → Option Refusal
+modify_refusal b p list = if is_user p.from then Some Stale else modify_fault (sealed_lengths b) b.stream list
+
+-- the streams are built, all of them
+abbrev pub modify_taken : Catalog → Packet → List Modify → ReqNo → Outcome Catalog
+modify_taken b p list q =
+    record {
+      after = with_streams b (modified b.stream list);
+      written = writes (manager_records.MultiModify list);
+      packets = packet Manager p.from (bodies.Stream (Modified q)) ∷ [];
+      notes = [];
+    }
+
+abbrev pub modify_rule : Catalog → Packet → List Modify → ReqNo → Outcome Catalog
+modify_rule b p list q = or_refused b Manager p q (modify_refusal b p list) (modify_taken b p list q)
 
 -- ---- SealExtent
 
@@ -387,7 +401,7 @@ stream_body_rule b p (OpenStreams range generation q) = open_rule b p range gene
 stream_body_rule b p (Confirm range generation q) = confirm_rule b p range generation q
 stream_body_rule b p (Extend s generation last pick q) = extend_rule b p s (generation_of p.from generation) last pick q
 stream_body_rule b p (Trim range generation before to_blob q) = trim_rule b p range generation before to_blob q
-stream_body_rule b p (MultiModify list q) = no_users b p q
+stream_body_rule b p (MultiModify list q) = modify_rule b p list q
 stream_body_rule b p body = silent b
 
 abbrev pub seal_body_rule : Catalog → Packet → SealBody → Outcome Catalog

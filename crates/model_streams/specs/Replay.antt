@@ -6,10 +6,10 @@ use Rattle.block_types.specs.declared.record.Record.TheVariants.{Manage}
 use Rattle.wire.specs.declared.streams.StreamName.{StreamName}
 use Rattle.model_streams.specs.declared.extent.Extent.{Extent}
 use Rattle.model_streams.specs.declared.manager_record.ManagerRecord.{ManagerRecord}
-use Rattle.model_streams.specs.declared.manager_record.ManagerRecord.TheVariants.{First, CreateStream, OpenStreams, Extend, Seal, Trim}
-use Rattle.streams.specs.Streams.{Stream, base_of, stream_of, create_fault, open_fault, created, opened, trimmed, last_of}
+use Rattle.model_streams.specs.declared.manager_record.ManagerRecord.TheVariants.{First, CreateStream, OpenStreams, Extend, Seal, Trim, MultiModify}
+use Rattle.streams.specs.Streams.{Stream, base_of, stream_of, create_fault, open_fault, created, opened, modified, modify_fault, trimmed, last_of}
 use Rattle.model_streams.specs.RecordBytes.{record_of}
-use Rattle.model_streams.specs.Manager.{Catalog, first_catalog, with_streams, with_extent, extended, sealed_to, is_there, is_pick}
+use Rattle.model_streams.specs.Manager.{Catalog, first_catalog, with_streams, with_extent, extended, sealed_to, sealed_lengths, is_there, is_pick}
 
 abbrev pub extended_if : Catalog → StreamName → Option Stream → Nodes → Catalog
 extended_if b s None pick = b
@@ -27,6 +27,7 @@ after_record b (OpenStreams range generation) = with_streams b (opened b.stream 
 after_record b (Extend s generation pick) = extended_if b s (stream_of b.stream s) pick
 after_record b (Seal e length) = sealed_if b e (b.extent e) length
 after_record b (Trim range before to_blob) = with_streams b (trimmed b.stream range before to_blob)
+after_record b (MultiModify list) = with_streams b (modified b.stream list)
 
 -- a catalog, or none before the first record, after one more
 abbrev pub catalog_after : Option Catalog → Option ManagerRecord → Option Catalog
@@ -85,6 +86,7 @@ manager_record_fits (Some b) (Some (OpenStreams range generation)) = not (is_the
 manager_record_fits (Some b) (Some (Extend s generation pick)) = is_pick b.nodes pick && extend_fits b generation (stream_of b.stream s)
 manager_record_fits (Some b) (Some (Seal e length)) = seal_fits (b.extent e)
 manager_record_fits (Some b) (Some (Trim range before to_blob)) = trim_fits (b.stream range 1) (b.stream range 3) before
+manager_record_fits (Some b) (Some (MultiModify list)) = not (is_there (modify_fault (sealed_lengths b) b.stream list))
 manager_record_fits (Some b) r = false
 
 abbrev pub fit_from : Option Catalog → List Record → Bool

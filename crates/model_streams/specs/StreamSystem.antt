@@ -1,5 +1,6 @@
 -- Whole runs: the network is the list of all packets sent, and a delivery takes any of them, again and in any order.
 use Rattle.std.specs.Prelude.{ℕ, ◌-◌, Bool, true, false, not, ◌&&◌, ◌||◌, List, [], ◌∷◌, ◌++◌, Option, Some, None, ◌==◌, nat_lt, nat_le, slice_get, if◌then◌else◌}
+use Rattle.std.specs.List.{list_all}
 use Rattle.block_types.specs.declared.record.Record.{Record}
 use Rattle.wire.specs.declared.actor.ActorId.{ActorId}
 use Rattle.wire.specs.declared.actor.ActorId.TheVariants.{Node, Manager, Map, Server, User}
@@ -22,6 +23,8 @@ use Rattle.wire.specs.declared.body.Body.TheVariants as bodies
 use Rattle.wire.specs.declared.note.Note.{Note}
 use Rattle.wire.specs.declared.note.Note.TheVariants.{Began, Done, Loaded, Split, Merged}
 use Rattle.wire.specs.declared.packet.Packet.{Packet}
+use Rattle.wire.specs.declared.streams.Modify.{Modify}
+use Rattle.streams.specs.Streams.{kind_number}
 use Rattle.model_streams.specs.declared.event.Event.{Event}
 use Rattle.model_streams.specs.declared.event.Event.TheVariants.{Submit, Deliver, Stop, Restart, Decide, GiveUp, Assign, Renew, Moment, Checkpoint, Split, Merge}
 use Rattle.model_streams.specs.Maps.{changed, changed_at}
@@ -238,12 +241,17 @@ abbrev pub is_check : CheckBody → Bool
 is_check (checks.Check e generation q) = true
 is_check _ = false
 
+-- a server builds streams of a kind from streams of that kind
+abbrev pub are_of_one_kind : List Modify → Bool
+are_of_one_kind list = list_all (λ m. list_all (λ s. kind_number s.stream.kind == kind_number m.stream.kind) m.sources) list
+
 abbrev pub is_server_stream_call : StreamBody → Bool
 is_server_stream_call (streams.CreateStream s fence q) = true
 is_server_stream_call (streams.OpenStreams range generation q) = true
 is_server_stream_call (streams.Confirm range generation q) = true
 is_server_stream_call (streams.Extend s generation last pick q) = true
 is_server_stream_call (streams.Trim range generation before to_blob q) = true
+is_server_stream_call (streams.MultiModify list q) = are_of_one_kind list
 is_server_stream_call _ = false
 
 -- what servers may ask of nodes and of the manager

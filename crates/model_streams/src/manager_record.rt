@@ -1,6 +1,6 @@
 //! The records of the stream manager.
 use block_types::Nodes;
-use wire::{ExtentId, Fence, RangeId, StreamName};
+use wire::{ExtentId, Fence, Modifies, RangeId, StreamName};
 
 /// What the manager writes down. Its bytes stand after the kind byte of a manage record.
 #[derive(Drop)]
@@ -36,5 +36,9 @@ pub enum ManagerRecord {
         range: RangeId,
         before: u64,
         to_blob: bool,
+    },
+    /// 7: streams that are built from the lists of others, in order.
+    MultiModify {
+        list: Modifies,
     },
 }

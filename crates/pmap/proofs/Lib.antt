@@ -1,5 +1,4 @@
-pub mod Places
-pub mod Routing
-pub mod OneMoreRecord
+pub mod Calls
+pub mod RulesStand
 pub mod RecordedPlans
 pub mod ReplaysRecords

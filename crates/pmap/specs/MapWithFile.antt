@@ -1,10 +1,9 @@
--- The map's state, and what its records make of it.
-use Rattle.std.specs.Prelude.{◌≡◌, ℕ, true, List}
-use Rattle.block_types.specs.declared.record.Record.{Record}
+-- The map's state, and the file of its records.
+use Rattle.std.specs.Prelude.{ℕ, List}
 use Rattle.disk.specs.Filed.{Filed}
 use Rattle.model_partition.specs.Map.{MapState}
-use Rattle.model_partition.specs.Replay.{map_replay, map_fits}
 use Rattle.model_partition.specs.declared.range_entry.RangeEntry.{RangeEntry}
+pub use Rattle.pmap_table.specs.MakesMap.{MakesMap}
 
 -- the ranges in the order of their keys, the number of the next range, and the file of records that they come from
 pub record MapWithFile (D : Type 0) : Type 0 where
@@ -18,8 +17,3 @@ map_of h = record { ranges = h.ranges; next = h.next }
 
 abbrev pub held_of : {D : Type 0} → MapState → Filed D → MapWithFile D
 held_of m file = record { ranges = m.ranges; next = m.next; file = file }
-
--- the records fit, and make this map
-pub record MakesMap (rs : List Record) (m : MapState) : Type 0 where
-  pub replays : map_replay rs ≡ m
-  pub fits : map_fits rs ≡ true

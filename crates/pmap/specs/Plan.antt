@@ -1,15 +1,12 @@
 -- What a call is about to do, as the outcome of a rule.
-use Rattle.std.specs.Prelude.{◌≡◌, ℕ, suc, ◌^◌, true, nat_lt, Option, Some, None, if◌then◌else◌}
+use Rattle.std.specs.Prelude.{◌≡◌, true, Option, Some, None}
 use Rattle.block_types.specs.declared.record.Record.{Record}
 use Rattle.model_streams.specs.Outcome.{Outcome}
 use Rattle.model_partition.specs.declared.map_record.MapRecord.{MapRecord}
-use Rattle.model_partition.specs.Map.{MapState, writes}
-use Rattle.model_partition.specs.Replay.{map_after, map_record_fits}
+use Rattle.model_partition.specs.Map.{MapState}
+use Rattle.model_partition.specs.MapRules.{writes}
+use Rattle.model_partition.specs.Replay.{map_after, fits_map}
 use Rattle.pmap.specs.declared.plan.Plan.{Plan}
-
--- the next generation, where one of 64 bits is left
-abbrev pub next_generation : ℕ → Option ℕ
-next_generation generation = if nat_lt (suc generation) (2 ^ 64) then Some (suc generation) else None
 
 abbrev pub written_by : Option MapRecord → Option Record
 written_by None = None
@@ -21,4 +18,4 @@ outcome_of m plan = record { after = map_after m plan.new_record; written = writ
 -- what is written, if anything, may be written where the map is this
 abbrev pub MayWrite : MapState → Option MapRecord → Type 0
 MayWrite m None = Unit {0}
-MayWrite m (Some new_record) = map_record_fits m (Some new_record) ≡ true
+MayWrite m (Some new_record) = fits_map m new_record ≡ true

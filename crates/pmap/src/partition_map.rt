@@ -1,5 +1,5 @@
 //! The partition map.
-ghost use Rattle.std.specs.Prelude.{◌≡◌, ◌≢◌, ◌<◌, List, [], Ok, Err, Some, None, false, true, IfOk, IfErr, MatchResult, option_map};
+ghost use Rattle.std.specs.Prelude.{◌≡◌, ◌≢◌, ◌<◌, ◌^◌, List, [], Ok, Err, Some, None, false, true, IfOk, IfErr, MatchResult, option_map};
 ghost use Rattle.block_types.specs.declared.record.Record.{Record};
 ghost use Rattle.block_types.specs.declared.record.Version.{Version};
 ghost use Rattle.disk.specs.Disk.{IsSteady, LeavesOnly};
@@ -8,24 +8,32 @@ ghost use Rattle.disk.specs.Memory.{memory_state};
 ghost use Rattle.wire.specs.declared.refusal.Refusal.{Refusal};
 ghost use Rattle.model_streams.specs.Bounds.{AreFew};
 ghost use Rattle.model_streams.specs.StoppedActor.{IsMadeOf};
-ghost use Rattle.model_partition.specs.Map.{range_at, range_of_key, assign_fault, assign_rule, renew_fault, renew_rule, map_rule};
-ghost use Rattle.model_partition.specs.Partition.{IsPartition, AreNumbered, HaveEachKeyOnce};
+ghost use Rattle.model_partition.specs.Map.{range_at, range_of_key, union_at};
+ghost use Rattle.model_partition.specs.MapRules.{assign_fault, assign_rule, renew_fault, renew_rule, begin_split_fault, begin_split_rule, complete_split_fault, complete_split_rule, begin_merge_fault, begin_merge_rule, complete_merge_fault, complete_merge_rule, told, map_rule};
+ghost use Rattle.model_partition.specs.Partition.{IsSound, HaveEachKeyOnce};
 ghost use Rattle.model_partition.specs.Replay.{map_fits};
 ghost use Rattle.pmap.specs.MapWithFile.{map_of, MakesMap};
-ghost use Rattle.pmap.specs.Performs.{MapPerforms, as_rule, fault_of};
+ghost use Rattle.pmap.specs.Performs.{MapPerforms, as_rule, fault_of, is_failure};
 
+use crate::caller::{Caller, KnownRange};
 use crate::fault::MapFault;
-use crate::performing::{assign_on, renew_on};
-use crate::planning::answer_to;
-use crate::refusing::{answer, assign_fault, renew_fault};
-use crate::replay::replayed;
-use crate::table::RangeTable;
+use crate::performing::{
+    assign_on, begin_merge_on, begin_split_on, complete_merge_on, complete_split_on, renew_on,
+    route_on,
+};
+use crate::refusing::{
+    answer, assign_fault, begin_merge_fault, begin_split_fault, complete_merge_fault,
+    complete_split_fault, renew_fault, told,
+};
+use crate::showing::shown_by;
 use block_types::Record;
+use bytes::Bytes;
 use disk::{Disk, DiskFault, FileFault, MemDisk, RecordFile};
 use model_partition::RangeEntry;
-use std::alloc::Global;
+use pmap_table::{RangeTable, replayed};
+use std::alloc::{AllocError, Global};
 use std::marker::Model;
-use wire::{Packet, RangeId, ServerNo, Step};
+use wire::{Body, MapBody, Notes, Packet, RangeId, ServerNo, Step};
 
 /// The partition map: the ranges in the order of their keys, who holds each until when, and the file of records that they
 /// come from. Moments are ticks of one clock.
@@ -49,9 +57,17 @@ impl<D: Disk> Model for PartitionMap<D> {
 
     ghost Value = { MapWithFile D };
 
-    ghost view = { λ m. held_of m.table m.file };
+    ghost view = { λ m. held_of m.table.map m.file };
 
-    ghost invariant = { λ m. IsMadeOf (λ rs. MakesMap rs m.table) m.file.stopped m.file.records };
+    ghost invariant = { λ m. IsMadeOf (λ rs. MakesMap rs m.table.map) m.file.stopped m.file.records };
+}
+
+/// A range's number as one, of 64 bits.
+fn number_of(range: RangeId) -> u64
+    ensures value { result ≡ range }
+    ensures wide { range < 2 ^ 64 }
+{
+    range.0
 }
 
 /// The map that the records of a file make.
@@ -120,8 +136,8 @@ impl<D: Disk> PartitionMap<D> {
     }
 
     /// Assigns a range to a server with a lease up to a moment, under a generation one higher, and tells the server: the rule
-    /// of the map, exactly. The end of a lease never goes back, and where no generation of 64 bits is left nothing happens.
-    /// The record is on the disk before the packet is handed out. A stopped map does nothing. 30: there is no such range.
+    /// of the map, exactly. What is begun at the range is dropped. The end of a lease never goes back, and where no generation
+    /// of 64 bits is left nothing happens. The record is on the disk before the packet is handed out. A stopped map does nothing. 30: there is no such range.
     /// 31: another server holds it, and its lease has not ended at the moment `now`. 20: the disk failed, and the map is
     /// stopped until it is restarted; its records are the old ones, with the new one or without. 22: no memory. After 22,
     /// 30 and 31 nothing has changed.
@@ -138,7 +154,7 @@ impl<D: Disk> PartitionMap<D> {
         ensures performed { self.old.file.stopped ≡ false → assign_fault server now (range_at self.old.ranges range) ≡ None
             → MapPerforms D.state self.old self.new (assign_rule (map_of self.old) range server until (range_at self.old.ranges range)) (as_rule result) }
         ensures taken { assign_fault server now (range_at self.old.ranges range) ≡ None
-            → IfErr result (λ e. (e ≢ MapFault.NotOwner) × (e ≢ MapFault.LeaseHeld)) }
+            → IfErr result (λ e. is_failure e ≡ true) }
         ensures stopped { self.old.file.stopped ≡ true → (self.new ≡ self.old) × (result ≡ Ok (record { packets = []; notes = [] })) }
 
         // A step sends no more than a caller can make room for beforehand.
@@ -179,7 +195,7 @@ impl<D: Disk> PartitionMap<D> {
         ensures performed { self.old.file.stopped ≡ false → renew_fault server (range_at self.old.ranges range) ≡ None
             → MapPerforms D.state self.old self.new (renew_rule (map_of self.old) range server until (range_at self.old.ranges range)) (as_rule result) }
         ensures taken { renew_fault server (range_at self.old.ranges range) ≡ None
-            → IfErr result (λ e. (e ≢ MapFault.NotOwner) × (e ≢ MapFault.LeaseHeld)) }
+            → IfErr result (λ e. is_failure e ≡ true) }
         ensures stopped { self.old.file.stopped ≡ true → (self.new ≡ self.old) × (result ≡ Ok (record { packets = []; notes = [] })) }
         ensures few { IfOk result (λ step. AreFew step.packets step.notes) }
         ensures replays { self.old.file.stopped ≡ false → MakesMap self.old.file.records (map_of self.old) }
@@ -198,31 +214,311 @@ impl<D: Disk> PartitionMap<D> {
         }
     }
 
-    /// What the map does with a packet: the rule of its table, exactly. Who asks where a key is, is told its range and who
-    /// holds that; of any other packet nothing comes. It writes nothing. A stopped map does nothing. 22: nothing has changed;
-    /// another fault does not come.
-    pub fn handle(&mut self, alloc: Global, packet: &Packet) -> Result<Step, DiskFault>
-        ensures performed { self.old.file.stopped ≡ false → MapPerforms D.state self.old self.new (map_rule (map_of self.old) packet.now packet.now.body) result }
+    /// Begins a split of a range at a key, in place of what was begun at it, and tells who called the numbers of the two
+    /// ranges that it is to leave: the rule of the map, exactly. Where a split at this key is pending the answer is the same, and
+    /// nothing is written; where the next two numbers and the one after them have not all 64 bits nothing happens. The record is
+    /// on the disk before the packet is handed out. A stopped map does nothing. 41: there is no such range, or it has another
+    /// generation. 39: the key has not 1 to 256 bytes, or it is not above the first key of the range and below its end. 20: the
+    /// disk failed, and the map is stopped until it is restarted; its records are the old ones, with the new one or without.
+    /// 22: no memory. After 22, 39 and 41 nothing has changed.
+    pub fn begin_split(
+        &mut self,
+        alloc: Global,
+        caller: &Caller,
+        known: &KnownRange,
+        key: &Bytes,
+    ) -> Result<Step, MapFault>
+        ensures refused { self.old.file.stopped ≡ false → (r : Refusal) → begin_split_fault known.now.generation key.now (range_at self.old.ranges known.now.range) ≡ Some r
+            → (self.new ≡ self.old) × (result ≡ Err (fault_of r)) }
+        ensures performed { self.old.file.stopped ≡ false → begin_split_fault known.now.generation key.now (range_at self.old.ranges known.now.range) ≡ None
+            → MapPerforms D.state self.old self.new (begin_split_rule (map_of self.old) caller.now.from caller.now.request known.now.range key.now (range_at self.old.ranges known.now.range)) (as_rule result) }
+        ensures taken { begin_split_fault known.now.generation key.now (range_at self.old.ranges known.now.range) ≡ None → IfErr result (λ e. is_failure e ≡ true) }
         ensures stopped { self.old.file.stopped ≡ true → (self.new ≡ self.old) × (result ≡ Ok (record { packets = []; notes = [] })) }
-        ensures same { self.new ≡ self.old }
         ensures few { IfOk result (λ step. AreFew step.packets step.notes) }
         ensures replays { self.old.file.stopped ≡ false → MakesMap self.old.file.records (map_of self.old) }
     {
         if self.file.is_stopped() {
             return Ok(Step::silent(alloc));
         }
-        match answer_to(alloc, &self.table, packet) {
-            Ok(step) => Ok(step),
-            Err(_full) => Err(DiskFault::Memory),
+        // Read for its range: within that a record's bytes are read as they were written.
+        let _range = number_of(known.range);
+        match begin_split_fault(&self.table, known, key) {
+            Some(fault) => Err(fault),
+            None => {
+                let done = begin_split_on(
+                    &mut self.table,
+                    &mut self.file,
+                    alloc,
+                    caller,
+                    known,
+                    key,
+                );
+                answer(done)
+            }
         }
     }
 
-    /// The ranges in the order of their keys. They lie side by side, so that each key is in exactly one of them, and no two
-    /// have one number.
+    /// Completes the split that is begun at a range: two ranges stand in its place, with its keys below the key and those from
+    /// it on, its generation, and no holder. It shows the split and tells who called: the rule of the map, exactly. The record is
+    /// on the disk before that is handed out. A stopped map does nothing. 41: there is no such range, it has another generation,
+    /// or no split of it is begun. 20: the disk failed, and the map is stopped until it is restarted; its records are the old
+    /// ones, with the new one or without. 22: no memory. After 22 and 41 nothing has changed.
+    pub fn complete_split(
+        &mut self,
+        alloc: Global,
+        caller: &Caller,
+        known: &KnownRange,
+    ) -> Result<Step, MapFault>
+        ensures refused { self.old.file.stopped ≡ false → (r : Refusal) → complete_split_fault known.now.generation (range_at self.old.ranges known.now.range) ≡ Some r
+            → (self.new ≡ self.old) × (result ≡ Err (fault_of r)) }
+        ensures performed { self.old.file.stopped ≡ false → complete_split_fault known.now.generation (range_at self.old.ranges known.now.range) ≡ None
+            → MapPerforms D.state self.old self.new (complete_split_rule (map_of self.old) caller.now.from caller.now.request known.now.range (range_at self.old.ranges known.now.range)) (as_rule result) }
+        ensures taken { complete_split_fault known.now.generation (range_at self.old.ranges known.now.range) ≡ None → IfErr result (λ e. is_failure e ≡ true) }
+        ensures stopped { self.old.file.stopped ≡ true → (self.new ≡ self.old) × (result ≡ Ok (record { packets = []; notes = [] })) }
+        ensures few { IfOk result (λ step. AreFew step.packets step.notes) }
+        ensures replays { self.old.file.stopped ≡ false → MakesMap self.old.file.records (map_of self.old) }
+    {
+        if self.file.is_stopped() {
+            return Ok(Step::silent(alloc));
+        }
+        // Read for its range: within that a record's bytes are read as they were written.
+        let _range = number_of(known.range);
+        match complete_split_fault(&self.table, known) {
+            Some(fault) => Err(fault),
+            None => {
+                let done = complete_split_on(
+                    &mut self.table,
+                    &mut self.file,
+                    alloc,
+                    caller,
+                    known.range,
+                );
+                answer(done)
+            }
+        }
+    }
+
+    /// Begins a merge of a range with the one behind it, in place of what was begun at either, and tells who called the number
+    /// of the range that they are to become: the rule of the map, exactly. Where this merge is pending the answer is the same, and
+    /// nothing is written; where the next number and the one after it have not both 64 bits nothing happens. The record is on the
+    /// disk before the packet is handed out. A stopped map does nothing. 41: one of them is not there, or has another generation.
+    /// 40: the right one does not begin where the left one ends. 30: their holders differ. 20: the disk failed, and the map is
+    /// stopped until it is restarted; its records are the old ones, with the new one or without. 22: no memory. After 22, 30, 40
+    /// and 41 nothing has changed.
+    pub fn begin_merge(
+        &mut self,
+        alloc: Global,
+        caller: &Caller,
+        left: &KnownRange,
+        right: &KnownRange,
+    ) -> Result<Step, MapFault>
+        ensures refused { self.old.file.stopped ≡ false → (r : Refusal) → begin_merge_fault left.now.generation right.now.generation (range_at self.old.ranges left.now.range) (range_at self.old.ranges right.now.range) ≡ Some r
+            → (self.new ≡ self.old) × (result ≡ Err (fault_of r)) }
+        ensures performed { self.old.file.stopped ≡ false → begin_merge_fault left.now.generation right.now.generation (range_at self.old.ranges left.now.range) (range_at self.old.ranges right.now.range) ≡ None
+            → MapPerforms D.state self.old self.new (begin_merge_rule (map_of self.old) caller.now.from caller.now.request left.now.range right.now.range (range_at self.old.ranges left.now.range)) (as_rule result) }
+        ensures taken { begin_merge_fault left.now.generation right.now.generation (range_at self.old.ranges left.now.range) (range_at self.old.ranges right.now.range) ≡ None → IfErr result (λ e. is_failure e ≡ true) }
+        ensures stopped { self.old.file.stopped ≡ true → (self.new ≡ self.old) × (result ≡ Ok (record { packets = []; notes = [] })) }
+        ensures few { IfOk result (λ step. AreFew step.packets step.notes) }
+        ensures replays { self.old.file.stopped ≡ false → MakesMap self.old.file.records (map_of self.old) }
+    {
+        if self.file.is_stopped() {
+            return Ok(Step::silent(alloc));
+        }
+        // Read for their ranges: within those a record's bytes are read as they were written.
+        let _left = number_of(left.range);
+        let _right = number_of(right.range);
+        match begin_merge_fault(&self.table, left, right) {
+            Some(fault) => Err(fault),
+            None => {
+                let done = begin_merge_on(
+                    &mut self.table,
+                    &mut self.file,
+                    alloc,
+                    caller,
+                    left,
+                    right,
+                );
+                answer(done)
+            }
+        }
+    }
+
+    /// Completes the merge that is begun of two ranges: one stands in their place, with the keys of both, the greater of their
+    /// generations, and no holder. It shows the merge and tells who called: the rule of the map, exactly. The record is on the
+    /// disk before that is handed out. A stopped map does nothing. 41: one of them is not there or has another generation, or
+    /// their merge is not begun. 20: the disk failed, and the map is stopped until it is restarted; its records are the old ones,
+    /// with the new one or without. 22: no memory. After 22 and 41 nothing has changed.
+    pub fn complete_merge(
+        &mut self,
+        alloc: Global,
+        caller: &Caller,
+        left: &KnownRange,
+        right: &KnownRange,
+    ) -> Result<Step, MapFault>
+        ensures refused { self.old.file.stopped ≡ false → (r : Refusal) → complete_merge_fault left.now.generation right.now.generation (range_at self.old.ranges left.now.range) (range_at self.old.ranges right.now.range) (union_at self.old.ranges left.now.range right.now.range) ≡ Some r
+            → (self.new ≡ self.old) × (result ≡ Err (fault_of r)) }
+        ensures performed { self.old.file.stopped ≡ false → complete_merge_fault left.now.generation right.now.generation (range_at self.old.ranges left.now.range) (range_at self.old.ranges right.now.range) (union_at self.old.ranges left.now.range right.now.range) ≡ None
+            → MapPerforms D.state self.old self.new (complete_merge_rule (map_of self.old) caller.now.from caller.now.request left.now.range right.now.range (union_at self.old.ranges left.now.range right.now.range)) (as_rule result) }
+        ensures taken { complete_merge_fault left.now.generation right.now.generation (range_at self.old.ranges left.now.range) (range_at self.old.ranges right.now.range) (union_at self.old.ranges left.now.range right.now.range) ≡ None → IfErr result (λ e. is_failure e ≡ true) }
+        ensures stopped { self.old.file.stopped ≡ true → (self.new ≡ self.old) × (result ≡ Ok (record { packets = []; notes = [] })) }
+        ensures few { IfOk result (λ step. AreFew step.packets step.notes) }
+        ensures replays { self.old.file.stopped ≡ false → MakesMap self.old.file.records (map_of self.old) }
+    {
+        if self.file.is_stopped() {
+            return Ok(Step::silent(alloc));
+        }
+        // Read for their ranges: within those a record's bytes are read as they were written.
+        let _left = number_of(left.range);
+        let _right = number_of(right.range);
+        match complete_merge_fault(&self.table, left, right) {
+            Some(fault) => Err(fault),
+            None => {
+                let done = complete_merge_on(
+                    &mut self.table,
+                    &mut self.file,
+                    alloc,
+                    caller,
+                    left.range,
+                    right.range,
+                );
+                answer(done)
+            }
+        }
+    }
+
+    /// What a running map does with a packet of its own kind.
+    fn take(&mut self, alloc: Global, packet: &Packet, body: &MapBody) -> Result<Step, DiskFault>
+        requires running { self.old.file.stopped ≡ false }
+        requires replays { MakesMap self.old.file.records (map_of self.old) }
+        ensures performed { MapPerforms D.state self.old self.new (told (map_of self.old) packet.now body.now) result }
+        ensures few { IfOk result (λ step. AreFew step.packets step.notes) }
+    {
+        let from = packet.from;
+        match body {
+            MapBody::Route { key, request } => {
+                route_on(
+                    &mut self.table,
+                    &mut self.file,
+                    alloc,
+                    packet,
+                    key.as_slice(),
+                    *request,
+                )
+            }
+            MapBody::BeginSplit {
+                range,
+                generation,
+                key,
+                request,
+            } => {
+                let caller = Caller {
+                    from,
+                    request: *request,
+                };
+                let known = KnownRange {
+                    range: *range,
+                    generation: *generation,
+                };
+                let done = self.begin_split(alloc, &caller, &known, key);
+                told(alloc, &caller, done)
+            }
+            MapBody::CompleteSplit {
+                range,
+                generation,
+                request,
+            } => {
+                let caller = Caller {
+                    from,
+                    request: *request,
+                };
+                let known = KnownRange {
+                    range: *range,
+                    generation: *generation,
+                };
+                let done = self.complete_split(alloc, &caller, &known);
+                told(alloc, &caller, done)
+            }
+            MapBody::BeginMerge {
+                left,
+                left_generation,
+                right,
+                right_generation,
+                request,
+            } => {
+                let caller = Caller {
+                    from,
+                    request: *request,
+                };
+                let below = KnownRange {
+                    range: *left,
+                    generation: *left_generation,
+                };
+                let above = KnownRange {
+                    range: *right,
+                    generation: *right_generation,
+                };
+                let done = self.begin_merge(alloc, &caller, &below, &above);
+                told(alloc, &caller, done)
+            }
+            MapBody::CompleteMerge {
+                left,
+                left_generation,
+                right,
+                right_generation,
+                request,
+            } => {
+                let caller = Caller {
+                    from,
+                    request: *request,
+                };
+                let below = KnownRange {
+                    range: *left,
+                    generation: *left_generation,
+                };
+                let above = KnownRange {
+                    range: *right,
+                    generation: *right_generation,
+                };
+                let done = self.complete_merge(alloc, &caller, &below, &above);
+                told(alloc, &caller, done)
+            }
+            _ => Ok(Step::silent(alloc)),
+        }
+    }
+
+    /// What the map does with a packet: the rule of its table, exactly. Who asks where a key is, is told its range and who
+    /// holds that. A call of a split or a merge is done as by the method of its name, and a refusal goes to the sender. Of any
+    /// other packet nothing comes. The record, if there is one, is on the disk before the packets are handed out. A stopped map
+    /// does nothing. 20: the disk failed, and the map is stopped until it is restarted; its records are the old ones, with the
+    /// new one or without. 22: nothing has changed.
+    pub fn handle(&mut self, alloc: Global, packet: &Packet) -> Result<Step, DiskFault>
+        ensures performed { self.old.file.stopped ≡ false → MapPerforms D.state self.old self.new (map_rule (map_of self.old) packet.now packet.now.body) result }
+        ensures stopped { self.old.file.stopped ≡ true → (self.new ≡ self.old) × (result ≡ Ok (record { packets = []; notes = [] })) }
+        ensures few { IfOk result (λ step. AreFew step.packets step.notes) }
+        ensures replays { self.old.file.stopped ≡ false → MakesMap self.old.file.records (map_of self.old) }
+    {
+        if self.file.is_stopped() {
+            return Ok(Step::silent(alloc));
+        }
+        match &packet.body {
+            Body::Map(body) => self.take(alloc, packet, body),
+            _ => Ok(Step::silent(alloc)),
+        }
+    }
+
+    /// What the rule of a packet shows: a split or a merge that the packet completes, and nothing of any other. It is known
+    /// before the packet is handled, and so is the memory for it. An error is out of memory (22).
+    pub fn shown_by(&self, alloc: Global, packet: &Packet) -> Result<Notes, AllocError>
+        ensures { IfOk result (λ notes. notes ≡ (map_rule (map_of self.now) packet.now packet.now.body).notes) }
+    {
+        shown_by(alloc, &self.table, packet)
+    }
+
+    /// The ranges in the order of their keys. They lie side by side, so that each key is in exactly one of them. Their numbers,
+    /// and those of ranges that a split or a merge is to leave, differ.
     pub fn ranges(&self) -> &[RangeEntry]
         ensures value { result.now ≡ self.now.ranges }
-        ensures partition { IsPartition result.now }
-        ensures numbered { AreNumbered result.now }
+        ensures sound { IsSound (map_of self.now) }
         ensures once { HaveEachKeyOnce result.now }
     {
         self.table.entries()

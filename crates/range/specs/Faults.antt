@@ -1,5 +1,5 @@
 -- What is told where a server does nothing with a range.
-use Rattle.std.specs.Prelude.{Option, Some, None, Result, Ok, Err}
+use Rattle.std.specs.Prelude.{◌≡◌, ◌⊎◌, Option, Some, None, Result, Ok, Err}
 use Rattle.wire.specs.declared.refusal.Refusal.{Refusal}
 use Rattle.wire.specs.declared.refusal.Refusal.TheVariants as refusals
 use Rattle.range.specs.declared.fault.RangeFault.{RangeFault}
@@ -10,7 +10,12 @@ abbrev pub refusal_of : RangeFault → Option Refusal
 refusal_of faults.Memory = None
 refusal_of faults.NotOwner = Some refusals.NotOwner
 refusal_of faults.Loading = Some refusals.Loading
+refusal_of faults.Paused = Some refusals.Paused
 refusal_of faults.Busy = Some refusals.Busy
+
+-- what refuses a checkpoint of a range that the server holds: 38, 34 or 35
+abbrev pub IsCheckpointRefusal : Refusal → Type 0
+IsCheckpointRefusal refusal = (refusal ≡ refusals.Loading) ⊎ ((refusal ≡ refusals.Paused) ⊎ (refusal ≡ refusals.Busy))
 
 -- the refusal that a call ends with
 abbrev pub refusal_in : {A : Type 0} → Result A RangeFault → Option Refusal

@@ -1,8 +1,7 @@
 //! Why a server does nothing with a range.
-ghost use Rattle.std.specs.Prelude.{◌≡◌, ◌⊎◌, Some};
-ghost use Rattle.range.specs.Faults.{refusal_of};
+ghost use Rattle.std.specs.Prelude.{◌≡◌, Some};
+ghost use Rattle.range.specs.Faults.{refusal_of, IsCheckpointRefusal};
 ghost use Rattle.range.specs.declared.fault.RangeFault.TheVariants as faults;
-ghost use Rattle.wire.specs.declared.refusal.Refusal.TheVariants as refusals;
 
 use std::alloc::AllocError;
 use thiserror::Error;
@@ -20,6 +19,9 @@ pub enum RangeFault {
     /// 38: the range is not served yet.
     #[error("the range is loaded")]
     Loading,
+    /// 34: the range is paused.
+    #[error("the range is paused")]
+    Paused,
     /// 35: a checkpoint of the range is under way.
     #[error("a checkpoint of the range is under way")]
     Busy,
@@ -42,17 +44,19 @@ impl RangeFault {
             RangeFault::Memory => None,
             RangeFault::NotOwner => Some(Refusal::NotOwner),
             RangeFault::Loading => Some(Refusal::Loading),
+            RangeFault::Paused => Some(Refusal::Paused),
             RangeFault::Busy => Some(Refusal::Busy),
         }
     }
 
     /// Why no checkpoint begins.
     pub(crate) fn of_checkpoint(refusal: Refusal) -> RangeFault
-        requires { (refusal ≡ refusals.Loading) ⊎ (refusal ≡ refusals.Busy) }
+        requires { IsCheckpointRefusal refusal }
         ensures { refusal_of result ≡ Some refusal }
     {
         match refusal {
             Refusal::Loading => RangeFault::Loading,
+            Refusal::Paused => RangeFault::Paused,
             _ => RangeFault::Busy,
         }
     }

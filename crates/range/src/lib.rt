@@ -6,7 +6,7 @@
 //! - `handle` is the rule of a packet: an answer goes to the range that waits for its number, what a user asks to the range that
 //!   it names, or it is refused (30); what the map tells assigns a range or renews its lease.
 //! - `give_up` has the jobs of a range give up on what they wait for.
-//! - `checkpoint` begins a checkpoint of a range that is served and has none under way, or says why it does not; the checkpoint
+//! - `checkpoint` begins a checkpoint of a range that is served, is not paused and has none under way, or says why it does not; it
 //!   goes on by the answers that `handle` takes. It combines the indexes of the range, by reading their pages, where that is
 //!   asked or the range has 16.
 //! - `loading` is the table that a confirmation is about to show.

@@ -42,11 +42,13 @@ impl Drop for RangeServer {
 }
 
 impl Model for RangeServer {
+    ghost use Rattle.std.specs.Prelude.{[]};
     ghost use Rattle.model_partition.specs.Server.{ServerState};
 
     ghost Value = { ServerState };
 
-    ghost view = { λ s. record { context = s.context; ranges = s.ranges.entries } };
+    // It splits no range.
+    ghost view = { λ s. record { context = s.context; ranges = s.ranges.entries; splits = [] } };
 }
 
 /// Whether there are numbers for the requests of any one step.
@@ -410,9 +412,9 @@ impl RangeServer {
     /// A checkpoint of a range begins: what its memory table has is written as pages, and goes on by the answers to them. Where it
     /// combines, which is asked or comes of 16 indexes, the pages of its indexes are read first, and what they and the memory
     /// table say together is written, in place of all older indexes.
-    /// 22: no memory. 30: the server does not hold the range. 38: the range is not served yet. 35: a checkpoint of it is under way.
-    /// After a refusal nothing has changed. A server with no numbers left for its requests does nothing.
-    #[tactic(auto, using(crate::proofs::Entries::removed_after, crate::proofs::Entries::set_same, crate::proofs::Checkpoints::loading_or_busy))]
+    /// 22: no memory. 30: the server does not hold the range. 38: the range is not served yet. 34: it is paused.
+    /// 35: a checkpoint of it is under way. After a refusal nothing has changed. A server with no numbers left for its requests does nothing.
+    #[tactic(auto, using(crate::proofs::Entries::removed_after, crate::proofs::Entries::set_same, crate::proofs::Checkpoints::refused_so))]
     pub fn checkpoint(
         &mut self,
         alloc: Global,

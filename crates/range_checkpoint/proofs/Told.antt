@@ -31,11 +31,11 @@ use Rattle.model_partition.specs.Checkpoints.{record_told, rows_told, rows_reply
 use Rattle.range_checkpoint.specs.Steps.{appended, appended_by, appended_in, stays}
 
 -- whether news is that a group stands
-abbrev is_append : Option News → Bool
+abbrev pub is_append : Option News → Bool
 is_append (Some (news.Appended e offset)) = true
 is_append told = false
 
-abbrev Other : Outcome → Type 0
+abbrev pub Other : Outcome → Type 0
 Other o = is_append o.news ≡ false
 
 if_other : (c : ClientState) (w : ReqNo) (o : Outcome) → Other o → Other (if_awaited c w o)
@@ -103,7 +103,7 @@ read_other : (c : ClientState) (body : ReadBody) → Other (read_reply c body)
 read_other c (reads.Groups w e groups) = if_other c w (groups_job c c.job) (read c c.job)
 read_other c body = refl
 
-other : (c : ClientState) (q : ReqNo) (body : Body) → appended c body ≡ None → Other (reply_rule c q body)
+pub other : (c : ClientState) (q : ReqNo) (body : Body) → appended c body ≡ None → Other (reply_rule c q body)
 other c q (bodies.Append body) none = append_other c q body none
 other c q (bodies.Check body) none = check_other c q body
 other c q (bodies.Seal body) none = seal_other c q body

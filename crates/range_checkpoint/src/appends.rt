@@ -26,7 +26,7 @@ fn bytes_of(alloc: Global, blocks: &[Block]) -> Result<Vec<Bytes>, AllocError>
 }
 
 /// A group, ready to be appended. An error is out of memory (22).
-pub(crate) fn appending_of(alloc: Global, group: &Group) -> Result<Appending, AllocError>
+pub fn appending_of(alloc: Global, group: &Group) -> Result<Appending, AllocError>
     ensures { IfOk result (λ blocks. blocks ≡ group.now) }
 {
     let items = bytes_of(alloc, group.blocks())?;

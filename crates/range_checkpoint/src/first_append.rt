@@ -14,7 +14,7 @@ use crate::starts::CheckpointStart;
 use crate::writing::{combined_job, first_append, writes, writing_job};
 use checkpoint::{CheckpointPages, InstalledIndex, PageChanges, PageMerge, Pages};
 use model_partition::{
-    CheckpointJob, CheckpointPhase, Progress, RangeContent, ServerContext, Stage,
+    CheckpointJob, CheckpointPhase, Pause, Progress, RangeContent, ServerContext, Stage,
 };
 use std::alloc::{AllocError, Global};
 use streams::Position;
@@ -23,12 +23,16 @@ use wire::Refusal;
 /// How many indexes are combined also where that is not asked.
 const MAX_INDEXES: usize = 16;
 
-/// Why no checkpoint can begin: the range is not served (`Loading`, 38), or one is under way (`Busy`, 35).
-pub fn checkpoint_fault(content: &RangeContent) -> Option<Refusal>
-    ensures { (r : RangeState) → result ≡ rules.checkpoint_fault (put content.now r) }
+/// Why no checkpoint can begin: the range is not served (`Loading`, 38), it is paused (`Paused`, 34), or one is under way (`Busy`,
+/// 35), the first that is met. What the range takes is told.
+pub fn checkpoint_fault(content: &RangeContent, pause: Pause) -> Option<Refusal>
+    ensures { (r : RangeState) → result ≡ rules.checkpoint_fault (record (put content.now r) { pause = pause }) }
 {
     if content.stage != Stage::Serving {
         return Some(Refusal::Loading);
+    }
+    if pause.is_paused() {
+        return Some(Refusal::Paused);
     }
     if content.control.is_some() || content.table.fixed().is_some() {
         return Some(Refusal::Busy);

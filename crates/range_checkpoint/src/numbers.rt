@@ -39,12 +39,7 @@ fn are_numbered(entries: &BTreeMap<Bytes, Cell>) -> bool
 
 /// Whether the numbers of a checkpoint have their bytes: those of the extents that its entries name, of its position, and the one
 /// to be applied next.
-pub(crate) fn have_bytes(
-    entries: &BTreeMap<Bytes, Cell>,
-    index: u64,
-    offset: u32,
-    next: u64,
-) -> bool
+pub fn have_bytes(entries: &BTreeMap<Bytes, Cell>, index: u64, offset: u32, next: u64) -> bool
     ensures { result ≡ rules.have_bytes entries.now.entries (record { index = index; offset = offset }) next }
 {
     let _fit = (index, offset, next);

@@ -10,7 +10,7 @@ ghost use Rattle.model_partition.specs.RangeSteps.{RangePerforms};
 ghost use Rattle.range_checkpoint.specs.Steps as specs;
 ghost use Rattle.range_checkpoint.specs.Records as records;
 
-use crate::appended::{appended, told};
+use crate::append_answers::{appended, told};
 use crate::trim::trims;
 use checkpoint::{Index, InstalledIndex, InstalledIndexes};
 use memtable::Place;

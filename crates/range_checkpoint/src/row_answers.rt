@@ -12,7 +12,7 @@ ghost use Rattle.model_partition.specs.Range.{RangeState};
 ghost use Rattle.model_partition.specs.RangeSteps.{RangePerforms};
 ghost use Rattle.range_checkpoint.specs.Steps as specs;
 
-use crate::appended::{appended, told};
+use crate::append_answers::{appended, told};
 use crate::appends::{NextAppend, append_of, appending_of, send};
 use checkpoint::CheckpointPages;
 use client::Appending;

@@ -1,6 +1,6 @@
 //! A checkpoint of the range begins.
 ghost use Rattle.std.specs.Prelude.{◌≡◌, ◌<◌, ◌+◌, ◌^◌, None, IfOk, OnErr};
-ghost use Rattle.model_partition.specs.Checkpoints.{checkpoint_fault, checkpoint_rule};
+ghost use Rattle.model_partition.specs.Checkpoints.{checkpoint_fault, checkpoint_rule, have_bytes, number_to_apply};
 ghost use Rattle.range_core.specs.Steps.{outcome, IsShort};
 
 use crate::answering::make_room;
@@ -12,11 +12,23 @@ use std::alloc::{AllocError, Global};
 use wire::Refusal;
 
 impl RangeState {
-    /// Why no checkpoint can begin: 38 until the range is served, 35 while one is under way; or none.
+    /// Why no checkpoint can begin: 38 until the range is served, 34 while it is paused, 35 while one is under way, the first
+    /// that is met; or none.
     pub fn checkpoint_fault(&self) -> Option<Refusal>
         ensures { result ≡ checkpoint_fault self.now }
     {
-        range_checkpoint::checkpoint_fault(&self.content)
+        range_checkpoint::checkpoint_fault(&self.content, self.pause)
+    }
+
+    /// Whether the numbers of a checkpoint have their bytes: those of the extents that its entries name, that of its position, and
+    /// the number to be applied next. They always have, as the rules ask.
+    pub fn have_bytes(&self) -> bool
+        ensures { result ≡ have_bytes self.now.live self.now.position (number_to_apply self.now.out self.now.next) }
+    {
+        let live = self.content.table.live();
+        let position = self.position;
+        let next = self.queue.number_to_apply();
+        range_checkpoint::have_bytes(live, position.index, position.offset, next)
     }
 
     /// A checkpoint begins: the live layer of the memory table is fixed, what comes later goes into a new one, and its first pages

@@ -15,13 +15,16 @@ use std::alloc::{AllocError, Global};
 use wire::{ActorId, AppendBody, Body, ReadBody, Refusal, ReqNo};
 
 impl RangeState {
-    /// Why a Get is refused: 38, 32, 36, 33 or 35, the first that is met.
+    /// Why a Get is refused: 38, 34, 32, 36, 33 or 35, the first that is met.
     fn get_fault(&self, context: &ServerContext, key: &Bytes) -> Option<Refusal>
         ensures value { result ≡ get_fault context.now self.now key.now }
         ensures room { result ≡ None → length self.now.gets < 256 }
     {
         if !self.is_serving() {
             return Some(Refusal::Loading);
+        }
+        if self.pause.is_paused() {
+            return Some(Refusal::Paused);
         }
         if self.lease_ended(context) {
             return Some(Refusal::LeaseEnded);
@@ -39,8 +42,8 @@ impl RangeState {
     }
 
     /// A Get of a user is answered from the memory table and the indexes, or waits for the bytes of a page or of a value. It is
-    /// refused 38 while the range is loaded, 32 once its lease has ended, 36 where the key has no byte or more than 256, 33 where
-    /// it is not of the range, and 35 where 256 wait, the first of these that is met; nothing changes then. The pages that may have
+    /// refused 38 while the range is loaded, 34 while it is paused, 32 once its lease has ended, 36 where the key has no byte or
+    /// more than 256, 33 where it is not of the range, and 35 where 256 wait, the first of these that is met; nothing changes then. The pages that may have
     /// its key, where the memory table does not, and the value that it finds in the cache are then those most recently used. Where
     /// memory runs out (22) nothing has changed.
     pub fn get(
@@ -64,6 +67,7 @@ impl RangeState {
         let asking = Asking {
             context,
             until: self.until,
+            pause: self.pause,
             table: &content.table,
             log: known_extents(&content.log),
             blob: extents_of(&content.blob_data),
@@ -100,7 +104,8 @@ impl RangeState {
         }
     }
 
-    /// The bytes of a page or of a value have come: each Get that waits is tried again, and the bytes are held, the most recently
+    /// The bytes of a page or of a value have come: each Get that waits is tried again (34 where the range is paused, 32 once its
+    /// lease has ended), and the bytes are held, the most recently
     /// used, where they are what was asked for. Bytes that spell no page where one was asked for change nothing. Or the read is
     /// refused. No other answer is for a Get. Where memory runs out (22) nothing has changed.
     pub(crate) fn gets_reply(
@@ -128,6 +133,7 @@ impl RangeState {
                 let asking = Asking {
                     context,
                     until: self.until,
+                    pause: self.pause,
                     table: &content.table,
                     log: known_extents(&content.log),
                     blob: extents_of(&content.blob_data),

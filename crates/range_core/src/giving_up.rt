@@ -58,6 +58,7 @@ impl RangeState {
         let asking = Asking {
             context,
             until: self.until,
+            pause: self.pause,
             table: &content.table,
             log: known_extents(&content.log),
             blob: extents_of(&content.blob_data),

@@ -6,7 +6,8 @@
 //! `get`, `checkpoint` and `give_up`. `answer` goes to `load` (which the read of an index and the steps of a checkpoint are a part
 //! of), to `log_done` or to the Gets, whichever waits. A checkpoint that combines the indexes of its range reads their pages one
 //! by one, unless the range holds them already, and leaves what is held as it is. A step that is refused for want of memory (22) leaves the range as it was, and that is the one error that no clause
-//! limits. The readers `phase`, `position`, `next_number`, `indexes` and `regions` take no memory.
+//! limits. The readers `phase`, `position`, `next_number`, `indexes` and `regions` take no memory, nor do
+//! `pause` and `resume`, between which a range takes no transaction, and in the end no Get either.
 //! The group that `form` of a range appends is that of the function `form`, which encodes each transaction once.
 #![tactic(auto)]
 
@@ -16,6 +17,7 @@ mod checkpoints;
 mod forming;
 mod getting;
 mod giving_up;
+mod pausing;
 mod phase;
 mod range_step;
 mod state;

@@ -9,4 +9,6 @@ pub enum Phase {
     Serving,
     /// Transactions and Gets are taken, and a checkpoint is under way.
     Checkpointing,
+    /// Transactions and Gets are refused (34), and no checkpoint begins.
+    Paused,
 }

@@ -2,6 +2,7 @@
 ghost use Rattle.std.specs.Prelude.{◌≡◌, ◌≤◌, [], None, length, max, IfOk};
 ghost use Rattle.client.specs.Load.{open_packet};
 ghost use Rattle.model_partition.specs.Loading.{shown_table};
+ghost use Rattle.model_partition.specs.declared.pause.Pause.TheVariants as pauses;
 ghost use Rattle.model_partition.specs.Range.{RangeState, request, refused_users};
 ghost use Rattle.model_partition.specs.RangeSteps.{put};
 ghost use Rattle.model_partition.specs.Server.{new_range};
@@ -12,7 +13,7 @@ use crate::phase::Phase;
 use checkpoint::InstalledIndexes;
 use client::StreamClient;
 use metadata::{IndexRange, Region};
-use model_partition::{RangeContent, ServerContext, Stage, TableView};
+use model_partition::{Pause, RangeContent, ServerContext, Stage, TableView};
 use range_commit::Queue;
 use range_load::begin_load;
 use range_reads::Lookups;
@@ -26,6 +27,8 @@ use wire::{Fence, Packet, RangeId, StreamExtent, StreamList};
 pub struct RangeState {
     /// The end of its lease, in ticks.
     pub until: u64,
+    /// What it takes while it is split or merged.
+    pub pause: Pause,
     pub content: RangeContent,
     pub queue: Queue,
     /// The end of what was appended to its log and acknowledged.
@@ -38,6 +41,7 @@ impl Drop for RangeState {
     fn drop(self) {
         let RangeState {
             until: _,
+            pause: _,
             content: _,
             queue: _,
             position: _,
@@ -53,6 +57,7 @@ impl Model for RangeState {
 
     ghost view = { λ r. record {
       until = r.until;
+      pause = r.pause;
       load = r.content.load;
       stage = r.content.stage;
       metadata = r.content.metadata;
@@ -101,6 +106,7 @@ impl RangeState {
     fn of(alloc: Global, until: u64, content: RangeContent, lookups: Lookups) -> RangeState
         ensures { (r : RangeState) → result ≡ record (put content r) {
           until = until;
+          pause = pauses.Off;
           next = 1;
           position = record { index = 0; offset = 0 };
           queue = [];
@@ -111,6 +117,7 @@ impl RangeState {
     {
         RangeState {
             until,
+            pause: Pause::Off,
             content,
             queue: Queue::new(alloc),
             position: Position {
@@ -140,13 +147,18 @@ impl RangeState {
 
     /// How far it is.
     pub fn phase(&self) -> Phase
-        ensures { result ≡ phase_of self.now.stage self.now.control }
+        ensures { result ≡ phase_of self.now.stage self.now.pause self.now.control }
     {
         match self.content.stage {
-            Stage::Serving => match &self.content.control {
-                None => Phase::Serving,
-                Some(_) => Phase::Checkpointing,
-            },
+            Stage::Serving => {
+                if self.pause.is_paused() {
+                    return Phase::Paused;
+                }
+                match &self.content.control {
+                    None => Phase::Serving,
+                    Some(_) => Phase::Checkpointing,
+                }
+            }
             _ => Phase::Loading,
         }
     }

@@ -65,7 +65,7 @@ impl RangeState {
         change_fault(changes.as_slice(), &self.content.said.keys)
     }
 
-    /// Why a transaction is refused: 38, 32, 37, 36, 37, 33 or 35, the first that is met.
+    /// Why a transaction is refused: 38, 34, 32, 37, 36, 37, 33 or 35, the first that is met.
     fn transact_fault(&self, context: &ServerContext, changes: &Changes) -> Option<Refusal>
         ensures value { result ≡ transact_fault context.now self.now changes.now }
         ensures room { result ≡ None → length (waiting_out self.now.out) + length self.now.queue < 1024 }
@@ -73,6 +73,9 @@ impl RangeState {
     {
         if !self.is_serving() {
             return Some(Refusal::Loading);
+        }
+        if self.pause.takes_no_transaction() {
+            return Some(Refusal::Paused);
         }
         if self.lease_ended(context) {
             return Some(Refusal::LeaseEnded);
@@ -88,7 +91,7 @@ impl RangeState {
     }
 
     /// A transaction of a user waits to be appended, and the next group is formed if none is out. It is refused 38 while the
-    /// range is loaded, 32 once its lease has ended, 37 with no change or more than 32, 36 where a key has no byte or more than
+    /// range is loaded, 34 from when it is being paused on, 32 once its lease has ended, 37 with no change or more than 32, 36 where a key has no byte or more than
     /// 256, 37 where a value has more than 65,536 bytes, 33 where a key is not of the range, and 35 where 1,024 wait or the
     /// memory table is full, the first of these that is met; nothing changes then. Where memory runs out (22) nothing has changed.
     pub fn transact(

@@ -25,6 +25,7 @@ pub is_seen : (r : RangeState) (a : Asking) (held : Values) → Sees r a → see
 is_seen r a held s = λ i.
     record r {
       until = s.until i;
+      pause = s.pause i;
       live = s.live i;
       fixed = s.fixed i;
       indexes = s.indexes i;

@@ -1,16 +1,16 @@
 -- Tries in turn.
-use Rattle.std.proofs.Common.{◌≡◌, ℕ, false, ◌+◌, ◌<◌, ◌≤◌, List, ◌∷◌, ◌++◌, length, map, drop, get_or, Option, Some, None, refl, sym, ap, ◌∙◌, arith, append_assoc, append-nil, length-append}
+use Rattle.std.proofs.Common.{◌≡◌, ℕ, ◌+◌, ◌<◌, ◌≤◌, List, [], ◌∷◌, ◌++◌, length, map, drop, get_or, Option, Some, None, refl, sym, ap, ◌∙◌, arith, append_assoc, append-nil, length-append}
 use Rattle.std.specs.Prelude.{option_to_list}
 use Rattle.std.proofs.lemmas.List.{drop_more, drop_all}
 use Rattle.wire.specs.declared.actor.ReqNo.{ReqNo}
 use Rattle.wire.specs.declared.packet.Packet.{Packet}
+use Rattle.wire.specs.declared.refusal.Refusal.{Refusal}
 use Rattle.model_partition.specs.declared.server_context.ServerContext.{ServerContext}
 use Rattle.model_partition.specs.declared.waiting.WaitingGet.{WaitingGet}
 use Rattle.memtable.specs.declared.cell.Cell.{Cell}
 use Rattle.checkpoint.specs.declared.installed_index.InstalledIndex.{InstalledIndex}
-use Rattle.model_partition.specs.Getting.{Lookup, Tried, look, held_at, indexed_value, standing, answered, try, try_all, without}
-use Rattle.model_partition.specs.Range.{RangeState}
-use Rattle.model_partition.specs.Serving.{lease_ended}
+use Rattle.model_partition.specs.Getting.{Lookup, Tried, look, held_at, indexed_value, standing, answered, try, try_all, try_fault, try_unless, without}
+use Rattle.model_partition.specs.Range.{RangeState, refuses}
 use Rattle.range_reads.specs.declared.trying.OneTry.{OneTry}
 use Rattle.range_reads.specs.Looking.{newest_cell}
 use Rattle.range_reads.specs.ValueCache.{Values}
@@ -55,9 +55,15 @@ at_most_one (Some x) = omega arith
 pub no_more : {A : Type 0} (i : ℕ) (o : Option A) (before after : List A) → length before ≤ i → after ≡ before ++ option_to_list o → length after ≤ i + 1
 no_more i o before after le is = omega (arith, ap length is, length-append before (option_to_list o), at_most_one o)
 
--- what is looked up before the lease has ended is answered
-pub in_time : (d : ServerContext) (r : RangeState) (g : WaitingGet) (found : Lookup) → lease_ended d r ≡ false → found ≡ look r.held r.indexes g.key (standing r g.key) → answered d r g found ≡ try d r g
-in_time d r g found ended is = rw ended (ap (answered d r g) is)
+-- what is looked up before the lease has ended, and while the range is not paused, is answered
+pub in_time : (d : ServerContext) (r : RangeState) (g : WaitingGet) (found : Lookup) → try_fault d r ≡ None → found ≡ look r.held r.indexes g.key (standing r g.key) → answered d r g found ≡ try d r g
+in_time d r g found no_fault is = ap (answered d r g) is ∙ sym (ap (try_unless d r g) no_fault)
+
+-- else it is refused
+pub refused : (d : ServerContext) (r : RangeState) (g : WaitingGet) (refusal : Refusal) (packet : Packet) → try_fault d r ≡ Some refusal → packet ≡ refuses d g.from g.request refusal
+    → record { waiting = []; count = d.count; packets = packet ∷ [] } ≡ try d r g
+refused d r g refusal packet fault is =
+    ap (λ (p : Packet). record { waiting = []; count = d.count; packets = p ∷ [] }) is ∙ sym (ap (try_unless d r g) fault)
 
 -- the value of what a key has
 pub look_is : (held : Values) (indexes : List InstalledIndex) (key : List ℕ) (cell : Option Cell) → indexed_value held (newest_cell (held_at held) indexes key cell) ≡ look held indexes key cell

@@ -15,6 +15,7 @@ pub record LookupsState : Type 0 where
 -- what is looked at is the range's
 pub record Sees (r : RangeState) (a : Asking) : Type 0 where
   pub until : a.until ≡ r.until
+  pub pause : a.pause ≡ r.pause
   pub live : a.table.now.live ≡ r.live
   pub fixed : a.table.now.fixed ≡ r.fixed
   pub indexes : a.indexes.now ≡ r.indexes
@@ -32,6 +33,7 @@ abbrev pub seen : Asking → Values → RangeState → RangeState
 seen a held r =
     record r {
       until = a.until;
+      pause = a.pause;
       live = a.table.now.live;
       fixed = a.table.now.fixed;
       indexes = a.indexes.now;

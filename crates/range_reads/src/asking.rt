@@ -5,15 +5,16 @@ ghost use Rattle.model_partition.specs.PlaceReads.{places_in as nodes_in};
 use block_types::Nodes;
 use checkpoint::InstalledIndexes;
 use memtable::MemTable;
-use model_partition::ServerContext;
+use model_partition::{Pause, ServerContext};
 use wire::{ExtentId, StreamExtent};
 
-/// What a try of a Get looks at: the server, the end of the range's lease, in ticks, its memory table, the indexes below it, and
-/// the extents of the streams that pages and values stand in.
+/// What a try of a Get looks at: the server, the end of the range's lease, in ticks, what the range takes, its memory table, the
+/// indexes below it, and the extents of the streams that pages and values stand in.
 #[derive(Drop)]
 pub struct Asking<'a> {
     pub context: &'a ServerContext,
     pub until: u64,
+    pub pause: Pause,
     pub table: &'a MemTable,
     pub indexes: &'a InstalledIndexes,
     pub log: &'a [StreamExtent],

@@ -117,7 +117,7 @@ impl Lookups {
         some_awaits(&self.gets, number)
     }
 
-    /// A Get of a key that is not refused otherwise: it is refused once the lease has ended, else answered, or kept, with a read
+    /// A Get of a key that is not refused otherwise: it is refused where the range is paused or the lease has ended, else answered, or kept, with a read
     /// of what it needs. That there is room for it and a number for the read is the caller's condition. Where the memory table has
     /// no cell of the key, the pages that may have it become the most recently used, that of the oldest index last, and then the
     /// value that it finds. Where memory runs out (22) nothing has changed.

@@ -1,11 +1,12 @@
 //! One try of a Get.
-ghost use Rattle.std.specs.Prelude.{◌≡◌, ◌+◌, ◌++◌, ◌∷◌, ◌<◌, ◌≤◌, ◌^◌, [], Some, None, filter, map, not, length, option_copied, option_to_list, IfOk, OnOk};
+ghost use Rattle.std.specs.Prelude.{ℕ, ◌≡◌, ◌+◌, ◌++◌, ◌∷◌, ◌<◌, ◌≤◌, ◌^◌, [], Some, None, filter, map, not, length, option_copied, option_to_list, IfOk, OnOk};
 ghost use Rattle.client.specs.Requests.{is_same as are_same};
 ghost use Rattle.range_reads.specs.Lookups.{seen, tried_of};
 ghost use Rattle.range_reads.specs.Looking.{answer_of, newest_cell as newest_of, view_content};
 ghost use Rattle.memtable.specs.Layers.{cell_at};
-ghost use Rattle.model_partition.specs.Getting.{try as tries, try_all, held_at, asks_place as asks_of, without as without_read};
+ghost use Rattle.model_partition.specs.Getting.{try as tries, try_all, try_fault, held_at, asks_place as asks_of, without as without_read};
 ghost use Rattle.model_partition.specs.PlaceReads.{places_in as nodes_in};
+ghost use Rattle.range_reads.specs.ValueCache.{Values};
 ghost use Rattle.model_partition.specs.Range.{RangeState, refuses as refuses_of};
 
 use crate::adding::push_some;
@@ -116,8 +117,21 @@ pub(crate) fn refuses(context: &ServerContext, get: &WaitingGet, refusal: Refusa
     }
 }
 
-/// A Get is tried, of whose key this was found: refused once the lease has ended, else answered, or one more read is sent for
-/// what is missing.
+/// Why a Get that waits is answered no more: 34 or 32, the first that is met.
+fn try_fault(asking: &Asking<'_>) -> Option<Refusal>
+    ensures { (count : ℕ) (held : Values) (r : RangeState) → result ≡ try_fault (record asking.now.context.now { count = count }) (seen asking.now held r) }
+{
+    if asking.pause.is_paused() {
+        return Some(Refusal::Paused);
+    }
+    if asking.until <= asking.context.moment {
+        return Some(Refusal::LeaseEnded);
+    }
+    None
+}
+
+/// A Get is tried, of whose key this was found: refused where the range is paused or the lease has ended, else answered, or one
+/// more read is sent for what is missing.
 pub(crate) fn one_try(
     alloc: Global,
     asking: &Asking<'_>,
@@ -132,8 +146,8 @@ pub(crate) fn one_try(
         → tried_of one ≡ tries (record asking.now.context.now { count = count }) (seen asking.now (view_content view.now) r) get) }
     ensures bound { IfOk result (λ one. one.count ≤ count + 1) }
 {
-    if asking.until <= asking.context.moment {
-        let packet = refuses(asking.context, &get, Refusal::LeaseEnded);
+    if let Some(refusal) = try_fault(asking) {
+        let packet = refuses(asking.context, &get, refusal);
         return Ok(OneTry {
             waiting: None,
             count,

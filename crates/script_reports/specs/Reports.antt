@@ -49,6 +49,10 @@ report_text (reports.Done range generation number) =
     codes "done " ++ decimal range ++ 32 ∷ decimal generation ++ 32 ∷ decimal number
 report_text (reports.Loaded range generation next rows) =
     codes "loaded " ++ decimal range ++ 32 ∷ decimal generation ++ 32 ∷ decimal next ++ 32 ∷ decimal rows
+report_text (reports.Split range low high key) =
+    codes "split " ++ decimal range ++ 32 ∷ decimal low ++ 32 ∷ decimal high ++ 32 ∷ key
+report_text (reports.Merged left right range) =
+    codes "merged " ++ decimal left ++ 32 ∷ decimal right ++ 32 ∷ decimal range
 report_text (reports.Refused refusal) = codes "refused " ++ text_of refusal
 report_text (reports.Told user ticket answer) =
     codes "user " ++ decimal user ++ 32 ∷ decimal ticket ++ 32 ∷ answer_text answer

@@ -80,12 +80,18 @@ abbrev pub told_to : ActorId → Body → Option Report
 told_to (actors.User user) body = told_with user (answer_of body)
 told_to other body = None
 
+-- the line of an observation of the map; the key in two digits a byte
+abbrev pub map_observed : Note → Option Report
+map_observed (notes.Split range low high key) = Some (reports.Split range low high (shown_bytes key))
+map_observed (notes.Merged left right range) = Some (reports.Merged left right range)
+map_observed other = None
+
 -- the line of an observation of a table
 abbrev pub table_observed : Note → Option Report
 table_observed (notes.Began range generation number changes) = Some (reports.Began range generation number)
 table_observed (notes.Done range generation number) = Some (reports.Done range generation number)
 table_observed (notes.Loaded range generation rows next) = Some (reports.Loaded range generation next (length rows))
-table_observed other = None
+table_observed other = map_observed other
 
 -- the line of an observation
 abbrev pub observed : Note → Option Report

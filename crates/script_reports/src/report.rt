@@ -86,6 +86,19 @@ pub enum Report {
         next: u64,
         rows: u64,
     },
+    /// The map split a range at a key: the numbers of its halves, and the key.
+    Split {
+        range: u64,
+        low: u64,
+        high: u64,
+        key: HexText,
+    },
+    /// The map joined two ranges: their numbers, and the one of what they became.
+    Merged {
+        left: u64,
+        right: u64,
+        range: u64,
+    },
     /// The event was refused.
     Refused(Refusal),
     /// An answer came to a user.
@@ -199,6 +212,13 @@ impl fmt::Display for Report {
                 next,
                 rows,
             } => write_four(f, "loaded", range, generation, next, rows),
+            Report::Split {
+                range,
+                low,
+                high,
+                key,
+            } => write_four(f, "split", range, low, high, key),
+            Report::Merged { left, right, range } => write_three(f, "merged", left, right, range),
             Report::Refused(refusal) => write_one(f, "refused", refusal),
             Report::Told {
                 user,

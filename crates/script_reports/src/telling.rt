@@ -1,7 +1,7 @@
 //! What deliveries and observations print.
 ghost use Rattle.std.specs.Prelude.{◌≡◌, Some, IfOk};
 ghost use Rattle.block_types.specs.Limits.{groups_size};
-ghost use Rattle.script_reports.specs.Telling.{answer_of, append_answer, map_answer, observed, read_answer, seal_answer, stream_answer, table_answer, table_observed, told_to, told_with};
+ghost use Rattle.script_reports.specs.Telling.{answer_of, append_answer, map_answer, map_observed, observed, read_answer, seal_answer, stream_answer, table_answer, table_observed, told_to, told_with};
 
 use crate::hex_text::HexText;
 use crate::report::{Answer, Report};
@@ -176,9 +176,37 @@ pub fn report_answer(alloc: Global, packet: &Packet) -> Result<Option<Report>, A
     }
 }
 
-/// The line of an observation of a table, if it has one.
-fn report_table(note: &Note) -> Option<Report>
-    ensures { result ≡ table_observed note.now }
+/// The line of an observation of the map, if it has one.
+fn report_map(alloc: Global, note: &Note) -> Result<Option<Report>, AllocError>
+    ensures { IfOk result (λ report. report ≡ map_observed note.now) }
+{
+    match note {
+        Note::Split {
+            range,
+            low,
+            high,
+            key,
+        } => match HexText::of(alloc, key.as_slice()) {
+            Ok(text) => Ok(Some(Report::Split {
+                range: range.0,
+                low: low.0,
+                high: high.0,
+                key: text,
+            })),
+            Err(refused) => Err(refused),
+        },
+        Note::Merged { left, right, range } => Ok(Some(Report::Merged {
+            left: left.0,
+            right: right.0,
+            range: range.0,
+        })),
+        _ => Ok(None),
+    }
+}
+
+/// The line of an observation of a table, or of the map, if it has one.
+fn report_table(alloc: Global, note: &Note) -> Result<Option<Report>, AllocError>
+    ensures { IfOk result (λ report. report ≡ table_observed note.now) }
 {
     match note {
         Note::Began {
@@ -186,74 +214,74 @@ fn report_table(note: &Note) -> Option<Report>
             generation,
             number,
             changes: _,
-        } => Some(Report::Began {
+        } => Ok(Some(Report::Began {
             range: range.0,
             generation: generation.0,
             number: *number,
-        }),
+        })),
         Note::Done {
             range,
             generation,
             number,
-        } => Some(Report::Done {
+        } => Ok(Some(Report::Done {
             range: range.0,
             generation: generation.0,
             number: *number,
-        }),
+        })),
         Note::Loaded {
             range,
             generation,
             rows,
             next,
-        } => Some(Report::Loaded {
+        } => Ok(Some(Report::Loaded {
             range: range.0,
             generation: generation.0,
             next: *next,
             rows: rows.items.len() as u64,
-        }),
-        _ => None,
+        })),
+        _ => report_map(alloc, note),
     }
 }
 
-/// The line of an observation, if it has one.
-pub fn report_note(note: &Note) -> Option<Report>
-    ensures { result ≡ observed note.now }
+/// The line of an observation, if it has one. An error is out of memory (22).
+pub fn report_note(alloc: Global, note: &Note) -> Result<Option<Report>, AllocError>
+    ensures { IfOk result (λ report. report ≡ observed note.now) }
 {
     match note {
         Note::Acked {
             extent,
             offset,
             group,
-        } => Some(Report::Acked {
+        } => Ok(Some(Report::Acked {
             extent: extent.0,
             offset: *offset,
             size: group.size(),
-        }),
-        Note::SealedAt { extent, length } => Some(Report::SealedAt {
+        })),
+        Note::SealedAt { extent, length } => Ok(Some(Report::SealedAt {
             extent: extent.0,
             length: *length,
-        }),
+        })),
         Note::Content {
             extent,
             node,
             groups,
-        } => Some(Report::Content {
+        } => Ok(Some(Report::Content {
             extent: extent.0,
             node: *node,
             size: size_of(&groups.items),
             groups: groups.items.len() as u64,
-        }),
+        })),
         Note::Seen {
             extent,
             node,
             offset,
             bytes,
-        } => Some(Report::Seen {
+        } => Ok(Some(Report::Seen {
             extent: extent.0,
             node: *node,
             offset: *offset,
             count: bytes.len() as u64,
-        }),
-        _ => report_table(note),
+        })),
+        _ => report_table(alloc, note),
     }
 }

@@ -58,7 +58,7 @@ pub fn happen<W: Write>(
     let shown = run.observations().len();
     let refused = step(run, alloc, event)?;
     print_some(refused, writer)?;
-    print_since(run.observations(), shown, writer)
+    print_since(alloc, run.observations(), shown, writer)
 }
 
 fn standing_of(phase: Phase) -> Standing

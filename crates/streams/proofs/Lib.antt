@@ -1,3 +1,4 @@
+pub mod BuildingLemmas
 pub mod GarbageLemmas
 pub mod Lists
 pub mod Names

@@ -1,11 +1,14 @@
 -- Streams: named lists of extents (Calder et al., SOSP 2011, section 4.1). Each has a fence, the least generation that it
 -- listens to, and remembers the extents that have left it at the front.
-use Rattle.std.specs.Prelude.{ℕ, ◌+◌, ◌-◌, Bool, true, false, ◌&&◌, List, [], ◌∷◌, ◌++◌, length, take, drop, Option, Some, None, option_map, Result, Ok, Err, ◌==◌, nat_lt, nat_le, slice_get, if◌then◌else◌}
+use Rattle.std.specs.Prelude.{ℕ, ◌+◌, ◌-◌, max, Bool, true, false, not, ◌&&◌, List, [], ◌∷◌, ◌++◌, length, take, drop, Option, Some, None, option_map, Result, Ok, Err, ◌==◌, nat_lt, nat_le, slice_get, if◌then◌else◌}
+use Rattle.std.specs.List.{list_any, list_all}
 use Rattle.wire.specs.declared.refusal.Refusal.{Refusal}
 use Rattle.wire.specs.declared.refusal.Refusal.TheVariants.{Stale, NoSuchStream, NameTaken, LastOpen}
 use Rattle.wire.specs.declared.streams.StreamKind.{StreamKind}
 use Rattle.wire.specs.declared.streams.StreamKind.TheVariants.{Metadata, Log, RowData, BlobData}
 use Rattle.wire.specs.declared.streams.StreamName.{StreamName}
+use Rattle.wire.specs.declared.streams.Source.{Source}
+use Rattle.wire.specs.declared.streams.Modify.{Modify}
 
 abbrev pub kind_number : StreamKind → ℕ
 kind_number Metadata = 0
@@ -170,6 +173,86 @@ trimmed_if streams range before to_blob (Some log) (Some blob_data) =
 -- The log's extents below an index have left it, and where they are to be kept they stand at the end of the blob stream.
 abbrev pub trimmed : Streams → ℕ → ℕ → Bool → Streams
 trimmed streams range before to_blob = trimmed_if streams range before to_blob (streams range 1) (streams range 3)
+
+-- ---- streams that are built from the lists of others
+
+-- at most 255 streams at once, each of 1 to 255 others
+abbrev pub are_sources : List Source → Bool
+are_sources sources = nat_lt 0 (length sources) && nat_le (length sources) 255
+
+abbrev pub may_list : List Modify → Bool
+may_list list = nat_le (length list) 255 && list_all (λ m. are_sources m.sources) list
+
+-- there is the stream, with this fence
+abbrev pub has_fence : ℕ → Option Stream → Bool
+has_fence fence None = false
+has_fence fence (Some x) = x.fence == fence
+
+abbrev pub is_unsealed : (ℕ → Option ℕ) → Option ℕ → Bool
+is_unsealed sealed None = false
+is_unsealed sealed (Some e) = not (is_there (sealed e))
+
+-- there is the stream, and its last extent is open
+abbrev pub is_open_at_the_end : (ℕ → Option ℕ) → Option Stream → Bool
+is_open_at_the_end sealed None = false
+is_open_at_the_end sealed (Some x) = is_unsealed sealed (last_of x.extents)
+
+-- Why a stream is not built, each test over all its sources: there is one of its name, a source is missing, a source's fence is
+-- not the generation that is named, the last extent of a source is open.
+abbrev pub build_fault : (ℕ → Option ℕ) → Streams → Modify → Option Refusal
+build_fault sealed streams m =
+    if is_there (stream_of streams m.stream) then Some NameTaken
+    else if list_any (λ s. not (is_there (stream_of streams s.stream))) m.sources then Some NoSuchStream
+    else if list_any (λ s. not (has_fence s.generation (stream_of streams s.stream))) m.sources then Some Stale
+    else if list_any (λ s. is_open_at_the_end sealed (stream_of streams s.stream)) m.sources then Some LastOpen
+    else None
+
+abbrev pub extents_of : Option Stream → List ℕ
+extents_of None = []
+extents_of (Some x) = x.extents
+
+abbrev pub gone_of : Option Stream → List ℕ
+gone_of None = []
+gone_of (Some x) = x.gone
+
+-- what has left the first of the sources
+abbrev pub gone_of_first : Streams → List Source → List ℕ
+gone_of_first streams [] = []
+gone_of_first streams (s ∷ sources) = gone_of (stream_of streams s.stream)
+
+-- the extents of the sources, one source after the other
+abbrev pub joined_extents : Streams → List Source → List ℕ
+joined_extents streams [] = []
+joined_extents streams (s ∷ sources) = extents_of (stream_of streams s.stream) ++ joined_extents streams sources
+
+abbrev pub greatest_generation : List Source → ℕ
+greatest_generation [] = 0
+greatest_generation (s ∷ sources) = max s.generation (greatest_generation sources)
+
+-- the lists of the sources joined: it begins at the index of the first one, and its fence is the greatest generation named
+abbrev pub joined : Streams → List Source → Stream
+joined streams sources =
+    record { gone = gone_of_first streams sources; fence = greatest_generation sources; extents = joined_extents streams sources }
+
+abbrev pub built : Streams → Modify → Streams
+built streams m = with_stream streams m.stream (joined streams m.sources)
+
+-- with streams built one after the other, each from those that there are then; the sources stay as they are
+abbrev pub modified : Streams → List Modify → Streams
+modified streams [] = streams
+modified streams (m ∷ list) = modified (built streams m) list
+
+abbrev pub or_later : Option Refusal → Option Refusal → Option Refusal
+or_later None later = later
+or_later (Some refusal) later = Some refusal
+
+-- why not all are built, the first reason in their order; each of them sees those before it
+abbrev pub first_build_fault : (ℕ → Option ℕ) → Streams → List Modify → Option Refusal
+first_build_fault sealed streams [] = None
+first_build_fault sealed streams (m ∷ list) = or_later (build_fault sealed streams m) (first_build_fault sealed (built streams m) list)
+
+abbrev pub modify_fault : (ℕ → Option ℕ) → Streams → List Modify → Option Refusal
+modify_fault sealed streams list = if may_list list then first_build_fault sealed streams list else Some NoSuchStream
 
 -- ---- places
 

@@ -64,6 +64,24 @@ pub record IsKept (entries new : List Entry) (from to before : ℕ) : Type 0 whe
   pub stream : (d : Entry) → let log = slice_index_or entries from d in let x = slice_index_or entries to d in
       entry.stream ≡ with_extents (leaving before log.stream) x.stream
 
+-- ---- streams that are built beside a table
+
+-- that these extents have left it at the front
+abbrev pub with_gone : List ℕ → Stream → Stream
+with_gone gone x = record x { gone = gone }
+
+abbrev pub first_of_two : Option Stream → Option Stream → Option Stream
+first_of_two None other = other
+first_of_two (Some x) other = Some x
+
+-- streams, and those of others whose names none of them has
+abbrev pub streams_over : Streams → Streams → Streams
+streams_over built streams range kind = first_of_two (built range kind) (streams range kind)
+
+-- a table's streams, and over them those that were built beside it
+abbrev pub streams_with : StreamTableState → StreamTableState → Streams
+streams_with t built = streams_over (streams_of built) (streams_of t)
+
 -- ---- what stands in no list any more
 
 abbrev pub HasGone : List Entry → ℕ → Type 0

@@ -1,10 +1,10 @@
 //! Streams in the order of their names.
-ghost use Rattle.std.specs.Prelude.{◌≡◌, ◌<◌, ◌-◌, OnOk, IfOk, IfErr, option_map, vec_len, vec_capacity, true, ◌≤◌, length, slice_index_or};
-ghost use Rattle.streams.specs.Streams.{kind_number, extended, created, opened, leaving, trimmed};
-ghost use Rattle.streams.specs.Table.{IsStrictlySorted, IsAt, IsGapFor, key_of, found, streams_in, fenced, Entry, HasRoomIn, HasRoomToTrimIn, IsKept};
+ghost use Rattle.std.specs.Prelude.{◌≡◌, ◌<◌, ◌-◌, suc, [], OnOk, IfOk, IfErr, option_map, vec_len, vec_capacity, true, ◌≤◌, length, slice_index_or};
+ghost use Rattle.streams.specs.Streams.{kind_number, with_stream, extended, opened, leaving, trimmed};
+ghost use Rattle.streams.specs.Table.{IsStrictlySorted, IsAt, IsGapFor, key_of, found, streams_in, fenced, Entry, HasRoomIn, HasRoomToTrimIn, IsKept, streams_over};
 
 use crate::listed::{Listed, key_of};
-use std::alloc::{AllocError, Global};
+use std::alloc::AllocError;
 use wire::{ExtentId, Fence, RangeId, StreamKind, StreamName};
 
 /// Where the stream of a name is, or where it would go.
@@ -28,20 +28,33 @@ pub(crate) fn find<'a>(entries: &'a Vec<Listed>, name: &StreamName) -> Option<&'
     }
 }
 
-/// Puts a stream without an extent under a name, into room that was made. It takes the place of the one that there was.
-pub(crate) fn put(entries: &mut Vec<Listed>, alloc: Global, name: &StreamName, fence: Fence)
+/// Puts a stream under its name, into room that was made. It takes the place of the one that there was.
+pub(crate) fn put(entries: &mut Vec<Listed>, listed: Listed)
     requires sorted { IsStrictlySorted entries.old.items }
     requires room { vec_len entries.old < vec_capacity entries.old }
     ensures sorted { IsStrictlySorted entries.new.items }
-    ensures streams { streams_in entries.new.items ≡ created (streams_in entries.old.items) name.now fence }
+    ensures streams { streams_in entries.new.items ≡ with_stream (streams_in entries.old.items) listed.name listed.stream }
+    ensures room { vec_capacity entries.old - vec_len entries.old ≤ suc (vec_capacity entries.new - vec_len entries.new) }
 {
-    let listed = Listed::new(alloc, *name, fence);
-    match search(entries, name) {
+    match search(entries, listed.name()) {
         Ok(at) => entries[at] = listed,
         Err(at) => {
             // It does not fail: there is room.
             let _room_was_made = entries.insert(at, listed);
         }
+    }
+}
+
+/// Puts all of these streams under their names, into room that was made, the first over those behind it.
+pub(crate) fn put_all(entries: &mut Vec<Listed>, others: &mut Vec<Listed>)
+    requires sorted { IsStrictlySorted entries.old.items }
+    requires room { vec_len others.old ≤ vec_capacity entries.old - vec_len entries.old }
+    ensures sorted { IsStrictlySorted entries.new.items }
+    ensures streams { streams_in entries.new.items ≡ streams_over (streams_in others.old.items) (streams_in entries.old.items) }
+    ensures empty { others.new.items ≡ [] }
+{
+    while let Some(listed) = others.pop() {
+        put(entries, listed);
     }
 }
 

@@ -1,11 +1,14 @@
 //! One stream.
-ghost use Rattle.std.specs.Prelude.{◌≡◌, ◌<◌, ◌≤◌, length, OnOk};
+ghost use Rattle.std.specs.Prelude.{◌≡◌, ◌<◌, ◌≤◌, length, OnOk, OnErr, IfOk};
+ghost use Rattle.std.specs.BTreeMap.{get};
+ghost use Rattle.std.specs.Ordering.{nat_cmp};
 ghost use Rattle.streams.specs.Faults.{with_refusal};
-ghost use Rattle.streams.specs.Streams.{empty_stream, base_of, last_of, longer, at_index, trim_of_log, leaving, shorter, with_extents};
-ghost use Rattle.streams.specs.Table.{key_of};
+ghost use Rattle.streams.specs.Streams.{empty_stream, base_of, last_of, longer, at_index, trim_of_log, leaving, shorter, with_extents, is_unsealed};
+ghost use Rattle.streams.specs.Table.{key_of, with_gone};
 
 use crate::fault::StreamFault;
 use std::alloc::{AllocError, Global};
+use std::collections::BTreeMap;
 use std::marker::Model;
 use wire::{ExtentId, Fence, StreamKind, StreamName};
 
@@ -72,6 +75,33 @@ impl Listed {
             fence,
             extents: Vec::new(alloc),
         }
+    }
+
+    /// A stream without an extent that these have left. Err: no memory.
+    pub(crate) fn after(
+        alloc: Global,
+        name: StreamName,
+        fence: Fence,
+        gone: &[ExtentId],
+    ) -> Result<Listed, AllocError>
+        ensures name { IfOk result (λ x. x.name ≡ name) }
+        ensures stream { IfOk result (λ x. x.stream ≡ with_gone gone.now (empty_stream fence)) }
+    {
+        let mut extents = Vec::new(alloc);
+        extents.extend_from_slice(gone)?;
+        Ok(Listed {
+            name,
+            left: gone.len(),
+            fence,
+            extents,
+        })
+    }
+
+    /// Its name.
+    pub(crate) fn name(&self) -> &StreamName
+        ensures { result.now ≡ self.now.name }
+    {
+        &self.name
     }
 
     /// The place of its name in the order of names.
@@ -179,6 +209,25 @@ impl Listed {
     {
         // It does not fail: there is room.
         let _room_was_made = self.extents.extend_from_slice(extents);
+    }
+
+    /// Adds extents at the end. Without memory nothing has changed but room.
+    pub(crate) fn join(&mut self, extents: &[ExtentId]) -> Result<(), AllocError>
+        ensures name { self.new.name ≡ self.old.name }
+        ensures stream { OnOk result (self.new.stream ≡ with_extents extents.now self.old.stream) }
+        ensures same { OnErr result (self.new.stream ≡ self.old.stream) }
+    {
+        self.extents.extend_from_slice(extents)
+    }
+
+    /// Whether its last extent is open, where it has one. `sealed` has the lengths of the extents that are sealed.
+    pub(crate) fn is_open(&self, sealed: &BTreeMap<ExtentId, u32>) -> bool
+        ensures { result ≡ is_unsealed (get nat_cmp sealed.now) (last_of self.now.stream.extents) }
+    {
+        match self.last() {
+            None => false,
+            Some(last) => sealed.get(&last).is_none(),
+        }
     }
 
     /// Lets its extents below an index leave it at the front.

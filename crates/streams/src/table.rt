@@ -2,7 +2,7 @@
 ghost use Rattle.std.specs.Prelude.{◌≡◌, ◌≢◌, ◌<◌, Ok, None, Some, OnOk, OnErr, IfOk, IfErr, IsErrOf, option_map};
 ghost use Rattle.std.specs.BTreeMap.{get};
 ghost use Rattle.std.specs.Ordering.{nat_cmp};
-ghost use Rattle.streams.specs.Streams.{stream_of, kind_number, create_fault, created, open_fault, opened, confirm_fault, behind, extending, extended, located};
+ghost use Rattle.streams.specs.Streams.{stream_of, with_stream, kind_number, create_fault, created, open_fault, opened, confirm_fault, behind, extending, extended, located};
 ghost use Rattle.streams.specs.Table.{no_streams, streams_of, fences_of, HasRoom};
 ghost use Rattle.streams.specs.Faults.{refusal_of, refusal_in, with_refusal};
 
@@ -105,7 +105,15 @@ impl StreamTable {
         requires { 0 < self.old.room }
         ensures { streams_of self.new ≡ created (streams_of self.old) name.now fence }
     {
-        put(&mut self.entries, self.alloc, name, fence);
+        self.put_listed(Listed::new(self.alloc, *name, fence));
+    }
+
+    /// Puts a stream under its name, into room that was made. It takes the place of the one that there was.
+    pub(crate) fn put_listed(&mut self, listed: Listed)
+        requires { 0 < self.old.room }
+        ensures { streams_of self.new ≡ with_stream (streams_of self.old) listed.name listed.stream }
+    {
+        put(&mut self.entries, listed);
     }
 
     /// Makes a stream without an extent. 12: there is a stream of this name. 22: no memory. After both nothing has changed.

@@ -45,6 +45,7 @@ pub enum Answer {
     OpensLog(u64, usize),
     Confirms,
     Trims,
+    Modifies,
 }
 
 fn append_says(body: &AppendBody, wanted: Answer) -> bool {
@@ -113,6 +114,7 @@ fn stream_says(body: &StreamBody, wanted: Answer) -> bool {
         }
         (StreamBody::Confirmed { .. }, Answer::Confirms) => true,
         (StreamBody::Trimmed { .. }, Answer::Trims) => true,
+        (StreamBody::Modified { .. }, Answer::Modifies) => true,
         (StreamBody::Extended { extent, .. }, Answer::Names(_, wanted)) => extent.0 == wanted,
         _ => false,
     }

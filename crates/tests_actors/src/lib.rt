@@ -13,6 +13,8 @@ mod cases;
 #[cfg(test)]
 mod managers;
 #[cfg(test)]
+mod map_splits;
+#[cfg(test)]
 mod maps;
 #[cfg(test)]
 mod nodes;

@@ -1,5 +1,6 @@
 //! Cases of the stream manager.
 mod asking;
+mod modifying;
 mod ranges;
 mod sealing;
 mod starting;
@@ -31,6 +32,10 @@ pub enum Event {
     Runs,
     /// The base and the extents of a stream of range 1.
     Lists(StreamKind, u64, &'static [u64]),
+    /// The base and the extents of the log of a range.
+    HasLog(u64, u64, &'static [u64]),
+    /// The range has no log.
+    HasNoLog(u64),
     /// Its disk is told to stop in a call of the next record, and to keep that call's bytes or not.
     IsToldToStop(u64, bool),
     StopsNow,
@@ -133,15 +138,29 @@ fn are_numbers(extents: &[ExtentId], numbers: &[u64]) -> bool {
             .all(|(extent, number)| extent.0 == *number)
 }
 
-fn lists(manager: &Manager<MemDisk>, kind: StreamKind, base: u64, numbers: &[u64]) -> bool {
+fn lists(
+    manager: &Manager<MemDisk>,
+    range: u64,
+    kind: StreamKind,
+    base: u64,
+    numbers: &[u64],
+) -> bool {
     let name = StreamName {
-        range: RangeId(1),
+        range: RangeId(range),
         kind,
     };
     match manager.table().streams().stream(&name) {
         Some(listed) => listed.base() == base && are_numbers(listed.extents(), numbers),
         None => false,
     }
+}
+
+fn has_log(manager: &Manager<MemDisk>, range: u64) -> bool {
+    let name = StreamName {
+        range: RangeId(range),
+        kind: StreamKind::Log,
+    };
+    manager.table().streams().stream(&name).is_some()
 }
 
 fn is_told_to_stop(manager: &mut Manager<MemDisk>, call: u64, keep: bool) -> bool {
@@ -167,7 +186,11 @@ fn fits(alloc: Global, manager: &mut Manager<MemDisk>, event: Event) -> bool {
         Event::HasExtent(extent, wanted) => sealed_at(manager, extent) == wanted,
         Event::WouldSealAt(wanted) => manager.sealing(ExtentId(1)) == wanted,
         Event::Runs => runs(manager),
-        Event::Lists(kind, base, numbers) => lists(manager, kind, base, numbers),
+        Event::Lists(kind, base, numbers) => lists(manager, 1, kind, base, numbers),
+        Event::HasLog(range, base, numbers) => {
+            lists(manager, range, StreamKind::Log, base, numbers)
+        }
+        Event::HasNoLog(range) => !has_log(manager, range),
         Event::IsToldToStop(call, keep) => is_told_to_stop(manager, call, keep),
         Event::StopsNow => stops_now(manager),
         Event::HasStopped => manager.is_stopped(),

@@ -7,6 +7,8 @@
 #![tactic(auto)]
 
 #[cfg(test)]
+mod built_streams;
+#[cfg(test)]
 mod cases;
 #[cfg(test)]
 mod ends;

@@ -8,7 +8,7 @@ use crate::cases::{Case, Tested, holds};
 use crate::loads::served;
 use answers::{Answer, body_of};
 use memtable::Place;
-use model_partition::{Progress, RangeContent, ServerContext, Stage};
+use model_partition::{Pause, Progress, RangeContent, ServerContext, Stage};
 use packets::{Comes, are_sent, comes_to};
 use range_checkpoint::{
     CheckpointStart, begin, checkpoint_fault, give_up, page_reply, record_reply, rows_reply,
@@ -511,7 +511,7 @@ fn is_page_at(content: &RangeContent, position: usize, offset: u32, length: u32)
 
 fn knows(content: &RangeContent, step: &Step) -> bool {
     match step {
-        Faults(fault) => checkpoint_fault(content) == *fault,
+        Faults(fault) => checkpoint_fault(content, Pause::Off) == *fault,
         Table(live, fixed) => {
             content.table.live().len() == *live && content.table.fixed().is_some() == *fixed
         }

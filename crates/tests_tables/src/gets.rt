@@ -10,6 +10,7 @@ use checkpoint::{InstalledIndex, InstalledIndexes};
 use checkpoint_format::decode;
 use memtable::{Cell, MemTable, Place};
 use metadata::KeyRange;
+use model_partition::Pause;
 use range_reads::{Asking, Lookups, MAX_GETS, Tried};
 use std::alloc::{AllocError, Global};
 use std::test::Fail;
@@ -300,6 +301,7 @@ fn called(
     let asking = Asking {
         context: &context,
         until: getting.until,
+        pause: Pause::Off,
         table: &getting.table,
         log: &log,
         blob: &[],

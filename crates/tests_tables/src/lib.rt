@@ -23,3 +23,5 @@ mod ranges;
 mod records;
 #[cfg(test)]
 mod replays;
+#[cfg(test)]
+mod splits;

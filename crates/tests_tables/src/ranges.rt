@@ -1,4 +1,6 @@
 //! What no clause says: that calls succeed where there is memory, and each refusal once.
+ghost use Rattle.std.specs.Prelude.{◌+◌, ◌<◌, ◌^◌};
+
 mod answers;
 
 use crate::asking::{answer_of, context, number, puts};
@@ -6,11 +8,12 @@ use crate::cases::{Case, Tested, holds};
 use crate::groups::pushes;
 use answers::{Answer, appended, body_of};
 use bytes::Bytes;
+use model_partition::ServerContext;
 use range_core::{Phase, RangeState, RangeStep, Waiter};
 use std::alloc::Global;
 use std::test::Fail;
 use streams::Position;
-use wire::{ActorId, AppendBody, Body, Fence, RangeId, Refusal, ReqNo};
+use wire::{ActorId, AppendBody, Body, Changes, Fence, RangeId, Refusal, ReqNo};
 
 /// What is done with a range, or what is known of it.
 pub(crate) enum Step {
@@ -207,7 +210,7 @@ const USER: ActorId = ActorId::User(7);
 const TICKET: ReqNo = ReqNo::User { user: 7, ticket: 0 };
 
 /// A range under the generation 2 and a lease up to the moment 100, whose streams are asked for under the number 1.
-fn begun(alloc: Global) -> Result<RangeState, Fail> {
+pub(crate) fn begun(alloc: Global) -> Result<RangeState, Fail> {
     let (state, packet) = RangeState::assign(alloc, &context(1, 1), RangeId(1), Fence(2), 100)?;
     drop(packet);
     Ok(state)
@@ -239,6 +242,20 @@ fn refusal_of(taken: &RangeStep) -> Option<Refusal> {
     }
 }
 
+/// Why a transaction of these changes is refused, if it is.
+fn changed(
+    state: &mut RangeState,
+    alloc: Global,
+    told: &ServerContext,
+    changes: Changes,
+) -> Result<Option<Refusal>, Fail>
+    requires { told.now.count + 1024 < 2 ^ 64 }
+{
+    let taken = state.transact(alloc, told, USER, &TICKET, &changes);
+    drop(changes);
+    Ok(refusal_of(&taken?))
+}
+
 fn transacted(
     state: &mut RangeState,
     alloc: Global,
@@ -248,9 +265,25 @@ fn transacted(
     count: usize,
 ) -> Result<Option<Refusal>, Fail> {
     let changes = puts(alloc, key, length, count)?;
-    let taken = state.transact(alloc, &context(9, moment), USER, &TICKET, &changes);
-    drop(changes);
-    Ok(refusal_of(&taken?))
+    changed(state, alloc, &context(9, moment), changes)
+}
+
+/// Why a change of one byte is refused, if it is; where its group is sent, under this number.
+pub(crate) fn put_once(
+    state: &mut RangeState,
+    alloc: Global,
+    count: u32,
+) -> Result<Option<Refusal>, Fail> {
+    let changes = puts(alloc, b"a", 1, 1)?;
+    changed(state, alloc, &context(count, 1), changes)
+}
+
+/// Whether the range is served, by the answers to its first two requests.
+pub(crate) fn serves(state: &mut RangeState, alloc: Global) -> Result<bool, Fail> {
+    if drops(state, alloc, 1, 2, &Answer::Empty)? {
+        return Ok(false);
+    }
+    Ok(!drops(state, alloc, 2, 3, &Answer::Confirmed)?)
 }
 
 fn takes_many(state: &mut RangeState, alloc: Global, times: u32) -> Result<bool, Fail> {
@@ -262,7 +295,7 @@ fn takes_many(state: &mut RangeState, alloc: Global, times: u32) -> Result<bool,
     Ok(true)
 }
 
-fn got(
+pub(crate) fn got(
     state: &mut RangeState,
     alloc: Global,
     moment: u64,

@@ -5,18 +5,19 @@ use Rattle.block_types.specs.declared.record.Nodes.{Nodes}
 use Rattle.wire.specs.declared.actor.ActorId.{ActorId}
 use Rattle.wire.specs.declared.actor.ActorId.TheVariants.{Node, Manager, Map, Server, User}
 use Rattle.wire.specs.declared.body.Body.{Body}
+use Rattle.wire.specs.declared.note.Note.{Note}
 use Rattle.wire.specs.declared.packet.Packet.{Packet}
 use Rattle.model_streams.specs.declared.event.Event.{Event}
 use Rattle.model_streams.specs.declared.event.Event.TheVariants.{Submit, Deliver, Stop, Restart, Decide, GiveUp, Checkpoint, Assign, Renew, Moment}
-use Rattle.model_streams.specs.StreamSystem.{StreamSystem, happens, delivered, delivered_if, sent_more}
+use Rattle.model_streams.specs.StreamSystem.{StreamSystem, happens, delivered, delivered_if}
 use Rattle.model_streams.proofs.Tests.{if_elim}
 use Rattle.model_partition.specs.Servers.{ServerCell, ServersOutcome, told_moment, with_told, server_takes, server_gives_up, server_checkpoints, server_stops, server_starts}
-use Rattle.model_partition.specs.Cluster.{Cluster, delivered_to, delivers, servers_perform, stops, restarts, assigns, renews, map_takes, map_stops, map_starts}
+use Rattle.model_partition.specs.Cluster.{Cluster, told_by_map, delivered_to, delivers, servers_perform, stops, restarts, assigns, renews, map_takes, map_stops, map_starts}
 use Rattle.world_map.specs.Seen.{MapSeen, MapSteps, MapSimulates, moment_shown}
 use Rattle.world_servers.specs.Servers.{ServersSeen, all_shown}
 use Rattle.world_streams.specs.StreamLayer.{StreamLayerState, StreamLayerMirrors}
-use Rattle.world_streams.specs.ServersStep.{AfterMap, AfterServers}
-use Rattle.world_streams.proofs.ServerOutput.{sent_mirrors, told_mirrors}
+use Rattle.world_streams.specs.ServersStep.{AfterMap, AfterServers, with_told_by_map}
+use Rattle.world_streams.proofs.ServerOutput.{map_mirrors, told_mirrors}
 use Rattle.world_streams.specs.declared.fault.WorldFault.{WorldFault}
 use Rattle.world.specs.Cluster.{ClusterState, ClusterMirrors, ClusterSimulates, IsBelow, addressee_of}
 
@@ -177,11 +178,12 @@ restart_server_came x servers s is = λ c m.
 
 -- ---- the map
 
--- the map steps, and sends these
-map_went : (x : ClusterState) (l : StreamLayerState) (y : MapSeen) (c d : Cluster) (packets : List Packet) → l ≡ record x.stream_layer { post = x.stream_layer.post ++ packets } → MapSteps y c d packets →
+-- the map steps, and sends and shows these
+map_went : (x : ClusterState) (l : StreamLayerState) (y : MapSeen) (c d : Cluster) (packets : List Packet) (notes : List Note) → l ≡ with_told_by_map x.stream_layer packets notes → MapSteps y c d packets notes →
     ClusterMirrors x c → ClusterMirrors (record x { stream_layer = l; map = y }) d
-map_went x l y c d packets is went m = record {
-  stream_layer = subst (StreamLayerMirrors l) (sym went.stream_layer) (subst (λ (r : StreamLayerState). StreamLayerMirrors r (sent_more c.stream_layer packets)) (sym is) (sent_mirrors x.stream_layer packets c.stream_layer m.stream_layer));
+map_went x l y c d packets notes is went m = record {
+  stream_layer = subst (StreamLayerMirrors l) (sym went.stream_layer)
+      (subst (λ (r : StreamLayerState). StreamLayerMirrors r (told_by_map c.stream_layer packets notes)) (sym is) (map_mirrors x.stream_layer packets notes c.stream_layer m.stream_layer));
   servers = m.servers ∙ sym went.servers;
   map = went.map;
   moment = m.moment ∙ sym went.now;
@@ -193,7 +195,7 @@ route_came : (x : ClusterState) (l : StreamLayerState) (y : MapSeen) (number : �
 route_came x l y number p found to o = λ c m.
     let there : slice_get c.stream_layer.post number ≡ Some p = ap (λ (post : List Packet). slice_get post number) (sym m.stream_layer.post) ∙ found in
     let is : delivers c (slice_get c.stream_layer.post number) ≡ map_takes c p = ap (delivers c) there ∙ ap (delivered_to c p) to in
-    subst (ClusterMirrors (record x { stream_layer = l; map = y })) (sym is) (map_went x l y c (map_takes c p) o.packets o.stream_layer (o.steps_are c m.map) m)
+    subst (ClusterMirrors (record x { stream_layer = l; map = y })) (sym is) (map_went x l y c (map_takes c p) o.packets o.notes o.stream_layer (o.steps_are c m.map) m)
 
 pub route_came_if : (x : ClusterState) (l : StreamLayerState) (y : MapSeen) (number : ℕ) → addressee_of (slice_get x.stream_layer.post number) ≡ Some Map →
     ((p : Packet) → slice_get x.stream_layer.post number ≡ Some p → AfterMap x.stream_layer l (MapSimulates x.map y (λ c. map_takes c p))) → ClusterSimulates x (record x { stream_layer = l; map = y }) (Deliver number)
@@ -203,20 +205,22 @@ route_came_if x l y number is o =
 
 pub assign_came : (x : ClusterState) (l : StreamLayerState) (y : MapSeen) (range server until : ℕ) → AfterMap x.stream_layer l (MapSimulates x.map y (λ c. assigns c range server until)) →
     ClusterSimulates x (record x { stream_layer = l; map = y }) (Assign range server until)
-assign_came x l y range server until o = λ c m. map_went x l y c (assigns c range server until) o.packets o.stream_layer (o.steps_are c m.map) m
+assign_came x l y range server until o = λ c m. map_went x l y c (assigns c range server until) o.packets o.notes o.stream_layer (o.steps_are c m.map) m
 
 pub renew_came : (x : ClusterState) (l : StreamLayerState) (y : MapSeen) (range server until : ℕ) → AfterMap x.stream_layer l (MapSimulates x.map y (λ c. renews c range server until)) →
     ClusterSimulates x (record x { stream_layer = l; map = y }) (Renew range server until)
-renew_came x l y range server until o = λ c m. map_went x l y c (renews c range server until) o.packets o.stream_layer (o.steps_are c m.map) m
+renew_came x l y range server until o = λ c m. map_went x l y c (renews c range server until) o.packets o.notes o.stream_layer (o.steps_are c m.map) m
 
-nothing_more : (r : StreamLayerState) → r ≡ record r { post = r.post ++ [] }
-nothing_more r = ap (λ (l : List Packet). record r { post = l }) (sym (append-nil r.post))
+nothing_more : (r : StreamLayerState) → r ≡ with_told_by_map r [] []
+nothing_more r =
+    ap (λ (l : List Packet). record r { post = l }) (sym (append-nil r.post))
+    ∙ ap (λ (l : List Note). record r { post = r.post ++ []; notes = l }) (sym (append-nil r.notes))
 
-pub stop_map_came : (x : ClusterState) (y : MapSeen) (call : ℕ) (keep : Bool) → MapSimulates x.map y (λ c. map_stops c call keep) [] → ClusterSimulates x (record x { map = y }) (Stop Map call keep)
-stop_map_came x y call keep steps = λ c m. map_went x x.stream_layer y c (map_stops c call keep) [] (nothing_more x.stream_layer) (steps c m.map) m
+pub stop_map_came : (x : ClusterState) (y : MapSeen) (call : ℕ) (keep : Bool) → MapSimulates x.map y (λ c. map_stops c call keep) [] [] → ClusterSimulates x (record x { map = y }) (Stop Map call keep)
+stop_map_came x y call keep steps = λ c m. map_went x x.stream_layer y c (map_stops c call keep) [] [] (nothing_more x.stream_layer) (steps c m.map) m
 
-pub restart_map_came : (x : ClusterState) (y : MapSeen) → MapSimulates x.map y map_starts [] → ClusterSimulates x (record x { map = y }) (Restart Map)
-restart_map_came x y steps = λ c m. map_went x x.stream_layer y c (map_starts c) [] (nothing_more x.stream_layer) (steps c m.map) m
+pub restart_map_came : (x : ClusterState) (y : MapSeen) → MapSimulates x.map y map_starts [] [] → ClusterSimulates x (record x { map = y }) (Restart Map)
+restart_map_came x y steps = λ c m. map_went x x.stream_layer y c (map_starts c) [] [] (nothing_more x.stream_layer) (steps c m.map) m
 
 -- ---- the clock
 

@@ -45,7 +45,7 @@ impl Model for Cluster {
 
 /// Brings the map back, with what is on its disk. An error is out of memory (22), and nothing has changed.
 fn restart_map(map: &mut MapActor, alloc: Global) -> Result<(), WorldFault>
-    ensures ok { OnOk result (MapSimulates map.old map.new map_starts []) }
+    ensures ok { OnOk result (MapSimulates map.old map.new map_starts [] []) }
     ensures moment { map.new.moment ≡ map.old.moment }
     ensures err { OnErr result (map.new ≡ map.old) }
 {

@@ -23,8 +23,9 @@ use Rattle.manager.proofs.Decisions.{decided_notes}
 use Rattle.manager.specs.Performs.{ManagerPerforms, as_rule, fault_of, sealing_at, sealing_notes}
 use Rattle.world_steps.specs.ActorStep.{nothing, refusal_alone, stream_step}
 use Rattle.world_manager.specs.Seen.{ManagerSimulates, ManagerSteps, seen_of, decision_refusal}
-use Rattle.world_manager.specs.Stopping.{shown_if, stands_told}
-use Rattle.world_manager.proofs.ManagerSimulation.{told_lists, manager_same, served_broken, served_ok, served_up, told_stands}
+use Rattle.world_stops.specs.LastRecord.{shown_if, stands_told}
+use Rattle.world_stops.proofs.LastRecord.{shown_none, told_stands}
+use Rattle.world_manager.proofs.ManagerSimulation.{told_lists, manager_same, served_broken, served_ok, served_up}
 use Rattle.world_manager.proofs.ManagerNotes.{rule_quiet}
 
 -- ---- some catalog that a table says
@@ -40,10 +41,6 @@ says t = record { nodes = refl; target = refl; count = refl; stream = λ range k
 -- what `handle` says of a rule
 abbrev pub Handled : ManagerState MemDisk → ManagerState MemDisk → Packet → Result Step DiskFault → Type 0
 Handled x y p result = (b : Catalog) → ShowsCatalog x b → ManagerPerforms memory_state x y (manager_rule b p p.body) result
-
-shown_none : (b : Bool) (notes : List Note) → notes ≡ [] → shown_if b notes ≡ []
-shown_none true notes none = none
-shown_none false notes none = refl
 
 pub handled_ok : (p : Packet) (x y : ManagerState MemDisk) (s : Step) → x.file.stopped ≡ false → ManagerIsReplay x x.file.records → Handled x y p (Ok s) → ManagerSimulates (seen_of x) (seen_of y) (λ w. manager_takes w p) (stream_step s)
 handled_ok p x y s up before h w m =

@@ -1,5 +1,5 @@
 -- The manager's rules for packets show nothing.
-use Rattle.std.proofs.Common.{◌≡◌, ℕ, Bool, true, false, [], Option, Some, None, Result, Ok, Err, refl}
+use Rattle.std.proofs.Common.{◌≡◌, ℕ, Bool, true, false, List, [], Option, Some, None, Result, Ok, Err, refl}
 use Rattle.block_types.specs.declared.record.Nodes.{Nodes}
 use Rattle.wire.specs.declared.actor.ActorId.TheVariants.{Manager}
 use Rattle.wire.specs.declared.actor.ReqNo.{ReqNo}
@@ -11,12 +11,13 @@ use Rattle.wire.specs.declared.body.StreamBody.{StreamBody}
 use Rattle.wire.specs.declared.body.StreamBody.TheVariants.{CreateStream, OpenStreams, Confirm, Confirmed, Extend, Trim, MultiModify}
 use Rattle.wire.specs.declared.packet.Packet.{Packet}
 use Rattle.wire.specs.declared.refusal.Refusal.{Refusal}
+use Rattle.wire.specs.declared.streams.Modify.{Modify}
 use Rattle.wire.specs.declared.streams.StreamName.{StreamName}
 use Rattle.model_streams.specs.declared.extent.Extent.{Extent}
 use Rattle.model_streams.specs.Actors.{is_user}
 use Rattle.model_streams.specs.Outcome.{Outcome, or_refused, silent}
 use Rattle.streams.specs.Streams.{stream_of, extending, trimming}
-use Rattle.model_streams.specs.Manager.{Catalog, answer, asks_tail, confirm_refusal, create_refusal, create_taken, extend_answered, extend_picked, extend_rule, frozen_rule, is_foreign, is_pick, is_sealed_rule, is_there, last_told, no_users, open_refusal, open_taken, sealed_lengths, manager_rule, noted, seal_asked, seal_body_rule, seal_extent_rule, short_rule, stream_body_rule, trim_answered, trim_rule, with_report, frozen_to, known_sealed, first_sealed, place_of}
+use Rattle.model_streams.specs.Manager.{Catalog, answer, asks_tail, confirm_refusal, create_refusal, create_taken, extend_answered, extend_picked, extend_rule, frozen_rule, is_foreign, is_pick, is_sealed_rule, is_there, last_told, modify_refusal, modify_taken, open_refusal, open_taken, sealed_lengths, manager_rule, noted, seal_asked, seal_body_rule, seal_extent_rule, short_rule, stream_body_rule, trim_answered, trim_rule, with_report, frozen_to, known_sealed, first_sealed, place_of}
 use Rattle.model_streams.proofs.Tests.{if_elim}
 
 abbrev IsQuiet : Outcome Catalog → Type 0
@@ -61,8 +62,9 @@ shortened : (b : Catalog) (p : Packet) (range generation before : ℕ) (to_blob 
 shortened b p range generation before to_blob q =
     if_elim IsQuiet (is_user p.from) _ _ (λ t. refl) (λ f. trimmed b p range before to_blob q (trimming b.stream range generation before))
 
-barred : (b : Catalog) (p : Packet) (q : ReqNo) → IsQuiet (no_users b p q)
-barred b p q = if_elim IsQuiet (is_user p.from) _ _ (λ t. refl) (λ f. refl)
+modified : (b : Catalog) (p : Packet) (list : List Modify) (q : ReqNo) (x : Option Refusal) → IsQuiet (or_refused b Manager p q x (modify_taken b p list q))
+modified b p list q None = refl
+modified b p list q (Some refusal) = refl
 
 called : (b : Catalog) (p : Packet) (body : StreamBody) → IsQuiet (stream_body_rule b p body)
 called b p (CreateStream s fence q) = created b p s _ q (create_refusal b p s)
@@ -70,7 +72,7 @@ called b p (OpenStreams range generation q) = opened b p range generation q (ope
 called b p (Confirm range generation q) = confirmed b p q (confirm_refusal b p range generation)
 called b p (Extend s generation last pick q) = lengthened b p s _ last pick q
 called b p (Trim range generation before to_blob q) = shortened b p range generation before to_blob q
-called b p (MultiModify list q) = barred b p q
+called b p (MultiModify list q) = modified b p list q (modify_refusal b p list)
 called b p body = refl
 
 asked : (b : Catalog) (p : Packet) (e : ℕ) (q : ReqNo) (x : Extent) (length : Option ℕ) → IsQuiet (seal_asked b p e q x length)

@@ -1,12 +1,11 @@
 -- What the real manager does is what the model's manager does.
-use Rattle.std.proofs.Common.{◌≡◌, ◌≢◌, ◌≤◌, ℕ, zero, suc, Bool, true, false, not, ◌==◌, ◌&&◌, nat_lt, nat_le, if◌then◌else◌, List, [], ◌∷◌, ◌++◌, length, map, Option, Some, None, option_map, Ok, Err, refl, sym, ap, ◌∙◌, subst, append-nil}
+use Rattle.std.proofs.Common.{◌≡◌, ◌≢◌, ◌≤◌, ℕ, zero, suc, Bool, true, false, not, ◌==◌, if◌then◌else◌, List, [], ◌∷◌, ◌++◌, length, map, Option, Some, None, Ok, Err, refl, sym, ap, ◌∙◌, subst, append-nil}
 use Rattle.std.proofs.lemmas.List.{length-map}
 use Rattle.std.proofs.lemmas.Option.{same_Some}
-use Rattle.std.proofs.lemmas.Bool.{ltb-true, eqb-true, and_parts}
+use Rattle.std.proofs.lemmas.Bool.{eqb-true}
 use Rattle.block_types.specs.Limits.{IsTarget}
 use Rattle.disk.specs.declared.device.DiskFault.TheVariants.{Failed, Memory}
 use Rattle.disk.specs.declared.memory.MemDisk.{MemDisk}
-use Rattle.disk.specs.declared.memory.Stop.{Stop}
 use Rattle.disk.specs.Appends.{Records, listed}
 use Rattle.disk.specs.Filed.{Filed}
 use Rattle.disk.specs.Memory.{memory_state}
@@ -18,7 +17,7 @@ use Rattle.model_streams.specs.Maps.{entry_at}
 use Rattle.model_streams.specs.Outcome.{Outcome}
 use Rattle.model_streams.specs.Manager.{Catalog, catalog_stopped, first_catalog, forgotten, forgotten_if}
 use Rattle.model_streams.specs.Replay.{catalog_replay}
-use Rattle.model_streams.specs.StreamSystem.{StreamSystem, ActorCell, after_manager_rule, manager_halted, manager_performs, manager_stops, restart, running, stands_in, start, stop, stops_in, unsent}
+use Rattle.model_streams.specs.StreamSystem.{StreamSystem, after_manager_rule, manager_halted, manager_performs, manager_stops, restart, running, stands_in, start, stop, stops_in, unsent}
 use Rattle.model_streams.proofs.Tests.{if_elim}
 use Rattle.manager_state.specs.Table.{ManagerTableState, SameCatalog, first_table, forgotten_table}
 use Rattle.manager_state.specs.Replay.{TableIsReplay}
@@ -26,11 +25,10 @@ use Rattle.manager_state.proofs.Recovering.{first_replay}
 use Rattle.manager_state.proofs.Spelling.{first_again}
 use Rattle.manager.specs.Manager.{ManagerState, ManagerIsReplay, MakesCatalog, ShowsCatalog, first_record, table_of}
 use Rattle.manager.specs.Performs.{ManagerPerforms}
-use Rattle.world_stops.specs.Plan.{plan_of}
-use Rattle.world_stops.proofs.StopInRecord.{broken_down, broken_records, broken_stops, burnt_up, no_stop, plan_armed, plan_ok, plan_some, short_same, up_ok}
+use Rattle.world_stops.specs.LastRecord.{shown_if}
+use Rattle.world_stops.proofs.StopInRecord.{broken_down, broken_records, broken_stops, burnt_up, no_stop, plan_armed, plan_ok, short_same, up_ok}
 use Rattle.world_steps.specs.ActorStep.{ActorStep, nothing, stream_step}
 use Rattle.world_manager.specs.Seen.{ManagerSeen, ManagerMirrors, RecordsMakeCatalog, ManagerSteps, CatalogMirrors, new_manager, seen_of}
-use Rattle.world_manager.specs.Stopping.{shown_if, stands_told}
 
 nil : {A : Type 0} (xs : List A) {ys : List A} → ys ≡ [] → xs ≡ xs ++ ys
 nil xs is = sym (ap (λ l. xs ++ l) is ∙ append-nil xs)
@@ -204,25 +202,6 @@ served_up x y w v s isup m h =
     if_elim (λ u. ManagerSteps y w u s) w.manager_cell.up v w
     (λ t. h)
     (λ f. absurd (let a = m.up ∙ ap not isup in cc))
-
-swapped : (a b : Bool) → (a && b) ≡ (b && a)
-swapped true true = refl
-swapped true false = refl
-swapped false true = refl
-swapped false false = refl
-
-told_as : (told : Option Stop) (c : ActorCell) → option_map {U = ℕ × Bool} (λ (s : Stop). (s.calls, s.keep)) told ≡ Some (c.fuse, c.keep) → stands_told told ≡ stands_in c
-told_as None c is = absurd cc
-told_as (Some s) c is =
-    let same : (s.calls, s.keep) ≡ (c.fuse, c.keep) = same_Some (s.calls, s.keep) (c.fuse, c.keep) is in
-    swapped s.keep (nat_le 3 s.calls) ∙ ap (λ (p : ℕ × Bool). nat_le 3 p.0 && p.1) same
-
--- the disk's plan to stop is that of the model's manager
-pub told_stands : (told : Option Stop) (c : ActorCell) (k : Option Record) → option_map {U = ℕ × Bool} (λ (s : Stop). (s.calls, s.keep)) told ≡ plan_of c → stops_in c k ≡ true → stands_told told ≡ stands_in c
-told_stands told c None is t = absurd cc
-told_stands told c (Some r) is t =
-    let b = and_parts (nat_lt 0 c.fuse) (nat_le c.fuse 4) t in
-    told_as told c (is ∙ plan_some c (ltb-true 0 c.fuse b.0))
 
 -- ---- stops and restarts
 

@@ -7,14 +7,15 @@ ghost use Rattle.model_streams.specs.StreamSystem.{manager_decides, manager_take
 ghost use Rattle.manager.specs.Performs.{sealing_notes};
 ghost use Rattle.world_steps.specs.ActorStep.{IsFew, nothing};
 ghost use Rattle.world_manager.specs.Seen.{ManagerSimulates, decision_refusal, new_manager, seen_of};
-ghost use Rattle.world_manager.specs.Stopping.{shown_if, stands_told};
+ghost use Rattle.world_stops.specs.LastRecord.{shown_if, stands_told};
 
-use disk::{DiskFault, MemDisk, Stop};
+use disk::{DiskFault, MemDisk};
 use manager::{Manager, ManagerFault};
 use std::alloc::{AllocError, Global};
 use std::marker::Model;
-use wire::{ExtentId, Note, Notes, Packet, Packets, Refusal, Step};
+use wire::{ExtentId, Note, Notes, Packet, Refusal};
 use world_steps::ActorStep;
+use world_stops::{stands, unsent};
 
 /// The stream manager, on a disk in memory.
 pub struct ManagerActor {
@@ -34,16 +35,6 @@ impl Model for ManagerActor {
     ghost Value = { ManagerSeen };
 
     ghost view = { λ actor. seen_of actor.manager };
-}
-
-/// Whether a record that is being written stands, where the disk stops in it by this plan.
-fn stands(told: Option<Stop>) -> bool
-    ensures { result ≡ stands_told told }
-{
-    match told {
-        None => false,
-        Some(stop) => stop.keep && stop.calls >= 3,
-    }
 }
 
 /// What is shown of a decision that the manager stops in: its seal, where the record of it stands.
@@ -82,16 +73,6 @@ fn give(
         Ok(step) => Ok(ActorStep::of_streams(alloc, step)),
         Err(DiskFault::Failed) => Ok(ActorStep::silent(alloc)),
         Err(DiskFault::Memory) => Err(AllocError),
-    }
-}
-
-/// A step that sends nothing, and shows these.
-fn unsent(alloc: Global, notes: Notes) -> Step
-    ensures { (result.packets ≡ []) × (result.notes ≡ notes) }
-{
-    Step {
-        packets: Packets::new(alloc),
-        notes,
     }
 }
 

@@ -1,2 +1,3 @@
 pub mod MapCalls
 pub mod MapSimulation
+pub mod ShownRules

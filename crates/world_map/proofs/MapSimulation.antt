@@ -5,15 +5,17 @@ use Rattle.disk.specs.declared.device.DiskFault.TheVariants.{Failed, Memory}
 use Rattle.disk.specs.declared.memory.MemDisk.{MemDisk}
 use Rattle.disk.specs.Appends.{listed}
 use Rattle.disk.specs.Memory.{memory_state}
+use Rattle.wire.specs.declared.note.Note.{Note}
 use Rattle.wire.specs.declared.packet.Packet.{Packet}
 use Rattle.wire.specs.declared.packet.Step.{Step}
 use Rattle.wire.specs.declared.refusal.Refusal.{Refusal}
 use Rattle.model_streams.specs.Outcome.{Outcome}
-use Rattle.model_streams.specs.StreamSystem.{StreamSystem, running, sent_more, stands_in, stops_in}
+use Rattle.model_streams.specs.StreamSystem.{StreamSystem, running, stands_in, stops_in, unsent}
 use Rattle.model_streams.proofs.Tests.{if_elim}
 use Rattle.model_partition.specs.Map.{MapState}
 use Rattle.model_partition.specs.Replay.{map_replay}
-use Rattle.model_partition.specs.Cluster.{Cluster, map_performs, map_performs_if, map_halted, map_stops, map_starts}
+use Rattle.model_partition.specs.Cluster.{Cluster, told_by_map, after_map_rule, map_performs, map_performs_if, map_halted, map_stops, map_starts}
+use Rattle.world_stops.specs.LastRecord.{shown_if}
 use Rattle.world_stops.proofs.StopInRecord.{broken_down, broken_records, broken_stops, burnt_up, no_stop, plan_ok, plan_armed, short_same, up_ok}
 use Rattle.pmap.specs.MapWithFile.{MapWithFile, map_of}
 use Rattle.pmap.specs.Performs.{MapPerforms}
@@ -31,33 +33,38 @@ seen_down t x isdown = ap (λ (b : Bool). if b then map_replay x.file.records el
 abbrev pub IsReplayed : MapWithFile MemDisk → Type 0
 IsReplayed x = map_of x ≡ map_replay x.file.records
 
-nothing_sent : (w : StreamSystem) → w ≡ sent_more w []
-nothing_sent w = ap (λ (l : List Packet). record w { post = l }) (sym (append-nil w.post))
+nothing_told : (w : StreamSystem) → w ≡ told_by_map w [] []
+nothing_told w =
+    ap (λ (l : List Packet). record w { post = l }) (sym (append-nil w.post))
+    ∙ ap (λ (l : List Note). record w { post = w.post ++ []; notes = l }) (sym (append-nil w.notes))
 
 -- the cluster stays as it is
-pub rests_on : (x : MapSeen) (c : Cluster) → MapMirrors x c → MapSteps x c c []
-rests_on x c m = record { stream_layer = nothing_sent c.stream_layer; servers = refl; now = refl; batch = refl; map = m }
+pub rests_on : (x : MapSeen) (c : Cluster) → MapMirrors x c → MapSteps x c c [] []
+rests_on x c m = record { stream_layer = nothing_told c.stream_layer; servers = refl; now = refl; batch = refl; map = m }
 
--- it has stopped, with this map
-pub halted_on : (y : MapSeen) (c : Cluster) (m : MapState) → y.stopped ≡ true → m ≡ y.map → c.now ≡ y.moment → MapSteps y c (map_halted (record c { map = m })) []
-halted_on y c m isdown is at = record {
-  stream_layer = nothing_sent c.stream_layer;
-  servers = refl;
-  now = refl;
-  batch = refl;
-  map = record { map = is; up = ap not (sym isdown); plan = λ isup. absurd (let d = isdown in cc); moment = at };
-}
+-- the model's map is this one, which has stopped
+down_mirrors : (y : MapSeen) (d : Cluster) → y.stopped ≡ true → d.map ≡ y.map → d.now ≡ y.moment → MapMirrors y (map_halted d)
+down_mirrors y d isdown is at = record { map = is; up = ap not (sym isdown); plan = λ isup. absurd (let b = isdown in cc); moment = at }
+
+-- it has stopped with the map that was, and shows nothing
+pub halted_on : (y : MapSeen) (c : Cluster) → y.stopped ≡ true → c.map ≡ y.map → c.now ≡ y.moment → MapSteps y c (map_halted c) [] []
+halted_on y c isdown is at = record { stream_layer = nothing_told c.stream_layer; servers = refl; now = refl; batch = refl; map = down_mirrors y c isdown is at }
+
+-- it has stopped with the map of a rule whose record stands, and shows what the rule shows
+halted_behind : (y : MapSeen) (c : Cluster) (o : Outcome MapState) → y.stopped ≡ true → o.after ≡ y.map → c.now ≡ y.moment → MapSteps y c (map_halted (after_map_rule c (unsent o))) [] o.notes
+halted_behind y c o isdown is at = record { stream_layer = refl; servers = refl; now = refl; batch = refl; map = down_mirrors y (after_map_rule c (unsent o)) isdown is at }
 
 -- ---- a rule
 
 -- the record stands before anything is sent
 pub rule_done : (t : ℕ) (o : Outcome MapState) (x y : MapWithFile MemDisk) (c : Cluster) (s : Step) → x.file.stopped ≡ false → MapMirrors (seen_of t x) c → MapPerforms memory_state x y o (Ok s) →
-    MapSteps (seen_of t y) c (map_performs c o) s.packets
+    MapSteps (seen_of t y) c (map_performs c o) s.packets s.notes
 rule_done t o x y c s up m h =
-    if_elim (λ d. MapSteps (seen_of t y) c d s.packets) (stops_in c.map_cell o.written) _ _
+    if_elim (λ d. MapSteps (seen_of t y) c d s.packets s.notes) (stops_in c.map_cell o.written) _ _
     (λ b. absurd (no_stop x.file y.file o.written s c.map_cell h.file (m.plan up) b))
     (λ f. record {
-      stream_layer = ap (λ (l : List Packet). sent_more c.stream_layer l) (sym h.packets);
+      stream_layer = ap (λ (l : List Packet). told_by_map c.stream_layer l o.notes) (sym h.packets)
+          ∙ ap (λ (l : List Note). told_by_map c.stream_layer s.packets l) (sym h.notes);
       servers = refl;
       now = refl;
       batch = refl;
@@ -72,21 +79,26 @@ rule_done t o x y c s up m h =
     yup : y.file.stopped ≡ false
     yup = up_ok x.file y.file o.written s h.file up
 
--- it stops in the rule's record, which stands or not
-pub rule_broken : (t : ℕ) (o : Outcome MapState) (x y : MapWithFile MemDisk) (c : Cluster) → x.file.stopped ≡ false → MapMirrors (seen_of t x) c → IsReplayed x → MapPerforms memory_state x y o (Err Failed) →
-    MapSteps (seen_of t y) c (map_performs c o) []
-rule_broken t o x y c up m before h =
-    if_elim (λ d. MapSteps (seen_of t y) c d []) (stops_in c.map_cell o.written) _ _
-    (λ b. by_record (stands_in c.map_cell) (broken_records x.file y.file o.written c.map_cell h.file (m.plan up) b))
+-- it stops in the rule's record, which stands or not; what the rule shows is there where the record stands
+pub rule_broken : (t : ℕ) (o : Outcome MapState) (x y : MapWithFile MemDisk) (c : Cluster) (notes : List Note) → x.file.stopped ≡ false → MapMirrors (seen_of t x) c → IsReplayed x →
+    (stops_in c.map_cell o.written ≡ true → notes ≡ shown_if (stands_in c.map_cell) o.notes) → MapPerforms memory_state x y o (Err Failed) →
+    MapSteps (seen_of t y) c (map_performs c o) [] notes
+rule_broken t o x y c notes up m before shown h =
+    if_elim (λ d. MapSteps (seen_of t y) c d [] notes) (stops_in c.map_cell o.written) _ _
+    (λ b. by_record (stands_in c.map_cell) (broken_records x.file y.file o.written c.map_cell h.file (m.plan up) b) (shown b))
     (λ f. absurd (broken_stops x.file y.file o.written c.map_cell h.file (m.plan up) f))
   where
     isdown : y.file.stopped ≡ true
     isdown = broken_down x.file y.file o.written h.file
 
-    by_record : (b : Bool) → y.file.records ≡ (if b then x.file.records ++ listed o.written else x.file.records) →
-        MapSteps (seen_of t y) c (if b then map_halted (record c { map = o.after }) else map_halted c) []
-    by_record true is = halted_on (seen_of t y) c o.after isdown (sym h.stands.replays ∙ ap map_replay (sym is) ∙ sym (seen_down t y isdown)) m.moment
-    by_record false is = halted_on (seen_of t y) c c.map isdown (m.map ∙ seen_up t x up ∙ before ∙ ap map_replay (sym is) ∙ sym (seen_down t y isdown)) m.moment
+    by_record : (b : Bool) → y.file.records ≡ (if b then x.file.records ++ listed o.written else x.file.records) → notes ≡ shown_if b o.notes →
+        MapSteps (seen_of t y) c (if b then map_halted (after_map_rule c (unsent o)) else map_halted c) [] notes
+    by_record true is told =
+        subst (λ ns. MapSteps (seen_of t y) c (map_halted (after_map_rule c (unsent o))) [] ns) (sym told)
+        (halted_behind (seen_of t y) c o isdown (sym h.stands.replays ∙ ap map_replay (sym is) ∙ sym (seen_down t y isdown)) m.moment)
+    by_record false is told =
+        subst (λ ns. MapSteps (seen_of t y) c (map_halted c) [] ns) (sym told)
+        (halted_on (seen_of t y) c isdown (m.map ∙ seen_up t x up ∙ before ∙ ap map_replay (sym is) ∙ sym (seen_down t y isdown)) m.moment)
 
 -- where no memory was left all that is seen of it is as it was
 pub rule_short : (t : ℕ) (o : Outcome MapState) (x y : MapWithFile MemDisk) → x.file.stopped ≡ false → MapPerforms memory_state x y o (Err Memory) → seen_of t y ≡ seen_of t x
@@ -97,15 +109,16 @@ rule_short t o x y up h =
 
 -- ---- one that runs, and one that has stopped
 
-pub goes_up : (x y : MapSeen) (c d : Cluster) (packets : List Packet) → x.stopped ≡ false → MapMirrors x c → MapSteps y c d packets → MapSteps y c (if c.map_cell.up then d else c) packets
-goes_up x y c d packets isup m h =
-    if_elim (λ e. MapSteps y c e packets) c.map_cell.up d c
+pub goes_up : (x y : MapSeen) (c d : Cluster) (packets : List Packet) (notes : List Note) → x.stopped ≡ false → MapMirrors x c → MapSteps y c d packets notes →
+    MapSteps y c (if c.map_cell.up then d else c) packets notes
+goes_up x y c d packets notes isup m h =
+    if_elim (λ e. MapSteps y c e packets notes) c.map_cell.up d c
     (λ b. h)
     (λ f. absurd (let a = m.up ∙ ap not isup in cc))
 
-pub goes_down : (x : MapSeen) (c d : Cluster) → x.stopped ≡ true → MapMirrors x c → MapSteps x c (if c.map_cell.up then d else c) []
+pub goes_down : (x : MapSeen) (c d : Cluster) → x.stopped ≡ true → MapMirrors x c → MapSteps x c (if c.map_cell.up then d else c) [] []
 goes_down x c d isdown m =
-    if_elim (λ e. MapSteps x c e []) c.map_cell.up d c
+    if_elim (λ e. MapSteps x c e [] []) c.map_cell.up d c
     (λ b. absurd (let a = m.up ∙ ap not isdown in cc))
     (λ f. rests_on x c m)
 
@@ -119,25 +132,25 @@ is_refused c fault refusal o is = ap (λ (f : Option Refusal). map_performs_if c
 
 -- ---- stops and restarts
 
-pub stop_down : (call : ℕ) (keep : Bool) (x : MapSeen) (c : Cluster) → x.stopped ≡ true → MapMirrors x c → MapSteps x c (map_stops c call keep) []
+pub stop_down : (call : ℕ) (keep : Bool) (x : MapSeen) (c : Cluster) → x.stopped ≡ true → MapMirrors x c → MapSteps x c (map_stops c call keep) [] []
 stop_down call keep x c isdown m = goes_down x c _ isdown m
 
 pub stop_now : (t : ℕ) (call : ℕ) (keep : Bool) (x y : MapWithFile MemDisk) (c : Cluster) → x.file.stopped ≡ false → call ≡ 0 → MapMirrors (seen_of t x) c → IsReplayed x →
-    y.file.records ≡ x.file.records → y.file.stopped ≡ true → MapSteps (seen_of t y) c (map_stops c call keep) []
+    y.file.records ≡ x.file.records → y.file.stopped ≡ true → MapSteps (seen_of t y) c (map_stops c call keep) [] []
 stop_now t call keep x y c up now m before same isdown =
-    goes_up (seen_of t x) (seen_of t y) c _ [] up m
-    (if_elim (λ d. MapSteps (seen_of t y) c d []) (call == 0) (map_halted c) _
-    (λ z. halted_on (seen_of t y) c c.map isdown (m.map ∙ seen_up t x up ∙ before ∙ ap map_replay (sym same) ∙ sym (seen_down t y isdown)) m.moment)
+    goes_up (seen_of t x) (seen_of t y) c _ [] [] up m
+    (if_elim (λ d. MapSteps (seen_of t y) c d [] []) (call == 0) (map_halted c) _
+    (λ z. halted_on (seen_of t y) c isdown (m.map ∙ seen_up t x up ∙ before ∙ ap map_replay (sym same) ∙ sym (seen_down t y isdown)) m.moment)
     (λ z. absurd (let f = subst (λ k. (k == 0) ≡ false) now z in cc)))
 
 pub stop_later : (t : ℕ) (call : ℕ) (keep : Bool) (x y : MapWithFile MemDisk) (c : Cluster) → x.file.stopped ≡ false → call ≢ 0 → MapMirrors (seen_of t x) c →
-    map_of y ≡ map_of x → y.file.stopped ≡ x.file.stopped → (memory_state y.file.disk).stop ≡ Some (call, keep) → MapSteps (seen_of t y) c (map_stops c call keep) []
+    map_of y ≡ map_of x → y.file.stopped ≡ x.file.stopped → (memory_state y.file.disk).stop ≡ Some (call, keep) → MapSteps (seen_of t y) c (map_stops c call keep) [] []
 stop_later t call keep x y c up later m kept same told =
-    goes_up (seen_of t x) (seen_of t y) c _ [] up m
-    (if_elim (λ d. MapSteps (seen_of t y) c d []) (call == 0) (map_halted c) _
+    goes_up (seen_of t x) (seen_of t y) c _ [] [] up m
+    (if_elim (λ d. MapSteps (seen_of t y) c d [] []) (call == 0) (map_halted c) _
     (λ z. absurd (later (eqb-true call 0 z)))
     (λ z. record {
-      stream_layer = nothing_sent c.stream_layer;
+      stream_layer = nothing_told c.stream_layer;
       servers = refl;
       now = refl;
       batch = refl;
@@ -149,19 +162,19 @@ stop_later t call keep x y c up later m kept same told =
       };
     }))
 
-pub start_up : (x : MapSeen) (c : Cluster) → x.stopped ≡ false → MapMirrors x c → MapSteps x c (map_starts c) []
+pub start_up : (x : MapSeen) (c : Cluster) → x.stopped ≡ false → MapMirrors x c → MapSteps x c (map_starts c) [] []
 start_up x c isup m =
-    if_elim (λ d. MapSteps x c d []) c.map_cell.up c (record c { map_cell = running })
+    if_elim (λ d. MapSteps x c d [] []) c.map_cell.up c (record c { map_cell = running })
     (λ b. rests_on x c m)
     (λ f. absurd (let a = m.up ∙ ap not isup in cc))
 
 pub starts_again : (t : ℕ) (x y : MapWithFile MemDisk) (c : Cluster) → x.file.stopped ≡ true → MapMirrors (seen_of t x) c → y.file.stopped ≡ false → y.file.records ≡ x.file.records →
-    (memory_state y.file.disk).stop ≡ None → IsReplayed y → MapSteps (seen_of t y) c (map_starts c) []
+    (memory_state y.file.disk).stop ≡ None → IsReplayed y → MapSteps (seen_of t y) c (map_starts c) [] []
 starts_again t x y c isdown m isup same untold made =
-    if_elim (λ d. MapSteps (seen_of t y) c d []) c.map_cell.up c (record c { map_cell = running })
+    if_elim (λ d. MapSteps (seen_of t y) c d [] []) c.map_cell.up c (record c { map_cell = running })
     (λ b. absurd (let a = m.up ∙ ap not isdown in cc))
     (λ f. record {
-      stream_layer = nothing_sent c.stream_layer;
+      stream_layer = nothing_told c.stream_layer;
       servers = refl;
       now = refl;
       batch = refl;

@@ -1,11 +1,10 @@
 -- What a call of the map comes to.
-use Rattle.std.specs.Prelude.{List, [], Option, Some, None, Result, Ok, Err}
+use Rattle.std.specs.Prelude.{List, [], Option, None, Result, Ok, Err}
 use Rattle.wire.specs.declared.packet.Packet.{Packet}
 use Rattle.wire.specs.declared.packet.Step.{Step}
 use Rattle.wire.specs.declared.refusal.Refusal.{Refusal}
-use Rattle.wire.specs.declared.refusal.Refusal.TheVariants as refusals
 use Rattle.pmap.specs.declared.fault.MapFault.{MapFault}
-use Rattle.pmap.specs.declared.fault.MapFault.TheVariants as faults
+use Rattle.pmap.specs.Performs as pmap
 
 -- what it sends
 abbrev pub packets_of : Result Step MapFault → List Packet
@@ -14,6 +13,5 @@ packets_of (Err fault) = []
 
 -- why it was refused, if it was
 abbrev pub refusal_of : Result Step MapFault → Option Refusal
-refusal_of (Err faults.NotOwner) = Some refusals.NotOwner
-refusal_of (Err faults.LeaseHeld) = Some refusals.LeaseHeld
-refusal_of done = None
+refusal_of (Ok step) = None
+refusal_of (Err fault) = pmap.refusal_of fault

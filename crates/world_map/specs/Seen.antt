@@ -2,12 +2,14 @@
 use Rattle.std.specs.Prelude.{◌≡◌, ℕ, Bool, false, not, nat_lt, List, Option, None, if◌then◌else◌}
 use Rattle.disk.specs.declared.memory.MemDisk.{MemDisk}
 use Rattle.disk.specs.Memory.{memory_state}
+use Rattle.wire.specs.declared.note.Note.{Note}
 use Rattle.wire.specs.declared.packet.Packet.{Packet}
 use Rattle.wire.specs.declared.refusal.Refusal.{Refusal}
-use Rattle.model_streams.specs.StreamSystem.{ActorCell, sent_more}
-use Rattle.model_partition.specs.Map.{MapState, first_map, range_at, assign_fault, renew_fault}
+use Rattle.model_streams.specs.StreamSystem.{ActorCell}
+use Rattle.model_partition.specs.Map.{MapState, first_map, range_at}
+use Rattle.model_partition.specs.MapRules.{assign_fault, renew_fault}
 use Rattle.model_partition.specs.Replay.{map_replay}
-use Rattle.model_partition.specs.Cluster.{Cluster}
+use Rattle.model_partition.specs.Cluster.{Cluster, told_by_map}
 use Rattle.world_stops.specs.Plan.{plan_of}
 use Rattle.pmap.specs.MapWithFile.{MapWithFile, map_of}
 
@@ -39,17 +41,17 @@ pub record IsMap (x : MapSeen) (m : MapState) (cell : ActorCell) (now : ℕ) : T
 abbrev pub MapMirrors : MapSeen → Cluster → Type 0
 MapMirrors x c = IsMap x c.map c.map_cell c.now
 
--- from c to d the map alone steps: y is seen of it then, and it sends these
-pub record MapSteps (y : MapSeen) (c d : Cluster) (packets : List Packet) : Type 0 where
-  pub stream_layer : d.stream_layer ≡ sent_more c.stream_layer packets
+-- from c to d the map alone steps: y is seen of it then, and it sends and shows these
+pub record MapSteps (y : MapSeen) (c d : Cluster) (packets : List Packet) (notes : List Note) : Type 0 where
+  pub stream_layer : d.stream_layer ≡ told_by_map c.stream_layer packets notes
   pub servers : d.servers ≡ c.servers
   pub now : d.now ≡ c.now
   pub batch : d.batch ≡ c.batch
   pub map : MapMirrors y d
 
--- whatever cluster has the map that was before, this step of it leaves the one after, and sends these
-abbrev pub MapSimulates : MapSeen → MapSeen → (Cluster → Cluster) → List Packet → Type 0
-MapSimulates x y step packets = (c : Cluster) → MapMirrors x c → MapSteps y c (step c) packets
+-- whatever cluster has the map that was before, this step of it leaves the one after, and sends and shows these
+abbrev pub MapSimulates : MapSeen → MapSeen → (Cluster → Cluster) → List Packet → List Note → Type 0
+MapSimulates x y step packets notes = (c : Cluster) → MapMirrors x c → MapSteps y c (step c) packets notes
 
 -- a map that runs, of a range that nobody holds, at moment 0
 abbrev pub new_map : MapSeen

@@ -1,16 +1,20 @@
 //! The map on a disk in memory.
 ghost use Rattle.std.specs.Prelude.{◌≡◌, ◌≢◌, [], Err, None, IfOk, OnOk, OnErr};
 ghost use Rattle.model_partition.specs.Cluster.{assigns, renews, map_takes, map_stops, map_starts};
+ghost use Rattle.model_partition.specs.MapRules.{map_rule};
+ghost use Rattle.pmap.specs.MapWithFile.{map_of};
 ghost use Rattle.world_map.specs.Outcome.{packets_of, refusal_of};
 ghost use Rattle.world_map.specs.Seen.{MapSimulates, assign_refusal, moment_shown, new_map, renew_refusal};
 ghost use Rattle.world_steps.specs.ActorStep.{IsFew, packets_alone};
+ghost use Rattle.world_stops.specs.LastRecord.{shown_if};
 
 use disk::{DiskFault, MemDisk, RecordFile};
 use pmap::{MapFault, PartitionMap};
 use std::alloc::{AllocError, Global};
 use std::marker::Model;
-use wire::{Packet, RangeId, Refusal, ServerNo, Step};
+use wire::{Notes, Packet, RangeId, Refusal, ServerNo, Step};
 use world_steps::ActorStep;
+use world_stops::{stands, unsent};
 
 /// The map, on a disk in memory, and the last moment of the clock.
 pub struct MapActor {
@@ -33,7 +37,7 @@ impl Model for MapActor {
     ghost view = { λ actor. seen_of actor.moment actor.map };
 }
 
-/// What the map sends in a step; no rule of it shows anything.
+/// What the map sends in a call; no call shows anything.
 fn performed(alloc: Global, step: Step) -> ActorStep
     ensures { result ≡ packets_alone step.packets }
 {
@@ -52,8 +56,30 @@ fn outcome(alloc: Global, done: Result<Step, MapFault>) -> Result<ActorStep, All
         Ok(step) => Ok(performed(alloc, step)),
         Err(MapFault::NotOwner) => Ok(ActorStep::refused(alloc, Refusal::NotOwner)),
         Err(MapFault::LeaseHeld) => Ok(ActorStep::refused(alloc, Refusal::LeaseHeld)),
+        Err(MapFault::BadSplitKey) => Ok(ActorStep::refused(alloc, Refusal::BadSplitKey)),
+        Err(MapFault::NotAdjacent) => Ok(ActorStep::refused(alloc, Refusal::NotAdjacent)),
+        Err(MapFault::GenerationChanged) => {
+            Ok(ActorStep::refused(alloc, Refusal::GenerationChanged))
+        }
         Err(MapFault::DiskFailed) => Ok(ActorStep::silent(alloc)),
         Err(MapFault::Memory) => Err(AllocError),
+    }
+}
+
+/// What is shown of a packet that the map stops in: what the packet's rule shows, where the record of it stands. An error is
+/// out of memory.
+fn shown(
+    alloc: Global,
+    map: &PartitionMap<MemDisk>,
+    packet: &Packet,
+    stands: bool,
+) -> Result<Notes, AllocError>
+    ensures { IfOk result (λ shown. shown ≡ shown_if stands (map_rule (map_of map.now) packet.now packet.now.body).notes) }
+{
+    if stands {
+        map.shown_by(alloc, packet)
+    } else {
+        Ok(Notes::new(alloc))
     }
 }
 
@@ -72,20 +98,27 @@ impl MapActor {
         }
     }
 
-    /// Gives it a packet, and answers what it sends. An error is out of memory (22), and nothing has changed.
+    /// Gives it a packet, and answers what it sends and shows: a map that stops in the record of a split or a merge shows it
+    /// where the record stands. An error is out of memory (22), and nothing has changed.
     pub fn give(&mut self, alloc: Global, packet: &Packet) -> Result<ActorStep, AllocError>
-        ensures ok { IfOk result (λ step. MapSimulates self.old self.new (λ c. map_takes c packet.now) step.packets) }
+        ensures ok { IfOk result (λ step. MapSimulates self.old self.new (λ c. map_takes c packet.now) step.packets step.notes) }
         ensures moment { self.new.moment ≡ self.old.moment }
-        ensures plain { IfOk result (λ step. (step.notes ≡ []) × (step.tables ≡ []) × (step.refusal ≡ None)) }
+        ensures plain { IfOk result (λ step. (step.tables ≡ []) × (step.refusal ≡ None)) }
         ensures err { OnErr result (self.new ≡ self.old) }
         ensures few { IfOk result IsFew }
     {
         if self.map.is_stopped() {
             return Ok(ActorStep::silent(alloc));
         }
+        // What is shown where it stops in the record is known before the call, and so is the memory for it.
+        let stands = stands(self.map.file().told());
+        let notes = match shown(alloc, &self.map, packet, stands) {
+            Ok(notes) => notes,
+            Err(full) => return Err(full),
+        };
         match self.map.handle(alloc, packet) {
-            Ok(step) => Ok(performed(alloc, step)),
-            Err(DiskFault::Failed) => Ok(ActorStep::silent(alloc)),
+            Ok(step) => Ok(ActorStep::of_streams(alloc, step)),
+            Err(DiskFault::Failed) => Ok(ActorStep::of_streams(alloc, unsent(alloc, notes))),
             Err(DiskFault::Memory) => Err(AllocError),
         }
     }
@@ -99,7 +132,7 @@ impl MapActor {
         server: ServerNo,
         until: u64,
     ) -> Result<ActorStep, AllocError>
-        ensures ok { IfOk result (λ step. MapSimulates self.old self.new (λ c. assigns c range server until) step.packets) }
+        ensures ok { IfOk result (λ step. MapSimulates self.old self.new (λ c. assigns c range server until) step.packets []) }
         ensures moment { self.new.moment ≡ self.old.moment }
         ensures plain { IfOk result (λ step. (step.notes ≡ []) × (step.tables ≡ [])) }
         ensures refusal { IfOk result (λ step. step.refusal ≡ assign_refusal self.old self.old.moment range server) }
@@ -122,7 +155,7 @@ impl MapActor {
         server: ServerNo,
         until: u64,
     ) -> Result<ActorStep, AllocError>
-        ensures ok { IfOk result (λ step. MapSimulates self.old self.new (λ c. renews c range server until) step.packets) }
+        ensures ok { IfOk result (λ step. MapSimulates self.old self.new (λ c. renews c range server until) step.packets []) }
         ensures moment { self.new.moment ≡ self.old.moment }
         ensures plain { IfOk result (λ step. (step.notes ≡ []) × (step.tables ≡ [])) }
         ensures refusal { IfOk result (λ step. step.refusal ≡ renew_refusal self.old range server) }
@@ -138,7 +171,7 @@ impl MapActor {
 
     /// Stops it at once, or in one of its next device calls. Nothing comes of it where it has stopped.
     pub fn stop(&mut self, call: u64, keep: bool)
-        ensures stops { MapSimulates self.old self.new (λ c. map_stops c call keep) [] }
+        ensures stops { MapSimulates self.old self.new (λ c. map_stops c call keep) [] [] }
         ensures moment { self.new.moment ≡ self.old.moment }
     {
         if self.map.is_stopped() {
@@ -154,7 +187,7 @@ impl MapActor {
     /// Brings it back, with what is on its disk. Nothing comes of it where it runs. An error is out of memory (22), and
     /// nothing has changed.
     pub fn restart(&mut self, alloc: Global) -> Result<(), AllocError>
-        ensures ok { OnOk result (MapSimulates self.old self.new map_starts []) }
+        ensures ok { OnOk result (MapSimulates self.old self.new map_starts [] []) }
         ensures moment { self.new.moment ≡ self.old.moment }
         ensures err { OnErr result (self.new ≡ self.old) }
     {

@@ -1,1 +1,2 @@
+pub mod LastRecord
 pub mod Plan

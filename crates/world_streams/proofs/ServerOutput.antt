@@ -1,10 +1,11 @@
--- What servers add to a layer, one after the other.
-use Rattle.std.proofs.Common.{◌≡◌, ◌<◌, ℕ, List, [], ◌∷◌, ◌++◌, length, Option, Some, refl, sym, ap, ◌∙◌, subst, inl, inr, slice_get, slice_index_or}
+-- What servers and the map add to a layer, one after the other.
+use Rattle.std.proofs.Common.{◌≡◌, ◌<◌, ℕ, List, [], ◌∷◌, ◌++◌, length, Option, Some, refl, sym, ap, ◌∙◌, subst, inl, inr, append-nil, slice_get, slice_index_or}
 use Rattle.std.proofs.lemmas.Option.{same_Some}
 use Rattle.wire.specs.declared.note.Note.{Note}
 use Rattle.wire.specs.declared.packet.Packet.{Packet}
 use Rattle.wire.specs.declared.rows.Row.{Row}
-use Rattle.model_streams.specs.StreamSystem.{StreamSystem, sent_more}
+use Rattle.model_streams.specs.StreamSystem.{StreamSystem}
+use Rattle.model_partition.specs.Cluster.{told_by_map}
 use Rattle.model_partition.specs.declared.shown_table.ShownTable.{ShownTable}
 use Rattle.model_partition.specs.declared.table_note.TableNote.{TableNote}
 use Rattle.model_partition.specs.declared.table_note.TableNote.TheVariants as tables
@@ -12,7 +13,7 @@ use Rattle.model_partition.specs.Servers.{ArePlain, ShowsLoad, ServerCell, Serve
 use Rattle.world_streams.specs.StreamLayer.{StreamLayerState, StreamLayerMirrors}
 use Rattle.world_servers.specs.Servers.{outcome}
 use Rattle.world_steps.specs.ActorStep.{ActorStep}
-use Rattle.world_streams.specs.ServersStep.{AfterMap, ShowsRows, AfterServers, told_with, with_sent}
+use Rattle.world_streams.specs.ServersStep.{AfterMap, ShowsRows, AfterServers, told_with, with_sent, with_told_by_map}
 use Rattle.world_streams.proofs.EventSimulation.{get_at, nodes_as, manager_as}
 
 -- ---- one observation more
@@ -61,12 +62,12 @@ rows_shown shown rows loading more (inr load) are = inr (record {
 
 -- ---- beside the model
 
-pub sent_mirrors : (r : StreamLayerState) (packets : List Packet) (w : StreamSystem) → StreamLayerMirrors r w → StreamLayerMirrors (record r { post = r.post ++ packets }) (sent_more w packets)
-sent_mirrors r packets w m = record {
+pub map_mirrors : (r : StreamLayerState) (packets : List Packet) (notes : List Note) (w : StreamSystem) → StreamLayerMirrors r w → StreamLayerMirrors (with_told_by_map r packets notes) (told_by_map w packets notes)
+map_mirrors r packets notes w m = record {
   post = ap (λ (l : List Packet). l ++ packets) m.post;
-  notes = m.notes;
-  nodes = nodes_as r.nodes w (sent_more w packets) m.nodes refl refl refl;
-  manager = manager_as r.manager w (sent_more w packets) m.manager refl refl;
+  notes = ap (λ (l : List Note). l ++ notes) m.notes;
+  nodes = nodes_as r.nodes w (told_by_map w packets notes) m.nodes refl refl refl;
+  manager = manager_as r.manager w (told_by_map w packets notes) m.manager refl refl;
 }
 
 pub told_mirrors : (r : StreamLayerState) (packets : List Packet) (notes : List TableNote) (w : StreamSystem) → StreamLayerMirrors r w → StreamLayerMirrors (with_sent r packets notes) (with_told w packets notes)
@@ -100,11 +101,21 @@ took_packet r x before after s k d step there is gave nodes manager post notes p
 
 -- ---- steps of the map
 
--- the map takes the packet of the number, and what it sends comes after all that was sent
-pub routed : (r x : StreamLayerState) (k : ℕ) (d : Packet) (sent : List Packet) (steps : Packet → List Packet → Type 0) → k < length r.post → d ≡ slice_index_or r.post k d →
-    steps d sent → x ≡ record r { post = r.post ++ sent } → (p : Packet) → slice_get r.post k ≡ Some p → AfterMap r x (steps p)
-routed r x k d sent steps there is holds layer p found = record {
+-- the map takes the packet of the number, and what it sends and shows comes after all that was sent and shown
+pub routed : (r x : StreamLayerState) (k : ℕ) (d : Packet) (sent : List Packet) (shown : List Note) (steps : Packet → List Packet → List Note → Type 0) → k < length r.post → d ≡ slice_index_or r.post k d →
+    steps d sent shown → x ≡ with_told_by_map r sent shown → (p : Packet) → slice_get r.post k ≡ Some p → AfterMap r x (steps p)
+routed r x k d sent shown steps there is holds layer p found = record {
   packets = sent;
+  notes = shown;
   stream_layer = layer;
-  steps_are = subst (λ (q : Packet). steps q sent) (same_Some d p (ap Some is ∙ sym (get_at r.post k d there) ∙ found)) holds;
+  steps_are = subst (λ (q : Packet). steps q sent shown) (same_Some d p (ap Some is ∙ sym (get_at r.post k d there) ∙ found)) holds;
+}
+
+-- a call of the map shows nothing
+pub map_called : (r x : StreamLayerState) (sent : List Packet) (steps : List Packet → List Note → Type 0) → steps sent [] → x ≡ record r { post = r.post ++ sent } → AfterMap r x steps
+map_called r x sent steps holds layer = record {
+  packets = sent;
+  notes = [];
+  stream_layer = layer ∙ ap (λ (l : List Note). record r { post = r.post ++ sent; notes = l }) (sym (append-nil r.notes));
+  steps_are = holds;
 }

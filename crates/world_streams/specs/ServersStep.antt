@@ -1,4 +1,4 @@
--- What servers add to the stream layer.
+-- What servers and the map add to the stream layer.
 use Rattle.std.specs.Prelude.{◌≡◌, ◌⊎◌, ◌++◌, ℕ, List, [], ◌∷◌}
 use Rattle.wire.specs.declared.note.Note.{Note}
 use Rattle.wire.specs.declared.note.Note.TheVariants as notes
@@ -38,8 +38,13 @@ told_with (tables.Began range generation number changes) rows = notes.Began rang
 told_with (tables.Done range generation number) rows = notes.Done range generation number
 told_with (tables.Loaded range generation table next) rows = notes.Loaded range generation rows next
 
--- the layer with what the map sends in a step, of which this holds
-pub record AfterMap (r x : StreamLayerState) (steps : List Packet → Type 0) : Type 0 where
+-- the layer with what the map sends and shows
+abbrev pub with_told_by_map : StreamLayerState → List Packet → List Note → StreamLayerState
+with_told_by_map r packets notes = record r { post = r.post ++ packets; notes = r.notes ++ notes }
+
+-- the layer with what the map sends and shows in a step, of which this holds
+pub record AfterMap (r x : StreamLayerState) (steps : List Packet → List Note → Type 0) : Type 0 where
   pub packets : List Packet
-  pub stream_layer : x ≡ record r { post = r.post ++ packets }
-  pub steps_are : steps packets
+  pub notes : List Note
+  pub stream_layer : x ≡ with_told_by_map r packets notes
+  pub steps_are : steps packets notes

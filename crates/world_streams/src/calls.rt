@@ -1,8 +1,12 @@
 //! What servers may ask of nodes and of the manager.
-ghost use Rattle.std.specs.Prelude.{◌≡◌};
-ghost use Rattle.model_streams.specs.StreamSystem.{is_append, is_check, is_read, is_seal, is_server_call, is_server_stream_call};
+ghost use Rattle.std.specs.Prelude.{◌≡◌, ◌==◌};
+ghost use Rattle.std.specs.List.{list_all};
+ghost use Rattle.model_streams.specs.RecordBytes.{kind_number};
+ghost use Rattle.model_streams.specs.StreamSystem.{are_of_one_kind, is_append, is_check, is_read, is_seal, is_server_call, is_server_stream_call};
 
-use wire::{AppendBody, Body, CheckBody, ReadBody, SealBody, StreamBody};
+use wire::{
+    AppendBody, Body, CheckBody, Modify, ReadBody, SealBody, Source, StreamBody, StreamKind,
+};
 
 fn is_append(body: &AppendBody) -> bool
     ensures { result ≡ is_append body.now }
@@ -41,6 +45,31 @@ fn is_read(body: &ReadBody) -> bool
     }
 }
 
+fn number(kind: StreamKind) -> u8
+    ensures { result ≡ kind_number kind }
+{
+    match kind {
+        StreamKind::Metadata => 0,
+        StreamKind::Log => 1,
+        StreamKind::RowData => 2,
+        StreamKind::BlobData => 3,
+    }
+}
+
+fn are_of_kind(sources: &[Source], kind: StreamKind) -> bool
+    ensures { result ≡ list_all (λ s. kind_number s.stream.kind == kind_number kind) sources.now }
+{
+    sources
+        .iter()
+        .all(|source| number(source.stream.kind) == number(kind))
+}
+
+fn are_of_one_kind(list: &[Modify]) -> bool
+    ensures { result ≡ are_of_one_kind list.now }
+{
+    list.iter().all(|modify| are_of_kind(&modify.sources.items, modify.stream.kind))
+}
+
 fn is_stream_call(body: &StreamBody) -> bool
     ensures { result ≡ is_server_stream_call body.now }
 {
@@ -50,6 +79,7 @@ fn is_stream_call(body: &StreamBody) -> bool
         StreamBody::Confirm { .. } => true,
         StreamBody::Extend { .. } => true,
         StreamBody::Trim { .. } => true,
+        StreamBody::MultiModify { list, request: _ } => are_of_one_kind(&list.items),
         _ => false,
     }
 }

@@ -281,8 +281,8 @@ impl StreamLayer {
         }
     }
 
-    /// The map takes the packet of this number. The room for what it sends is made before it makes its step. An error is out of
-    /// memory (22), and nothing has changed.
+    /// The map takes the packet of this number. The room for what it sends and shows is made before it makes its step. An error
+    /// is out of memory (22), and nothing has changed.
     pub fn route(
         &mut self,
         alloc: Global,
@@ -297,10 +297,16 @@ impl StreamLayer {
         ensures moment { map.new.moment ≡ map.old.moment }
     {
         make_room(&mut self.post)?;
+        self.notes.make_room()?;
         match map.give(alloc, &self.post[number]) {
             Ok(step) => {
-                let ActorStep { packets, .. } = step;
-                move_in(&mut self.post, packets.into_vec());
+                let ActorStep {
+                    packets: told,
+                    notes: observed,
+                    ..
+                } = step;
+                move_in(&mut self.post, told.into_vec());
+                self.notes.move_in(observed.into_vec());
                 Ok(())
             }
             Err(_full) => Err(WorldFault::Memory),

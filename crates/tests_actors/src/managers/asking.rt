@@ -2,8 +2,8 @@
 use block_types::Nodes;
 use std::alloc::Global;
 use wire::{
-    Body, ExtentId, Fence, Modifies, RangeId, ReqNo, SealBody, ServerNo, StreamBody, StreamKind,
-    StreamName,
+    Body, ExtentId, Fence, Modifies, Modify, RangeId, ReqNo, SealBody, ServerNo, Source, Sources,
+    StreamBody, StreamKind, StreamName,
 };
 
 /// A packet to the manager, but for who sends it.
@@ -30,9 +30,12 @@ pub enum Ask {
     LengthenLog(Option<u64>),
     /// The range, the generation, the index, and whether what leaves is kept in the blob stream.
     Trim(u64, u64, u64, bool),
-    /// A list of no changes.
-    Modify,
+    /// Logs that are built from the lists of others.
+    Modify(&'static [Entry]),
 }
+
+/// The range whose log is built, and the ranges whose logs it is built from, each with the generation that is named.
+pub type Entry = (u64, &'static [(u64, u64)]);
 
 const USER_REQUEST: ReqNo = ReqNo::User { user: 7, ticket: 0 };
 
@@ -51,9 +54,9 @@ fn row_data(range: u64) -> StreamName {
     }
 }
 
-fn log() -> StreamName {
+fn log(range: u64) -> StreamName {
     StreamName {
-        range: RangeId(1),
+        range: RangeId(range),
         kind: StreamKind::Log,
     }
 }
@@ -112,11 +115,38 @@ fn trim(range: u64, generation: u64, before: u64, to_blob: bool) -> StreamBody {
     }
 }
 
-fn modify(alloc: Global) -> StreamBody {
+// Without memory a list is cut short, and the case fails.
+fn sources_of(alloc: Global, sources: &[(u64, u64)]) -> Sources {
+    let mut items = Vec::new(alloc);
+    for (range, generation) in sources {
+        let source = Source {
+            stream: log(*range),
+            generation: Fence(*generation),
+        };
+        if items.push(source).is_err() {
+            break;
+        }
+    }
+    Sources { items }
+}
+
+fn list_of(alloc: Global, entries: &[Entry]) -> Modifies {
+    let mut items = Vec::new(alloc);
+    for (range, sources) in entries {
+        let entry = Modify {
+            stream: log(*range),
+            sources: sources_of(alloc, sources),
+        };
+        if items.push(entry).is_err() {
+            break;
+        }
+    }
+    Modifies { items }
+}
+
+fn modify(alloc: Global, entries: &[Entry]) -> StreamBody {
     StreamBody::MultiModify {
-        list: Modifies {
-            items: Vec::new(alloc),
-        },
+        list: list_of(alloc, entries),
         request: server_request(),
     }
 }
@@ -142,10 +172,10 @@ pub fn body_of(alloc: Global, ask: Ask) -> Body {
         Ask::Lengthen(generation, last, third) => {
             Body::Stream(extend(row_data(1), generation, last, third, server_request()))
         }
-        Ask::LengthenLog(last) => Body::Stream(extend(log(), 4, last, 3, server_request())),
+        Ask::LengthenLog(last) => Body::Stream(extend(log(1), 4, last, 3, server_request())),
         Ask::Trim(range, generation, before, to_blob) => {
             Body::Stream(trim(range, generation, before, to_blob))
         }
-        Ask::Modify => Body::Stream(modify(alloc)),
+        Ask::Modify(entries) => Body::Stream(modify(alloc, entries)),
     }
 }

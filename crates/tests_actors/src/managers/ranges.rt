@@ -3,8 +3,8 @@ use super::asking::Ask;
 use super::{Case, Event, FREEZES, holds_of};
 use crate::answers::Answer;
 use crate::senders::Sender;
-use Answer::{Confirms, Names, Opens, Refuses, Sends, Taken};
-use Ask::{Confirm, Lengthen, Modify, Open};
+use Answer::{Confirms, Names, Opens, Refuses, Taken};
+use Ask::{Confirm, Lengthen, Open};
 use Event::{Decides, Restarts, Takes};
 use Sender::{Server, User};
 use wire::Refusal;
@@ -51,11 +51,6 @@ const THREE_NODES: &[Event] = &[
     Takes(Server, Lengthen(0, None, 4), Names(4, 1)),
 ];
 
-const IS_SILENT: &[Event] = &[
-    Takes(Server, Modify, Sends(0, 0)),
-    Takes(User, Modify, Refuses(Refusal::Stale)),
-];
-
 const KEEPS_FENCES: &[Event] = &[
     Restarts,
     Takes(Server, Open(1, 4), Refuses(Refusal::Stale)),
@@ -75,7 +70,6 @@ const CASES: &[Case] = &[
         &[SERVES, EXTENDS_FOR_GENERATION_4],
     ),
     ("three nodes are picked", &[THREE_NODES]),
-    ("a call of a server is silent", &[IS_SILENT]),
     (
         "a restart keeps the fences",
         &[SERVES, FREEZES, SEALS, KEEPS_FENCES],

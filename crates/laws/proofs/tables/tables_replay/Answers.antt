@@ -1,3 +1,4 @@
+use Rattle.laws_tables.proofs.FamilyRuns.{families_replay}
 use Rattle.laws_tables.proofs.Final.{tables_of_first_range_replay}
 use Rattle.laws_tables.proofs.Machine.{chain_replays}
 use Rattle.laws.proofs.tables.tables_replay.Goals as goal
@@ -7,3 +8,6 @@ returns-clause-chain c = λ layer_at b rows run order begins is_run right ends b
 
 pub returns-clause-law : goal.returns-clause-law
 returns-clause-law c = λ layer_at rows run h is_run keeps right order ends metadata_order same. tables_of_first_range_replay layer_at rows run h is_run keeps right order ends metadata_order same
+
+pub returns-clause-families : goal.returns-clause-families
+returns-clause-families c = λ layer_at h family. families_replay layer_at h family

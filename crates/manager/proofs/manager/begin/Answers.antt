@@ -12,7 +12,7 @@ use Rattle.manager.proofs.manager.begin.Goals as goal
 
 pub invariant_of-result : goal.invariant_of-result
 invariant_of-result g c =
-    inl (subst (λ (t : ManagerTableState). TableIsReplay t c.write.new.file.records) (sym c.requires.table)
+    inl (subst (λ (t : ManagerTableState). TableIsReplay t c.write_first.new.file.records) (sym c.requires.table)
     (subst (TableIsReplay (first_table c.args.nodes c.args.target))
     (sym (c.in-Ok.ensures.ok.2 ∙ ap (λ (l : List Record). l ++ Manage (spelled (First c.args.nodes c.args.target)) ∷ []) c.requires.empty))
     (first_replay c.args.nodes c.args.target _ (first_again c.args.nodes c.args.target (c.requires.nodes, c.requires.target)))))
@@ -23,7 +23,7 @@ returns-in-Ok-clause-shows g c =
 
 pub returns-in-Ok-clause-replays : goal.returns-in-Ok-clause-replays
 returns-in-Ok-clause-replays g c =
-    subst (λ (t : ManagerTableState). TableIsReplay t c.write.new.file.records) (sym c.requires.table)
+    subst (λ (t : ManagerTableState). TableIsReplay t c.write_first.new.file.records) (sym c.requires.table)
     (subst (TableIsReplay (first_table c.args.nodes c.args.target))
     (sym (c.in-Ok.ensures.ok.2 ∙ ap (λ (l : List Record). l ++ Manage (spelled (First c.args.nodes c.args.target)) ∷ []) c.requires.empty))
     (first_replay c.args.nodes c.args.target _ (first_again c.args.nodes c.args.target (c.requires.nodes, c.requires.target))))

@@ -15,3 +15,6 @@ returns-in-Replace g c = rule_replaced g.D.Disk.state _ _ _ c.args.plan c.in-Rep
 
 pub write_and_apply-requires-clause-fits : goal.write_and_apply-requires-clause-fits
 write_and_apply-requires-clause-fits g c = (subst (CanChange (plain c.args.table.now)) c.in-Write.is c.requires.can).1
+
+pub write_and_apply-requires-clause-can : goal.write_and_apply-requires-clause-can
+write_and_apply-requires-clause-can g c = (subst (CanChange (plain c.args.table.now)) c.in-Write.is c.requires.can).0

@@ -6,7 +6,7 @@ use Rattle.manager.specs.declared.fault.ManagerFault.TheVariants as faults
 use Rattle.manager.specs.Performs.{sealing_at, sealing_notes}
 use Rattle.world_steps.specs.ActorStep.{ActorStep, nothing}
 use Rattle.world_manager.specs.Seen.{seen_of}
-use Rattle.world_manager.specs.Stopping.{shown_if, stands_told}
+use Rattle.world_stops.specs.LastRecord.{shown_if, stands_told}
 use Rattle.world_manager.proofs.ManagerCalls.{decided_broken, decided_fine, decided_ok, decided_short, failed_fine, refused_ok, refused_tells}
 use Rattle.world_manager.proofs.ManagerSimulation.{served_down}
 use Rattle.world_manager.proofs.manager_actor.decide.Goals as goal

@@ -1,4 +1,4 @@
-use Rattle.std.proofs.Common.{◌≡◌, ℕ, false, IfOk, OnErr, sym, ◌∙◌, subst}
+use Rattle.std.proofs.Common.{◌≡◌, ℕ, false, [], IfOk, OnErr, sym, ◌∙◌, subst}
 use Rattle.disk.specs.declared.memory.MemDisk.{MemDisk}
 use Rattle.model_partition.specs.Cluster.{assigns}
 use Rattle.pmap.specs.MapWithFile.{MapWithFile}
@@ -13,8 +13,8 @@ returns-clause-ok c =
     let y : MapWithFile MemDisk = c.assign-done.new.self in
     let e = c.assign-done.ensures in
     let up : x.file.stopped ≡ false = sym c.is_stopped.ensures ∙ c.if-is_stopped.false in
-    subst (λ (s : MapSeen). IfOk c.outcome.result (λ step. MapSimulates s (seen_of t y) (λ k. assigns k c.args.range c.args.server c.args.until) step.packets)) c.self.view_is
-    (if_packets c.outcome.result (MapSimulates (seen_of t x) (seen_of t y) (λ k. assigns k c.args.range c.args.server c.args.until)) c.assign-done.result c.outcome.ensures.packets c.outcome.ensures.ok
+    subst (λ (s : MapSeen). IfOk c.outcome.result (λ step. MapSimulates s (seen_of t y) (λ k. assigns k c.args.range c.args.server c.args.until) step.packets [])) c.self.view_is
+    (if_packets c.outcome.result (λ packets. MapSimulates (seen_of t x) (seen_of t y) (λ k. assigns k c.args.range c.args.server c.args.until) packets []) c.assign-done.result c.outcome.ensures.packets c.outcome.ensures.ok
     (assign_went x y c.args.range c.args.server t c.args.until c.assign-done.result up (e.refused up) (e.performed up) e.taken (sym (e.replays up).replays)))
 
 pub returns-clause-refusal : goal.returns-clause-refusal

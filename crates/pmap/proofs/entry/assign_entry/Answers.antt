@@ -1,5 +1,0 @@
-use Rattle.std.proofs.Common.{rules}
-use Rattle.pmap.proofs.entry.assign_entry.Goals as goal
-
-pub returns : goal.returns
-returns c = search rules

@@ -1,0 +1,4 @@
+pub mod Soundness
+pub mod Places
+pub mod Routing
+pub mod OneMoreRecord

@@ -1,0 +1,2 @@
+pub mod MapTable
+pub mod MakesMap
