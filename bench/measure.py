@@ -124,6 +124,20 @@ def loads_behind(since):
     return [repeats(lambda loads: scripts.loads_behind(20_000, since, loads))[0]]
 
 
+def splits(keys):
+    """The seconds of a split of a range with so many keys."""
+    without, split = at_sizes(lambda times: scripts.one_split(keys, times), [0, 1])
+    assert split.out.splitlines()[-1] == b"split 1 2 3 " + f"k{keys // 2:06}".encode().hex().encode(), split.out[-80:]
+    return [split.seconds - without.seconds]
+
+
+def routes(ranges):
+    """The seconds of 20,000 routes over so many ranges that splits made."""
+    without, routed = at_sizes(lambda times: scripts.many_ranges(ranges, times), [0, 20_000])
+    did(routed, b"route", 20_000)
+    return [routed.seconds - without.seconds]
+
+
 TIME = ("time", "s", 2.3)
 APPEND_FIGURES = [TIME, ("deliveries a second", "", None), ("peak over payload", "", None)]
 # What is measured, N, and of each figure its name, its unit, and the most that the ratio of 2N to N may be, where it has one.
@@ -161,6 +175,8 @@ SIZES = [
      [("time of the first checkpoint", "s", 2.3), ("time of the second", "s", 2.3), ("time of a load", "s", 2.3),
       ("time of a Get of each key, in order", "s", 2.3)]),
     ("puts after a checkpoint of 20,000 keys, and then a load", 10_000, loads_behind, [("time of a load", "s", 2.3)]),
+    ("keys of 100 bytes, and a split in their middle", 20_000, splits, [TIME]),
+    ("ranges that splits made, and 20,000 routes", 500, routes, [("time of the routes", "s", 1.3)]),
 ]
 
 # A run of many less one of few, for what one request takes; so many things are brought back, so often.

@@ -125,3 +125,31 @@ def loads_behind(keys, since, loads):
     yield from ("checkpoint 1 1 plain", "settle")
     yield from puts(since, keys)
     yield from ["stop s1 0 drop", "restart s1", "assign 1 1 1000000", "settle"] * loads
+
+
+def one_split(keys, splits):
+    """One range with so many keys of 100 bytes, which is then split in its middle, so many times, never or once. Its streams have one
+    extent each: the log's is 1, that of row data 2, and that of the metadata 3."""
+    yield from (f"setup 3 1 {TARGET} 64", "moment 1", "assign 1 1 1000000", "settle")
+    yield from puts(keys, keys)
+    yield from [f"split 1 1 k{keys // 2:06}", "settle", "decide 3", "settle", "decide 1", "settle", "decide 2", "settle"] * splits
+
+
+def metadata_of(number):
+    """The extent of the metadata of a range that a split of an empty range made: each split makes one of row data and these two."""
+    return 2 if number == 1 else 3 * (number // 2) + number % 2
+
+
+def many_ranges(ranges, routes):
+    """So many ranges, made of the first by splits, the oldest range first, so that split N is of range N and makes ranges 2 N and
+    2 N + 1; then so many routes, of all keys by turns."""
+    yield from (f"setup 3 1 {TARGET} 64", "moment 1", "assign 1 1 1000000", "settle")
+    within = {1: (0, 1 << 20)}
+    for number in range(1, ranges):
+        low, high = within.pop(number)
+        middle = (low + high) // 2
+        within[2 * number], within[2 * number + 1] = (low, middle), (middle, high)
+        rows = 1 if number == 1 else 3 * number - 1
+        yield from (f"split 1 {number} k{middle:07}", "settle", f"decide {metadata_of(number)}", "settle", f"decide {rows}", "settle")
+        yield from (f"assign {number + 1} 1 1000000", "settle")
+    yield from settled(lambda number: [f"user 1 route k{number * 7919 % (1 << 20):07}"], routes, REQUESTS_PER_SETTLE)

@@ -4,17 +4,18 @@ ghost use Rattle.std.specs.Prelude.{ℕ, Bool, List};
 ghost use Rattle.block_types.specs.declared.record.Nodes.{Nodes};
 ghost use Rattle.wire.specs.declared.packet.Packet.{Packet};
 ghost use Rattle.model_streams.specs.Maps.{entry_at};
+ghost use Rattle.model_streams.specs.Honest.{Agree, Kept};
 ghost use Rattle.model_streams.specs.StreamSystem.{start};
 ghost use Rattle.model_streams.specs.declared.event.Event.{Event};
 ghost use Rattle.model_partition.specs.Honest.{Honest};
 ghost use Rattle.model_partition.specs.Past.{Bytes};
 ghost use Rattle.model_partition.specs.Range.{RangeState};
-ghost use Rattle.model_partition.specs.ServedTables.{IsAtLine, ServesAt};
-ghost use Rattle.model_partition.specs.ServerRun.{log_name};
-ghost use Rattle.model_partition.specs.TableContents.{AllTellRightly};
+ghost use Rattle.model_histories.specs.ServedTables.{IsAtLine, ServesAt};
+ghost use Rattle.model_histories.specs.ServerRun.{log_name};
+ghost use Rattle.model_histories.specs.TableContents.{AllTellRightly};
 ghost use Rattle.model_partition.specs.Servers.{ArePlain, ServerCell, ShowsLoad, server_checkpoints, server_gives_up, server_loads, server_splits, server_takes};
-ghost use Rattle.model_partition.specs.Story.{KeepsOrder};
-ghost use Rattle.model_partition.specs.Cluster.{Cluster, first_cluster, cluster_after, cluster_after_all};
+ghost use Rattle.model_histories.specs.Story.{KeepsOrder};
+ghost use Rattle.model_partition.specs.Cluster.{AreUnsplit, Cluster, first_cluster, cluster_after, cluster_after_all};
 ghost use Rattle.laws_clusters.specs.Orders.{ComesOfStreams};
 ghost use Rattle.laws_clusters.specs.ServerEvents.{servers_of_run};
 ghost use Rattle.laws_servers.specs.Sending.{ByMoves, MaySendAll};
@@ -39,19 +40,23 @@ pub fn runs_are_moves()
     ensures { (c : Cluster) (event : Event) → ByMoves c.stream_layer (cluster_after c event).stream_layer }
 {}
 
-/// Whatever is asked, delivered, lost or repeated, whoever stops, comes back, gives up or makes checkpoints, and whoever is assigned
-/// the range, what is observed is honest. All that is shown of an extent agrees, what is acknowledged is kept where it was
-/// acknowledged, and each table that is shown is that of a line of transactions that has every one that was acknowledged under a
-/// lower generation, in order, each once (`honest`). The servers are those that what comes to them makes, and the streams that they
-/// see keep their order (`ordered`), so that the laws of servers over any streams are laws of runs: the tables of a range that is
-/// served, its indexes among them, are the table of the line that ends at its log position, over any texts that have all that was
-/// observed of extents (`served`).
+/// Whatever is asked, delivered, lost or repeated, whoever stops, comes back, gives up, makes checkpoints or splits a range, and
+/// whoever is assigned one, all that is shown of an extent agrees (`agree`), and what is acknowledged is kept where it was
+/// acknowledged (`kept`). Where no range is split what is observed is honest: each table that is shown is also that of a line of
+/// transactions that has every one that was acknowledged under a lower generation, in order, each once (`honest`). There the servers
+/// are those that what comes to them makes, and the streams that they see keep their order (`ordered`), so that the laws of servers
+/// over any streams are laws of runs: the tables of a range that is served, its indexes among them, are the table of the line that
+/// ends at its log position, over any texts that have all that was observed of extents (`served`).
 pub fn runs_are_honest()
-    ensures honest { (nodes servers target batch : ℕ) (events : List Event) →
+    ensures agree { (nodes servers target batch : ℕ) (events : List Event) →
+        Agree (cluster_after_all (first_cluster nodes servers target batch) events).stream_layer.notes }
+    ensures kept { (nodes servers target batch : ℕ) (events : List Event) →
+        Kept (cluster_after_all (first_cluster nodes servers target batch) events).stream_layer.notes }
+    ensures honest { (nodes servers target batch : ℕ) (events : List Event) → AreUnsplit events →
         Honest (cluster_after_all (first_cluster nodes servers target batch) events).stream_layer.notes }
-    ensures ordered { (nodes servers target batch : ℕ) (events : List Event) →
+    ensures ordered { (nodes servers target batch : ℕ) (events : List Event) → AreUnsplit events →
         ComesOfStreams (cluster_after_all (first_cluster nodes servers target batch) events) (servers_of_run nodes servers target batch events) }
-    ensures served { (nodes servers target batch : ℕ) (events : List Event) →
+    ensures served { (nodes servers target batch : ℕ) (events : List Event) → AreUnsplit events →
         (texts : ℕ → Bytes) (s range : ℕ) (r : RangeState) →
         AllTellRightly texts (cluster_after_all (first_cluster nodes servers target batch) events).stream_layer.notes →
         ServesAt (servers_of_run nodes servers target batch events) s range r →

@@ -25,12 +25,12 @@ use Rattle.model_partition.specs.CheckpointStates.{CheckpointState}
 use Rattle.model_partition.specs.Checkpoints.{number_to_apply, new_job, checkpoint_record, has_record_number, may_record, index_place, trim_index, indexes_below, recorded}
 use Rattle.model_partition.specs.Past.{Bytes}
 use Rattle.model_partition.specs.Range.{OutGroup, RangeState}
-use Rattle.model_partition.specs.Renaming.{decoded, numbered_if, decoded_record, one_record}
+use Rattle.model_histories.specs.Renaming.{decoded, numbered_if, decoded_record, one_record}
 use Rattle.model_partition.specs.Serving.{record_of}
 use Rattle.laws_loads.specs.Sound.{OutFits}
-use Rattle.model_partition.specs.ServerRun.{place_number}
-use Rattle.model_partition.specs.StreamActions.{group_of, record_group}
-use Rattle.model_partition.specs.TableContents.{StandsAt}
+use Rattle.model_histories.specs.ServerRun.{place_number}
+use Rattle.model_histories.specs.StreamActions.{group_of, record_group}
+use Rattle.model_histories.specs.TableContents.{StandsAt}
 use Rattle.laws_tables.specs.Runs as chains
 use Rattle.laws_tables.specs.Runs.{Beginning, Serving, noted_next, noting, fold_of, said, start_number, Covers, MayCheckpoint}
 use Rattle.laws_tables.specs.Layers.{over, flat, indexed}

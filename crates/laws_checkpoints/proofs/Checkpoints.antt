@@ -14,7 +14,7 @@ use Rattle.checkpoint.specs.Pages.{cell_in, merged, combined}
 use Rattle.checkpoint.specs.Contents.{HasEntries, IsAscending, MayBeEntries, MayBeAscending, shown}
 use Rattle.checkpoint.proofs.Merging.{merged_law, merged_entries, combined_law}
 use Rattle.model_partition.specs.Past.{Bytes}
-use Rattle.model_partition.specs.TableContents.{value_in}
+use Rattle.model_histories.specs.TableContents.{value_in}
 use Rattle.laws_tables.specs.Layers.{Layer, over, flat, indexed}
 use Rattle.laws_tables.specs.Runs.{Beginning, Serving, said, Covers}
 use Rattle.laws_tables.proofs.Layers.{pick}

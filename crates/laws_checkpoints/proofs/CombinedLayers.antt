@@ -19,7 +19,7 @@ use Rattle.checkpoint.specs.Merges.{MergeState, pages_to_merge, merge_of, pages_
 use Rattle.checkpoint.specs.Pages.{IndexContent, kept_within, merged, combined}
 use Rattle.checkpoint.proofs.Merging.{merged_entries, combined_entries}
 use Rattle.model_partition.specs.Getting.{Held, held_at}
-use Rattle.model_partition.specs.IndexContents.{page_in, pages_in, index_in}
+use Rattle.model_histories.specs.IndexContents.{page_in, pages_in, index_in}
 use Rattle.model_partition.specs.Past.{Bytes}
 use Rattle.model_partition.specs.Servers.{entries_if}
 use Rattle.laws_loads.proofs.Cells.{put_both}

@@ -21,11 +21,11 @@ use Rattle.checkpoint.proofs.Orders.{and_true}
 use Rattle.model_partition.specs.Getting.{Held, held_at, or_needs, value_in as held_value, indexed_value, look, standing}
 use Rattle.model_partition.specs.Past.{Bytes}
 use Rattle.model_partition.specs.PlaceReads.{is_place}
-use Rattle.model_partition.specs.TableContents.{value_in}
+use Rattle.model_histories.specs.TableContents.{value_in}
 use Rattle.laws_tables.specs.Layers.{over, flat, indexed}
 use Rattle.laws_tables.proofs.Layers.{pick}
 use Rattle.laws_checkpoints.specs.IndexLayers.{indexed_entries, index_entries, layer_at, content_of, contents_of, IsWritten, AreWritten}
-use Rattle.model_partition.specs.IndexContents.{bytes_in}
+use Rattle.model_histories.specs.IndexContents.{bytes_in}
 use Rattle.laws_checkpoints.specs.ShownTables.{IsInstalled, AreInstalled, IsSearchable, AreSearchable, AreWrittenByKey, HoldsBytes, IsIndexAnswer, IsAnswer, LookupSaysLayers, LookSaysLayers, GetSaysLayers}
 use Rattle.laws_checkpoints.proofs.Checkpoints.{known_of, known_first, contents_say}
 use Rattle.laws_checkpoints.proofs.WrittenIndexes.{index_read, pages_say, pages_from}

@@ -7,10 +7,10 @@ use Rattle.checkpoint_format.specs.declared.index.PageAt.{PageAt}
 use Rattle.checkpoint.specs.Pages.{IsSourceOf}
 use Rattle.model_partition.specs.Past.{Bytes}
 use Rattle.model_partition.specs.Servers.{shown_in, first_shown, or_later}
-use Rattle.model_partition.specs.TableContents.{AllTellRightly}
+use Rattle.model_histories.specs.TableContents.{AllTellRightly}
 use Rattle.laws_loads.proofs.Rows.{shown_rightly}
 use Rattle.laws_checkpoints.specs.IndexLayers.{PagesStand}
-use Rattle.model_partition.specs.IndexContents.{bytes_in}
+use Rattle.model_histories.specs.IndexContents.{bytes_in}
 use Rattle.laws_checkpoints.proofs.WrittenIndexes.{pages_from}
 
 module _ (texts : ℕ → Bytes) where

@@ -22,13 +22,13 @@ use Rattle.checkpoint.proofs.Orders.{IsSorted, and_true, equal_keys, found_put, 
 use Rattle.model_partition.specs.declared.shown_table.ShownTable.{ShownTable}
 use Rattle.model_partition.specs.Past.{Bytes, stored}
 use Rattle.model_partition.specs.Servers.{entries_if, entries_shown_in, page_shown, index_shown, entries_shown, rows_of}
-use Rattle.model_partition.specs.TableContents.{AllTellRightly, value_of, table_in}
+use Rattle.model_histories.specs.TableContents.{AllTellRightly, value_of, table_in}
 use Rattle.laws_loads.proofs.Rows.{Later, Ordered, ordered_put, IsCovered, first_rightly, AreShown, rows_say}
 use Rattle.laws_tables.specs.Layers.{flat, indexed}
 use Rattle.laws_tables.proofs.Layers.{pick, pick_none}
 use Rattle.laws_loads.specs.MemoryLayers.{layer_in}
 use Rattle.laws_checkpoints.specs.IndexLayers.{indexed_entries, index_entries, layer_at, content_of, contents_of, AreWritten}
-use Rattle.model_partition.specs.IndexContents.{bytes_in, page_in, pages_in}
+use Rattle.model_histories.specs.IndexContents.{bytes_in, page_in, pages_in}
 use Rattle.laws_checkpoints.specs.ShownTables.{IsSeen, ArePagesSeen, AreSeen, AreValuesSeen, IsInstalled, AreInstalled, AreAscending, RowsSayLayers, RowsSayMemory, RowsShowLayers}
 use Rattle.laws_checkpoints.proofs.Checkpoints.{known_of, known_first, merged_says}
 use Rattle.laws_checkpoints.proofs.ObservedPages.{first_seen}

@@ -9,11 +9,11 @@ use Rattle.checkpoint.specs.declared.installed_index.InstalledIndex.{InstalledIn
 use Rattle.checkpoint.specs.Pages.{IndexContent, merged}
 use Rattle.checkpoint.proofs.Orders.{found_put, latest_sorted, sorted_from_ascending}
 use Rattle.model_partition.specs.declared.shown_table.ShownTable.{ShownTable}
-use Rattle.model_partition.specs.IndexContents.{pages_in, index_in, entries_in, served_entries}
+use Rattle.model_histories.specs.IndexContents.{pages_in, index_in, entries_in, served_entries}
 use Rattle.model_partition.specs.Past.{Bytes}
 use Rattle.model_partition.specs.Range.{RangeState}
 use Rattle.model_partition.specs.Servers.{entries_if}
-use Rattle.model_partition.specs.TableContents.{table_in}
+use Rattle.model_histories.specs.TableContents.{table_in}
 use Rattle.laws_loads.specs.MemoryLayers.{layer_in}
 use Rattle.laws_tables.specs.Layers.{over, flat, indexed}
 use Rattle.laws_tables.proofs.Layers.{pick}

@@ -25,13 +25,13 @@ use Rattle.model_partition.specs.declared.shown_table.ShownTable.{ShownTable}
 use Rattle.model_partition.specs.Getting.{Held, Is, Needs, held_at, look}
 use Rattle.model_partition.specs.Past.{Bytes, stored, kept}
 use Rattle.model_partition.specs.Servers.{first_shown, entries_shown, rows_of}
-use Rattle.model_partition.specs.TableContents.{AllTellRightly}
+use Rattle.model_histories.specs.TableContents.{AllTellRightly}
 use Rattle.laws_tables.specs.Layers.{Layer, empty_layer, over, flat, indexed}
 use Rattle.laws_tables.specs.Runs.{Beginning, Serving, nothing_held, Covers}
 use Rattle.laws_tables.proofs.Layers.{in_all}
 use Rattle.laws_loads.specs.MemoryLayers.{layer_in}
 use Rattle.laws_checkpoints.specs.IndexLayers.{index_entries, layer_at, contents_of, IsWritten}
-use Rattle.model_partition.specs.IndexContents.{bytes_in}
+use Rattle.model_histories.specs.IndexContents.{bytes_in}
 use Rattle.laws_checkpoints.specs.ShownTables.{AreInstalled, AreSearchable, AreValuesSeen, HoldsBytes, IsAnswer}
 use Rattle.laws_checkpoints.proofs.Checkpoints.{plain_covers, combined_covers}
 use Rattle.laws_checkpoints.proofs.HeldPages.{installed_searchable, look_says_layers}
@@ -40,7 +40,7 @@ use Rattle.laws_checkpoints.proofs.ShownRows.{written_ascending, rows_say_layers
 use Rattle.checkpoint.specs.PageGroups.{PagesState, next_group, pages_to_write, with_next_placed}
 use Rattle.checkpoint.proofs.PageGroups.{pages_begin}
 use Rattle.checkpoint.proofs.Orders.{sorted_from_ascending}
-use Rattle.model_partition.specs.TableContents.{StandsAt}
+use Rattle.model_histories.specs.TableContents.{StandsAt}
 use Rattle.laws_checkpoints.proofs.WrittenIndexes.{joined_group, index_read}
 use Rattle.laws_checkpoints.specs.WritingPages.{WritesPages}
 use Rattle.laws_checkpoints.proofs.WrittenPages.{writing_begins, writing_goes, writing_ends, none_unwritten}

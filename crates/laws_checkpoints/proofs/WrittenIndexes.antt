@@ -19,12 +19,12 @@ use Rattle.checkpoint.specs.Lookup.{PageSource}
 use Rattle.checkpoint.specs.Pages.{IsSourceOf, IndexContent}
 use Rattle.checkpoint.specs.Contents.{AreEntries, HasEntries, IsAscending}
 use Rattle.model_partition.specs.Past.{Bytes}
-use Rattle.model_partition.specs.TableContents.{StandsAt}
+use Rattle.model_histories.specs.TableContents.{StandsAt}
 use Rattle.laws_loads.proofs.Cells.{taken_there}
 use Rattle.laws_loads.specs.MemoryLayers.{layer_in}
 use Rattle.model_partition.specs.Servers.{entries_if}
 use Rattle.laws_checkpoints.specs.IndexLayers.{indexed_entries, index_entries, layer_at, contents_of, PageStands, PagesStand, IsWritten, AreWritten}
-use Rattle.model_partition.specs.IndexContents.{bytes_in, page_in, pages_in}
+use Rattle.model_histories.specs.IndexContents.{bytes_in, page_in, pages_in}
 
 -- ---- the blocks of an index
 

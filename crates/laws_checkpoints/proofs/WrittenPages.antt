@@ -19,7 +19,7 @@ use Rattle.checkpoint.specs.Pages.{AreFiled, NoPages, Next}
 use Rattle.checkpoint.specs.PageGroups.{PagesState, ArePages, page_group, next_group, next_pages, pages_size, may_stand_at, pages_to_write, placed_pages, with_next_placed}
 use Rattle.checkpoint.proofs.PageGroups.{all_first, index_is, pages_placed}
 use Rattle.model_partition.specs.Past.{Bytes}
-use Rattle.model_partition.specs.TableContents.{StandsAt}
+use Rattle.model_histories.specs.TableContents.{StandsAt}
 use Rattle.laws_loads.proofs.Cells.{stands_first, stands_second}
 use Rattle.laws_checkpoints.specs.IndexLayers.{PagesStand, IsWritten}
 use Rattle.laws_checkpoints.specs.WritingPages.{WritesPages}

@@ -7,7 +7,7 @@ use Rattle.checkpoint.specs.declared.installed_index.InstalledIndex.{InstalledIn
 use Rattle.checkpoint.specs.declared.unmerged_page.UnmergedPage.{UnmergedPage}
 use Rattle.checkpoint.specs.Pages.{kept_within, merged, combined}
 use Rattle.model_partition.specs.Past.{Bytes}
-use Rattle.model_partition.specs.IndexContents.{page_in, index_in}
+use Rattle.model_histories.specs.IndexContents.{page_in, index_in}
 
 module _ (texts : ℕ → Bytes) where
   -- each page in turn comes over what is there, within the keys of its index and these

@@ -10,8 +10,8 @@ use Rattle.checkpoint_format.specs.Index.{index_at, index_text, IsIndex, HasPlac
 use Rattle.checkpoint.specs.Pages.{IndexContent}
 use Rattle.checkpoint.specs.Contents.{AreEntries}
 use Rattle.model_partition.specs.Past.{Bytes}
-use Rattle.model_partition.specs.IndexContents.{bytes_in, pages_in}
-use Rattle.model_partition.specs.TableContents.{StandsAt}
+use Rattle.model_histories.specs.IndexContents.{bytes_in, pages_in}
+use Rattle.model_histories.specs.TableContents.{StandsAt}
 use Rattle.laws_tables.specs.Layers.{Layer}
 use Rattle.laws_loads.specs.MemoryLayers.{layer_in}
 

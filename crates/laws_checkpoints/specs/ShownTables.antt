@@ -23,11 +23,11 @@ use Rattle.model_partition.specs.Getting.{Held, Lookup, Is, Needs, held_at, look
 use Rattle.model_partition.specs.Past.{Bytes, stored, kept}
 use Rattle.model_partition.specs.Range.{RangeState}
 use Rattle.model_partition.specs.Servers.{first_shown, entries_shown, rows_of}
-use Rattle.model_partition.specs.TableContents.{AllTellRightly, value_in, table_in}
+use Rattle.model_histories.specs.TableContents.{AllTellRightly, value_in, table_in}
 use Rattle.laws_tables.specs.Layers.{Layer, over, flat, indexed}
 use Rattle.laws_loads.specs.MemoryLayers.{layer_in}
 use Rattle.laws_checkpoints.specs.IndexLayers.{layer_at, contents_of, PagesStand, IsWritten}
-use Rattle.model_partition.specs.IndexContents.{bytes_in}
+use Rattle.model_histories.specs.IndexContents.{bytes_in}
 
 -- ---- what was observed
 

@@ -23,8 +23,8 @@ use Rattle.model_partition.specs.Range.{OutGroup, RangeState, request, picking}
 use Rattle.memtable.specs.declared.cell.Place.{Place}
 use Rattle.model_partition.specs.CheckpointStates.{CheckpointState}
 use Rattle.model_partition.specs.declared.checkpoint_job.CheckpointPhase.TheVariants as checkpoints
-use Rattle.model_partition.specs.ServerTurns.{Whole}
-use Rattle.model_partition.specs.StreamActions.{group_of, record_group}
+use Rattle.model_histories.specs.ServerTurns.{Whole}
+use Rattle.model_histories.specs.StreamActions.{group_of, record_group}
 use Rattle.laws_streams.proofs.ContentAnswers.{content_answered}
 use Rattle.laws_stream_machine.specs.Refinement.{Sent, Appends, purpose_of, IsAt, Means, MeansBy}
 use Rattle.laws_stream_machine.proofs.LowerLayer.{Below, system}

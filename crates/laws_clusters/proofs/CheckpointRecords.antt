@@ -13,7 +13,7 @@ use Rattle.metadata.specs.Reading.{flag_at, place_at, position_at, next_at, chec
 use Rattle.model_partition.specs.CheckpointStates.{CheckpointState}
 use Rattle.model_partition.specs.Checkpoints.{has_record_number}
 use Rattle.model_partition.specs.Range.{RangeState}
-use Rattle.model_partition.specs.StreamActions.{record_group}
+use Rattle.model_histories.specs.StreamActions.{record_group}
 use Rattle.laws_log_reads.specs.Reads.{IsCheckpoint, SaysCheckpoint}
 
 -- a bind that gives something had something

@@ -1,9 +1,9 @@
 -- What stands in a stream, and what a check has found there, is of groups that were formed.
 use Rattle.std.proofs.Common.{◌≡◌, ℕ, zero, suc, Bool, true, false, List, [], ◌∷◌, ◌++◌, length, Option, Some, None, sym, subst, inl, inr, if◌then◌else◌, ◌==◌}
 use Rattle.replica.specs.Groups.{Group}
-use Rattle.model_partition.specs.Story.{Copy, StreamEvent, Made, Story, event_at}
-use Rattle.model_partition.specs.StreamMachine.{In, SealedExtent, OpenExtent, StreamCore, all_shut, all_copies, shut_at, Fact, Checked as Found_there, MachineState, MachineStep, TakesOpen, TakesExtend, TakesConfirm, TakesCheck, AnswersCheck, AnswersLate, TakesAppend, Keeps, AnswersAppend, Seals, Opens, Checks, ReadsSealed, ReadsChecked, Begins, Appends, Extends, TakesConfirmed, TakesAppended, Extended, extend_facts, May, next}
-use Rattle.model_partition.specs.ServerTurns.{Phase, Idle, Opening, Checking, Sealing, Confirming, Serving, Sent, Closing, Growing, Turn, Assigned, AllSealed, LastOpen, Found, Fails, IsShut, ConfirmedIs, Forms, AppendedAt, ExtendedTo, IsTurn, does, forms, all_next, Whole, Move, Below, Above, is_layer, moved, after_all, AreMoves}
+use Rattle.model_histories.specs.Story.{Copy, StreamEvent, Made, Story, event_at}
+use Rattle.model_histories.specs.StreamMachine.{In, SealedExtent, OpenExtent, StreamCore, all_shut, all_copies, shut_at, Fact, Checked as Found_there, MachineState, MachineStep, TakesOpen, TakesExtend, TakesConfirm, TakesCheck, AnswersCheck, AnswersLate, TakesAppend, Keeps, AnswersAppend, Seals, Opens, Checks, ReadsSealed, ReadsChecked, Begins, Appends, Extends, TakesConfirmed, TakesAppended, Extended, extend_facts, May, next}
+use Rattle.model_histories.specs.ServerTurns.{Phase, Idle, Opening, Checking, Sealing, Confirming, Serving, Sent, Closing, Growing, Turn, Assigned, AllSealed, LastOpen, Found, Fails, IsShut, ConfirmedIs, Forms, AppendedAt, ExtendedTo, IsTurn, does, forms, all_next, Whole, Move, Below, Above, is_layer, moved, after_all, AreMoves}
 use Rattle.laws_tables.proofs.Range.{older}
 use Rattle.laws_tables.proofs.Fenced.{sound}
 use Rattle.laws_tables.proofs.Extents.{Inv, followed}

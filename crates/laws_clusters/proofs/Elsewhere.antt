@@ -13,7 +13,7 @@ use Rattle.wire.specs.declared.streams.StreamName.{StreamName}
 use Rattle.replica.specs.Groups.{Group}
 use Rattle.model_streams.specs.StreamSystem.{StreamSystem}
 use Rattle.model_partition.specs.Range.{RangeState}
-use Rattle.model_partition.specs.ServerTurns.{Whole}
+use Rattle.model_histories.specs.ServerTurns.{Whole}
 use Rattle.laws_stream_machine.specs.Refinement.{Purpose, Sent, purpose_of, asked_number, IsAt, IsUnsealedAt, IsAsked, OfExtent, OfStream}
 use Rattle.laws_ranges.specs.Serves.{Side, metadata_of, log_of, rows_of, IsOfRows, BuildsNone, AskedOfBoth}
 use Rattle.laws_clusters.proofs.StreamMachines.{AllAskedOf}

@@ -18,12 +18,12 @@ use Rattle.model_partition.specs.Cluster.{Cluster}
 use Rattle.model_partition.specs.Past.{Bytes, table_notes}
 use Rattle.model_partition.specs.Range.{RangeState}
 use Rattle.model_partition.specs.Server.{ServerState, range_of}
-use Rattle.model_partition.specs.ServedTables.{AreSeenAs}
-use Rattle.model_partition.specs.ServerRun.{ServerRun, RangeHistory, stream_named}
-use Rattle.model_partition.specs.ServerTurns.{after_all, AreMoves}
-use Rattle.model_partition.specs.ServerTurns as machine
-use Rattle.model_partition.specs.Story.{Story}
-use Rattle.model_partition.specs.TableContents.{AllTellRightly}
+use Rattle.model_histories.specs.ServedTables.{AreSeenAs}
+use Rattle.model_histories.specs.ServerRun.{ServerRun, RangeHistory, stream_named}
+use Rattle.model_histories.specs.ServerTurns.{after_all, AreMoves}
+use Rattle.model_histories.specs.ServerTurns as machine
+use Rattle.model_histories.specs.Story.{Story}
+use Rattle.model_histories.specs.TableContents.{AllTellRightly}
 use Rattle.laws_stream_machine.specs.Refinement.{Purpose, Sent, purpose_of, asked_number}
 use Rattle.laws_stream_machine.proofs.LowerLayer.{Below}
 use Rattle.laws_ranges.specs.Seen.{BeganAt}

@@ -1,8 +1,8 @@
 -- Steps of the lower layer leave the story of a stream as it is.
 use Rattle.std.proofs.Common.{◌≡◌, ℕ, true, refl}
 use Rattle.replica.specs.Groups.{Group}
-use Rattle.model_partition.specs.StreamMachine.{MachineState, MachineStep, TakesOpen, TakesExtend, TakesConfirm, TakesCheck, AnswersCheck, AnswersLate, TakesAppend, Keeps, AnswersAppend, Seals, Opens, Checks, ReadsSealed, ReadsChecked, Begins, Appends, Extends, TakesConfirmed, TakesAppended, next}
-use Rattle.model_partition.specs.ServerTurns.{is_layer}
+use Rattle.model_histories.specs.StreamMachine.{MachineState, MachineStep, TakesOpen, TakesExtend, TakesConfirm, TakesCheck, AnswersCheck, AnswersLate, TakesAppend, Keeps, AnswersAppend, Seals, Opens, Checks, ReadsSealed, ReadsChecked, Begins, Appends, Extends, TakesConfirmed, TakesAppended, next}
+use Rattle.model_histories.specs.ServerTurns.{is_layer}
 
 module _ (generation : ℕ → ℕ) where
   pub layer_same : (s : MachineState Group) (x : MachineStep Group) → is_layer Group generation x ≡ true → (next Group generation s x).story ≡ s.story

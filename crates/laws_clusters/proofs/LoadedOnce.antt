@@ -2,10 +2,10 @@
 use Rattle.std.proofs.Common.{◌≡◌, ◌⊎◌, ℕ, zero, suc, List, ◌∷◌, [], ◌++◌, length, map, Bool, true, false, Some, refl, sym, ap, ◌∙◌, subst, inl, inr, ⊎_elim, arith, if◌then◌else◌, ◌==◌}
 use Rattle.std.proofs.lemmas.Bool.Decides.{nat_tests}
 use Rattle.replica.specs.Groups.{Group}
-use Rattle.model_partition.specs.ServedTables.{LoadsOnce}
-use Rattle.model_partition.specs.Story.{Placed, StreamEvent, Made, Answered, Showed, Story, event_at, placed, from_place}
-use Rattle.model_partition.specs.StreamMachine.{In, Opened as OpenedAs, Fact, MachineState, MachineStep, Opens, Checks, ReadsSealed, ReadsChecked, Begins, Appends, Extends, TakesConfirmed, TakesAppended, next}
-use Rattle.model_partition.specs.ServerTurns.{Phase, Idle, Opening, Checking, Sealing, Confirming, Serving, Sent, Closing, Growing, Turn, Assigned, AllSealed, LastOpen, Found, Fails, IsShut, ConfirmedIs, Forms, AppendedAt, ExtendedTo, IsTurn, becomes, does, forms, formed, all_next, Whole, Move, Below, Above, after_all, AreMoves}
+use Rattle.model_histories.specs.ServedTables.{LoadsOnce}
+use Rattle.model_histories.specs.Story.{Placed, StreamEvent, Made, Answered, Showed, Story, event_at, placed, from_place}
+use Rattle.model_histories.specs.StreamMachine.{In, Opened as OpenedAs, Fact, MachineState, MachineStep, Opens, Checks, ReadsSealed, ReadsChecked, Begins, Appends, Extends, TakesConfirmed, TakesAppended, next}
+use Rattle.model_histories.specs.ServerTurns.{Phase, Idle, Opening, Checking, Sealing, Confirming, Serving, Sent, Closing, Growing, Turn, Assigned, AllSealed, LastOpen, Found, Fails, IsShut, ConfirmedIs, Forms, AppendedAt, ExtendedTo, IsTurn, becomes, does, forms, formed, all_next, Whole, Move, Below, Above, after_all, AreMoves}
 use Rattle.laws_tables.proofs.Range.{event_cases}
 use Rattle.laws_tables.proofs.Extents.{Inv, followed}
 use Rattle.laws_tables.proofs.Turns.{stays, all_good}

@@ -8,7 +8,7 @@ use Rattle.model_streams.specs.StreamSystem.{StreamSystem, ActorCell, running, d
 use Rattle.model_streams.proofs.Tests.{if_elim}
 use Rattle.model_partition.specs.Map.{MapState, range_at}
 use Rattle.model_partition.specs.MapRules.{assign_fault, assign_rule, renew_fault, renew_rule, map_rule}
-use Rattle.model_partition.specs.ServerRun.{ServerRun}
+use Rattle.model_histories.specs.ServerRun.{ServerRun}
 use Rattle.model_partition.specs.Cluster.{Cluster, told_by_map, map_performs, map_performs_if, map_takes, assigns, renews, map_stops, map_starts}
 use Rattle.laws_clusters.proofs.OneRange.{is_range_change, AreFirst, Tells, Nothing, Word, IsRule, assign_is_rule, renew_is_rule, map_is_rule}
 use Rattle.laws_clusters.proofs.OtherEvents.{told_nothing, still_runs, still_here, rests_as, map_says_stands}

@@ -13,16 +13,16 @@ use Rattle.model_partition.specs.declared.table_note.TableNote.TheVariants as ta
 use Rattle.model_partition.specs.Past.{Bytes, stored, table_notes}
 use Rattle.model_partition.specs.Servers.{told, noted, rows_in, rows_of, entries_shown_in, page_shown, index_shown, part, shown_in}
 use Rattle.model_partition.specs.declared.shown_table.ShownTable.{ShownTable}
-use Rattle.model_partition.specs.IndexContents.{page_in, pages_in, index_in, entries_in}
+use Rattle.model_histories.specs.IndexContents.{page_in, pages_in, index_in, entries_in}
 use Rattle.checkpoint.specs.declared.installed_index.InstalledIndex.{InstalledIndex}
 use Rattle.checkpoint.specs.Pages.{IndexContent, kept_within, merged}
 use Rattle.checkpoint_format.specs.declared.index.PageAt.{PageAt}
 use Rattle.metadata.specs.declared.record.KeyRange.{KeyRange}
 use Rattle.std.specs.List.{flat_map}
 use Rattle.std.proofs.lemmas.List.Concat.{flat_map-cons}
-use Rattle.model_partition.specs.StreamActions.{PlacedBytes}
-use Rattle.model_partition.specs.ServedTables.{AllStand, IsSeenAs, AreSeenAs}
-use Rattle.model_partition.specs.TableContents.{StandsAt, TellsRightly, AllTellRightly, table_in}
+use Rattle.model_histories.specs.StreamActions.{PlacedBytes}
+use Rattle.model_histories.specs.ServedTables.{AllStand, IsSeenAs, AreSeenAs}
+use Rattle.model_histories.specs.TableContents.{StandsAt, TellsRightly, AllTellRightly, table_in}
 use Rattle.laws_loads.proofs.Rows.{Ordered, ordered_put, IsCovered, first_rightly, AreShown, rows_say}
 use Rattle.laws_tables.proofs.Others.{others-append}
 use Rattle.laws_server_runs.specs.Places.{IsWithin, AreWithin, PagesWithin, IndexesWithin, TableLaid, TablesWithin}

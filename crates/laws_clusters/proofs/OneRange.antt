@@ -13,7 +13,7 @@ use Rattle.wire.specs.declared.packet.Packet.{Packet}
 use Rattle.model_streams.specs.Outcome.{Outcome, packet}
 use Rattle.wire.specs.declared.streams.StreamName.{StreamName}
 use Rattle.replica.specs.Groups.{Group}
-use Rattle.model_partition.specs.StreamMachine.{MachineState}
+use Rattle.model_histories.specs.StreamMachine.{MachineState}
 use Rattle.laws_stream_machine.specs.Refinement.{Sent, asked_number, IsAsked}
 use Rattle.model_streams.specs.StreamSystem.{StreamSystem, is_told}
 use Rattle.model_streams.proofs.Tests.{if_elim}

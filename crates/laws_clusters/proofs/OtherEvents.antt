@@ -19,16 +19,16 @@ use Rattle.model_streams.specs.Outcome.{packet}
 use Rattle.model_streams.specs.StreamSystem.{StreamSystem, Move, sent_more}
 use Rattle.model_partition.specs.declared.table_note.TableNote.{TableNote}
 use Rattle.model_partition.specs.Past.{table_notes}
-use Rattle.model_partition.specs.ServedTables.{AreSeenAs}
-use Rattle.model_partition.specs.ServerRun.{ServerRun, RangeHistory, RangeEffect, Rests, with_effect, with_outcome, stream_named, after_event, Stops, Starts, Moment}
-use Rattle.model_partition.specs.TableContents.{AllTellRightly}
+use Rattle.model_histories.specs.ServedTables.{AreSeenAs}
+use Rattle.model_histories.specs.ServerRun.{ServerRun, RangeHistory, RangeEffect, Rests, with_effect, with_outcome, stream_named, after_event, Stops, Starts, Moment}
+use Rattle.model_histories.specs.TableContents.{AllTellRightly}
 use Rattle.model_partition.specs.Servers.{ServerCell, ServersOutcome, with_told, cell_rests, cell_performs, cell_stops, cell_starts, first_pick, at_server, server_stops, server_starts, told_moment}
 use Rattle.model_partition.specs.Cluster.{Cluster, servers_perform}
 use Rattle.model_partition.specs.declared.server_context.ServerContext.{ServerContext}
 use Rattle.model_partition.specs.Range.{RangeState, refuses}
 use Rattle.model_partition.specs.Server.{ServerState, ServerOutcome, range_of, set_range, rests, renew_rule, moment_rule, started}
-use Rattle.model_partition.specs.StreamMachine as extents
-use Rattle.model_partition.specs.ServerTurns.{Whole, after_all}
+use Rattle.model_histories.specs.StreamMachine as extents
+use Rattle.model_histories.specs.ServerTurns.{Whole, after_all}
 use Rattle.laws_stream_machine.specs.Refinement.{Sent, asked_number, IsAsked}
 use Rattle.laws_servers.specs.Sending.{MaySend}
 use Rattle.laws_server_runs.specs.Places.{AreAscending}

@@ -14,10 +14,10 @@ use Rattle.model_streams.specs.StreamSystem.{StreamSystem, Move}
 use Rattle.model_partition.specs.declared.server_context.ServerContext.{ServerContext}
 use Rattle.model_partition.specs.declared.table_note.TableNote.{TableNote}
 use Rattle.model_partition.specs.Range.{RangeState, RangeOutcome}
-use Rattle.model_partition.specs.ServerRun.{RangeHistory}
+use Rattle.model_histories.specs.ServerRun.{RangeHistory}
 use Rattle.model_partition.specs.Servers.{told, noted}
-use Rattle.model_partition.specs.ServerTurns.{after_all}
-use Rattle.model_partition.specs.StreamMachine as extents
+use Rattle.model_histories.specs.ServerTurns.{after_all}
+use Rattle.model_histories.specs.StreamMachine as extents
 use Rattle.laws_stream_machine.specs.Refinement.{Sent, extents_of}
 use Rattle.laws_ranges.specs.Seen.{BeganAt}
 use Rattle.laws_ranges.specs.Serves.{Side, metadata_of, log_of, rows_of, Wider, Follows, FollowsIf, RuleGoes}

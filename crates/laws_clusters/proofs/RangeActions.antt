@@ -34,9 +34,9 @@ use Rattle.model_partition.specs.Checkpoints.{may_record, has_record_number, ind
 use Rattle.model_partition.specs.PlaceReads.{reads_under}
 use Rattle.checkpoint_format.specs.Index.{fits_a_group}
 use Rattle.model_partition.specs.Range.{OutGroup, RangeState, RangeOutcome, request, picking, if_there, is_serving}
-use Rattle.model_partition.specs.ServerRun.{RangeHistory, ServerRun, place_number, placed_reads, placed_behind, with_event, is_kind, is_stream, stream_named, bytes_read, after_action, after_actions}
-use Rattle.model_partition.specs.Story.{Story, StreamEvent, Made, Showed, event_at}
-use Rattle.model_partition.specs.StreamActions.{ExtentRead, StreamAction, Reads, Forms, Stands, Shows, Finds, Stores, group_of, formed, transact_actions, last_position, stood, serving_actions, loading_actions, confirmed_actions, load_actions, record_group, record_stood_in, record_stood, record_actions, metadata_actions, index_stood_in, index_stood, rows_told_actions, rows_actions, bytes_told_actions, bytes_actions, answer_actions, PlacedBytes}
+use Rattle.model_histories.specs.ServerRun.{RangeHistory, ServerRun, place_number, placed_reads, placed_behind, with_event, is_kind, is_stream, stream_named, bytes_read, after_action, after_actions}
+use Rattle.model_histories.specs.Story.{Story, StreamEvent, Made, Showed, event_at}
+use Rattle.model_histories.specs.StreamActions.{ExtentRead, StreamAction, Reads, Forms, Stands, Shows, Finds, Stores, group_of, formed, transact_actions, last_position, stood, serving_actions, loading_actions, confirmed_actions, load_actions, record_group, record_stood_in, record_stood, record_actions, metadata_actions, index_stood_in, index_stood, rows_told_actions, rows_actions, bytes_told_actions, bytes_actions, answer_actions, PlacedBytes}
 use Rattle.laws_loads.specs.RangeView.{RangeView, view_after, view_after_all}
 use Rattle.laws_log_reads.specs.Reads.{SaysCheckpoint, IsShown, AllShown}
 use Rattle.laws_clusters.proofs.CheckpointRecords.{record_says}

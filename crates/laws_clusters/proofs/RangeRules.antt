@@ -22,11 +22,11 @@ use Rattle.model_partition.specs.Cluster.{Cluster}
 use Rattle.model_partition.specs.Getting.{get_rule}
 use Rattle.model_partition.specs.Range.{RangeState, RangeOutcome, request, picking, is_serving}
 use Rattle.model_partition.specs.Server.{new_range}
-use Rattle.model_partition.specs.ServerRun.{ServerRun, first_history, stream_named, bytes_read}
+use Rattle.model_histories.specs.ServerRun.{ServerRun, first_history, stream_named, bytes_read}
 use Rattle.model_partition.specs.Checkpoints.{checkpoint_fault, checkpoint_rule}
 use Rattle.model_partition.specs.Serving.{transact_rule}
-use Rattle.model_partition.specs.ServerTurns.{after_all}
-use Rattle.model_partition.specs.StreamActions.{StreamAction, transact_actions, answer_actions}
+use Rattle.model_histories.specs.ServerTurns.{after_all}
+use Rattle.model_histories.specs.StreamActions.{StreamAction, transact_actions, answer_actions}
 use Rattle.laws_loads.specs.RangeView.{RangeView, view_after_all}
 use Rattle.laws_stream_machine.specs.Refinement.{Means, asked_number, extents_of}
 use Rattle.laws_stream_machine.proofs.LowerLayer.{Below, below_made, below_index, below_alone}

@@ -10,10 +10,10 @@ use Rattle.streams.specs.Streams.{stream_of}
 use Rattle.model_streams.specs.Manager.{Catalog}
 use Rattle.model_streams.specs.StreamSystem.{StreamSystem, Move}
 use Rattle.model_partition.specs.declared.server_context.ServerContext.{ServerContext}
-use Rattle.model_partition.specs.StreamMachine as extents
+use Rattle.model_histories.specs.StreamMachine as extents
 use Rattle.model_partition.specs.Range.{RangeOutcome}
-use Rattle.model_partition.specs.ServerTurns.{Turn, Whole, after_all}
-use Rattle.model_partition.specs.ServerTurns as machine
+use Rattle.model_histories.specs.ServerTurns.{Turn, Whole, after_all}
+use Rattle.model_histories.specs.ServerTurns as machine
 use Rattle.laws_stream_machine.specs.Refinement.{Purpose, Sent, purpose_of, IsAt, IsAsked, extents_of}
 use Rattle.laws_ranges.specs.Serves.{Stand, Side, after_turns, metadata_of, log_of, rows_of, Wider, AskedOfBoth, RuleGoes}
 use Rattle.laws_ranges.proofs.TurnsAsMoves.{stand_of, moves_of, stands_after, others_stand, are_moves}

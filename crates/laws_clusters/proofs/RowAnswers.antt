@@ -44,7 +44,7 @@ use Rattle.laws_stream_machine.specs.Refinement.{asked_number, extents_of, IsAt}
 use Rattle.laws_stream_machine.proofs.LowerLayer.{Below}
 use Rattle.laws_stream_machine.proofs.MachineCore.{get_same}
 use Rattle.laws_ranges.specs.Serves.{Side, metadata_of, rows_of, IsOfRows, RowsTold, StageIs, Follows}
-use Rattle.model_partition.specs.ServerTurns.{Whole}
+use Rattle.model_histories.specs.ServerTurns.{Whole}
 use Rattle.laws_clusters.proofs.AckedAppends.{appended_tells}
 use Rattle.laws_clusters.proofs.ClientJobs.{AsksBy}
 use Rattle.laws_clusters.proofs.RangeActions.{BytesSeen}

@@ -23,7 +23,7 @@ use Rattle.client.specs.Load.{open_packet}
 use Rattle.model_streams.specs.Maps.{entry_at}
 use Rattle.model_streams.specs.Outcome.{packet}
 use Rattle.model_streams.specs.StreamSystem.{StreamSystem, sent_more}
-use Rattle.model_partition.specs.ServerTurns.{after_all}
+use Rattle.model_histories.specs.ServerTurns.{after_all}
 use Rattle.model_partition.specs.Answering.{answered_number, is_answerer, answer_rule, give_up_all}
 use Rattle.model_partition.specs.Servers.{ServerCell, ServersOutcome, cell_takes, cell_rests, cell_performs, cell_gives_up, cell_given_up, cell_checkpoints, at_server, server_takes, server_gives_up, server_checkpoints}
 use Rattle.model_partition.specs.Checkpoints.{checkpoint_fault, checkpoint_rule}
@@ -34,9 +34,9 @@ use Rattle.model_partition.specs.Cluster.{Cluster, servers_perform}
 use Rattle.model_partition.specs.Getting.{get_rule}
 use Rattle.model_partition.specs.Range.{RangeState, RangeOutcome, request, used, refuses, waiting_out}
 use Rattle.model_partition.specs.Server.{ServerState, ServerOutcome, range_of, awaiting, rests, sends_one, set_split, split_of, stepped, stepped_alone, new_range, users_of, is_newer, assign_rule, told_by_map, map_rule, transacts_in, gets_in, table_rule, answer_in, answer_of, numbered_rule, taken_rule, has_numbers, server_rule, given_up, gives_up, picked, give_up_rule, busy_if, checkpoint_refused, checkpoints_in, server_checkpoint}
-use Rattle.model_partition.specs.ServerRun.{ServerRun, RangeEffect, Begins, Does, Rests, Takes, GivesUp, Checkpoints, first_history, with_effect, with_outcome, after_event, told_effect, map_effect, transact_effect, table_effect, answer_effect, awaited_effect, numbered_effect, packet_effect, server_effect, cell_effect}
+use Rattle.model_histories.specs.ServerRun.{ServerRun, RangeEffect, Begins, Does, Rests, Takes, GivesUp, Checkpoints, first_history, with_effect, with_outcome, after_event, told_effect, map_effect, transact_effect, table_effect, answer_effect, awaited_effect, numbered_effect, packet_effect, server_effect, cell_effect}
 use Rattle.model_partition.specs.Serving.{transact_rule}
-use Rattle.model_partition.specs.StreamActions.{StreamAction, transact_actions, answer_actions}
+use Rattle.model_histories.specs.StreamActions.{StreamAction, transact_actions, answer_actions}
 use Rattle.laws_stream_machine.specs.Refinement.{Sent, asked_number}
 use Rattle.laws_ranges.specs.Seen.{BeganAt}
 use Rattle.laws_ranges.specs.Serves.{Stand, Side, log_of, IsPastRows, FollowsIf, IsSentBy, AreAsked}

@@ -22,13 +22,13 @@ use Rattle.model_partition.specs.declared.server_context.ServerContext.{ServerCo
 use Rattle.model_partition.specs.Cluster.{Cluster}
 use Rattle.model_partition.specs.Past.{Bytes, table_notes}
 use Rattle.model_partition.specs.Range.{RangeState, RangeOutcome}
-use Rattle.model_partition.specs.ServedTables.{AreSeenAs, StreamsInOrder}
+use Rattle.model_histories.specs.ServedTables.{AreSeenAs, StreamsInOrder}
 use Rattle.model_partition.specs.Server.{ServerState, range_of}
-use Rattle.model_partition.specs.ServerRun.{ServerRun, after_actions, with_outcome, stream_named}
+use Rattle.model_histories.specs.ServerRun.{ServerRun, after_actions, with_outcome, stream_named}
 use Rattle.model_partition.specs.Servers.{ServerCell, noted, with_told}
-use Rattle.model_partition.specs.ServerTurns.{after_all}
-use Rattle.model_partition.specs.StreamActions.{StreamAction}
-use Rattle.model_partition.specs.TableContents.{AllTellRightly}
+use Rattle.model_histories.specs.ServerTurns.{after_all}
+use Rattle.model_histories.specs.StreamActions.{StreamAction}
+use Rattle.model_histories.specs.TableContents.{AllTellRightly}
 use Rattle.laws_loads.specs.RangeView.{RangeView, view_after_all}
 use Rattle.laws_loads.proofs.Entries.{entry_set, entry_other}
 use Rattle.laws_stream_machine.specs.Refinement.{Purpose, Sent, purpose_of, asked_number, IsAt, IsUnsealedAt}

@@ -9,9 +9,9 @@ use Rattle.model_streams.specs.StreamSystem.{StreamSystem, Move, run_moves, star
 use Rattle.model_partition.specs.Past.{Bytes}
 use Rattle.laws_streams.specs.Origins.{Begins, Shows as ShowsBytes}
 use Rattle.laws_streams.proofs.ContentAnswers.{content_answered}
-use Rattle.model_partition.specs.TableContents.{StandsAt}
+use Rattle.model_histories.specs.TableContents.{StandsAt}
 use Rattle.laws_loads.proofs.Cells.{length_both}
-use Rattle.model_partition.specs.TableContents.{TellsRightly, AllTellRightly}
+use Rattle.model_histories.specs.TableContents.{TellsRightly, AllTellRightly}
 
 -- ---- groups and bytes that stand in a text
 

@@ -11,14 +11,14 @@ use Rattle.model_streams.specs.StreamSystem.Move.{Happens}
 use Rattle.laws_streams.proofs.Invariant.{run_moves_push}
 use Rattle.laws_streams.proofs.PacketSources.{moved_gains}
 use Rattle.model_partition.specs.Cluster.{Cluster}
-use Rattle.model_partition.specs.StreamMachine.{MachineState, MachineStep}
+use Rattle.model_histories.specs.StreamMachine.{MachineState, MachineStep}
 use Rattle.model_partition.specs.Server.{ServerState}
 use Rattle.model_partition.specs.Servers.{ServerCell}
 use Rattle.wire.specs.declared.actor.ReqNo.{ReqNo}
-use Rattle.model_partition.specs.ServerTurns.{Below, after_all, AreMoves}
-use Rattle.model_partition.specs.ServerTurns as machine
-use Rattle.model_partition.specs.ServedTables.{AreSeenAs}
-use Rattle.model_partition.specs.ServerRun.{ServerRun}
+use Rattle.model_histories.specs.ServerTurns.{Below, after_all, AreMoves}
+use Rattle.model_histories.specs.ServerTurns as machine
+use Rattle.model_histories.specs.ServedTables.{AreSeenAs}
+use Rattle.model_histories.specs.ServerRun.{ServerRun}
 use Rattle.laws_stream_machine.specs.Refinement.{Sent, extents_in}
 use Rattle.laws_stream_machine.proofs.SentPackets.{Ahead}
 use Rattle.laws_stream_machine.proofs.MachineCore.{get_same}

@@ -24,8 +24,8 @@ use Rattle.laws_streams.proofs.ContentAnswers.{content_answered}
 use Rattle.laws_streams.proofs.StreamAnswers.{openings_answered, confirmations_answered, extensions_answered}
 use Rattle.model_partition.specs.declared.table_note.TableNote.{TableNote}
 use Rattle.model_partition.specs.Servers.{ServerCell, told, noted, with_told}
-use Rattle.model_partition.specs.ServerTurns.{Turn, Whole, after_all}
-use Rattle.model_partition.specs.ServerTurns as machine
+use Rattle.model_histories.specs.ServerTurns.{Turn, Whole, after_all}
+use Rattle.model_histories.specs.ServerTurns as machine
 use Rattle.laws_stream_machine.specs.Refinement.{Purpose, Sent, asked_number, meant_number, IsAsked}
 use Rattle.laws_stream_machine.proofs.StepSequences.{onward_refl}
 use Rattle.laws_stream_machine.proofs.SentPackets.{asked_on, ahead_same}

@@ -4,11 +4,11 @@ use Rattle.wire.specs.declared.note.Note.{Note}
 use Rattle.wire.specs.declared.streams.StreamKind.TheVariants as kinds
 use Rattle.replica.specs.Groups.{Group}
 use Rattle.model_partition.specs.Past.{Bytes}
-use Rattle.model_partition.specs.ServedTables.{LoadsOnce, StreamsInOrder}
-use Rattle.model_partition.specs.ServerRun.{ServerRun, stream_named}
-use Rattle.model_partition.specs.ServerTurns.{after_all, AreMoves}
-use Rattle.model_partition.specs.Story.{KeepsOrder, EndsRise}
-use Rattle.model_partition.specs.TableContents.{AllTellRightly}
+use Rattle.model_histories.specs.ServedTables.{LoadsOnce, StreamsInOrder}
+use Rattle.model_histories.specs.ServerRun.{ServerRun, stream_named}
+use Rattle.model_histories.specs.ServerTurns.{after_all, AreMoves}
+use Rattle.model_histories.specs.Story.{KeepsOrder, EndsRise}
+use Rattle.model_histories.specs.TableContents.{AllTellRightly}
 use Rattle.laws_tables.proofs.Turns.{clients_keep_order, clients_ends_rise}
 use Rattle.laws_clusters.proofs.Invariant.{SeesAll, Machines}
 use Rattle.laws_clusters.proofs.LoadedOnce.{loads_once}

@@ -1,4 +1,5 @@
--- Whole runs with servers: they see streams that keep their order, and so what they show of tables replays.
+-- Whole runs with servers in which no range is split: the servers see streams that keep their order, and so what they show of tables
+-- replays.
 use Rattle.std.proofs.Common.{◌≡◌, ℕ, zero, suc, ◌+◌, Bool, true, false, nat_lt, List, [], ◌∷◌, ◌++◌, map, Option, Some, None, Contains, slice_get, refl, sym, ap, ◌∙◌, subst, inl, inr, arith, if◌then◌else◌}
 use Rattle.block_types.specs.declared.record.Nodes.{Nodes}
 use Rattle.wire.specs.declared.actor.ActorId.{ActorId}
@@ -18,21 +19,24 @@ use Rattle.model_streams.specs.Maps.{entry_at}
 use Rattle.model_streams.specs.Outcome.{packet}
 use Rattle.model_streams.specs.StreamSystem.{StreamSystem, delivered, delivered_if}
 use Rattle.model_partition.specs.Servers.{ServerCell, first_pick, first_server, first_servers, told_moment}
+use Rattle.model_partition.specs.Cluster as clusters
 use Rattle.model_partition.specs.Cluster.{Cluster, delivered_to, delivers, stops, restarts, shows_moment, cluster_after, cluster_after_all, first_cluster}
+use Rattle.model_partition.specs.Honest.{Honest}
 use Rattle.model_partition.specs.Past.{Bytes, Replays, first_range}
 use Rattle.model_partition.specs.Range.{RangeState}
 use Rattle.model_partition.specs.Server.{ServerState, range_of, started}
-use Rattle.model_partition.specs.ServedTables.{IsAtLine, IsOfFirst, AreFirst, AreUnsplit, LoadsOnce, StreamsInOrder, ServesAt}
-use Rattle.model_partition.specs.ServerTurns.{AreMoves}
-use Rattle.model_partition.specs.ServerRun.{ServerRun, ServerEvent, Takes, GivesUp, Checkpoints, Moment as MomentSo, stream_named, first_run, run_of, log_name}
-use Rattle.model_partition.specs.Story.{Copy, KeepsOrder, Story, EndsRise}
-use Rattle.model_partition.specs.TableContents.{AllTellRightly}
+use Rattle.model_histories.specs.ServedTables.{IsAtLine, IsOfFirst, AreFirst, AreUnsplit, LoadsOnce, StreamsInOrder, ServesAt}
+use Rattle.model_histories.specs.ServerTurns.{AreMoves}
+use Rattle.model_histories.specs.ServerRun.{ServerRun, ServerEvent, Takes, GivesUp, Checkpoints, Moment as MomentSo, stream_named, first_run, run_of, log_name}
+use Rattle.model_histories.specs.Story.{Copy, KeepsOrder, Story, EndsRise}
+use Rattle.model_histories.specs.TableContents.{AllTellRightly}
 use Rattle.laws_stream_machine.proofs.LowerLayer.{below_start}
 use Rattle.laws_ranges.specs.Serves.{Apart, metadata_of, log_of}
 use Rattle.laws_streams.proofs.Choices.{contains_get}
 use Rattle.laws_server_runs.proofs.LoadedWithin.{loaded_within}
 use Rattle.laws_server_runs.proofs.Theorem.{run_replays, served_at_line}
 use Rattle.laws_server_runs.proofs.Unsplit.{HaveNoSplits, unsplit as no_splits}
+use Rattle.laws_servers.proofs.EventsAsMoves.{led_agrees, led_keeps}
 use Rattle.laws_clusters.specs.Orders.{ComesOfStreams}
 use Rattle.laws_clusters.specs.ServerEvents.{packet_events, delivery_events, stop_events, start_events, server_events, server_events_after, servers_of_run}
 use Rattle.laws_clusters.proofs.Generations.{generation_at, plenty}
@@ -251,25 +255,26 @@ module _ (nodes target batch count : ℕ) where
         let unsplit : AreUnsplit (Checkpoints s range combine ∷ coming) = (tt, x.unsplit) in
         record { stands = checkpoints_stand generation_at plenty nodes target c y x.stands none s range combine (run_laid (Checkpoints s range combine ∷ coming) unsplit); first = first; unsplit = unsplit }
 
-    -- whatever comes
-    comes_stands : (event : Event) → StandsWith (cluster_after c event) (server_events c event ++ coming)
-    comes_stands (Submit user to body) = aside _ (happens_stands generation_at nodes target c y x.stands (Submit user to body))
-    comes_stands (Deliver number) = delivers_all number (slice_get c.stream_layer.post number) refl
-    comes_stands (Stop actor call keep) = stops_all actor call keep
-    comes_stands (Restart actor) = restarts_all actor
-    comes_stands (Decide e) = aside _ (happens_stands generation_at nodes target c y x.stands (Decide e))
-    comes_stands (GiveUp server range pick) = gives_up_all server range pick
-    comes_stands (Assign range server until) = aside _ (assigns_stand generation_at nodes target y c range server until x.stands)
-    comes_stands (Renew range server until) = aside _ (renews_stand generation_at nodes target y c range server until x.stands)
-    comes_stands (Moment now) = moment_all now
-    comes_stands (Checkpoint server range combine) = checkpoints_all server range combine
-    comes_stands (Split server range key) = aside _ (happens_stands generation_at nodes target c y x.stands (Split server range key))
-    comes_stands (Merge server left right) = aside _ (happens_stands generation_at nodes target c y x.stands (Merge server left right))
+    -- whatever comes, but for a split
+    comes_stands : (event : Event) → clusters.IsUnsplit event → StandsWith (cluster_after c event) (server_events c event ++ coming)
+    comes_stands (Submit user to body) is = aside _ (happens_stands generation_at nodes target c y x.stands (Submit user to body))
+    comes_stands (Deliver number) is = delivers_all number (slice_get c.stream_layer.post number) refl
+    comes_stands (Stop actor call keep) is = stops_all actor call keep
+    comes_stands (Restart actor) is = restarts_all actor
+    comes_stands (Decide e) is = aside _ (happens_stands generation_at nodes target c y x.stands (Decide e))
+    comes_stands (GiveUp server range pick) is = gives_up_all server range pick
+    comes_stands (Assign range server until) is = aside _ (assigns_stand generation_at nodes target y c range server until x.stands)
+    comes_stands (Renew range server until) is = aside _ (renews_stand generation_at nodes target y c range server until x.stands)
+    comes_stands (Moment now) is = moment_all now
+    comes_stands (Checkpoint server range combine) is = checkpoints_all server range combine
+    comes_stands (Split server range key) is = absurd is
+    comes_stands (Merge server left right) is = aside _ (happens_stands generation_at nodes target c y x.stands (Merge server left right))
 
-  led_stands : (events : List Event) (c : Cluster) (coming : List ServerEvent) → StandsWith c coming → StandsWith (cluster_after_all c events) (server_events_after c coming events)
-  led_stands [] c coming x = x
-  led_stands (event ∷ events) c coming x =
-      led_stands events (cluster_after c event) (server_events c event ++ coming) (comes_stands c coming x event)
+  led_stands : (events : List Event) → clusters.AreUnsplit events → (c : Cluster) (coming : List ServerEvent) → StandsWith c coming →
+      StandsWith (cluster_after_all c events) (server_events_after c coming events)
+  led_stands [] are c coming x = x
+  led_stands (event ∷ events) are c coming x =
+      led_stands events are.1 (cluster_after c event) (server_events c event ++ coming) (comes_stands c coming x event are.0)
 
   -- ---- what servers see
 
@@ -331,24 +336,35 @@ module _ (nodes target batch count : ℕ) where
 abbrev pub after_run : (nodes servers target batch : ℕ) → List Event → Cluster
 after_run nodes servers target batch events = cluster_after_all (first_cluster nodes servers target batch) events
 
-run_stands : (nodes servers target batch : ℕ) (events : List Event) → StandsWith nodes target batch servers (after_run nodes servers target batch events) (server_events_after (first_cluster nodes servers target batch) [] events)
-run_stands nodes servers target batch events = led_stands nodes target batch servers events (first_cluster nodes servers target batch) [] (first_stands nodes target batch servers)
+run_stands : (nodes servers target batch : ℕ) (events : List Event) → clusters.AreUnsplit events →
+    StandsWith nodes target batch servers (after_run nodes servers target batch events) (server_events_after (first_cluster nodes servers target batch) [] events)
+run_stands nodes servers target batch events are =
+    led_stands nodes target batch servers events are (first_cluster nodes servers target batch) [] (first_stands nodes target batch servers)
 
--- whatever happens, the servers of a run see streams that keep their order
-pub led_ordered : (nodes servers target batch : ℕ) (events : List Event) →
+-- whatever happens without a split, the servers of a run see streams that keep their order
+pub led_ordered : (nodes servers target batch : ℕ) (events : List Event) → clusters.AreUnsplit events →
     ComesOfStreams (after_run nodes servers target batch events) (servers_of_run nodes servers target batch events)
-led_ordered nodes servers target batch events =
-    stands_ordered nodes target batch servers (after_run nodes servers target batch events) (servers_of_run nodes servers target batch events) (run_stands nodes servers target batch events).stands
+led_ordered nodes servers target batch events are =
+    stands_ordered nodes target batch servers (after_run nodes servers target batch events) (servers_of_run nodes servers target batch events) (run_stands nodes servers target batch events are).stands
 
 -- and what they show replays
-pub led_replays : (nodes servers target batch : ℕ) (events : List Event) → Replays (after_run nodes servers target batch events).stream_layer.notes
-led_replays nodes servers target batch events =
-    stands_replays nodes target batch servers (after_run nodes servers target batch events) (server_events_after (first_cluster nodes servers target batch) [] events) (run_stands nodes servers target batch events)
+pub led_replays : (nodes servers target batch : ℕ) (events : List Event) → clusters.AreUnsplit events → Replays (after_run nodes servers target batch events).stream_layer.notes
+led_replays nodes servers target batch events are =
+    stands_replays nodes target batch servers (after_run nodes servers target batch events) (server_events_after (first_cluster nodes servers target batch) [] events)
+    (run_stands nodes servers target batch events are)
+
+-- so all that is observed is honest
+pub led_honest : (nodes servers target batch : ℕ) (events : List Event) → clusters.AreUnsplit events → Honest (after_run nodes servers target batch events).stream_layer.notes
+led_honest nodes servers target batch events are = record {
+  agree = led_agrees nodes servers target batch events;
+  kept = led_keeps nodes servers target batch events;
+  replays = led_replays nodes servers target batch events are;
+}
 
 -- and each range that is served is at its line
-pub led_at_line : (nodes servers target batch : ℕ) (events : List Event) → (texts : ℕ → Bytes) (s range : ℕ) (r : RangeState) →
+pub led_at_line : (nodes servers target batch : ℕ) (events : List Event) → clusters.AreUnsplit events → (texts : ℕ → Bytes) (s range : ℕ) (r : RangeState) →
     AllTellRightly texts (after_run nodes servers target batch events).stream_layer.notes → ServesAt (servers_of_run nodes servers target batch events) s range r →
     (order : KeepsOrder ((servers_of_run nodes servers target batch events).story (log_name range))) → IsAtLine texts ((servers_of_run nodes servers target batch events).story (log_name range)) order.copies r
-led_at_line nodes servers target batch events texts s range r all at order =
-    stands_at_line nodes target batch servers (after_run nodes servers target batch events) (server_events_after (first_cluster nodes servers target batch) [] events) (run_stands nodes servers target batch events)
-    texts all s range r at order
+led_at_line nodes servers target batch events are texts s range r all at order =
+    stands_at_line nodes target batch servers (after_run nodes servers target batch events) (server_events_after (first_cluster nodes servers target batch) [] events)
+    (run_stands nodes servers target batch events are) texts all s range r at order

@@ -3,10 +3,10 @@ use Rattle.std.specs.Prelude.{◌≡◌, ℕ}
 use Rattle.wire.specs.declared.streams.StreamName.{StreamName}
 use Rattle.model_partition.specs.Cluster.{Cluster}
 use Rattle.model_partition.specs.Past.{Bytes, table_notes}
-use Rattle.model_partition.specs.ServedTables.{AllStand, AreSeenAs, LoadsOnce}
-use Rattle.model_partition.specs.ServerRun.{ServerRun}
-use Rattle.model_partition.specs.Story.{KeepsOrder, EndsRise}
-use Rattle.model_partition.specs.TableContents.{AllTellRightly}
+use Rattle.model_histories.specs.ServedTables.{AllStand, AreSeenAs, LoadsOnce}
+use Rattle.model_histories.specs.ServerRun.{ServerRun}
+use Rattle.model_histories.specs.Story.{KeepsOrder, EndsRise}
+use Rattle.model_histories.specs.TableContents.{AllTellRightly}
 
 -- The servers of this cluster are those of this run of servers. The story of each stream, as they see it, keeps its order, no
 -- generation is confirmed twice, and confirmed loads end in the order of their generations. There are texts of extents that have all

@@ -4,9 +4,9 @@ use Rattle.wire.specs.declared.actor.ActorId.{ActorId}
 use Rattle.wire.specs.declared.actor.ActorId.TheVariants.{Server}
 use Rattle.wire.specs.declared.packet.Packet.{Packet}
 use Rattle.model_streams.specs.declared.event.Event.{Event}
-use Rattle.model_streams.specs.declared.event.Event.TheVariants.{Deliver, Stop, Restart, GiveUp, Checkpoint, Moment as MomentTold}
+use Rattle.model_streams.specs.declared.event.Event.TheVariants.{Deliver, Stop, Restart, GiveUp, Checkpoint, Split, Moment as MomentTold}
 use Rattle.model_partition.specs.Cluster.{Cluster, cluster_after, first_cluster}
-use Rattle.model_partition.specs.ServerRun.{ServerEvent, Takes, GivesUp, Checkpoints, Stops, Starts, Moment, ServerRun, run_of}
+use Rattle.model_histories.specs.ServerRun.{ServerEvent, Takes, GivesUp, Checkpoints, Splits, Stops, Starts, Moment, ServerRun, run_of}
 
 abbrev pub packet_events : ActorId → Packet → List ServerEvent
 packet_events (Server s) p = Takes s p ∷ []
@@ -31,6 +31,7 @@ server_events c (Stop actor call keep) = stop_events actor call
 server_events c (Restart actor) = start_events c actor
 server_events c (GiveUp server range pick) = GivesUp server range pick ∷ []
 server_events c (Checkpoint server range combine) = Checkpoints server range combine ∷ []
+server_events c (Split server range key) = Splits server range key ∷ []
 server_events c (MomentTold now) = if nat_lt now c.now then [] else Moment now ∷ []
 server_events c event = []
 

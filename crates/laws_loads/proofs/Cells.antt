@@ -18,7 +18,7 @@ use Rattle.replica.proofs.Lengths.{group_size-size}
 use Rattle.commitlog.specs.Record.{large, transaction_values}
 use Rattle.commitlog.specs.Places.{kept_cell, kept_transactions}
 use Rattle.model_partition.specs.Past.{Bytes}
-use Rattle.model_partition.specs.TableContents.{StandsAt, value_in}
+use Rattle.model_histories.specs.TableContents.{StandsAt, value_in}
 
 -- ---- texts
 

@@ -1,8 +1,8 @@
 -- A story whose groups are called by other names keeps its order: that of the bytes of a stream carries over to what they spell.
 use Rattle.std.proofs.Common.{◌≡◌, ℕ, zero, suc, ◌<◌, ◌≤◌, List, [], ◌∷◌, ◌++◌, length, map, Option, Some, None, refl, sym, ap, ◌∙◌, subst, cond, arith, nat_lt, ◌==◌, Bool, true, false}
 use Rattle.std.specs.Prelude.{Contains}
-use Rattle.model_partition.specs.Story.{Placed, StreamEvent, Made, Answered, Showed, Story, event_at, Copy, placed, from_place, Ascending, KeepsOrder}
-use Rattle.model_partition.specs.Renaming.{renamed_copy, renamed_placed, renamed_event, renamed}
+use Rattle.model_histories.specs.Story.{Placed, StreamEvent, Made, Answered, Showed, Story, event_at, Copy, placed, from_place, Ascending, KeepsOrder}
+use Rattle.model_histories.specs.Renaming.{renamed_copy, renamed_placed, renamed_event, renamed}
 
 -- ---- lists
 

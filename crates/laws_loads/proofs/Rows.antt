@@ -18,7 +18,7 @@ use Rattle.memtable.specs.Entries.{Entries, key_cmp, found, put_all}
 use Rattle.replica.specs.Groups.{joined, text}
 use Rattle.model_partition.specs.Servers.{part, shown_in, first_shown, or_later, row_if, row_of, rows_in}
 use Rattle.model_partition.specs.Past.{Bytes, stored}
-use Rattle.model_partition.specs.TableContents.{StandsAt, value_in, value_of, table_in, TellsRightly, AllTellRightly}
+use Rattle.model_histories.specs.TableContents.{StandsAt, value_in, value_of, table_in, TellsRightly, AllTellRightly}
 use Rattle.laws_loads.proofs.Cells.{same_key}
 
 -- ---- keys in order

@@ -2,7 +2,7 @@
 use Rattle.std.specs.Prelude.{ℕ, option_map}
 use Rattle.memtable.specs.Entries.{Entries, found}
 use Rattle.model_partition.specs.Past.{Bytes}
-use Rattle.model_partition.specs.TableContents.{value_in}
+use Rattle.model_histories.specs.TableContents.{value_in}
 use Rattle.laws_tables.specs.Layers.{Layer}
 
 module _ (texts : ℕ → Bytes) where

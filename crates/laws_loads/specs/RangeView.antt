@@ -4,10 +4,10 @@ use Rattle.wire.specs.declared.streams.StreamKind.{StreamKind}
 use Rattle.wire.specs.declared.streams.StreamKind.TheVariants as kinds
 use Rattle.block_types.specs.Limits.{group_size}
 use Rattle.replica.specs.Groups.{joined}
-use Rattle.model_partition.specs.Story.{StreamEvent, Made, Answered, Showed, Story}
+use Rattle.model_histories.specs.Story.{StreamEvent, Made, Answered, Showed, Story}
 use Rattle.model_partition.specs.Loading.{Group}
-use Rattle.model_partition.specs.StreamActions.{PlacedBytes, StreamAction, Reads, Forms, Stands, Shows, Finds, Stores}
-use Rattle.model_partition.specs.ServerRun.{RangeHistory, is_kind, one_more_read, begun_at, place_number, placed_reads, placed_behind, bytes_read}
+use Rattle.model_histories.specs.StreamActions.{PlacedBytes, StreamAction, Reads, Forms, Stands, Shows, Finds, Stores}
+use Rattle.model_histories.specs.ServerRun.{RangeHistory, is_kind, one_more_read, begun_at, place_number, placed_reads, placed_behind, bytes_read}
 
 -- the history of the range at the server, the stories of the range's streams, and the bytes that reads were shown and those that
 -- appends were answered for

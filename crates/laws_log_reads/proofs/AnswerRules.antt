@@ -23,8 +23,8 @@ use Rattle.model_partition.specs.declared.server_context.ServerContext.{ServerCo
 use Rattle.model_partition.specs.declared.stage.Stage.{Stage}
 use Rattle.model_partition.specs.declared.stage.Stage.TheVariants as stages
 use Rattle.model_partition.specs.Range.{RangeState, RangeOutcome, request, answers, dropped, picking, is_serving}
-use Rattle.model_partition.specs.ServerRun.{RangeHistory}
-use Rattle.model_partition.specs.StreamActions.{StreamAction, serving_actions, loading_actions, confirmed_actions, load_actions, metadata_actions, log_actions, rows_actions, bytes_told_actions, bytes_actions, answered_actions, answer_actions}
+use Rattle.model_histories.specs.ServerRun.{RangeHistory}
+use Rattle.model_histories.specs.StreamActions.{StreamAction, serving_actions, loading_actions, confirmed_actions, load_actions, metadata_actions, log_actions, rows_actions, bytes_told_actions, bytes_actions, answered_actions, answer_actions}
 use Rattle.checkpoint_format.specs.Index.{index_at}
 use Rattle.model_partition.specs.PlaceReads.{place_of, reads_under, reads_page}
 use Rattle.model_partition.specs.Loading.{open_region, opens, has_position, serves_region, serves_from, serves, log_news, index_named, index_read}

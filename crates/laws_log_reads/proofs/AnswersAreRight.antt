@@ -10,8 +10,8 @@ use Rattle.replica.specs.Groups.{Group}
 use Rattle.client.specs.Requests.{is_same}
 use Rattle.client.specs.Client.{ClientState, sealed_last}
 use Rattle.model_streams.specs.StreamSystem.{StreamSystem}
-use Rattle.model_partition.specs.Story.{Copy}
-use Rattle.model_partition.specs.StreamMachine as machine
+use Rattle.model_histories.specs.Story.{Copy}
+use Rattle.model_histories.specs.StreamMachine as machine
 use Rattle.laws_stream_machine.specs.Refinement.{Sent, Reads, Seals, purpose_of, IsAt, Tells, ReadsRightly, Means, ReadMeans, SealMeans}
 use Rattle.laws_stream_machine.proofs.ServerRequests.{same_request}
 use Rattle.laws_ranges.specs.Serves.{Stand, is_live, LastIs, IsTold, FoundIs, ReadingIs, ShuttingIs, Listed}

@@ -13,7 +13,7 @@ use Rattle.metadata.specs.Record.{flag, place, position}
 use Rattle.metadata.specs.Reading.{flag_at, place_at, position_at, next_at, checkpoint_at, item_at, record_at}
 use Rattle.model_partition.specs.CheckpointStates.{CheckpointState}
 use Rattle.model_partition.specs.Range.{RangeState}
-use Rattle.model_partition.specs.StreamActions.{record_group}
+use Rattle.model_histories.specs.StreamActions.{record_group}
 use Rattle.laws_log_reads.specs.Reads.{IsCheckpoint, SaysCheckpoint}
 
 -- what stands behind a number

@@ -20,8 +20,8 @@ use Rattle.model_partition.specs.declared.checkpoint_job.CheckpointPhase.TheVari
 use Rattle.model_partition.specs.declared.server_context.ServerContext.{ServerContext}
 use Rattle.model_partition.specs.declared.stage.Stage.TheVariants as stages
 use Rattle.model_partition.specs.Range.{RangeState, RangeOutcome, request, goes, answers, picking}
-use Rattle.model_partition.specs.ServerRun.{RangeHistory}
-use Rattle.model_partition.specs.StreamMachine as machine
+use Rattle.model_histories.specs.ServerRun.{RangeHistory}
+use Rattle.model_histories.specs.StreamMachine as machine
 use Rattle.model_partition.specs.Checkpoints.{number_to_apply, have_bytes, combines, new_job, new_combining_job, rows_go, writes_pages, combined_job, merges, with_fixed, begins_pages, begins_combining, begins, checkpoint_rule, pages_stand, may_record, index_place, records, index_stands, rows_stand, rows_stand_at, rows_told, rows_may_stand, rows_reply, has_record_number, recorded, trims, record_stands, record_told, trim_told, trim_reply_in}
 use Rattle.model_partition.specs.Answering.{load_refused, page_reply, trim_reply}
 use Rattle.laws_loads.proofs.PageAnswers.{merged, unread, merges_elim, page_reply_elim}

@@ -10,8 +10,8 @@ use Rattle.model_streams.specs.StreamSystem.{StreamSystem}
 use Rattle.model_partition.specs.declared.server_context.ServerContext.{ServerContext}
 use Rattle.model_partition.specs.Range.{picking}
 use Rattle.model_partition.specs.Loading.{read_of}
-use Rattle.model_partition.specs.StreamActions.{ExtentRead}
-use Rattle.model_partition.specs.StreamMachine as machine
+use Rattle.model_histories.specs.StreamActions.{ExtentRead}
+use Rattle.model_histories.specs.StreamMachine as machine
 use Rattle.laws_stream_machine.specs.Refinement.{Sent, Tells}
 use Rattle.laws_ranges.specs.Serves.{Stand, is_live, known}
 use Rattle.laws_log_reads.specs.Reads.{IsSealed, AllSealed, HasStood, AllRead, WereSealed, LastStood, Nothing, HasReadTo}

@@ -16,10 +16,10 @@ use Rattle.model_streams.specs.StreamSystem.{StreamSystem}
 use Rattle.model_partition.specs.declared.server_context.ServerContext.{ServerContext}
 use Rattle.model_partition.specs.declared.stage.Stage.TheVariants as stages
 use Rattle.model_partition.specs.Range.{RangeState, RangeOutcome, request, picking, given, dropped}
-use Rattle.model_partition.specs.ServerRun.{RangeHistory}
+use Rattle.model_histories.specs.ServerRun.{RangeHistory}
 use Rattle.model_partition.specs.PlaceReads.{places_of}
 use Rattle.model_partition.specs.Loading.{read_of, log_goes, metadata_goes, asks_index, index_named, reads_named, reads_index, installs, reads_log, first_position, open_region, reads_log_from, checks_log, begins_log, reads_metadata, begins_metadata, opens}
-use Rattle.model_partition.specs.StreamActions.{first_start}
+use Rattle.model_histories.specs.StreamActions.{first_start}
 use Rattle.laws_stream_machine.specs.Refinement.{Tells}
 use Rattle.laws_ranges.specs.Serves.{Side, is_live, log_of, metadata_of}
 use Rattle.laws_log_reads.specs.Reads.{AllRead, HasReadTo, AllShown, SaysSole, first_index, AreUnapplied, HasReadAll, HasReadIf}

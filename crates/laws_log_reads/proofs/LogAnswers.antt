@@ -13,8 +13,8 @@ use Rattle.model_partition.specs.declared.server_context.ServerContext.{ServerCo
 use Rattle.model_partition.specs.declared.stage.Stage.{Stage}
 use Rattle.model_partition.specs.declared.stage.Stage.TheVariants as stages
 use Rattle.model_partition.specs.Range.{RangeState, RangeOutcome, request, picking, dropped}
-use Rattle.model_partition.specs.ServerRun.{RangeHistory, one_more_read}
-use Rattle.model_partition.specs.StreamActions.{ExtentRead, StreamAction, Reads, loading_actions}
+use Rattle.model_histories.specs.ServerRun.{RangeHistory, one_more_read}
+use Rattle.model_histories.specs.StreamActions.{ExtentRead, StreamAction, Reads, loading_actions}
 use Rattle.model_partition.specs.Loading.{log_news, log_read, replays, replayed, reads_log, reads_log_from, first_position}
 use Rattle.model_partition.specs.Answering.{groups_of}
 use Rattle.laws_loads.specs.RangeView.{RangeView}

@@ -11,8 +11,8 @@ use Rattle.model_partition.specs.declared.server_context.ServerContext.{ServerCo
 use Rattle.model_partition.specs.declared.stage.Stage.{Stage}
 use Rattle.model_partition.specs.declared.stage.Stage.TheVariants as stages
 use Rattle.model_partition.specs.Range.{RangeState, RangeOutcome, request, picking, is_serving}
-use Rattle.model_partition.specs.ServerRun.{RangeHistory, one_more_read}
-use Rattle.model_partition.specs.StreamActions.{StreamAction, Reads, loading_actions, record_actions, metadata_actions}
+use Rattle.model_histories.specs.ServerRun.{RangeHistory, one_more_read}
+use Rattle.model_histories.specs.StreamActions.{StreamAction, Reads, loading_actions, record_actions, metadata_actions}
 use Rattle.model_partition.specs.Loading.{metadata_news, says, said_after, reads_metadata}
 use Rattle.model_partition.specs.Checkpoints.{record_told}
 use Rattle.model_partition.specs.Answering.{groups_of, metadata_reply}

@@ -10,9 +10,9 @@ use Rattle.model_streams.specs.StreamSystem.{StreamSystem}
 use Rattle.model_partition.specs.declared.stage.Stage.{Stage}
 use Rattle.model_partition.specs.declared.stage.Stage.TheVariants as stages
 use Rattle.model_partition.specs.Range.{RangeState}
-use Rattle.model_partition.specs.ServerRun.{RangeHistory}
-use Rattle.model_partition.specs.StreamActions.{ExtentRead}
-use Rattle.model_partition.specs.StreamMachine as machine
+use Rattle.model_histories.specs.ServerRun.{RangeHistory}
+use Rattle.model_histories.specs.StreamActions.{ExtentRead}
+use Rattle.model_histories.specs.StreamMachine as machine
 use Rattle.laws_ranges.specs.Serves.{metadata_of, log_of}
 use Rattle.laws_log_reads.specs.Reads.{IsSealed, AllSealed, HasStood, AllRead, WereSealed, LastStood, Nothing, HasReadTo, IsShown, AllShown, first_index, HasReadMetadataTo, HasReadMetadata, HasReadLogTo, HasReadAll, HasReadAt, HasRead, HasReadIf, Grown, BothGrown}
 

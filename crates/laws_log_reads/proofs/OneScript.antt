@@ -5,8 +5,8 @@ use Rattle.std.proofs.lemmas.Option.{slice_get-get_or}
 use Rattle.replica.specs.Groups.{Group, size, text_length}
 use Rattle.replica.proofs.Placing.{length-cons}
 use Rattle.streams.specs.Streams.{Stream}
-use Rattle.model_partition.specs.Story.{Copy}
-use Rattle.model_partition.specs.StreamMachine as machine
+use Rattle.model_histories.specs.Story.{Copy}
+use Rattle.model_histories.specs.StreamMachine as machine
 use Rattle.laws_streams.proofs.Ground.{Ground, Sound}
 use Rattle.laws_streams.specs.Origins.{Begins}
 use Rattle.laws_stream_machine.specs.Refinement.{Sent, extents_of}

@@ -22,10 +22,10 @@ use Rattle.model_partition.specs.declared.stage.Stage.{Stage}
 use Rattle.model_partition.specs.declared.stage.Stage.TheVariants as stages
 use Rattle.model_partition.specs.declared.waiting.WaitingGet.{WaitingGet}
 use Rattle.model_partition.specs.Range.{OutGroup, RangeState, RangeOutcome, request, used, goes, answers, if_there, is_serving, is_paused}
-use Rattle.model_partition.specs.ServerRun.{RangeHistory, first_history}
+use Rattle.model_histories.specs.ServerRun.{RangeHistory, first_history}
 use Rattle.model_partition.specs.Serving.{group_count, appends, forms, transact_fault, transacts, transact_rule, record_of, out_size, log_done}
-use Rattle.model_partition.specs.StreamActions.{Forms, group_of, transact_actions}
-use Rattle.model_partition.specs.StreamMachine as machine
+use Rattle.model_histories.specs.StreamActions.{Forms, group_of, transact_actions}
+use Rattle.model_histories.specs.StreamMachine as machine
 use Rattle.model_partition.specs.Checkpoints.{checkpoint_fault, checkpoint_rule}
 use Rattle.model_partition.specs.PlaceReads.{moved_on}
 use Rattle.model_partition.specs.Getting.{get_fault, gets, get_rule, read_at, are_no_page, bytes_come, bytes_rule, gives_up_get}

@@ -15,10 +15,10 @@ use Rattle.model_partition.specs.declared.stage.Stage.{Stage}
 use Rattle.model_partition.specs.declared.stage.Stage.TheVariants as stages
 use Rattle.model_partition.specs.Range.{RangeState}
 use Rattle.model_partition.specs.Loading.{open_region}
-use Rattle.model_partition.specs.ServerRun.{place_number, placed_from, placed_reads, placed_behind}
-use Rattle.model_partition.specs.Story.{Copy, Placed, placed}
-use Rattle.model_partition.specs.StreamActions.{ExtentRead, first_start}
-use Rattle.model_partition.specs.StreamMachine as machine
+use Rattle.model_histories.specs.ServerRun.{place_number, placed_from, placed_reads, placed_behind}
+use Rattle.model_histories.specs.Story.{Copy, Placed, placed}
+use Rattle.model_histories.specs.StreamActions.{ExtentRead, first_start}
+use Rattle.model_histories.specs.StreamMachine as machine
 use Rattle.laws_loads.specs.RangeView.{RangeView}
 use Rattle.laws_loads.proofs.Cells.{size_is}
 use Rattle.laws_loads.proofs.Renaming.{mapped_both}

@@ -4,9 +4,9 @@ use Rattle.std.proofs.Common.{◌≡◌, ℕ, zero, suc, ◌<◌, ◌≤◌, Lis
 use Rattle.std.proofs.lemmas.Bool.Decides.{nat_tests}
 use Rattle.std.proofs.lemmas.Bool.{ltb-false}
 use Rattle.replica.specs.Groups.{Group}
-use Rattle.model_partition.specs.ServerRun.{placed_behind}
-use Rattle.model_partition.specs.Story.{Copy, Placed, placed, from_place}
-use Rattle.model_partition.specs.StreamMachine as machine
+use Rattle.model_histories.specs.ServerRun.{placed_behind}
+use Rattle.model_histories.specs.Story.{Copy, Placed, placed, from_place}
+use Rattle.model_histories.specs.StreamMachine as machine
 use Rattle.laws_stream_machine.proofs.ExtentSteps.{chain_le}
 use Rattle.laws_ranges.proofs.SealedCopies.{first_none, first_more}
 use Rattle.laws_log_reads.specs.Reads.{IsSized}

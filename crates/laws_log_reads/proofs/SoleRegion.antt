@@ -12,9 +12,9 @@ use Rattle.metadata.specs.Reading.{group_at}
 use Rattle.client.specs.Client.{ClientState}
 use Rattle.model_streams.specs.StreamSystem.{StreamSystem}
 use Rattle.model_partition.specs.Loading.{said_after, open_region}
-use Rattle.model_partition.specs.Story.{Copy}
-use Rattle.model_partition.specs.StreamActions.{ExtentRead, first_start}
-use Rattle.model_partition.specs.StreamMachine as machine
+use Rattle.model_histories.specs.Story.{Copy}
+use Rattle.model_histories.specs.StreamActions.{ExtentRead, first_start}
+use Rattle.model_histories.specs.StreamMachine as machine
 use Rattle.laws_ranges.specs.Serves.{known}
 use Rattle.laws_log_reads.specs.Reads.{groups_in, IsCheckpoint, SaysCheckpoint, SayCheckpoints, AllSayCheckpoints, HasCheckpoints, IsSole, AllSealed, AllRead, WereSealed, LastStood, Nothing}
 

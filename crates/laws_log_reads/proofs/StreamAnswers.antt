@@ -16,7 +16,7 @@ use Rattle.client.specs.Client.{ClientState, Outcome, last_extent, ends, ends_ch
 use Rattle.model_streams.specs.StreamSystem.{StreamSystem}
 use Rattle.model_partition.specs.declared.server_context.ServerContext.{ServerContext}
 use Rattle.model_partition.specs.Range.{request, picking}
-use Rattle.model_partition.specs.StreamActions.{ExtentRead}
+use Rattle.model_histories.specs.StreamActions.{ExtentRead}
 use Rattle.laws_stream_machine.specs.Refinement.{Sent, Reads, purpose_of, IsAt, Means}
 use Rattle.laws_stream_machine.proofs.ServerRequests.{same_request}
 use Rattle.laws_ranges.specs.Serves.{Stand, is_live, Listed, LoadsBy, LoadingIs, ReadingIs}

@@ -25,7 +25,7 @@ use Rattle.laws_streams.proofs.ManagerAnswers as manager
 use Rattle.laws_streams.proofs.NodeAnswers as node
 use Rattle.laws_streams.proofs.DecisionAnswers as decision
 use Rattle.laws_streams.proofs.PacketSources.{NodeSends, SentIn, sent_first, notes_stay}
-use Rattle.model_partition.specs.StreamMachine as machine
+use Rattle.model_histories.specs.StreamMachine as machine
 use Rattle.laws_stream_machine.specs.Refinement.{Purpose, Sent, Reads, purpose_of, IsAt}
 use Rattle.laws_stream_machine.proofs.Refines.{Follows}
 use Rattle.laws_log_reads.specs.Reads.{IsShown, ReadShows, Shows}

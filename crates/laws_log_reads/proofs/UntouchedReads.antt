@@ -9,9 +9,9 @@ use Rattle.model_streams.specs.StreamSystem.{StreamSystem}
 use Rattle.model_partition.specs.declared.stage.Stage.{Stage}
 use Rattle.model_partition.specs.declared.stage.Stage.TheVariants as stages
 use Rattle.model_partition.specs.Range.{RangeState}
-use Rattle.model_partition.specs.ServerRun.{RangeHistory}
-use Rattle.model_partition.specs.StreamActions.{ExtentRead, first_start}
-use Rattle.model_partition.specs.StreamMachine as machine
+use Rattle.model_histories.specs.ServerRun.{RangeHistory}
+use Rattle.model_histories.specs.StreamActions.{ExtentRead, first_start}
+use Rattle.model_histories.specs.StreamMachine as machine
 use Rattle.laws_ranges.specs.Serves.{metadata_of, log_of, is_live, known}
 use Rattle.laws_log_reads.specs.Reads.{ReadsBy, AllRead, WereSealed, LastStood, Nothing, HasReadTo, IsSole, SaysSole, first_index, AreUnapplied, HasReadMetadataTo, HasReadMetadata, HasReadLogTo, HasReadAll, HasReadAt, HasRead}
 use Rattle.laws_log_reads.proofs.ReadRequests.{Keeps}

@@ -22,10 +22,10 @@ use Rattle.model_streams.specs.StreamSystem.{StreamSystem}
 use Rattle.model_partition.specs.declared.stage.Stage.{Stage}
 use Rattle.model_partition.specs.declared.stage.Stage.TheVariants as stages
 use Rattle.model_partition.specs.Range.{RangeState, RangeOutcome}
-use Rattle.model_partition.specs.ServerRun.{RangeHistory}
-use Rattle.model_partition.specs.Story.{Copy}
-use Rattle.model_partition.specs.StreamActions.{ExtentRead, StreamAction, first_start}
-use Rattle.model_partition.specs.StreamMachine as machine
+use Rattle.model_histories.specs.ServerRun.{RangeHistory}
+use Rattle.model_histories.specs.Story.{Copy}
+use Rattle.model_histories.specs.StreamActions.{ExtentRead, StreamAction, first_start}
+use Rattle.model_histories.specs.StreamMachine as machine
 use Rattle.laws_loads.specs.RangeView.{RangeView, view_after_all}
 use Rattle.laws_stream_machine.specs.Refinement.{Purpose, Sent, Reads, purpose_of, IsAt}
 use Rattle.laws_stream_machine.proofs.ExtentSteps.{Sized}

@@ -11,7 +11,7 @@ use Rattle.model_partition.specs.Range.{RangeState, RangeOutcome}
 use Rattle.model_partition.specs.PlaceReads.{reads_under, reads_page}
 use Rattle.model_partition.specs.Checkpoints.{rows_reply, trim_awaits}
 use Rattle.model_partition.specs.Answering.{load_reply, metadata_reply, log_reply, is_taken, page_reply, index_reply, trim_reply, gets_reply, answer_rule}
-use Rattle.model_partition.specs.StreamActions.{StreamAction, load_actions, metadata_actions, log_actions, rows_actions, bytes_actions, answer_actions}
+use Rattle.model_histories.specs.StreamActions.{StreamAction, load_actions, metadata_actions, log_actions, rows_actions, bytes_actions, answer_actions}
 use Rattle.laws_stream_machine.specs.Refinement.{Means}
 use Rattle.laws_loads.specs.RangeView.{RangeView}
 use Rattle.laws_ranges.specs.Serves.{Side, metadata_of, log_of, IsCounted, IsPastRows, RowsTold, IsServing, Follows, BothListed, IsSentBy}

@@ -9,8 +9,8 @@ use Rattle.client.specs.declared.job.Job.{Job}
 use Rattle.client.specs.declared.job.Job.TheVariants as jobs
 use Rattle.client.specs.Client.{ClientState, last_extent, append_at, give_up_job}
 use Rattle.model_streams.specs.StreamSystem.{StreamSystem}
-use Rattle.model_partition.specs.StreamMachine as machine
-use Rattle.model_partition.specs.ServerTurns as turns
+use Rattle.model_histories.specs.StreamMachine as machine
+use Rattle.model_histories.specs.ServerTurns as turns
 use Rattle.laws_stream_machine.specs.Refinement.{Purpose, Sent, purpose_of, Seals, Appends, Extends}
 use Rattle.laws_ranges.specs.Serves.{Stand, after_turns, known, LastIs, is_live, number_of, IsTold, SentIs, ClosingIs, GrowingIs, ServesBy, ServingIs, Listed, sent_with, Goes}
 use Rattle.laws_ranges.specs.Quiet.{Quietly, FormsOnly}

@@ -17,8 +17,8 @@ use Rattle.client.specs.declared.job.Job.TheVariants as jobs
 use Rattle.client.specs.declared.job.News.TheVariants as news
 use Rattle.client.specs.Client.{ClientState, Outcome, last_extent, sealed_last, waits, closes, append_refused, reply_rule, grows_behind, appends_again, ends}
 use Rattle.model_streams.specs.StreamSystem.{StreamSystem}
-use Rattle.model_partition.specs.StreamMachine as machine
-use Rattle.model_partition.specs.ServerTurns as turns
+use Rattle.model_histories.specs.StreamMachine as machine
+use Rattle.model_histories.specs.ServerTurns as turns
 use Rattle.laws_stream_machine.specs.Refinement.{Purpose, Sent, purpose_of, Seals, Appends, Extends, IsAt, Means, AppendMeans, SealMeans, StreamMeans}
 use Rattle.laws_ranges.specs.Serves.{Stand, after_turns, known, LastIs, is_live, number_of, IsTold, SentIs, ClosingIs, GrowingIs, ServesBy, ServingIs, Listed, ServesAfter, IsCounted}
 use Rattle.laws_ranges.specs.Quiet.{AppendsOnly, Quietly, MadeBy}

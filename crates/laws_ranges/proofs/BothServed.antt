@@ -21,7 +21,7 @@ use Rattle.model_partition.specs.Checkpoints.{has_record_number, may_record, ind
 use Rattle.model_partition.specs.Loading.{metadata_news}
 use Rattle.model_partition.specs.Serving.{transact_fault, transact_rule}
 use Rattle.model_partition.specs.Answering.{groups_of, metadata_reply, log_reply}
-use Rattle.model_partition.specs.StreamActions.{StreamAction, transact_actions, metadata_actions, index_stood_in}
+use Rattle.model_histories.specs.StreamActions.{StreamAction, transact_actions, metadata_actions, index_stood_in}
 use Rattle.laws_stream_machine.specs.Refinement.{Sent, Means}
 use Rattle.laws_loads.specs.RangeView.{RangeView, view_after_all}
 use Rattle.laws_ranges.specs.Serves.{is_recording_in, RecordIs, Side, after_turns, sent_with, metadata_of, log_of, ServingIs, OutIs, IsCounted, ServesLogIf, Apart, BothListed, IsSentBy}

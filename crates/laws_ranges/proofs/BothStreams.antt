@@ -19,7 +19,7 @@ use Rattle.model_partition.specs.declared.stage.Stage.TheVariants as stages
 use Rattle.model_partition.specs.declared.waiting.WaitingGet.{WaitingGet}
 use Rattle.model_partition.specs.declared.table_note.TableNote.{TableNote}
 use Rattle.model_partition.specs.Range.{RangeState, request, goes}
-use Rattle.model_partition.specs.StreamMachine as machine
+use Rattle.model_histories.specs.StreamMachine as machine
 use Rattle.laws_stream_machine.specs.Refinement.{Purpose, Sent, purpose_of, IsAt, AsksToAppend, AsksToCheck, AsksToRead, AsksToSeal, OfExtent, IsAsked}
 use Rattle.laws_ranges.specs.Serves.{Stand, Side, after_turns, metadata_of, log_of, sent_with, IsNumbered, IsOwn, AreAsked, Goes, StageIs, LoadsMetadata, LoadsLog, Follows, FollowsIf, Apart, BothListed, IsSentBy, AskedOfBoth, RuleGoes}
 use Rattle.laws_ranges.specs.Quiet.{GoesQuietly}

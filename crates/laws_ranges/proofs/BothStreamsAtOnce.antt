@@ -11,7 +11,7 @@ use Rattle.model_partition.specs.declared.server_context.ServerContext.{ServerCo
 use Rattle.model_partition.specs.Range.{RangeState, RangeOutcome, request}
 use Rattle.model_partition.specs.Loading.{confirms}
 use Rattle.model_partition.specs.Server.{new_range}
-use Rattle.model_partition.specs.ServerTurns as turns
+use Rattle.model_histories.specs.ServerTurns as turns
 use Rattle.laws_stream_machine.specs.Refinement.{Purpose, Sent, purpose_of, Opens, Confirms, IsAsked}
 use Rattle.laws_ranges.specs.Serves.{RowsStand, HasNoCheckpoint, Side, after_turns, sent_with, is_alone, metadata_of, log_of, LoadingIs, Goes, Apart, IsSentBy, RuleGoes}
 use Rattle.laws_ranges.proofs.RowData.{rows_idle}

@@ -28,7 +28,7 @@ use Rattle.model_partition.specs.declared.waiting.PlaceRead.{PlaceRead}
 use Rattle.model_partition.specs.Range.{RangeState, RangeOutcome, request, given, picking, goes, answers, dropped, is_serving, is_paused}
 use Rattle.model_partition.specs.PlaceReads.{reads_place}
 use Rattle.model_partition.specs.Checkpoints.{checkpoint_fault, number_to_apply, have_bytes, combines, with_fixed, begins_pages, begins_combining, checkpoint_rule, new_job, new_combining_job, combined_pages, combined_job, merges, next_append, index_if_fit, with_phase, writes_pages, rows_go, pages_stand, index_stands, rows_stand, rows_told, rows_may_stand, rows_reply, may_record}
-use Rattle.model_partition.specs.StreamActions.{StreamAction, Stores, index_stood_in, index_stood, rows_told_actions, rows_actions}
+use Rattle.model_histories.specs.StreamActions.{StreamAction, Stores, index_stood_in, index_stood, rows_told_actions, rows_actions}
 use Rattle.laws_stream_machine.specs.Refinement.{Sent}
 use Rattle.laws_loads.specs.RangeView.{RangeView, view_after_all}
 use Rattle.laws_loads.proofs.PageAnswers.{read_of, merged, unread, merges_elim}

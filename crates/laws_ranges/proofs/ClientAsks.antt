@@ -14,7 +14,7 @@ use Rattle.wire.specs.declared.streams.StreamExtent.{StreamExtent}
 use Rattle.wire.specs.declared.streams.StreamName.{StreamName}
 use Rattle.client.specs.Client.{ClientState, last_extent}
 use Rattle.model_streams.specs.StreamSystem.{StreamSystem}
-use Rattle.model_partition.specs.StreamMachine as machine
+use Rattle.model_histories.specs.StreamMachine as machine
 use Rattle.laws_stream_machine.specs.Refinement.{Sent, purpose_of, Checks, Seals, Reads, Appends, Extends, IsAt, extents_in, last_known, IsAsked}
 use Rattle.laws_ranges.specs.Serves.{Stand, known, LastIs, number_of, IsTold, Listed, IsOwn}
 

@@ -19,8 +19,8 @@ use Rattle.model_partition.specs.declared.server_context.ServerContext.{ServerCo
 use Rattle.model_partition.specs.declared.table_note.TableNote.TheVariants as notes
 use Rattle.model_partition.specs.Range.{RangeState, RangeOutcome, request, dropped, waiting_out}
 use Rattle.model_partition.specs.Loading.{log_end, serves, serves_from, serves_region, shown_table, has_position, open_region}
-use Rattle.model_partition.specs.StreamMachine as machine
-use Rattle.model_partition.specs.ServerTurns as turns
+use Rattle.model_histories.specs.StreamMachine as machine
+use Rattle.model_histories.specs.ServerTurns as turns
 use Rattle.laws_stream_machine.specs.Refinement.{Sent, purpose_of, Means, StreamMeans}
 use Rattle.laws_stream_machine.proofs.ServerRequests.{same_request}
 use Rattle.laws_ranges.specs.Serves.{RowsStand, BeginsRightly, BeginsInLog, TrimsJob, JobIs, IsRecord, is_recording_in, HasNoCheckpoint, Stand, Side, after_turns, known, is_live, sent_with, metadata_of, log_of, OutIs, ServesBy, ServingIs, ConfirmingIs, Apart, BothListed, IsSentBy, IsConfirming, RuleGoes}

@@ -11,9 +11,9 @@ use Rattle.client.specs.declared.job.Place.{Place}
 use Rattle.client.specs.Client.{ClientState, last_extent, sealed_last, checks_last, shuts, reads_groups, ends_checked, ends_sealed, ends, give_up_job, next_place}
 use Rattle.client.specs.declared.job.News.TheVariants as news
 use Rattle.model_streams.specs.StreamSystem.{StreamSystem}
-use Rattle.model_partition.specs.Story.{Copy}
-use Rattle.model_partition.specs.StreamMachine as machine
-use Rattle.model_partition.specs.ServerTurns as turns
+use Rattle.model_histories.specs.Story.{Copy}
+use Rattle.model_histories.specs.StreamMachine as machine
+use Rattle.model_histories.specs.ServerTurns as turns
 use Rattle.laws_stream_machine.specs.Refinement.{Purpose, Sent, purpose_of, Checks, Seals, Reads, IsAt}
 use Rattle.laws_ranges.specs.Serves.{Stand, after_turns, known, LastIs, is_live, IsTold, CheckingIs, ShuttingIs, FoundIs, Readable, WasSealed, WasFound, WasShut, ReadingIs, LoadsBy, LoadingIs, UnreadIs, Listed, Goes}
 use Rattle.laws_ranges.proofs.MachineSteps.{newest}

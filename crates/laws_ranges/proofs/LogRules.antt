@@ -29,9 +29,9 @@ use Rattle.commitlog.specs.Places.{kept}
 use Rattle.memtable.specs.Entries.{put_all}
 use Rattle.model_partition.specs.Loading.{log_news}
 use Rattle.model_partition.specs.Answering.{serving_news, log_taken, log_reply, is_taken, groups_of}
-use Rattle.model_partition.specs.ServerTurns as turns
-use Rattle.model_partition.specs.StreamActions as actions
-use Rattle.model_partition.specs.StreamActions.{StreamAction}
+use Rattle.model_histories.specs.ServerTurns as turns
+use Rattle.model_histories.specs.StreamActions as actions
+use Rattle.model_histories.specs.StreamActions.{StreamAction}
 use Rattle.laws_stream_machine.specs.Refinement.{Sent, purpose_of, Means}
 use Rattle.laws_ranges.specs.Serves.{Stand, after_turns, AreTurns, group_in, known, is_live, IsTold, ServesBy, ServingIs, Listed, sent_with, IsAskedIf, Goes, ServesAfter, IsCounted, GroupIs, OutIs, log_of, AreAsked, ServesLog, ServesLogIf}
 use Rattle.laws_ranges.specs.Seen.{AreOf, AreSeenOf, LogRule}

@@ -8,9 +8,9 @@ use Rattle.wire.specs.declared.streams.StreamName.{StreamName}
 use Rattle.replica.specs.Groups.{Group}
 use Rattle.client.specs.Requests.{is_same}
 use Rattle.model_streams.specs.StreamSystem.{StreamSystem}
-use Rattle.model_partition.specs.StreamMachine.{SealedExtent, shut_at}
-use Rattle.model_partition.specs.ServerTurns.{Turn, Whole, Move, Above, moved}
-use Rattle.model_partition.specs.ServerTurns as turns
+use Rattle.model_histories.specs.StreamMachine.{SealedExtent, shut_at}
+use Rattle.model_histories.specs.ServerTurns.{Turn, Whole, Move, Above, moved}
+use Rattle.model_histories.specs.ServerTurns as turns
 use Rattle.laws_stream_machine.specs.Refinement.{Purpose, Sent, purpose_of}
 use Rattle.laws_stream_machine.proofs.ServerRequests.{same_request}
 use Rattle.laws_stream_machine.proofs.StepSequences.{Onward, onward_refl, onward_trans, all_onward, shut_within}

@@ -11,7 +11,7 @@ use Rattle.model_partition.specs.declared.stage.Stage.{Stage}
 use Rattle.model_partition.specs.declared.stage.Stage.TheVariants as stages
 use Rattle.model_partition.specs.Range.{RangeState}
 use Rattle.replica.specs.Groups.{Group}
-use Rattle.model_partition.specs.Story.{Copy}
+use Rattle.model_histories.specs.Story.{Copy}
 use Rattle.laws_stream_machine.specs.Refinement.{Sent, Tells, IsAt}
 use Rattle.laws_ranges.specs.Serves.{Stand, Side, Wider, known, IsTold, ServesBy, FoundIs, Readable, WasSealed, WasFound, WasShut, LoadsBy, LoadingIs, OpeningIs, ConfirmingIs, LoadOf, OfSealed, OfStood, ServingIs, UnreadIs, metadata_of, log_of, LoadsMetadata, LoadsLog, StageIs, Follows, rows_of, IsAside, RowsJob}
 use Rattle.laws_ranges.proofs.MachineSteps.{request_same}

@@ -6,11 +6,11 @@ use Rattle.wire.specs.declared.streams.StreamKind.{StreamKind}
 use Rattle.wire.specs.declared.streams.StreamKind.TheVariants as kinds
 use Rattle.streams.specs.declared.table.Position.{Position}
 use Rattle.replica.specs.Groups.{Group}
-use Rattle.model_partition.specs.ServerRun.{RangeHistory, is_kind, begun_at, place_number}
-use Rattle.model_partition.specs.ServerTurns as turns
-use Rattle.model_partition.specs.Story.{StreamEvent, Made, Answered, Story}
-use Rattle.model_partition.specs.StreamActions.{StreamAction, Reads, Forms, Stands, Shows, Finds, Stores}
-use Rattle.model_partition.specs.StreamMachine as machine
+use Rattle.model_histories.specs.ServerRun.{RangeHistory, is_kind, begun_at, place_number}
+use Rattle.model_histories.specs.ServerTurns as turns
+use Rattle.model_histories.specs.Story.{StreamEvent, Made, Answered, Story}
+use Rattle.model_histories.specs.StreamActions.{StreamAction, Reads, Forms, Stands, Shows, Finds, Stores}
+use Rattle.model_histories.specs.StreamMachine as machine
 use Rattle.laws_loads.specs.RangeView.{RangeView, with_kind, view_after, view_after_all}
 use Rattle.laws_ranges.specs.Serves.{Stand, after_turns}
 use Rattle.laws_ranges.specs.Quiet.{IsQuiet, AreQuiet, AreReads}

@@ -10,8 +10,8 @@ use Rattle.replica.specs.Groups.{Group}
 use Rattle.client.specs.declared.job.Job.TheVariants as jobs
 use Rattle.client.specs.Client.{ClientState, last_extent}
 use Rattle.model_streams.specs.StreamSystem.{StreamSystem}
-use Rattle.model_partition.specs.StreamMachine as machine
-use Rattle.model_partition.specs.ServerTurns as turns
+use Rattle.model_histories.specs.StreamMachine as machine
+use Rattle.model_histories.specs.ServerTurns as turns
 use Rattle.laws_stream_machine.specs.Refinement.{Sent, purpose_of, Opens, Confirms, IsAsked}
 use Rattle.laws_ranges.specs.Serves.{Stand, known, is_live, IsTold, Readable, WasSealed, WasFound, WasShut, LoadsBy, LoadingIs, UnreadIs, OpeningIs, ConfirmingIs, OfSealed, OfStood, Goes}
 use Rattle.laws_ranges.proofs.MachineSteps.{newest, is_within}

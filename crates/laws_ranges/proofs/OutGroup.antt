@@ -13,7 +13,7 @@ use Rattle.client.specs.declared.job.News.{News}
 use Rattle.client.specs.declared.job.News.TheVariants as news
 use Rattle.client.specs.Client.{ClientState, Outcome, last_extent, waits, append_refused, reply_rule, append_at, append_behind, give_up_job}
 use Rattle.model_partition.specs.Range.{OutGroup}
-use Rattle.model_partition.specs.ServerTurns as turns
+use Rattle.model_histories.specs.ServerTurns as turns
 use Rattle.laws_stream_machine.specs.Refinement.{Sent}
 use Rattle.model_streams.specs.StreamSystem.{StreamSystem}
 use Rattle.wire.specs.declared.streams.StreamName.{StreamName}

@@ -1,8 +1,8 @@
 -- Quiet turns leave the story as it was; and turns after turns.
 use Rattle.std.proofs.Common.{◌≡◌, ℕ, zero, suc, true, false, List, [], ◌∷◌, ◌++◌, refl, ap, ◌∙◌, subst}
 use Rattle.replica.specs.Groups.{Group}
-use Rattle.model_partition.specs.StreamMachine as machine
-use Rattle.model_partition.specs.ServerTurns as turns
+use Rattle.model_histories.specs.StreamMachine as machine
+use Rattle.model_histories.specs.ServerTurns as turns
 use Rattle.laws_ranges.specs.Serves.{Stand, turned, after_turns, AreTurns}
 use Rattle.laws_ranges.specs.Quiet.{IsQuiet, AreQuiet, IsLoading}
 

@@ -8,9 +8,9 @@ use Rattle.client.specs.Client.{ClientState, last_extent}
 use Rattle.model_streams.specs.StreamSystem.{StreamSystem}
 use Rattle.model_partition.specs.Range.{position_le, later}
 use Rattle.model_partition.specs.Loading.{length_or, log_end}
-use Rattle.model_partition.specs.ServerRun.{place_number}
-use Rattle.model_partition.specs.StreamActions.{read_end}
-use Rattle.model_partition.specs.StreamMachine as machine
+use Rattle.model_histories.specs.ServerRun.{place_number}
+use Rattle.model_histories.specs.StreamActions.{read_end}
+use Rattle.model_histories.specs.StreamMachine as machine
 use Rattle.laws_stream_machine.specs.Refinement.{Sent}
 use Rattle.laws_ranges.specs.Serves.{Stand, known, is_live, IsTold, FoundIs}
 use Rattle.laws_ranges.proofs.ClientAsks.{none_last, some_last}

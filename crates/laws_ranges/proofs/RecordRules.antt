@@ -23,8 +23,8 @@ use Rattle.model_partition.specs.Range.{RangeState, RangeOutcome, request, goes,
 use Rattle.model_partition.specs.Checkpoints.{has_record_number, may_record, trims, index_place, with_phase, records, index_stands, trim_index, have_places, recorded, record_stands, record_told}
 use Rattle.model_partition.specs.Loading.{metadata_news}
 use Rattle.model_partition.specs.Answering.{groups_of, metadata_reply}
-use Rattle.model_partition.specs.ServerTurns as turns
-use Rattle.model_partition.specs.StreamActions.{StreamAction, Forms, Stands, last_position, loading_actions, record_group, record_stood_in, record_stood, record_actions, metadata_actions, index_stood_in}
+use Rattle.model_histories.specs.ServerTurns as turns
+use Rattle.model_histories.specs.StreamActions.{StreamAction, Forms, Stands, last_position, loading_actions, record_group, record_stood_in, record_stood, record_actions, metadata_actions, index_stood_in}
 use Rattle.laws_stream_machine.specs.Refinement.{Sent, purpose_of, Means}
 use Rattle.laws_ranges.specs.Serves.{IsRecord, is_recording_in, Stand, after_turns, known, is_live, IsTold, ServesBy, ServingIs, Listed, sent_with, Goes, ServesAfter, IsCounted, JobIs, metadata_of}
 use Rattle.laws_ranges.specs.Quiet.{AreQuiet, IsSent, AppendsOnly, FormsOnly, MadeBy}

@@ -15,7 +15,7 @@ use Rattle.client.specs.Client.{awaits}
 use Rattle.model_streams.specs.Manager.{sealed_lengths}
 use Rattle.model_streams.specs.StreamSystem.{StreamSystem}
 use Rattle.model_partition.specs.Range.{RangeState}
-use Rattle.model_partition.specs.StreamMachine as machine
+use Rattle.model_histories.specs.StreamMachine as machine
 use Rattle.laws_stream_machine.specs.Refinement.{Sent, purpose_of, IsAt, IsAsked, OfExtent}
 use Rattle.laws_ranges.specs.Serves.{Side, metadata_of, log_of, rows_of, IsOfRows, IsAside, BothListed, IsKnown, BuildsNone, AskedOfBoth}
 use Rattle.laws_ranges.proofs.RowData.{IsRequest, IsRequestIf}

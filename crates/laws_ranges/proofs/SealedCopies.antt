@@ -3,7 +3,7 @@ use Rattle.std.proofs.Common.{◌≡◌, ℕ, zero, suc, ◌<◌, ◌≤◌, Lis
 use Rattle.std.proofs.lemmas.Bool.Decides.{nat_tests}
 use Rattle.std.proofs.lemmas.Bool.{leb-true, leb-false, eqb-true}
 use Rattle.replica.specs.Groups.{Group}
-use Rattle.model_partition.specs.StreamMachine.{SealedExtent, shut_at, first, all_shut, last_end}
+use Rattle.model_histories.specs.StreamMachine.{SealedExtent, shut_at, first, all_shut, last_end}
 use Rattle.laws_ranges.proofs.MachineSteps.{is_within}
 
 -- all of a list is its first so many

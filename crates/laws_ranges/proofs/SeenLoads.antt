@@ -27,8 +27,8 @@ use Rattle.model_partition.specs.Answering.{answered_number, load_told, load_rep
 use Rattle.model_partition.specs.Checkpoints.{trim_awaits}
 use Rattle.model_partition.specs.PlaceReads.{reads_under}
 use Rattle.laws_tables.specs.Runs.{start_number}
-use Rattle.model_partition.specs.ServerTurns as turns
-use Rattle.model_partition.specs.StreamActions.{StreamAction, Shows, first_start, read_end, bytes_told_actions, bytes_actions, loading_actions, confirmed_actions, load_actions, answered_actions, answer_actions}
+use Rattle.model_histories.specs.ServerTurns as turns
+use Rattle.model_histories.specs.StreamActions.{StreamAction, Shows, first_start, read_end, bytes_told_actions, bytes_actions, loading_actions, confirmed_actions, load_actions, answered_actions, answer_actions}
 use Rattle.laws_stream_machine.specs.Refinement.{Means}
 use Rattle.laws_loads.specs.RangeView.{RangeView}
 use Rattle.laws_loads.specs.StaysLoading.{IsConfirmation}

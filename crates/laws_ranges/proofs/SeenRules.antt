@@ -14,8 +14,8 @@ use Rattle.model_partition.specs.Serving.{transact_fault, transacts, transact_ru
 use Rattle.model_partition.specs.Getting.{get_rule}
 use Rattle.model_partition.specs.Checkpoints.{checkpoint_fault, checkpoint_rule}
 use Rattle.model_partition.specs.Answering.{answered_number, answer_rule, give_up_all}
-use Rattle.model_partition.specs.ServerTurns as turns
-use Rattle.model_partition.specs.StreamActions.{StreamAction, transact_actions, answer_actions}
+use Rattle.model_histories.specs.ServerTurns as turns
+use Rattle.model_histories.specs.StreamActions.{StreamAction, transact_actions, answer_actions}
 use Rattle.laws_stream_machine.specs.Refinement.{Means}
 use Rattle.laws_loads.specs.RangeView.{RangeView}
 use Rattle.laws_loads.specs.StaysLoading.{IsConfirmation}

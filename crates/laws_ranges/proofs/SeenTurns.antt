@@ -7,10 +7,10 @@ use Rattle.replica.specs.Groups.{Group}
 use Rattle.model_streams.specs.StreamSystem.{StreamSystem}
 use Rattle.model_partition.specs.declared.server_context.ServerContext.{ServerContext}
 use Rattle.model_partition.specs.Range.{RangeOutcome}
-use Rattle.model_partition.specs.ServerRun.{place_number, placed_reads, placed_behind}
-use Rattle.model_partition.specs.ServerTurns as turns
-use Rattle.model_partition.specs.Story.{Showed, Story, Placed, Copy, placed, from_place}
-use Rattle.model_partition.specs.StreamActions.{StreamAction, Shows}
+use Rattle.model_histories.specs.ServerRun.{place_number, placed_reads, placed_behind}
+use Rattle.model_histories.specs.ServerTurns as turns
+use Rattle.model_histories.specs.Story.{Showed, Story, Placed, Copy, placed, from_place}
+use Rattle.model_histories.specs.StreamActions.{StreamAction, Shows}
 use Rattle.laws_loads.specs.RangeView.{RangeView, view_after_all}
 use Rattle.laws_ranges.specs.Serves.{Stand, Side, after_turns}
 use Rattle.laws_ranges.specs.Quiet.{AreQuiet, GoesQuietly, AreReads}

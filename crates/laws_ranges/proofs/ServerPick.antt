@@ -11,8 +11,8 @@ use Rattle.model_streams.specs.StreamSystem.{StreamSystem}
 use Rattle.model_partition.specs.declared.server_context.ServerContext.{ServerContext}
 use Rattle.model_partition.specs.Range.{request, given, picking}
 use Rattle.replica.specs.Groups.{Group}
-use Rattle.model_partition.specs.StreamMachine as machine
-use Rattle.model_partition.specs.Story.{Copy}
+use Rattle.model_histories.specs.StreamMachine as machine
+use Rattle.model_histories.specs.Story.{Copy}
 use Rattle.model_partition.specs.Loading.{read_of}
 use Rattle.laws_stream_machine.specs.Refinement.{Sent, purpose_of}
 use Rattle.laws_ranges.specs.Serves.{Stand, known, LastIs, Readable, WasSealed, WasFound, WasShut, LoadsBy, LoadingIs, UnreadIs, ConfirmingIs, LoadOf, OfSealed, OfStood, Listed, Goes}

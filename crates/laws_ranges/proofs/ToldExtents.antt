@@ -6,7 +6,7 @@ use Rattle.wire.specs.declared.streams.StreamExtent.{StreamExtent}
 use Rattle.wire.specs.declared.streams.StreamName.{StreamName}
 use Rattle.client.specs.Client.{ClientState, last_extent, sealed_last, sealed_last_if}
 use Rattle.model_streams.specs.StreamSystem.{StreamSystem}
-use Rattle.model_partition.specs.StreamMachine as machine
+use Rattle.model_histories.specs.StreamMachine as machine
 use Rattle.replica.specs.Groups.{Group}
 use Rattle.laws_loads.proofs.Renaming.{more_length}
 use Rattle.laws_stream_machine.specs.Refinement.{Sent, IsAt, extents_in}

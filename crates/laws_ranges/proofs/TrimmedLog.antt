@@ -14,8 +14,8 @@ use Rattle.client.specs.declared.job.Job.{Job}
 use Rattle.client.specs.declared.job.Job.TheVariants as jobs
 use Rattle.client.specs.Client.{ClientState, last_extent}
 use Rattle.model_streams.specs.StreamSystem.{StreamSystem}
-use Rattle.model_partition.specs.ServerTurns as turns
-use Rattle.model_partition.specs.StreamMachine as machine
+use Rattle.model_histories.specs.ServerTurns as turns
+use Rattle.model_histories.specs.StreamMachine as machine
 use Rattle.laws_stream_machine.specs.Refinement.{Sent, purpose_of, Extends, IsAt, extents_in}
 use Rattle.laws_ranges.specs.Serves.{BeginsInLog, log_of, Stand, known, is_live, number_of, LastIs, IsTold, ServesBy, ServingIs}
 

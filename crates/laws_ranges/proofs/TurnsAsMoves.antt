@@ -2,7 +2,7 @@
 use Rattle.std.proofs.Common.{◌≡◌, ℕ, List, [], ◌∷◌, ◌++◌, Bool, true, false, refl, sym, ap, ◌∙◌, subst, arith, if◌then◌else◌, ◌==◌}
 use Rattle.std.proofs.lemmas.Bool.Decides.{nat_tests}
 use Rattle.replica.specs.Groups.{Group}
-use Rattle.model_partition.specs.ServerTurns.{Turn, Whole, Move, Above, moved, after_all, AreMoves, IsTurn}
+use Rattle.model_histories.specs.ServerTurns.{Turn, Whole, Move, Above, moved, after_all, AreMoves, IsTurn}
 use Rattle.laws_tables.proofs.Index.{index_is_right}
 use Rattle.laws_ranges.specs.Serves.{Stand, turned, after_turns, AreTurns, IsCounted}
 

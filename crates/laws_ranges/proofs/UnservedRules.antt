@@ -11,7 +11,7 @@ use Rattle.model_partition.specs.declared.server_context.ServerContext.{ServerCo
 use Rattle.model_partition.specs.declared.stage.Stage.{Stage}
 use Rattle.model_partition.specs.declared.stage.Stage.TheVariants as stages
 use Rattle.model_partition.specs.Range.{RangeState, RangeOutcome, is_serving}
-use Rattle.model_partition.specs.ServerTurns as turns
+use Rattle.model_histories.specs.ServerTurns as turns
 use Rattle.laws_stream_machine.specs.Refinement.{Sent}
 use Rattle.laws_ranges.specs.Serves.{Stand, Side, after_turns, metadata_of, log_of, Readable, WasSealed, WasFound, WasShut, LoadsBy, StageIs, Follows, FollowsIf, RuleGoes}
 use Rattle.laws_ranges.specs.Quiet.{IsLoading, AreQuiet, GoesQuietly}

@@ -5,7 +5,7 @@ use Rattle.model_streams.specs.StreamSystem.{StreamSystem}
 use Rattle.model_partition.specs.declared.server_context.ServerContext.{ServerContext}
 use Rattle.model_partition.specs.declared.stage.Stage.TheVariants as stages
 use Rattle.model_partition.specs.Range.{RangeState, RangeOutcome, is_serving}
-use Rattle.model_partition.specs.StreamActions.{StreamAction}
+use Rattle.model_histories.specs.StreamActions.{StreamAction}
 use Rattle.laws_stream_machine.specs.Refinement.{Sent}
 use Rattle.laws_loads.specs.RangeView.{RangeView}
 use Rattle.laws_ranges.specs.Serves.{Side, RowsStand, BeginsInLog, TrimsJob, StageIs, IsServing, Follows, FollowsIf, IsPastRows, BothListed, IsSentBy, AskedOfBoth}

@@ -10,11 +10,11 @@ use Rattle.client.specs.Client.{ClientState}
 use Rattle.model_streams.specs.StreamSystem.{StreamSystem}
 use Rattle.model_partition.specs.declared.server_context.ServerContext.{ServerContext}
 use Rattle.model_partition.specs.Range.{OutGroup, RangeOutcome}
-use Rattle.model_partition.specs.ServerRun.{place_number}
+use Rattle.model_histories.specs.ServerRun.{place_number}
 use Rattle.model_partition.specs.Serving.{record_of}
-use Rattle.model_partition.specs.Story.{Copy}
-use Rattle.model_partition.specs.StreamActions.{StreamAction, Reads, Forms, Stands, Shows, Finds, Stores, last_position}
-use Rattle.model_partition.specs.ServerTurns as turns
+use Rattle.model_histories.specs.Story.{Copy}
+use Rattle.model_histories.specs.StreamActions.{StreamAction, Reads, Forms, Stands, Shows, Finds, Stores, last_position}
+use Rattle.model_histories.specs.ServerTurns as turns
 use Rattle.laws_ranges.specs.Serves.{Stand, Side, group_in, RuleGoes}
 
 abbrev pub IsQuiet : turns.Turn Group → Type 0

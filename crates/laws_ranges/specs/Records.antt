@@ -10,8 +10,8 @@ use Rattle.model_streams.specs.StreamSystem.{StreamSystem}
 use Rattle.model_partition.specs.declared.server_context.ServerContext.{ServerContext}
 use Rattle.model_partition.specs.declared.stage.Stage.TheVariants as stages
 use Rattle.model_partition.specs.Range.{RangeState, RangeOutcome, request}
-use Rattle.model_partition.specs.ServerTurns as turns
-use Rattle.model_partition.specs.StreamActions.{StreamAction}
+use Rattle.model_histories.specs.ServerTurns as turns
+use Rattle.model_histories.specs.StreamActions.{StreamAction}
 use Rattle.laws_stream_machine.specs.Refinement.{Purpose, Sent}
 use Rattle.laws_loads.specs.RangeView.{RangeView}
 use Rattle.laws_ranges.specs.Serves.{Stand, Side, BothGo, ServesLog, after_turns, AreTurns, RecordIs, metadata_of, ServingIs, sent_with, AreAsked}

@@ -6,11 +6,11 @@ use Rattle.replica.specs.Groups.{Group}
 use Rattle.model_streams.specs.StreamSystem.{StreamSystem}
 use Rattle.model_partition.specs.declared.server_context.ServerContext.{ServerContext}
 use Rattle.model_partition.specs.Range.{RangeState, RangeOutcome, request}
-use Rattle.model_partition.specs.ServerRun.{placed_reads, placed_behind}
-use Rattle.model_partition.specs.ServerTurns as turns
-use Rattle.model_partition.specs.Story.{placed, from_place}
-use Rattle.model_partition.specs.StreamActions as actions
-use Rattle.model_partition.specs.StreamActions.{StreamAction}
+use Rattle.model_histories.specs.ServerRun.{placed_reads, placed_behind}
+use Rattle.model_histories.specs.ServerTurns as turns
+use Rattle.model_histories.specs.Story.{placed, from_place}
+use Rattle.model_histories.specs.StreamActions as actions
+use Rattle.model_histories.specs.StreamActions.{StreamAction}
 use Rattle.laws_stream_machine.specs.Refinement.{Purpose, Sent}
 use Rattle.laws_tables.specs.Runs.{start_number}
 use Rattle.laws_loads.specs.RangeView.{RangeView, view_after_all}

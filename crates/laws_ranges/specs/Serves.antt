@@ -40,12 +40,12 @@ use Rattle.model_partition.specs.declared.stage.Stage.{Stage}
 use Rattle.model_partition.specs.declared.stage.Stage.TheVariants as stages
 use Rattle.model_partition.specs.Range.{OutGroup, RangeState, RangeOutcome, is_serving}
 use Rattle.model_partition.specs.Loading.{open_region}
-use Rattle.model_partition.specs.ServerRun.{place_number}
+use Rattle.model_histories.specs.ServerRun.{place_number}
 use Rattle.model_partition.specs.Serving.{record_of}
-use Rattle.model_partition.specs.Story.{Copy}
-use Rattle.model_partition.specs.StreamActions.{read_end, record_group}
-use Rattle.model_partition.specs.StreamMachine as machine
-use Rattle.model_partition.specs.ServerTurns as turns
+use Rattle.model_histories.specs.Story.{Copy}
+use Rattle.model_histories.specs.StreamActions.{read_end, record_group}
+use Rattle.model_histories.specs.StreamMachine as machine
+use Rattle.model_histories.specs.ServerTurns as turns
 use Rattle.laws_stream_machine.specs.Refinement.{Purpose, Sent, purpose_of, asked_number, extents_in, Opens, Checks, Seals, Reads, Confirms, Appends, Extends, Tells, IsAt, IsAsked}
 
 -- ---- turns of one incarnation

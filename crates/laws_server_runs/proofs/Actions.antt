@@ -8,9 +8,9 @@ use Rattle.block_types.specs.Limits.{group_size}
 use Rattle.replica.specs.Groups.{joined}
 use Rattle.model_streams.specs.Maps.{changed, entry_at}
 use Rattle.model_partition.specs.Loading.{Group}
-use Rattle.model_partition.specs.Story.{StreamEvent, Story, Made, Answered, Showed}
-use Rattle.model_partition.specs.StreamActions.{StreamAction, Reads, Forms, Stands, Shows, Finds, Stores, PlacedBytes}
-use Rattle.model_partition.specs.ServerRun.{ServerRun, RangeHistory, ServerEvent, Takes, GivesUp, Checkpoints, Splits, Stops, Starts, Moment, RangeEffect, Begins, Does, Rests, after_action, after_actions, with_event, with_effect, cell_effect, after_event, is_kind, is_stream, one_more_read, begun_at, stream_named, place_number, placed_reads, placed_behind, bytes_read}
+use Rattle.model_histories.specs.Story.{StreamEvent, Story, Made, Answered, Showed}
+use Rattle.model_histories.specs.StreamActions.{StreamAction, Reads, Forms, Stands, Shows, Finds, Stores, PlacedBytes}
+use Rattle.model_histories.specs.ServerRun.{ServerRun, RangeHistory, ServerEvent, Takes, GivesUp, Checkpoints, Splits, Stops, Starts, Moment, RangeEffect, Begins, Does, Rests, after_action, after_actions, with_event, with_effect, cell_effect, after_event, is_kind, is_stream, one_more_read, begun_at, stream_named, place_number, placed_reads, placed_behind, bytes_read}
 use Rattle.laws_loads.specs.RangeView.{view_after, view_after_all}
 use Rattle.laws_server_runs.specs.RangeInvariant.{IsLonger}
 use Rattle.laws_server_runs.specs.RunInvariant.{view_at}

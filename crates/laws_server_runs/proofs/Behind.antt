@@ -9,9 +9,9 @@ use Rattle.wire.specs.declared.streams.StreamExtent.{StreamExtent}
 use Rattle.client.specs.Client.{ClientState, last_extent}
 use Rattle.model_partition.specs.Range.{later}
 use Rattle.model_partition.specs.Loading.{Group, are_counted, has_end, has_position, is_before, length_or, log_end}
-use Rattle.model_partition.specs.StreamActions.{read_end}
-use Rattle.model_partition.specs.Story.{Placed}
-use Rattle.model_partition.specs.ServerRun.{place_number, placed_behind}
+use Rattle.model_histories.specs.StreamActions.{read_end}
+use Rattle.model_histories.specs.Story.{Placed}
+use Rattle.model_histories.specs.ServerRun.{place_number, placed_behind}
 use Rattle.laws_tables.proofs.Loads.{greater_left}
 use Rattle.laws_tables.specs.Runs.{greater}
 use Rattle.laws_server_runs.specs.RangeInvariant.{EndFits, LengthFits}

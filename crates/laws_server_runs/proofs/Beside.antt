@@ -5,13 +5,13 @@ use Rattle.wire.specs.declared.streams.StreamKind.{StreamKind}
 use Rattle.wire.specs.declared.streams.StreamKind.TheVariants as kinds
 use Rattle.model_streams.specs.Maps.{entry_at}
 use Rattle.model_partition.specs.declared.server_context.ServerContext.{ServerContext}
-use Rattle.model_partition.specs.Log.{only}
+use Rattle.model_histories.specs.Log.{only}
 use Rattle.model_partition.specs.Past.{Bytes}
 use Rattle.model_partition.specs.Range.{RangeState, is_serving}
 use Rattle.model_partition.specs.Server.{ServerState, range_of, new_range}
 use Rattle.model_partition.specs.Servers.{ServerCell}
-use Rattle.model_partition.specs.ServerRun.{ServerRun, first_history, stream_named}
-use Rattle.model_partition.specs.ServedTables.{AreSeenAs, ServesAt}
+use Rattle.model_histories.specs.ServerRun.{ServerRun, first_history, stream_named}
+use Rattle.model_histories.specs.ServedTables.{AreSeenAs, ServesAt}
 use Rattle.laws_server_runs.specs.RangeInvariant.{RangeKept, AreObserved, Rests}
 use Rattle.laws_server_runs.specs.RunInvariant.{view_at, RunKept}
 use Rattle.laws_server_runs.proofs.Loads.{new_kept}

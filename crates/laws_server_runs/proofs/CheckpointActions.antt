@@ -15,7 +15,7 @@ use Rattle.model_partition.specs.declared.server_context.ServerContext.{ServerCo
 use Rattle.model_partition.specs.Checkpoints.{may_record, index_place, rows_may_stand}
 use Rattle.model_partition.specs.Loading.{Group}
 use Rattle.model_partition.specs.Range.{RangeState, request, picking}
-use Rattle.model_partition.specs.StreamActions.{PlacedBytes, StreamAction, Forms, Stands, Stores, last_position, record_group, record_stood_in, record_stood, record_actions, index_stood_in, index_stood, rows_told_actions, rows_actions}
+use Rattle.model_histories.specs.StreamActions.{PlacedBytes, StreamAction, Forms, Stands, Stores, last_position, record_group, record_stood_in, record_stood, record_actions, index_stood_in, index_stood, rows_told_actions, rows_actions}
 
 -- an answer to row data's client
 module _ (Is : List StreamAction → Type 0) (d : ServerContext) (r : RangeState) (nothing : Is []) (stores : (stored : PlacedBytes) → Is (Stores stored ∷ []))

@@ -20,8 +20,8 @@ use Rattle.model_partition.specs.Checkpoints.{number_to_apply, new_job, with_pha
 use Rattle.model_partition.specs.Loading.{Group}
 use Rattle.model_partition.specs.Past.{Bytes}
 use Rattle.model_partition.specs.Range.{RangeState}
-use Rattle.model_partition.specs.ServedTables.{AllStand}
-use Rattle.model_partition.specs.ServerRun.{place_number}
+use Rattle.model_histories.specs.ServedTables.{AllStand}
+use Rattle.model_histories.specs.ServerRun.{place_number}
 use Rattle.laws_loads.proofs.Rows.{Ordered}
 use Rattle.laws_loads.specs.MemoryLayers.{layer_in}
 use Rattle.laws_loads.specs.RangeView.{RangeView}

@@ -10,8 +10,8 @@ use Rattle.model_partition.specs.declared.stage.Stage.TheVariants as stages
 use Rattle.model_partition.specs.CheckpointStates.{CheckpointState}
 use Rattle.model_partition.specs.Past.{Bytes}
 use Rattle.model_partition.specs.Range.{RangeState, RangeOutcome, is_serving, is_paused}
-use Rattle.model_partition.specs.ServedTables.{AreSeenAs}
-use Rattle.model_partition.specs.StreamActions.{StreamAction}
+use Rattle.model_histories.specs.ServedTables.{AreSeenAs}
+use Rattle.model_histories.specs.StreamActions.{StreamAction}
 use Rattle.laws_loads.specs.RangeView.{RangeView, view_after_all}
 use Rattle.laws_loads.specs.Sound.{AreSound, IsSound}
 use Rattle.laws_loads.specs.StaysLoading.{IsAsBeforeIf, LeavesAsBefore}

@@ -27,7 +27,7 @@ use Rattle.model_partition.specs.Answering.{load_refused, page_reply}
 use Rattle.model_partition.specs.CheckpointStates.{CheckpointState}
 use Rattle.model_partition.specs.Checkpoints.{number_to_apply, new_job, new_combining_job, combined_pages, combined_job, writes_pages, writes_combined, asks_page, merges_next, merges, with_fixed, begins_combining, page_comes, page_read, page_bytes}
 use Rattle.model_partition.specs.Getting.{held_at}
-use Rattle.model_partition.specs.IndexContents.{bytes_in, page_in}
+use Rattle.model_histories.specs.IndexContents.{bytes_in, page_in}
 use Rattle.model_partition.specs.Past.{Bytes}
 use Rattle.model_partition.specs.PlaceReads.{is_place, place_of, places_of}
 use Rattle.model_partition.specs.Range.{RangeState, answers}

@@ -21,8 +21,8 @@ use Rattle.model_partition.specs.CheckpointStates.{CheckpointState}
 use Rattle.model_partition.specs.Checkpoints.{recorded, trim_index, trim_told, trim_reply_in}
 use Rattle.model_partition.specs.Past.{Bytes}
 use Rattle.model_partition.specs.Range.{RangeState}
-use Rattle.model_partition.specs.ServerRun.{place_number}
-use Rattle.model_partition.specs.StreamActions.{Stands, last_position, record_group}
+use Rattle.model_histories.specs.ServerRun.{place_number}
+use Rattle.model_histories.specs.StreamActions.{Stands, last_position, record_group}
 use Rattle.laws_loads.specs.RangeView.{RangeView, view_after}
 use Rattle.laws_tables.specs.Runs as chains
 use Rattle.laws_tables.specs.Runs.{Event, Run, Serving, first_beginning, held, items_out, said, start_number, IsServing, MayInChain}
@@ -30,7 +30,7 @@ use Rattle.laws_checkpoints.specs.IndexLayers.{layer_at}
 use Rattle.laws_checkpoints.proofs.CheckpointRecords.{said_with, may_trim, recorded_installed}
 use Rattle.laws_server_runs.specs.CheckpointInvariant.{item_of, parts_of, entries_to_write, HasRecordOut, HoldsPhase, HoldsCheckpoint, AppendsPhase, AppendsRows}
 use Rattle.client.specs.declared.job.Job.TheVariants as jobs
-use Rattle.model_partition.specs.ServedTables.{AllStand}
+use Rattle.model_histories.specs.ServedTables.{AllStand}
 use Rattle.laws_server_runs.specs.RangeInvariant.{IsOfPages, Matches}
 use Rattle.laws_server_runs.proofs.NamedIndexes.{one_more_named}
 use Rattle.laws_server_runs.proofs.CheckpointBegins.{MatchesIf, nothing_next}

@@ -29,13 +29,13 @@ use Rattle.model_partition.specs.CheckpointStates.{CheckpointState}
 use Rattle.model_partition.specs.Checkpoints.{job_may_stand, rows_may_stand, rows_reply, rows_told}
 use Rattle.model_partition.specs.Past.{Bytes}
 use Rattle.model_partition.specs.Range.{RangeState, RangeOutcome, request, answers, picking}
-use Rattle.model_partition.specs.StreamActions.{PlacedBytes, StreamAction, Stores, index_stood, rows_actions, rows_told_actions}
+use Rattle.model_histories.specs.StreamActions.{PlacedBytes, StreamAction, Stores, index_stood, rows_actions, rows_told_actions}
 use Rattle.laws_loads.specs.RangeView.{RangeView, view_after, view_after_all}
 use Rattle.laws_tables.specs.Runs.{Run, first_beginning, held, IsServing}
 use Rattle.replica.specs.Groups.{joined}
 use Rattle.model_partition.specs.declared.checkpoint_job.CheckpointPhase.{CheckpointPhase}
 use Rattle.model_partition.specs.declared.checkpoint_job.CheckpointPhase.TheVariants as checkpoints
-use Rattle.model_partition.specs.TableContents.{StandsAt}
+use Rattle.model_histories.specs.TableContents.{StandsAt}
 use Rattle.laws_server_runs.specs.CheckpointInvariant.{AppendsPhase, AppendsRows}
 use Rattle.laws_server_runs.specs.RangeInvariant.{Matches, StreamsKept, InOrder, Rests}
 use Rattle.laws_server_runs.proofs.ClientAnswers.{IsIdleIf, reply_takes}

@@ -19,10 +19,10 @@ use Rattle.model_partition.specs.CheckpointStates.{CheckpointState}
 use Rattle.model_partition.specs.Checkpoints.{may_record, index_place, with_phase, pages_stand, writes_pages}
 use Rattle.model_partition.specs.Past.{Bytes}
 use Rattle.model_partition.specs.Range.{RangeState}
-use Rattle.model_partition.specs.Renaming.{decoded_record}
-use Rattle.model_partition.specs.ServedTables.{AllStand}
-use Rattle.model_partition.specs.StreamActions.{Forms, record_group}
-use Rattle.model_partition.specs.TableContents.{StandsAt}
+use Rattle.model_histories.specs.Renaming.{decoded_record}
+use Rattle.model_histories.specs.ServedTables.{AllStand}
+use Rattle.model_histories.specs.StreamActions.{Forms, record_group}
+use Rattle.model_histories.specs.TableContents.{StandsAt}
 use Rattle.laws_loads.specs.RangeView.{RangeView, view_after, metadata_of}
 use Rattle.laws_tables.specs.Runs as chains
 use Rattle.laws_tables.specs.Runs.{Run, Serving, first_beginning, held, recording, said, IsServing, MayInChain}

@@ -26,9 +26,9 @@ use Rattle.model_partition.specs.CheckpointStates.{CheckpointState, last_job}
 use Rattle.model_partition.specs.Checkpoints.{number_to_apply, checkpoint_rule, may_record, index_place, with_phase, records, combines, begins_pages, begins_combining, have_bytes, index_stands, rows_stand, rows_told, have_places, recorded, record_stands, record_told, trim_index, trims}
 use Rattle.model_partition.specs.Past.{Bytes}
 use Rattle.model_partition.specs.Range.{RangeState, RangeOutcome, request, goes, given, picking}
-use Rattle.model_partition.specs.Renaming.{renamed_event, decoded_record}
-use Rattle.model_partition.specs.ServedTables.{AllStand}
-use Rattle.model_partition.specs.StreamActions.{PlacedBytes, Forms, Stands, Finds, Stores, StreamAction, bytes_actions, last_position, record_group, record_stood_in, record_stood, record_actions, index_stood_in, index_stood}
+use Rattle.model_histories.specs.Renaming.{renamed_event, decoded_record}
+use Rattle.model_histories.specs.ServedTables.{AllStand}
+use Rattle.model_histories.specs.StreamActions.{PlacedBytes, Forms, Stands, Finds, Stores, StreamAction, bytes_actions, last_position, record_group, record_stood_in, record_stood, record_actions, index_stood_in, index_stood}
 use Rattle.laws_loads.proofs.Renaming.{mapped_length}
 use Rattle.laws_loads.specs.RangeView.{RangeView, view_after, view_after_all, metadata_of}
 use Rattle.laws_loads.specs.Sound.{OutFits}

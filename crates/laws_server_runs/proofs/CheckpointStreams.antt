@@ -9,10 +9,10 @@ use Rattle.metadata.specs.declared.record.MetaItem.TheVariants.{Ranges}
 use Rattle.commitlog.specs.Replay.{Numbered}
 use Rattle.model_partition.specs.Loading.{Group}
 use Rattle.model_partition.specs.Past.{Bytes}
-use Rattle.model_partition.specs.Renaming.{decoded_record}
-use Rattle.model_partition.specs.ServerRun.{place_number}
-use Rattle.model_partition.specs.Story.{StreamEvent, Made, Answered}
-use Rattle.model_partition.specs.StreamActions.{Forms, Stands}
+use Rattle.model_histories.specs.Renaming.{decoded_record}
+use Rattle.model_histories.specs.ServerRun.{place_number}
+use Rattle.model_histories.specs.Story.{StreamEvent, Made, Answered}
+use Rattle.model_histories.specs.StreamActions.{Forms, Stands}
 use Rattle.laws_loads.specs.RangeView.{RangeView, view_after, metadata_of}
 use Rattle.laws_tables.proofs.Range.{event_cases}
 use Rattle.laws_tables.specs.Runs as chains

@@ -16,12 +16,12 @@ use Rattle.commitlog.specs.Replay.{Numbered}
 use Rattle.commitlog.specs.Replay.{replayed as replay}
 use Rattle.model_partition.specs.Range.{RangeState}
 use Rattle.model_partition.specs.Loading.{Group, open_region, log_end}
-use Rattle.model_partition.specs.Log.{line_shown}
+use Rattle.model_histories.specs.Log.{line_shown}
 use Rattle.model_partition.specs.Past.{Bytes, Transaction}
-use Rattle.model_partition.specs.Renaming.{renamed_placed, renamed_event, decoded, decoded_record}
-use Rattle.model_partition.specs.Story.{Placed, StreamEvent, Showed, event_at}
-use Rattle.model_partition.specs.StreamActions.{ExtentRead, StreamAction, Shows, first_start, read_end}
-use Rattle.model_partition.specs.ServerRun.{place_number, placed_reads, placed_behind, bytes_read}
+use Rattle.model_histories.specs.Renaming.{renamed_placed, renamed_event, decoded, decoded_record}
+use Rattle.model_histories.specs.Story.{Placed, StreamEvent, Showed, event_at}
+use Rattle.model_histories.specs.StreamActions.{ExtentRead, StreamAction, Shows, first_start, read_end}
+use Rattle.model_histories.specs.ServerRun.{place_number, placed_reads, placed_behind, bytes_read}
 use Rattle.laws_loads.proofs.Renaming.{showed_from}
 use Rattle.laws_tables.proofs.Range.{newest, bound, older}
 use Rattle.laws_tables.proofs.Layers.{in_all}

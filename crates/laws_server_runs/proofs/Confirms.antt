@@ -29,14 +29,14 @@ use Rattle.model_partition.specs.declared.stage.Stage.TheVariants as stages
 use Rattle.model_partition.specs.declared.table_note.TableNote.TheVariants as tables
 use Rattle.model_partition.specs.Answering.{load_refused, load_told, load_reply}
 use Rattle.model_partition.specs.Loading.{has_position, log_end, open_region, opens, serves, serves_from, serves_region, shown_table}
-use Rattle.model_partition.specs.Log.{line_shown}
+use Rattle.model_histories.specs.Log.{line_shown}
 use Rattle.model_partition.specs.Past.{Bytes, Transaction, stored}
-use Rattle.model_partition.specs.IndexContents.{entries_in}
+use Rattle.model_histories.specs.IndexContents.{entries_in}
 use Rattle.model_partition.specs.Range.{RangeState, RangeOutcome, answers, dropped}
-use Rattle.model_partition.specs.ServedTables.{AreSeenAs}
-use Rattle.model_partition.specs.ServerRun.{place_number}
-use Rattle.model_partition.specs.StreamActions.{StreamAction, confirmed_actions, load_actions}
-use Rattle.model_partition.specs.TableContents.{table_in}
+use Rattle.model_histories.specs.ServedTables.{AreSeenAs}
+use Rattle.model_histories.specs.ServerRun.{place_number}
+use Rattle.model_histories.specs.StreamActions.{StreamAction, confirmed_actions, load_actions}
+use Rattle.model_histories.specs.TableContents.{table_in}
 use Rattle.laws_tables.proofs.Range.{newest}
 use Rattle.laws_tables.specs.Layers.{empty_layer, layer_line}
 use Rattle.laws_tables.specs.Runs as chains

@@ -5,14 +5,14 @@ use Rattle.wire.specs.declared.actor.ActorId.TheVariants as actors
 use Rattle.wire.specs.declared.note.Note.{Note}
 use Rattle.model_streams.specs.Maps.{entry_at}
 use Rattle.model_partition.specs.declared.table_note.TableNote.{TableNote}
-use Rattle.model_partition.specs.Log.{only}
+use Rattle.model_histories.specs.Log.{only}
 use Rattle.model_partition.specs.Past.{Bytes, first_range}
 use Rattle.model_partition.specs.Range.{RangeState}
 use Rattle.model_partition.specs.Server.{ServerState, ServerOutcome, range_of, new_range}
 use Rattle.model_partition.specs.Servers.{ServerCell}
-use Rattle.model_partition.specs.ServerRun.{ServerRun, RangeEffect, ServerEvent, Takes, GivesUp, Checkpoints, Splits, Stops, Starts, Moment, run_of, after_event}
-use Rattle.model_partition.specs.StreamActions.{PlacedBytes}
-use Rattle.model_partition.specs.ServedTables.{IsOfFirst, IsFirst, AreFirst, AreUnsplit, AreSeenAs}
+use Rattle.model_histories.specs.ServerRun.{ServerRun, RangeEffect, ServerEvent, Takes, GivesUp, Checkpoints, Splits, Stops, Starts, Moment, run_of, after_event}
+use Rattle.model_histories.specs.StreamActions.{PlacedBytes}
+use Rattle.model_histories.specs.ServedTables.{IsOfFirst, IsFirst, AreFirst, AreUnsplit, AreSeenAs}
 use Rattle.laws_loads.proofs.Entries.{entry_set, entry_other}
 use Rattle.laws_loads.specs.RangeView.{view_after_all}
 use Rattle.laws_server_runs.specs.Places.{NotesWithin, StepLaid, RunLaid}

@@ -11,7 +11,7 @@ use Rattle.metadata.specs.Reading.{group_at}
 use Rattle.commitlog.specs.Replay.{taken}
 use Rattle.commitlog.specs.Replay.{replayed as replay}
 use Rattle.model_partition.specs.Loading.{Group, said_after}
-use Rattle.model_partition.specs.Renaming.{one_record, decoded_record}
+use Rattle.model_histories.specs.Renaming.{one_record, decoded_record}
 use Rattle.laws_tables.specs.Runs.{fold_of}
 
 -- a list without all of its items and more

@@ -6,10 +6,10 @@ use Rattle.wire.specs.declared.streams.StreamKind.TheVariants as kinds
 use Rattle.model_partition.specs.declared.table_note.TableNote.{TableNote}
 use Rattle.model_partition.specs.Loading.{Group}
 use Rattle.model_partition.specs.Past.{Bytes}
-use Rattle.model_partition.specs.Story.{StreamEvent, Made, Showed, Story, KeepsOrder, EndsRise}
-use Rattle.model_partition.specs.StreamActions.{StreamAction, Reads, Forms, Stands, Shows, Finds, Stores, PlacedBytes}
-use Rattle.model_partition.specs.ServerRun.{is_kind}
-use Rattle.model_partition.specs.ServedTables.{AllStand, AreSeenAs, LoadsOnce}
+use Rattle.model_histories.specs.Story.{StreamEvent, Made, Showed, Story, KeepsOrder, EndsRise}
+use Rattle.model_histories.specs.StreamActions.{StreamAction, Reads, Forms, Stands, Shows, Finds, Stores, PlacedBytes}
+use Rattle.model_histories.specs.ServerRun.{is_kind}
+use Rattle.model_histories.specs.ServedTables.{AllStand, AreSeenAs, LoadsOnce}
 use Rattle.laws_tables.proofs.Range.{older}
 use Rattle.laws_tables.proofs.Whole.{order_before, ends_before}
 use Rattle.laws_loads.specs.RangeView.{RangeView, view_after, view_after_all, with_kind, log_of, metadata_of}

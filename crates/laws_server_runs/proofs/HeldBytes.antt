@@ -10,7 +10,7 @@ use Rattle.checkpoint.specs.declared.installed_index.InstalledIndex.{InstalledIn
 use Rattle.checkpoint.specs.Lookup.{looked_up}
 use Rattle.model_partition.specs.declared.waiting.PlaceRead.{PlaceRead}
 use Rattle.model_partition.specs.Getting.{Held, held_at, most_held, used_place, used, used_all, pages_of_key, found_cell, used_for, is_asked, came}
-use Rattle.model_partition.specs.IndexContents.{bytes_in}
+use Rattle.model_histories.specs.IndexContents.{bytes_in}
 use Rattle.model_partition.specs.Past.{Bytes}
 use Rattle.model_partition.specs.PlaceReads.{is_place}
 use Rattle.laws_checkpoints.specs.ShownTables.{HoldsBytes}

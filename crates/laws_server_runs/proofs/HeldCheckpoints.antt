@@ -5,8 +5,8 @@ use Rattle.model_partition.specs.declared.checkpoint_job.CheckpointPhase.{Checkp
 use Rattle.model_partition.specs.declared.checkpoint_job.CheckpointPhase.TheVariants as checkpoints
 use Rattle.model_partition.specs.CheckpointStates.{CheckpointState}
 use Rattle.model_partition.specs.Past.{Bytes}
-use Rattle.model_partition.specs.ServedTables.{AllStand}
-use Rattle.model_partition.specs.StreamActions.{PlacedBytes}
+use Rattle.model_histories.specs.ServedTables.{AllStand}
+use Rattle.model_histories.specs.StreamActions.{PlacedBytes}
 use Rattle.laws_server_runs.specs.CheckpointInvariant.{CheckpointParts, HoldsNone, HasNoted, Writes, HasRecordOut, HoldsPhase, HoldsCheckpoint}
 use Rattle.laws_server_runs.specs.RangeInvariant.{IsLonger}
 use Rattle.laws_server_runs.proofs.Fronts.{stand_shorter}

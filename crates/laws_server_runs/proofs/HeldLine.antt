@@ -14,17 +14,17 @@ use Rattle.checkpoint_format.specs.Page.{is_ascending}
 use Rattle.model_partition.specs.declared.checkpoint_job.CheckpointPhase.{CheckpointPhase}
 use Rattle.model_partition.specs.declared.checkpoint_job.CheckpointPhase.TheVariants as checkpoints
 use Rattle.model_partition.specs.CheckpointStates.{CheckpointState}
-use Rattle.model_partition.specs.IndexContents.{served_entries}
+use Rattle.model_histories.specs.IndexContents.{served_entries}
 use Rattle.model_partition.specs.Loading.{Group}
-use Rattle.model_partition.specs.Log.{line_shown}
+use Rattle.model_histories.specs.Log.{line_shown}
 use Rattle.model_partition.specs.Past.{Bytes, Transaction, after_line, empty_table}
 use Rattle.model_partition.specs.Range.{OutGroup, RangeState, waiting_out}
-use Rattle.model_partition.specs.Renaming.{renamed, renamed_copy, renamed_placed, renamed_event, numbered_if, decoded, decoded_record}
-use Rattle.model_partition.specs.ServedTables.{AllStand, IsAtLine, items_under, is_under, line_to, end_to}
+use Rattle.model_histories.specs.Renaming.{renamed, renamed_copy, renamed_placed, renamed_event, numbered_if, decoded, decoded_record}
+use Rattle.model_histories.specs.ServedTables.{AllStand, IsAtLine, items_under, is_under, line_to, end_to}
 use Rattle.model_partition.specs.Servers.{entries_if}
 use Rattle.model_partition.specs.Serving.{record_of}
-use Rattle.model_partition.specs.Story.{Placed, StreamEvent, Made, Answered, Showed, Story, event_at, Copy, placed, whole, KeepsOrder, EndsRise}
-use Rattle.model_partition.specs.TableContents.{table_in}
+use Rattle.model_histories.specs.Story.{Placed, StreamEvent, Made, Answered, Showed, Story, event_at, Copy, placed, whole, KeepsOrder, EndsRise}
+use Rattle.model_histories.specs.TableContents.{table_in}
 use Rattle.laws_loads.specs.MemoryLayers.{layer_in}
 use Rattle.laws_loads.specs.RangeView.{RangeView, log_of, metadata_of}
 use Rattle.laws_loads.specs.Sound.{OutFits}

@@ -6,11 +6,11 @@ use Rattle.metadata.specs.declared.record.MetaItem.{MetaItem}
 use Rattle.metadata.specs.Fold.{first_metadata}
 use Rattle.commitlog.specs.Replay.{Numbered}
 use Rattle.model_partition.specs.Loading.{Group}
-use Rattle.model_partition.specs.Log.{line_shown}
+use Rattle.model_histories.specs.Log.{line_shown}
 use Rattle.model_partition.specs.Past.{Bytes}
 use Rattle.model_partition.specs.Range.{RangeState}
-use Rattle.model_partition.specs.Renaming.{renamed_placed, renamed, decoded_record}
-use Rattle.model_partition.specs.Story.{Placed, StreamEvent, Made, Answered, Showed, Story, event_at, KeepsOrder}
+use Rattle.model_histories.specs.Renaming.{renamed_placed, renamed, decoded_record}
+use Rattle.model_histories.specs.Story.{Placed, StreamEvent, Made, Answered, Showed, Story, event_at, KeepsOrder}
 use Rattle.laws_loads.proofs.Renaming.{made_from, showed_from}
 use Rattle.laws_loads.specs.RangeView.{RangeView, metadata_of}
 use Rattle.laws_tables.proofs.Range.{newest, older}

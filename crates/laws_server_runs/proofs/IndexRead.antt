@@ -20,13 +20,13 @@ use Rattle.model_partition.specs.declared.stage.Stage.{Stage}
 use Rattle.model_partition.specs.declared.stage.Stage.TheVariants as stages
 use Rattle.model_partition.specs.declared.waiting.PlaceRead.{PlaceRead}
 use Rattle.model_partition.specs.Answering.{load_refused, index_told, index_reply, page_reply, bytes_reply, gets_reply}
-use Rattle.model_partition.specs.IndexContents.{bytes_in}
+use Rattle.model_histories.specs.IndexContents.{bytes_in}
 use Rattle.model_partition.specs.Loading.{asks_index, index_bytes, index_named, index_read, installs, reads_named}
 use Rattle.model_partition.specs.Past.{Bytes}
 use Rattle.model_partition.specs.PlaceReads.{is_place, place_of, places_of}
 use Rattle.model_partition.specs.Range.{RangeState, RangeOutcome, answers, is_serving}
 use Rattle.model_partition.specs.Getting.{Held, came, read_at, are_no_page, bytes_come, try_all, without}
-use Rattle.model_partition.specs.StreamActions.{PlacedBytes, StreamAction, Finds, bytes_actions, bytes_told_actions}
+use Rattle.model_histories.specs.StreamActions.{PlacedBytes, StreamAction, Finds, bytes_actions, bytes_told_actions}
 use Rattle.laws_loads.proofs.Cells.{taken_there}
 use Rattle.laws_loads.proofs.CheckpointAnswers.{page_reply_same}
 use Rattle.laws_loads.proofs.PageAnswers.{page_reply_elim}

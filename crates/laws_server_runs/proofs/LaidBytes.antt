@@ -17,8 +17,8 @@ use Rattle.commitlog.proofs.Measures.{size-spelling}
 use Rattle.wire.specs.declared.streams.StreamKind.TheVariants as kinds
 use Rattle.model_partition.specs.CheckpointStates.{CheckpointState}
 use Rattle.model_partition.specs.Servers.{entries_if}
-use Rattle.model_partition.specs.StreamActions.{PlacedBytes, StreamAction, Reads, Forms, Stands, Shows, Finds, Stores}
-use Rattle.model_partition.specs.ServerRun.{bytes_read}
+use Rattle.model_histories.specs.StreamActions.{PlacedBytes, StreamAction, Reads, Forms, Stands, Shows, Finds, Stores}
+use Rattle.model_histories.specs.ServerRun.{bytes_read}
 use Rattle.laws_loads.proofs.Cells.{length_both, size_is}
 use Rattle.laws_loads.specs.RangeView.{RangeView, view_after, view_after_all}
 use Rattle.laws_server_runs.specs.Places.{IsWithin, AreWithin, IsLaid, PagesWithin, placed_of, JobWithin, CheckpointLaid}

@@ -32,7 +32,7 @@ use Rattle.model_partition.specs.Checkpoints.{checkpoint_fault, new_job, new_com
 use Rattle.model_partition.specs.Loading.{Group}
 use Rattle.model_partition.specs.Range.{RangeState, RangeOutcome, request, answers, goes, given, picking, is_serving, is_paused}
 use Rattle.model_partition.specs.Servers.{entries_if}
-use Rattle.model_partition.specs.StreamActions.{StreamAction, Forms, Stands, Stores, PlacedBytes, last_position, record_group, record_stood_in, record_stood, record_actions, index_stood_in, index_stood, rows_told_actions, rows_actions}
+use Rattle.model_histories.specs.StreamActions.{StreamAction, Forms, Stands, Stores, PlacedBytes, last_position, record_group, record_stood_in, record_stood, record_actions, index_stood_in, index_stood, rows_told_actions, rows_actions}
 use Rattle.laws_loads.proofs.PageAnswers.{merged, unread, merges_elim, page_reply_elim}
 use Rattle.laws_loads.specs.RangeView.{RangeView}
 use Rattle.laws_loads.specs.Sound.{IsSound}

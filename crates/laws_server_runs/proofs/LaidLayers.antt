@@ -24,7 +24,7 @@ use Rattle.commitlog.specs.Reading.{record_at, each_of}
 use Rattle.commitlog.specs.Places.{kept, kept_cell, kept_changes, kept_transactions}
 use Rattle.model_partition.specs.Loading.{Group, replayed, region_takes, holds}
 use Rattle.model_partition.specs.Past.{Bytes}
-use Rattle.model_partition.specs.StreamActions.{PlacedBytes}
+use Rattle.model_histories.specs.StreamActions.{PlacedBytes}
 use Rattle.laws_loads.proofs.Cells.{length_both, first_blocks, size_is}
 use Rattle.laws_loads.proofs.Rows.{ordered_put}
 use Rattle.laws_server_runs.specs.Places.{IsWithin, CellWithin, AreWithin, IsLaid}

@@ -23,17 +23,17 @@ use Rattle.model_partition.specs.declared.checkpoint_job.CheckpointPhase.TheVari
 use Rattle.model_partition.specs.declared.shown_table.ShownTable.{ShownTable}
 use Rattle.model_partition.specs.declared.stage.Stage.{Stage}
 use Rattle.model_partition.specs.declared.stage.Stage.TheVariants as stages
-use Rattle.model_partition.specs.IndexContents.{bytes_in, pages_in, index_in}
+use Rattle.model_histories.specs.IndexContents.{bytes_in, pages_in, index_in}
 use Rattle.model_partition.specs.Loading.{Group}
-use Rattle.model_partition.specs.Log.{line_shown}
+use Rattle.model_histories.specs.Log.{line_shown}
 use Rattle.model_partition.specs.Past.{Bytes}
 use Rattle.model_partition.specs.Range.{RangeState, is_serving}
-use Rattle.model_partition.specs.Renaming.{renamed_placed, decoded_record}
+use Rattle.model_histories.specs.Renaming.{renamed_placed, decoded_record}
 use Rattle.model_partition.specs.Servers.{entries_if}
-use Rattle.model_partition.specs.ServedTables.{AllStand}
-use Rattle.model_partition.specs.ServerRun.{place_number, placed_reads}
-use Rattle.model_partition.specs.Story.{StreamEvent, Made, Showed, Story, event_at, KeepsOrder}
-use Rattle.model_partition.specs.StreamActions.{StreamAction, Reads, Forms, Stands, Shows, Finds, Stores, PlacedBytes, ExtentRead}
+use Rattle.model_histories.specs.ServedTables.{AllStand}
+use Rattle.model_histories.specs.ServerRun.{place_number, placed_reads}
+use Rattle.model_histories.specs.Story.{StreamEvent, Made, Showed, Story, event_at, KeepsOrder}
+use Rattle.model_histories.specs.StreamActions.{StreamAction, Reads, Forms, Stands, Shows, Finds, Stores, PlacedBytes, ExtentRead}
 use Rattle.laws_checkpoints.proofs.WrittenIndexes.{index_read, pages_say}
 use Rattle.laws_checkpoints.specs.CombinedLayers.{written_entries}
 use Rattle.laws_checkpoints.specs.IndexLayers.{IsWritten}

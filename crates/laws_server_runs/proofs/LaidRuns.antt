@@ -12,9 +12,9 @@ use Rattle.model_partition.specs.declared.table_note.TableNote.{TableNote}
 use Rattle.model_partition.specs.Range.{RangeState, RangeOutcome}
 use Rattle.model_partition.specs.Server.{ServerState, ServerOutcome, range_of, set_range, new_range, started}
 use Rattle.model_partition.specs.Servers.{ServerCell, first_pick, first_server, first_servers}
-use Rattle.model_partition.specs.StreamActions.{StreamAction, PlacedBytes}
-use Rattle.model_partition.specs.ServedTables.{AreUnsplit}
-use Rattle.model_partition.specs.ServerRun.{ServerRun, RangeEffect, Begins, Does, Rests, ServerEvent, Takes, GivesUp, Checkpoints as EventCheckpoints, Splits, Stops, Starts, Moment, RangeHistory, first_history, cell_effect, with_effect, with_outcome, after_actions, after_event, first_run, run_of, bytes_read}
+use Rattle.model_histories.specs.StreamActions.{StreamAction, PlacedBytes}
+use Rattle.model_histories.specs.ServedTables.{AreUnsplit}
+use Rattle.model_histories.specs.ServerRun.{ServerRun, RangeEffect, Begins, Does, Rests, ServerEvent, Takes, GivesUp, Checkpoints as EventCheckpoints, Splits, Stops, Starts, Moment, RangeHistory, first_history, cell_effect, with_effect, with_outcome, after_actions, after_event, first_run, run_of, bytes_read}
 use Rattle.laws_loads.proofs.Entries.{entry_set, entry_other}
 use Rattle.laws_loads.specs.RangeView.{RangeView, view_after_all}
 use Rattle.laws_server_runs.specs.Places.{IsWithin, IsLaid, placed_of, bytes_of, RangeLaid, RangeLaidIf, StepLaid, RuleLaid, AreAscending, RunLaid}

@@ -23,7 +23,7 @@ use Rattle.model_partition.specs.declared.waiting.WaitingTransaction.{WaitingTra
 use Rattle.model_partition.specs.Answering.{serving_news}
 use Rattle.model_partition.specs.Range.{OutGroup, RangeState, RangeOutcome, goes, if_there, is_serving}
 use Rattle.model_partition.specs.Serving.{group_count, began, appends as appending, forms, transact_fault, transacts, transact_rule, dones, record_of, out_size, applies, log_done}
-use Rattle.model_partition.specs.StreamActions.{StreamAction, Forms, Stands, PlacedBytes, group_of, formed, transact_actions, last_position, stood, serving_actions}
+use Rattle.model_histories.specs.StreamActions.{StreamAction, Forms, Stands, PlacedBytes, group_of, formed, transact_actions, last_position, stood, serving_actions}
 use Rattle.laws_loads.proofs.WaitingIsSound.{is_next, appends_sound, pushed_sound, taken_served}
 use Rattle.laws_loads.specs.Sound.{IsSound, OutFits}
 use Rattle.commitlog.specs.Record.{Fits}

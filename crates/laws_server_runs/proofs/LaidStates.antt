@@ -8,8 +8,8 @@ use Rattle.memtable.specs.Entries.{Entries}
 use Rattle.model_partition.specs.declared.stage.Stage.{Stage}
 use Rattle.model_partition.specs.Loading.{Group}
 use Rattle.model_partition.specs.Range.{OutGroup, RangeState, RangeOutcome, if_there, is_serving}
-use Rattle.model_partition.specs.StreamActions.{StreamAction, Reads, Forms, Stands, Shows, Finds, Stores, group_of, formed}
-use Rattle.model_partition.specs.ServerRun.{bytes_read}
+use Rattle.model_histories.specs.StreamActions.{StreamAction, Reads, Forms, Stands, Shows, Finds, Stores, group_of, formed}
+use Rattle.model_histories.specs.ServerRun.{bytes_read}
 use Rattle.laws_loads.specs.RangeView.{RangeView, view_after_all}
 use Rattle.laws_loads.specs.Sound.{IsSound}
 use Rattle.laws_server_runs.specs.Places.{AreWithin, AreLow, IsLaid, placed_of, CheckpointLaid, RangeLaid, IsQuiet, IsRecording, Quiet, OfRecord, RuleLaid}

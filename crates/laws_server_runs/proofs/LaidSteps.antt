@@ -40,8 +40,8 @@ use Rattle.model_partition.specs.PlaceReads.{places_of, reads_under, reads_page}
 use Rattle.model_partition.specs.Getting.{get_fault, gets, get_rule, read_at, are_no_page}
 use Rattle.model_partition.specs.Answering.{may_stand, load_refused, load_told, load_reply, metadata_reply, serving_news, is_taken, log_taken, log_reply, page_reply, index_reply, trim_reply, bytes_reply, gets_reply, groups_of, answer_rule, give_up_all}
 use Rattle.model_partition.specs.Server.{new_range}
-use Rattle.model_partition.specs.StreamActions.{StreamAction, Reads, Shows, Finds, first_start, read_end, loading_actions, serving_actions, confirmed_actions, load_actions, record_actions, metadata_actions, rows_actions, bytes_told_actions, bytes_actions, log_actions, answer_actions}
-use Rattle.model_partition.specs.ServerRun.{bytes_read}
+use Rattle.model_histories.specs.StreamActions.{StreamAction, Reads, Shows, Finds, first_start, read_end, loading_actions, serving_actions, confirmed_actions, load_actions, record_actions, metadata_actions, rows_actions, bytes_told_actions, bytes_actions, log_actions, answer_actions}
+use Rattle.model_histories.specs.ServerRun.{bytes_read}
 use Rattle.model_partition.specs.Checkpoints.{record_told, rows_reply, trim_awaits}
 use Rattle.laws_loads.proofs.IndexAnswers.{index_reply_elim}
 use Rattle.laws_loads.specs.RangeView.{RangeView}

@@ -10,16 +10,16 @@ use Rattle.model_partition.specs.CheckpointStates.{CheckpointState}
 use Rattle.model_partition.specs.declared.table_note.TableNote.{TableNote}
 use Rattle.model_partition.specs.declared.table_note.TableNote.TheVariants as tables
 use Rattle.model_partition.specs.declared.shown_table.ShownTable.{ShownTable}
-use Rattle.model_partition.specs.IndexContents.{entries_in}
+use Rattle.model_histories.specs.IndexContents.{entries_in}
 use Rattle.model_partition.specs.Loading.{Group}
 use Rattle.model_partition.specs.Past.{Bytes}
 use Rattle.model_partition.specs.Range.{RangeState, RangeOutcome}
 use Rattle.model_partition.specs.Server.{ServerState, ServerOutcome, range_of, set_range}
 use Rattle.model_partition.specs.Servers.{ServerCell}
-use Rattle.model_partition.specs.ServedTables.{AllStand}
-use Rattle.model_partition.specs.Story.{Made, Story, event_at, KeepsOrder}
-use Rattle.model_partition.specs.StreamActions.{StreamAction, Forms, Shows, PlacedBytes}
-use Rattle.model_partition.specs.ServerRun.{ServerRun, RangeEffect, Does, with_effect, with_outcome, after_actions, metadata_name}
+use Rattle.model_histories.specs.ServedTables.{AllStand}
+use Rattle.model_histories.specs.Story.{Made, Story, event_at, KeepsOrder}
+use Rattle.model_histories.specs.StreamActions.{StreamAction, Forms, Shows, PlacedBytes}
+use Rattle.model_histories.specs.ServerRun.{ServerRun, RangeEffect, Does, with_effect, with_outcome, after_actions, metadata_name}
 use Rattle.laws_loads.proofs.Entries.{entry_set}
 use Rattle.laws_loads.specs.RangeView.{RangeView, view_after, view_after_all, metadata_of}
 use Rattle.laws_tables.proofs.Range.{newest, event_cases}

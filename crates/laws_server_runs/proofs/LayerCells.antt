@@ -15,7 +15,7 @@ use Rattle.replica.specs.Groups.{joined}
 use Rattle.commitlog.specs.Record.{change_values, transaction_values}
 use Rattle.commitlog.specs.Places.{kept_cell, kept_changes, kept_transactions}
 use Rattle.model_partition.specs.Past.{Bytes}
-use Rattle.model_partition.specs.TableContents.{StandsAt, value_in}
+use Rattle.model_histories.specs.TableContents.{StandsAt, value_in}
 use Rattle.laws_loads.proofs.Cells.{stands_first, stands_second, size_is, first_blocks, same_key, apart, inserted_same, inserted_other, put_both, kept_value}
 use Rattle.laws_tables.specs.Layers.{Layer, layer_change, layer_transaction, layer_line}
 use Rattle.laws_loads.specs.MemoryLayers.{layer_in}

@@ -12,12 +12,12 @@ use Rattle.commitlog.specs.declared.log_record.LogRecord.{LogRecord}
 use Rattle.commitlog.specs.Replay.{Numbered}
 use Rattle.model_partition.specs.Loading.{Group, open_region, replayed}
 use Rattle.model_partition.specs.Past.{Bytes, Transaction}
-use Rattle.model_partition.specs.Renaming.{renamed_placed, numbered, numbered_if, decoded}
-use Rattle.model_partition.specs.Story.{Placed}
-use Rattle.model_partition.specs.StreamActions.{ExtentRead, PlacedBytes}
-use Rattle.model_partition.specs.StreamMachine.{base}
-use Rattle.model_partition.specs.ServerRun.{place_number, placed_from, placed_reads, bytes_read}
-use Rattle.model_partition.specs.ServedTables.{AllStand}
+use Rattle.model_histories.specs.Renaming.{renamed_placed, numbered, numbered_if, decoded}
+use Rattle.model_histories.specs.Story.{Placed}
+use Rattle.model_histories.specs.StreamActions.{ExtentRead, PlacedBytes}
+use Rattle.model_histories.specs.StreamMachine.{base}
+use Rattle.model_histories.specs.ServerRun.{place_number, placed_from, placed_reads, bytes_read}
+use Rattle.model_histories.specs.ServedTables.{AllStand}
 use Rattle.laws_loads.proofs.Renaming.{mapped_both}
 use Rattle.laws_server_runs.specs.RangeInvariant.{groups_read, replayed_all}
 use Rattle.laws_tables.specs.Runs.{added}

@@ -12,9 +12,9 @@ use Rattle.commitlog.specs.Replay.{Numbered, next_of}
 use Rattle.commitlog.specs.Replay.{replayed as replay}
 use Rattle.model_streams.proofs.Tests.{if_elim}
 use Rattle.model_partition.specs.Loading.{Group}
-use Rattle.model_partition.specs.Log.{line_shown}
-use Rattle.model_partition.specs.Renaming.{renamed_placed, decoded_record}
-use Rattle.model_partition.specs.Story.{Placed, Showed, Story, event_at, Copy, placed, from_place, KeepsOrder}
+use Rattle.model_histories.specs.Log.{line_shown}
+use Rattle.model_histories.specs.Renaming.{renamed_placed, decoded_record}
+use Rattle.model_histories.specs.Story.{Placed, Showed, Story, event_at, Copy, placed, from_place, KeepsOrder}
 use Rattle.laws_tables.specs.Runs.{fold_of}
 use Rattle.laws_server_runs.specs.RangeInvariant.{IsCheckpointRecord, AreCheckpoints}
 use Rattle.laws_server_runs.proofs.OneRegion.{KeepsOneRegion, AllKeepOneRegion}

@@ -1,9 +1,9 @@
 -- The rows of a confirmed load show what the layers of its run say, where they show the range's memory table over what its indexes say.
 use Rattle.std.proofs.Common.{◌≡◌, ℕ, List, true, None, cond, sym, ap, ◌∙◌}
 use Rattle.metadata.specs.Keys.{within}
-use Rattle.model_partition.specs.IndexContents.{entries_in}
+use Rattle.model_histories.specs.IndexContents.{entries_in}
 use Rattle.model_partition.specs.Loading.{shown_table}
-use Rattle.model_partition.specs.TableContents.{table_in}
+use Rattle.model_histories.specs.TableContents.{table_in}
 use Rattle.laws_loads.proofs.Rows.{Ordered}
 use Rattle.laws_checkpoints.specs.ShownTables.{AreInstalled}
 use Rattle.laws_checkpoints.proofs.ShownRows.{ascending_if, written_ascending}

@@ -3,8 +3,8 @@
 use Rattle.std.proofs.Common.{ℕ, List, [], ◌∷◌, sym, subst}
 use Rattle.model_partition.specs.declared.table_note.TableNote.{TableNote}
 use Rattle.model_partition.specs.Past.{Bytes}
-use Rattle.model_partition.specs.ServedTables.{AreUnsplit, StreamsInOrder}
-use Rattle.model_partition.specs.ServerRun.{ServerRun, ServerEvent, after_event, run_of}
+use Rattle.model_histories.specs.ServedTables.{AreUnsplit, StreamsInOrder}
+use Rattle.model_histories.specs.ServerRun.{ServerRun, ServerEvent, after_event, run_of}
 use Rattle.laws_server_runs.specs.Places.{bytes_of, TablesWithin}
 use Rattle.laws_server_runs.specs.Turns.{outcome_of, RunStep}
 use Rattle.laws_server_runs.proofs.Actions.{event_longer}

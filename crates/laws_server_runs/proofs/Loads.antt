@@ -21,9 +21,9 @@ use Rattle.model_partition.specs.Range.{RangeState, RangeOutcome, request, used,
 use Rattle.model_partition.specs.Getting.{get_fault, gets, get_rule, standing}
 use Rattle.model_partition.specs.Answering.{give_up_all}
 use Rattle.model_partition.specs.Server.{new_range}
-use Rattle.model_partition.specs.ServerRun.{first_history}
-use Rattle.model_partition.specs.StreamActions.{first_start}
-use Rattle.model_partition.specs.ServedTables.{AreSeenAs}
+use Rattle.model_histories.specs.ServerRun.{first_history}
+use Rattle.model_histories.specs.StreamActions.{first_start}
+use Rattle.model_histories.specs.ServedTables.{AreSeenAs}
 use Rattle.laws_loads.proofs.WaitingStays.{new_sound}
 use Rattle.laws_loads.specs.RangeView.{RangeView}
 use Rattle.laws_tables.specs.Runs.{Run, Serving, first_beginning, held as held_by}

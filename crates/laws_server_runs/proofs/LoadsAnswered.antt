@@ -11,7 +11,7 @@ use Rattle.model_partition.specs.Range.{RangeState, RangeOutcome, is_serving}
 use Rattle.model_partition.specs.PlaceReads.{reads_under, reads_page}
 use Rattle.model_partition.specs.Answering.{load_reply, log_reply, is_taken, answer_rule, metadata_reply, index_reply, page_reply, trim_reply, gets_reply}
 use Rattle.model_partition.specs.Checkpoints.{rows_reply, trim_awaits}
-use Rattle.model_partition.specs.StreamActions.{StreamAction, load_actions, log_actions, metadata_actions, rows_actions, bytes_actions, answer_actions}
+use Rattle.model_histories.specs.StreamActions.{StreamAction, load_actions, log_actions, metadata_actions, rows_actions, bytes_actions, answer_actions}
 use Rattle.laws_loads.specs.RangeView.{RangeView, view_after_all}
 use Rattle.laws_tables.specs.Runs.{Run}
 use Rattle.laws_server_runs.specs.RangeInvariant.{Serves, InOrder, RangeKept, StreamsKept, StepKept}

@@ -26,10 +26,10 @@ use Rattle.model_partition.specs.Range.{RangeState, RangeOutcome, request, picki
 use Rattle.model_partition.specs.Loading.{Group, said_after, says, metadata_news, replayed, replays, reads_log, reads_log_from, log_read, log_news, first_position, reads_metadata}
 use Rattle.model_partition.specs.Answering.{groups_of, metadata_reply, serving_news, is_taken, log_taken, log_reply}
 use Rattle.model_partition.specs.Checkpoints.{record_told}
-use Rattle.model_partition.specs.ServerRun.{one_more_read}
-use Rattle.model_partition.specs.StreamActions.{ExtentRead, StreamAction, Reads, loading_actions, record_actions, metadata_actions, serving_actions, log_actions}
-use Rattle.model_partition.specs.ServedTables.{AllStand}
-use Rattle.model_partition.specs.StreamActions.{first_start}
+use Rattle.model_histories.specs.ServerRun.{one_more_read}
+use Rattle.model_histories.specs.StreamActions.{ExtentRead, StreamAction, Reads, loading_actions, record_actions, metadata_actions, serving_actions, log_actions}
+use Rattle.model_histories.specs.ServedTables.{AllStand}
+use Rattle.model_histories.specs.StreamActions.{first_start}
 use Rattle.laws_loads.specs.RangeView.{RangeView}
 use Rattle.laws_tables.specs.Runs.{Run}
 use Rattle.laws_server_runs.specs.RangeInvariant.{groups_read, ReadsMetadata, ReadsLog, PhaseIs, StageIs, RangeKept, StreamsKept, StepKept}

@@ -21,8 +21,8 @@ use Rattle.model_partition.specs.Past.{Bytes}
 use Rattle.model_partition.specs.Range.{RangeState, RangeOutcome, request, is_serving}
 use Rattle.model_partition.specs.PlaceReads.{places_of}
 use Rattle.model_partition.specs.Loading.{said_after, confirms, asks_index, index_named, reads_named, reads_index, installs, reads_log, open_region, first_position, reads_log_from, checks_log, begins_log, reads_metadata, begins_metadata, opens}
-use Rattle.model_partition.specs.ServerRun.{RangeHistory}
-use Rattle.model_partition.specs.StreamActions.{StreamAction}
+use Rattle.model_histories.specs.ServerRun.{RangeHistory}
+use Rattle.model_histories.specs.StreamActions.{StreamAction}
 use Rattle.laws_loads.specs.Sound.{IsSound}
 use Rattle.laws_loads.specs.RangeView.{RangeView, view_after_all}
 use Rattle.laws_tables.specs.Runs.{Run}
@@ -32,10 +32,10 @@ use Rattle.std.proofs.lemmas.Bool.{ltb-false}
 use Rattle.client.specs.Client.{check_rule}
 use Rattle.checkpoint_format.specs.Index.{index_at}
 use Rattle.metadata.specs.declared.record.Region.{Region}
-use Rattle.model_partition.specs.IndexContents.{bytes_in}
+use Rattle.model_histories.specs.IndexContents.{bytes_in}
 use Rattle.model_partition.specs.Loading.{read_of}
 use Rattle.model_partition.specs.Range.{given, picking}
-use Rattle.model_partition.specs.StreamActions.{PlacedBytes, first_start}
+use Rattle.model_histories.specs.StreamActions.{PlacedBytes, first_start}
 use Rattle.laws_checkpoints.specs.ShownTables.{AreInstalled, HoldsBytes}
 use Rattle.laws_server_runs.proofs.ClientAnswers.{check_base, read_base}
 use Rattle.laws_server_runs.proofs.IndexOrder.{all_read, next_read, none_read}

@@ -7,9 +7,9 @@ use Rattle.metadata.specs.declared.record.IndexRange.{IndexRange}
 use Rattle.metadata.specs.declared.record.MetaItem.{MetaItem}
 use Rattle.metadata.specs.Fold.{MetadataState, first_metadata, taken}
 use Rattle.model_partition.specs.Loading.{Group}
-use Rattle.model_partition.specs.Log.{line_shown}
-use Rattle.model_partition.specs.Renaming.{renamed_placed, decoded_record}
-use Rattle.model_partition.specs.Story.{Placed, Showed, Story, event_at, KeepsOrder}
+use Rattle.model_histories.specs.Log.{line_shown}
+use Rattle.model_histories.specs.Renaming.{renamed_placed, decoded_record}
+use Rattle.model_histories.specs.Story.{Placed, Showed, Story, event_at, KeepsOrder}
 use Rattle.laws_tables.specs.Runs.{first_beginning, fold_of, said}
 use Rattle.laws_server_runs.specs.NamedIndexes.{AreNamed, NamesSuch}
 use Rattle.laws_server_runs.specs.RangeInvariant.{AreCheckpoints, IsOfPages}

@@ -20,10 +20,10 @@ use Rattle.wire.specs.declared.rows.Row.{Row}
 use Rattle.model_partition.specs.declared.table_note.TableNote.TheVariants as tables
 use Rattle.model_partition.specs.Past.{Bytes, Transaction, Past, From_nothing, From_pair, AllBegan, IsPastOf, Replays, line_of, owners, table_notes, first_range}
 use Rattle.model_partition.specs.Loading.{Group}
-use Rattle.model_partition.specs.Story.{StreamEvent, Showed, event_at, KeepsOrder, EndsRise}
-use Rattle.model_partition.specs.ServerRun.{ServerRun, ServerEvent, run_of, log_name, metadata_name}
-use Rattle.model_partition.specs.ServedTables.{AllStand, LoadsOnce, AreFirst, AreUnsplit, AreSeenAs, StreamsInOrder}
-use Rattle.model_partition.specs.TableContents.{StandsAt}
+use Rattle.model_histories.specs.Story.{StreamEvent, Showed, event_at, KeepsOrder, EndsRise}
+use Rattle.model_histories.specs.ServerRun.{ServerRun, ServerEvent, run_of, log_name, metadata_name}
+use Rattle.model_histories.specs.ServedTables.{AllStand, LoadsOnce, AreFirst, AreUnsplit, AreSeenAs, StreamsInOrder}
+use Rattle.model_histories.specs.TableContents.{StandsAt}
 use Rattle.laws_tables.specs.Fenced.{Seen, Fenced, LogRun, IsLogRun}
 use Rattle.laws_tables.proofs.Fenced.{keeps_order, ends_rise}
 use Rattle.laws_tables.proofs.Members.{in_contains}

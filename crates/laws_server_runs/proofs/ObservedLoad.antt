@@ -8,9 +8,9 @@ use Rattle.wire.specs.declared.rows.Row.{Row}
 use Rattle.memtable.specs.declared.cell.Place.{Place}
 use Rattle.metadata.specs.declared.record.MetaItem.{MetaItem}
 use Rattle.commitlog.specs.Replay.{Numbered}
-use Rattle.model_partition.specs.Log.{line_shown, begins_of, dones_at}
+use Rattle.model_histories.specs.Log.{line_shown, begins_of, dones_at}
 use Rattle.model_partition.specs.Past.{Bytes, Transaction, stored, kept}
-use Rattle.model_partition.specs.Story.{Placed, event_at}
+use Rattle.model_histories.specs.Story.{Placed, event_at}
 use Rattle.laws_tables.specs.Layers.{Layer, flat}
 use Rattle.laws_tables.specs.Runs as chains
 use Rattle.laws_tables.specs.Runs.{Run, first_beginning, said, replayed_by, next_loaded, loaded_layer, seen, ShowsLayers}

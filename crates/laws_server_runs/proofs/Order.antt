@@ -7,7 +7,7 @@ use Rattle.commitlog.specs.declared.log_record.LogRecord.{LogRecord}
 use Rattle.commitlog.specs.Reading.{record_at}
 use Rattle.commitlog.specs.Record.{spelling}
 use Rattle.model_partition.specs.Past.{Bytes}
-use Rattle.model_partition.specs.Story.{Placed, Made, Showed, Story, event_at, Copy, placed, from_place, Ascending, KeepsOrder}
+use Rattle.model_histories.specs.Story.{Placed, Made, Showed, Story, event_at, Copy, placed, from_place, Ascending, KeepsOrder}
 use Rattle.model_partition.specs.Loading.{Group}
 use Rattle.laws_tables.proofs.Range.{event_cases}
 use Rattle.laws_server_runs.specs.RangeInvariant.{AllSpelled}

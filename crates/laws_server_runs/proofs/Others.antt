@@ -5,11 +5,11 @@ use Rattle.wire.specs.declared.streams.StreamKind.TheVariants as kinds
 use Rattle.model_partition.specs.declared.stage.Stage.{Stage}
 use Rattle.model_partition.specs.declared.stage.Stage.TheVariants as stages
 use Rattle.model_partition.specs.Past.{Bytes, Transaction}
-use Rattle.model_partition.specs.Story.{Made, Answered, Showed, Story}
+use Rattle.model_histories.specs.Story.{Made, Answered, Showed, Story}
 use Rattle.model_partition.specs.Range.{RangeState, is_serving}
 use Rattle.model_partition.specs.Loading.{Group}
-use Rattle.model_partition.specs.Renaming.{renamed, decoded, decoded_record}
-use Rattle.model_partition.specs.ServerRun.{RangeHistory}
+use Rattle.model_histories.specs.Renaming.{renamed, decoded, decoded_record}
+use Rattle.model_histories.specs.ServerRun.{RangeHistory}
 use Rattle.commitlog.specs.Replay.{Numbered}
 use Rattle.laws_loads.specs.RangeView.{RangeView, log_of, metadata_of}
 use Rattle.laws_tables.specs.Runs as chains

@@ -3,10 +3,10 @@ use Rattle.std.proofs.Common.{◌≡◌, ℕ, List, [], ◌∷◌, ◌++◌, Boo
 use Rattle.wire.specs.declared.note.Note.{Note}
 use Rattle.model_partition.specs.declared.table_note.TableNote.{TableNote}
 use Rattle.model_partition.specs.declared.table_note.TableNote.TheVariants as tables
-use Rattle.model_partition.specs.Log.{is_of, only}
+use Rattle.model_histories.specs.Log.{is_of, only}
 use Rattle.model_partition.specs.Past.{Bytes}
-use Rattle.model_partition.specs.ServedTables.{IsSeenAs, AreSeenAs}
-use Rattle.model_partition.specs.StreamActions.{PlacedBytes}
+use Rattle.model_histories.specs.ServedTables.{IsSeenAs, AreSeenAs}
+use Rattle.model_histories.specs.StreamActions.{PlacedBytes}
 use Rattle.laws_server_runs.specs.Places.{NoteWithin, NotesWithin}
 use Rattle.laws_server_runs.proofs.Actions.{same_test, other_test}
 

@@ -21,9 +21,9 @@ use Rattle.commitlog.specs.Places.{kept}
 use Rattle.commitlog.proofs.Measures.{group_size-append, size-spelling}
 use Rattle.model_partition.specs.Loading.{replayed, region_takes, holds, is_before, is_below_end}
 use Rattle.model_partition.specs.Past.{Bytes, Transaction}
-use Rattle.model_partition.specs.Renaming.{numbered}
-use Rattle.model_partition.specs.ServerRun.{place_number, placed_from}
-use Rattle.model_partition.specs.TableContents.{StandsAt, value_in}
+use Rattle.model_histories.specs.Renaming.{numbered}
+use Rattle.model_histories.specs.ServerRun.{place_number, placed_from}
+use Rattle.model_histories.specs.TableContents.{StandsAt, value_in}
 use Rattle.laws_loads.proofs.Cells.{Behind, behind, stands_first, stands_second, joined_both, size_is}
 use Rattle.laws_tables.specs.Layers.{Layer, empty_layer, layer_transaction, layer_line}
 use Rattle.laws_tables.specs.Runs.{added}

@@ -26,9 +26,9 @@ use Rattle.model_partition.specs.Getting.{get_rule}
 use Rattle.model_partition.specs.Answering.{answered_number, is_answerer, answer_rule, give_up_all}
 use Rattle.model_partition.specs.Server.{ServerState, ServerOutcome, range_of, set_range, set_split, split_of, awaiting, rests, sends_one, stepped, stepped_alone, new_range, is_newer, users_of, assign_rule, renew_rule, told_by_map, map_rule, transacts_in, gets_in, table_rule, answer_in, answer_of, numbered_rule, taken_rule, has_numbers, server_rule, moment_rule, given_up, gives_up, picked, give_up_rule, started, checkpoint_refused, checkpoint_refusal, checkpoints_in, server_checkpoint}
 use Rattle.model_partition.specs.Servers.{ServerCell, cell_rests, cell_takes, cell_given_up, cell_gives_up, cell_checkpoints, cell_stops, cell_starts, at_server, first_pick, told_moment}
-use Rattle.model_partition.specs.StreamActions.{StreamAction, transact_actions, answer_actions}
-use Rattle.model_partition.specs.ServerRun.{ServerRun, Begins, Does, Rests as RestsSo, ServerEvent, Takes, GivesUp, Checkpoints, Splits, Stops, Starts, Moment, with_effect, with_outcome, after_event, told_effect, map_effect, transact_effect, table_effect, answer_effect, awaited_effect, numbered_effect, packet_effect, server_effect, cell_effect}
-use Rattle.model_partition.specs.ServedTables.{IsUnsplit}
+use Rattle.model_histories.specs.StreamActions.{StreamAction, transact_actions, answer_actions}
+use Rattle.model_histories.specs.ServerRun.{ServerRun, Begins, Does, Rests as RestsSo, ServerEvent, Takes, GivesUp, Checkpoints, Splits, Stops, Starts, Moment, with_effect, with_outcome, after_event, told_effect, map_effect, transact_effect, table_effect, answer_effect, awaited_effect, numbered_effect, packet_effect, server_effect, cell_effect}
+use Rattle.model_histories.specs.ServedTables.{IsUnsplit}
 use Rattle.laws_loads.proofs.Entries.{entry_set, entry_other, entry_unmapped}
 use Rattle.laws_server_runs.specs.Turns.{IsRule, Transacts, Answers, Gets, Yields, Checkpoints as BeginsCheckpoint, Renews, Turn, Idles, Opens, Acts, Calms, outcome_of, HoldNoMore, RunStep, Keeps, Passes, Turns}
 use Rattle.laws_server_runs.proofs.Unsplit.{stepped_is, given_up_is, unawaited, not_refused, HaveNoSplits}

@@ -10,10 +10,10 @@ use Rattle.std.specs.Prelude.{map, take, drop}
 use Rattle.model_partition.specs.declared.shown_table.ShownTable.{ShownTable}
 use Rattle.model_partition.specs.declared.table_note.TableNote.{TableNote}
 use Rattle.model_partition.specs.declared.table_note.TableNote.TheVariants as tables
-use Rattle.model_partition.specs.IndexContents.{index_in, entries_in}
+use Rattle.model_histories.specs.IndexContents.{index_in, entries_in}
 use Rattle.model_partition.specs.Past.{Bytes, stored}
-use Rattle.model_partition.specs.ServedTables.{AreSeenAs}
-use Rattle.model_partition.specs.TableContents.{table_in}
+use Rattle.model_histories.specs.ServedTables.{AreSeenAs}
+use Rattle.model_histories.specs.TableContents.{table_in}
 use Rattle.laws_loads.proofs.Rows.{Ordered, ordered_put, row_step, none_step}
 use Rattle.laws_checkpoints.proofs.ShownRows.{ordered_merged}
 

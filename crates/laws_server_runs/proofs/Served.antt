@@ -32,7 +32,7 @@ use Rattle.model_partition.specs.Range.{OutGroup, RangeState, RangeOutcome, requ
 use Rattle.model_partition.specs.Loading.{log_news}
 use Rattle.model_partition.specs.Serving.{group_count, appends as appending, forms, transact_fault, transacts, transact_rule, committed, applies, log_done}
 use Rattle.model_partition.specs.Answering.{groups_of, is_taken, serving_news, log_taken, log_reply}
-use Rattle.model_partition.specs.StreamActions.{StreamAction, Forms, Stands, group_of, formed, transact_actions, last_position, stood, serving_actions, loading_actions, log_actions}
+use Rattle.model_histories.specs.StreamActions.{StreamAction, Forms, Stands, group_of, formed, transact_actions, last_position, stood, serving_actions, loading_actions, log_actions}
 use Rattle.laws_loads.specs.Sound.{IsSound, OutFits}
 use Rattle.laws_loads.proofs.WaitingIsSound.{is_next, pushed_sound, taken_served}
 use Rattle.laws_loads.specs.RangeView.{RangeView}

@@ -12,14 +12,14 @@ use Rattle.model_streams.proofs.Tests.{if_elim}
 use Rattle.model_partition.specs.declared.server_context.ServerContext.{ServerContext}
 use Rattle.model_partition.specs.Past.{Bytes, Transaction}
 use Rattle.model_partition.specs.Lines.{next_after}
-use Rattle.model_partition.specs.Log.{begins_of}
-use Rattle.model_partition.specs.Story.{StreamEvent, Made}
+use Rattle.model_histories.specs.Log.{begins_of}
+use Rattle.model_histories.specs.Story.{StreamEvent, Made}
 use Rattle.model_partition.specs.Range.{OutGroup, RangeState, RangeOutcome, request, goes, given, picking, if_there, is_serving}
 use Rattle.model_partition.specs.Serving.{record_of, began, group_count, appends, forms}
 use Rattle.model_partition.specs.Loading.{Group}
-use Rattle.model_partition.specs.Renaming.{renamed_event, numbered, numbered_if, decoded}
-use Rattle.model_partition.specs.StreamActions.{Forms, group_of, formed}
-use Rattle.model_partition.specs.ServedTables.{AreSeenAs}
+use Rattle.model_histories.specs.Renaming.{renamed_event, numbered, numbered_if, decoded}
+use Rattle.model_histories.specs.StreamActions.{Forms, group_of, formed}
+use Rattle.model_histories.specs.ServedTables.{AreSeenAs}
 use Rattle.laws_loads.proofs.Renaming.{mapped_length}
 use Rattle.laws_loads.proofs.WaitingIsSound.{IsNext, is_next, appends_sound}
 use Rattle.laws_tables.proofs.Range.{event_cases}

@@ -13,9 +13,9 @@ use Rattle.model_partition.specs.CheckpointStates.{CheckpointState}
 use Rattle.model_partition.specs.Checkpoints.{number_to_apply, new_job}
 use Rattle.model_partition.specs.Past.{Bytes, Transaction, after_line, empty_table}
 use Rattle.model_partition.specs.Range.{RangeState}
-use Rattle.model_partition.specs.ServedTables.{AllStand}
-use Rattle.model_partition.specs.ServerRun.{place_number}
-use Rattle.model_partition.specs.Story.{Copy, EndsRise, KeepsOrder, placed, whole}
+use Rattle.model_histories.specs.ServedTables.{AllStand}
+use Rattle.model_histories.specs.ServerRun.{place_number}
+use Rattle.model_histories.specs.Story.{Copy, EndsRise, KeepsOrder, placed, whole}
 use Rattle.laws_loads.specs.MemoryLayers.{layer_in}
 use Rattle.laws_loads.specs.RangeView.{RangeView}
 use Rattle.laws_loads.specs.Sound.{OutFits}

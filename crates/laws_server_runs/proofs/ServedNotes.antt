@@ -11,12 +11,12 @@ use Rattle.model_partition.specs.declared.stage.Stage.TheVariants as stages
 use Rattle.model_partition.specs.declared.table_note.TableNote.{TableNote}
 use Rattle.model_partition.specs.declared.waiting.WaitingTransaction.{WaitingTransaction}
 use Rattle.model_partition.specs.Past.{Bytes, Transaction}
-use Rattle.model_partition.specs.Log.{begins_of, dones_of, dones_at}
-use Rattle.model_partition.specs.Story.{Made, event_at}
+use Rattle.model_histories.specs.Log.{begins_of, dones_of, dones_at}
+use Rattle.model_histories.specs.Story.{Made, event_at}
 use Rattle.model_partition.specs.Range.{RangeState, RangeOutcome, is_serving}
 use Rattle.model_partition.specs.Serving.{began, dones, after_these}
-use Rattle.model_partition.specs.StreamActions.{StreamAction}
-use Rattle.model_partition.specs.ServedTables.{AreSeenAs}
+use Rattle.model_histories.specs.StreamActions.{StreamAction}
+use Rattle.model_histories.specs.ServedTables.{AreSeenAs}
 use Rattle.laws_loads.specs.Sound.{IsSound}
 use Rattle.laws_loads.specs.RangeView.{RangeView, view_after, view_after_all}
 use Rattle.laws_tables.specs.Runs as chains

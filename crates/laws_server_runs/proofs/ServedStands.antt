@@ -13,16 +13,16 @@ use Rattle.commitlog.specs.Replay.{Numbered}
 use Rattle.commitlog.proofs.Laws.{record_again}
 use Rattle.replica.specs.Groups.{joined}
 use Rattle.model_partition.specs.Past.{Bytes, Transaction}
-use Rattle.model_partition.specs.Log.{dones_of}
-use Rattle.model_partition.specs.Story.{StreamEvent, Made, Answered, event_at}
-use Rattle.model_partition.specs.StreamMachine.{base}
+use Rattle.model_histories.specs.Log.{dones_of}
+use Rattle.model_histories.specs.Story.{StreamEvent, Made, Answered, event_at}
+use Rattle.model_histories.specs.StreamMachine.{base}
 use Rattle.model_partition.specs.Range.{OutGroup, RangeState, RangeOutcome, is_serving}
 use Rattle.model_partition.specs.Serving.{record_of, dones, out_size}
 use Rattle.model_partition.specs.Loading.{Group}
-use Rattle.model_partition.specs.Renaming.{numbered, numbered_if, decoded}
-use Rattle.model_partition.specs.StreamActions.{Stands, group_of, last_position}
-use Rattle.model_partition.specs.ServerRun.{place_number}
-use Rattle.model_partition.specs.ServedTables.{AllStand, AreSeenAs}
+use Rattle.model_histories.specs.Renaming.{numbered, numbered_if, decoded}
+use Rattle.model_histories.specs.StreamActions.{Stands, group_of, last_position}
+use Rattle.model_histories.specs.ServerRun.{place_number}
+use Rattle.model_histories.specs.ServedTables.{AllStand, AreSeenAs}
 use Rattle.laws_loads.specs.Sound.{IsSound, OutFits}
 use Rattle.laws_tables.proofs.Range.{event_cases}
 use Rattle.laws_loads.proofs.Rows.{ordered_put}

@@ -6,14 +6,14 @@ use Rattle.wire.specs.declared.packet.Packet.{Packet}
 use Rattle.model_streams.specs.Maps.{entry_at}
 use Rattle.model_partition.specs.declared.stage.Stage.{Stage}
 use Rattle.model_partition.specs.declared.stage.Stage.TheVariants as stages
-use Rattle.model_partition.specs.Log.{only}
+use Rattle.model_histories.specs.Log.{only}
 use Rattle.model_partition.specs.Past.{Bytes}
 use Rattle.model_partition.specs.Range.{RangeState, RangeOutcome, is_serving}
 use Rattle.model_partition.specs.Server.{ServerState, range_of}
 use Rattle.model_partition.specs.Servers.{ServerCell}
-use Rattle.model_partition.specs.StreamActions.{StreamAction}
-use Rattle.model_partition.specs.ServerRun.{ServerRun, after_actions, with_outcome}
-use Rattle.model_partition.specs.ServedTables.{AreSeenAs, ServesAt}
+use Rattle.model_histories.specs.StreamActions.{StreamAction}
+use Rattle.model_histories.specs.ServerRun.{ServerRun, after_actions, with_outcome}
+use Rattle.model_histories.specs.ServedTables.{AreSeenAs, ServesAt}
 use Rattle.laws_loads.proofs.Entries.{entry_set, entry_other}
 use Rattle.laws_loads.specs.RangeView.{RangeView, view_after_all}
 use Rattle.laws_tables.specs.Runs.{Run, IsServing}

@@ -2,14 +2,14 @@
 use Rattle.std.proofs.Common.{◌≡◌, ℕ, List, [], ◌∷◌, Some, None, refl, sym, ap, ◌∙◌, subst}
 use Rattle.wire.specs.declared.note.Note.{Note}
 use Rattle.model_partition.specs.Loading.{Group}
-use Rattle.model_partition.specs.Log.{only}
+use Rattle.model_histories.specs.Log.{only}
 use Rattle.model_partition.specs.Past.{Bytes, Replays, table_notes, first_range}
 use Rattle.model_partition.specs.Range.{RangeState}
-use Rattle.model_partition.specs.Renaming.{decoded, decoded_record}
+use Rattle.model_histories.specs.Renaming.{decoded, decoded_record}
 use Rattle.model_partition.specs.Server.{range_of}
-use Rattle.model_partition.specs.Story.{KeepsOrder, EndsRise}
-use Rattle.model_partition.specs.ServerRun.{ServerRun, ServerEvent, after_event, first_run, run_of, log_name, metadata_name}
-use Rattle.model_partition.specs.ServedTables.{AreFirst, AreUnsplit, AreSeenAs, StreamsInOrder, IsAtLine, ServesAt}
+use Rattle.model_histories.specs.Story.{KeepsOrder, EndsRise}
+use Rattle.model_histories.specs.ServerRun.{ServerRun, ServerEvent, after_event, first_run, run_of, log_name, metadata_name}
+use Rattle.model_histories.specs.ServedTables.{AreFirst, AreUnsplit, AreSeenAs, StreamsInOrder, IsAtLine, ServesAt}
 use Rattle.laws_loads.proofs.Renaming.{renamed_keeps}
 use Rattle.laws_tables.proofs.Ends.{renamed_ends_rise}
 use Rattle.laws_tables.proofs.Final.{tables_of_first_range_replay}

@@ -18,10 +18,10 @@ use Rattle.model_partition.specs.Loading.{Group, replays, replayed}
 use Rattle.model_partition.specs.Range.{RangeState}
 use Rattle.model_partition.specs.Server.{new_range, started}
 use Rattle.model_partition.specs.Servers.{first_pick}
-use Rattle.model_partition.specs.Story.{KeepsOrder, EndsRise}
-use Rattle.model_partition.specs.StreamActions.{ExtentRead, Reads}
-use Rattle.model_partition.specs.ServerRun.{ServerRun, ServerEvent, after_actions, run_of, log_name, metadata_name}
-use Rattle.model_partition.specs.ServedTables.{AllStand, LoadsOnce, StreamsInOrder}
+use Rattle.model_histories.specs.Story.{KeepsOrder, EndsRise}
+use Rattle.model_histories.specs.StreamActions.{ExtentRead, Reads}
+use Rattle.model_histories.specs.ServerRun.{ServerRun, ServerEvent, after_actions, run_of, log_name, metadata_name}
+use Rattle.model_histories.specs.ServedTables.{AllStand, LoadsOnce, StreamsInOrder}
 use Rattle.laws_tables.proofs.Fenced.{keeps_order, ends_rise}
 use Rattle.laws_server_runs.proofs.Worked.{comes, asked, lists, extent}
 

@@ -23,8 +23,8 @@ use Rattle.model_partition.specs.Checkpoints.{checkpoint_rule}
 use Rattle.model_partition.specs.Answering.{answered_number, is_answerer, answer_rule, give_up_all}
 use Rattle.model_partition.specs.Server.{ServerState, ServerOutcome, range_of, awaiting, rests, split_of, set_split, split_awaiting, stepped, stepped_with, stepped_alone, is_newer, assign_rule, renew_rule, told_by_map, map_rule, transacts_in, gets_in, table_rule, answer_in, split_answer, answer_of, numbered_rule, taken_rule, has_numbers, server_rule, moment_rule, given_up, gives_up, picked, give_up_rule, started, busy_if, checkpoint_refusal, checkpoints_in, server_checkpoint}
 use Rattle.model_partition.specs.Servers.{ServerCell, CellOutcome, cell_rests, cell_takes, cell_given_up, cell_gives_up, cell_checkpoints, cell_stops, cell_starts, at_server, first_pick, first_server, first_servers, told_moment}
-use Rattle.model_partition.specs.ServerRun.{ServerRun, ServerEvent, Takes, GivesUp, Checkpoints, Splits, Stops, Starts, Moment, run_of, after_event}
-use Rattle.model_partition.specs.ServedTables.{IsUnsplit, AreUnsplit}
+use Rattle.model_histories.specs.ServerRun.{ServerRun, ServerEvent, Takes, GivesUp, Checkpoints, Splits, Stops, Starts, Moment, run_of, after_event}
+use Rattle.model_histories.specs.ServedTables.{IsUnsplit, AreUnsplit}
 use Rattle.laws_loads.proofs.Entries.{entry_set, entry_other, entry_unmapped}
 
 -- ---- steps of a server that has no split

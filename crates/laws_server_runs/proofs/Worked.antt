@@ -40,20 +40,20 @@ use Rattle.model_partition.specs.Loading.{Group}
 use Rattle.model_partition.specs.Range.{RangeState}
 use Rattle.model_partition.specs.Server.{ServerState, started}
 use Rattle.model_partition.specs.Servers.{first_pick}
-use Rattle.model_partition.specs.Story.{Placed, StreamEvent, Made, Answered, Showed, Story, Copy, placed, whole, event_at, KeepsOrder, EndsRise}
-use Rattle.model_partition.specs.ServerRun.{ServerRun, ServerEvent, Takes, run_of, log_name, metadata_name}
-use Rattle.model_partition.specs.StreamActions.{PlacedBytes}
-use Rattle.model_partition.specs.Log.{line_shown}
-use Rattle.model_partition.specs.Renaming.{renamed, renamed_placed, decoded}
+use Rattle.model_histories.specs.Story.{Placed, StreamEvent, Made, Answered, Showed, Story, Copy, placed, whole, event_at, KeepsOrder, EndsRise}
+use Rattle.model_histories.specs.ServerRun.{ServerRun, ServerEvent, Takes, run_of, log_name, metadata_name}
+use Rattle.model_histories.specs.StreamActions.{PlacedBytes}
+use Rattle.model_histories.specs.Log.{line_shown}
+use Rattle.model_histories.specs.Renaming.{renamed, renamed_placed, decoded}
 use Rattle.laws_tables.proofs.Whole.{from_first}
-use Rattle.model_partition.specs.TableContents.{StandsAt, table_in}
-use Rattle.model_partition.specs.ServedTables.{line_to, AreFirst, AreUnsplit, AreSeenAs, AllStand, LoadsOnce, StreamsInOrder, IsAtLine, ServesAt}
+use Rattle.model_histories.specs.TableContents.{StandsAt, table_in}
+use Rattle.model_histories.specs.ServedTables.{line_to, AreFirst, AreUnsplit, AreSeenAs, AllStand, LoadsOnce, StreamsInOrder, IsAtLine, ServesAt}
 use Rattle.laws_tables.specs.Fenced.{Seen, Landed, Fenced, LogRun, IsLogRun, visible}
 use Rattle.laws_tables.proofs.Fenced.{keeps_order, ends_rise}
 use Rattle.laws_tables.proofs.Range.{event_cases}
 use Rattle.laws_loads.proofs.Rows.{rows_say}
 use Rattle.laws_server_runs.proofs.Theorem.{run_replays, served_at_line}
-use Rattle.model_partition.specs.IndexContents.{served_entries}
+use Rattle.model_histories.specs.IndexContents.{served_entries}
 
 -- ---- what comes
 

@@ -15,10 +15,10 @@ use Rattle.model_partition.specs.Past.{Bytes, first_range}
 use Rattle.model_partition.specs.Range.{RangeState}
 use Rattle.model_partition.specs.Server.{ServerState, new_range, started}
 use Rattle.model_partition.specs.Servers.{first_pick}
-use Rattle.model_partition.specs.Story.{Showed, Story, KeepsOrder, EndsRise}
-use Rattle.model_partition.specs.ServerRun.{ServerRun, ServerEvent, run_of, log_name, metadata_name}
-use Rattle.model_partition.specs.ServedTables.{AreFirst, AllStand, LoadsOnce, StreamsInOrder, IsAtLine, ServesAt}
-use Rattle.model_partition.specs.TableContents.{StandsAt}
+use Rattle.model_histories.specs.Story.{Showed, Story, KeepsOrder, EndsRise}
+use Rattle.model_histories.specs.ServerRun.{ServerRun, ServerEvent, run_of, log_name, metadata_name}
+use Rattle.model_histories.specs.ServedTables.{AreFirst, AllStand, LoadsOnce, StreamsInOrder, IsAtLine, ServesAt}
+use Rattle.model_histories.specs.TableContents.{StandsAt}
 use Rattle.laws_server_runs.proofs.NeededPremises.{one_keeps, one_once, one_ends}
 use Rattle.laws_server_runs.proofs.Theorem.{run_at_line}
 use Rattle.laws_server_runs.proofs.Worked.{comes, asked, lists, group, events, log, metadata, stands, served, log_keeps, log_ends, metadata_keeps, once, are_unsplit}

@@ -22,14 +22,14 @@ use Rattle.model_partition.specs.declared.checkpoint_job.CheckpointPhase.TheVari
 use Rattle.model_partition.specs.declared.shown_table.ShownTable.{ShownTable}
 use Rattle.model_partition.specs.declared.table_note.TableNote.{TableNote}
 use Rattle.model_partition.specs.declared.table_note.TableNote.TheVariants as tables
-use Rattle.model_partition.specs.IndexContents.{bytes_in, pages_in, entries_in}
+use Rattle.model_histories.specs.IndexContents.{bytes_in, pages_in, entries_in}
 use Rattle.model_partition.specs.Loading.{Group}
 use Rattle.model_partition.specs.Past.{Bytes}
 use Rattle.model_partition.specs.Range.{RangeState, RangeOutcome, is_serving}
 use Rattle.model_partition.specs.Server.{ServerState, range_of}
 use Rattle.model_partition.specs.Servers.{ServerCell, entries_if}
-use Rattle.model_partition.specs.StreamActions.{StreamAction, Forms, Shows, PlacedBytes}
-use Rattle.model_partition.specs.ServerRun.{ServerRun, bytes_read}
+use Rattle.model_histories.specs.StreamActions.{StreamAction, Forms, Shows, PlacedBytes}
+use Rattle.model_histories.specs.ServerRun.{ServerRun, bytes_read}
 use Rattle.laws_loads.specs.RangeView.{RangeView, view_after_all}
 use Rattle.laws_loads.specs.Sound.{IsSound}
 use Rattle.laws_loads.proofs.Rows.{Ordered}

@@ -29,14 +29,14 @@ use Rattle.client.specs.declared.load.LoadPhase.TheVariants as phases
 use Rattle.model_partition.specs.declared.stage.Stage.{Stage}
 use Rattle.model_partition.specs.declared.stage.Stage.TheVariants as stages
 use Rattle.model_partition.specs.Past.{Bytes, Transaction}
-use Rattle.model_partition.specs.Story.{Made, Story, event_at, KeepsOrder, EndsRise}
+use Rattle.model_histories.specs.Story.{Made, Story, event_at, KeepsOrder, EndsRise}
 use Rattle.model_partition.specs.Range.{OutGroup, RangeState, RangeOutcome, is_serving}
 use Rattle.model_partition.specs.declared.waiting.PlaceRead.{PlaceRead}
 use Rattle.model_partition.specs.Loading.{Group, said_after, replayed, index_named, length_or}
-use Rattle.model_partition.specs.Renaming.{renamed, decoded, decoded_record}
-use Rattle.model_partition.specs.StreamActions.{ExtentRead, StreamAction, group_of, first_start}
-use Rattle.model_partition.specs.ServerRun.{RangeHistory, place_number}
-use Rattle.model_partition.specs.ServedTables.{AllStand, AreSeenAs, LoadsOnce}
+use Rattle.model_histories.specs.Renaming.{renamed, decoded, decoded_record}
+use Rattle.model_histories.specs.StreamActions.{ExtentRead, StreamAction, group_of, first_start}
+use Rattle.model_histories.specs.ServerRun.{RangeHistory, place_number}
+use Rattle.model_histories.specs.ServedTables.{AllStand, AreSeenAs, LoadsOnce}
 use Rattle.laws_loads.specs.Sound.{IsSound}
 use Rattle.laws_loads.specs.MemoryLayers.{layer_in}
 use Rattle.laws_loads.specs.RangeView.{RangeView, view_after_all, log_of, metadata_of}

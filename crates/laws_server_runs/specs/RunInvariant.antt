@@ -2,13 +2,13 @@
 use Rattle.std.specs.Prelude.{◌≡◌, ℕ, List, Some}
 use Rattle.wire.specs.declared.note.Note.{Note}
 use Rattle.model_streams.specs.Maps.{entry_at}
-use Rattle.model_partition.specs.Log.{only}
+use Rattle.model_histories.specs.Log.{only}
 use Rattle.model_partition.specs.Past.{Bytes}
 use Rattle.model_partition.specs.Range.{RangeState}
 use Rattle.model_partition.specs.Server.{ServerState, range_of}
 use Rattle.model_partition.specs.Servers.{ServerCell}
-use Rattle.model_partition.specs.ServerRun.{ServerRun, stream_named}
-use Rattle.model_partition.specs.ServedTables.{AreSeenAs, ServesAt}
+use Rattle.model_histories.specs.ServerRun.{ServerRun, stream_named}
+use Rattle.model_histories.specs.ServedTables.{AreSeenAs, ServesAt}
 use Rattle.laws_loads.specs.RangeView.{RangeView}
 use Rattle.laws_tables.specs.Runs.{Run}
 use Rattle.laws_server_runs.specs.RangeInvariant.{RangeKept, StreamsKept, AreObserved}

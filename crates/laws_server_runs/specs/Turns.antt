@@ -17,8 +17,8 @@ use Rattle.model_partition.specs.Getting.{get_rule}
 use Rattle.model_partition.specs.Answering.{answer_rule, give_up_all}
 use Rattle.model_partition.specs.Server.{ServerState, ServerOutcome, range_of, set_range, new_range}
 use Rattle.model_partition.specs.Servers.{ServerCell, ServersOutcome, server_takes, server_gives_up, server_checkpoints, server_splits, server_stops, server_starts, told_moment}
-use Rattle.model_partition.specs.StreamActions.{StreamAction, transact_actions, answer_actions}
-use Rattle.model_partition.specs.ServerRun.{ServerRun, RangeEffect, Begins, Does, Rests, ServerEvent, Takes, GivesUp, Checkpoints as MakesCheckpoint, Splits, Stops, Starts, Moment, with_effect, with_outcome}
+use Rattle.model_histories.specs.StreamActions.{StreamAction, transact_actions, answer_actions}
+use Rattle.model_histories.specs.ServerRun.{ServerRun, RangeEffect, Begins, Does, Rests, ServerEvent, Takes, GivesUp, Checkpoints as MakesCheckpoint, Splits, Stops, Starts, Moment, with_effect, with_outcome}
 
 -- a rule of a range, with what it does with streams and what it leaves
 pub data IsRule (r : RangeState) : List StreamAction → RangeOutcome → Type 0 where

@@ -26,7 +26,7 @@ use Rattle.model_partition.specs.Serving.{transact_rule}
 use Rattle.model_partition.specs.Getting.{get_rule}
 use Rattle.model_partition.specs.Checkpoints.{checkpoint_rule}
 use Rattle.model_partition.specs.Answering.{answered_number, is_answerer, answer_rule, give_up_all}
-use Rattle.model_partition.specs.Server.{ServerState, ServerOutcome, range_of, awaiting, users_of, is_newer, assign_rule, renew_rule, told_by_map, map_rule, transacts_in, gets_in, table_rule, answer_in, split_answer_in, split_answer, answer_of, numbered_rule, taken_rule, has_numbers, server_rule, gives_up, picked, checkpoint_refusal, checkpoints_in, server_checkpoint, split_of, split_awaiting, stepped, stepped_with, stepped_splitting, given_up, given_up_splitting, split_refusal, splits_in, server_split}
+use Rattle.model_partition.specs.Server.{ServerState, ServerOutcome, range_of, awaiting, users_of, is_newer, assign_rule, renew_rule, told_by_map, map_rule, transacts_in, gets_in, table_rule, answer_in, split_answer_in, split_answer, answer_of, numbered_rule, taken_rule, has_numbers, server_rule, gives_up, picked, checkpoint_refusal, checkpoints_in, server_checkpoint, split_of, split_awaiting, counted, stepped, stepped_with, stepped_splitting, given_up, given_up_splitting, split_refusal, splits_in, server_split}
 use Rattle.model_partition.specs.Servers.{ArePlain, ShowsLoad, ServerCell, ServersOutcome, range_table, table_at, loads, cell_loads, server_loads, cell_takes, cell_given_up, cell_gives_up, cell_checkpoints, cell_splits, cell_stops, cell_starts, at_server, server_takes, server_gives_up, server_checkpoints, server_splits, server_stops, server_starts}
 use Rattle.laws_servers.specs.Sending.{AllFromRanges, AllFromServers}
 use Rattle.laws_servers.proofs.ClientPackets.{all_both, from_servers, servers_both}
@@ -56,7 +56,7 @@ module _ (s : ServerState) (range : ℕ) (o : RangeOutcome) (IsShown : List Tabl
     where
       by : (job : SplitJob) (a : Option RangeState) → Tells (stepped_splitting s range job o a)
       by job None = (sent, shown)
-      by job (Some r) = (servers_both o.packets _ sent (follows_sends (record s.context { count = o.count }) r job job.phase), shown)
+      by job (Some r) = (servers_both o.packets _ sent (follows_sends (counted s.context o) r job), shown)
 
       go : (x : Option SplitJob) → Tells (stepped_with s range x o)
       go None = (sent, shown)
@@ -68,7 +68,7 @@ module _ (s : ServerState) (range : ℕ) (o : RangeOutcome) (IsShown : List Tabl
     where
       by : (a : Option RangeState) → Tells (given_up_splitting s range job o a)
       by None = (sent, shown)
-      by (Some r) = (servers_both o.packets _ sent (split_gives_up_sends (record s.context { count = o.count }) r job job.phase), shown)
+      by (Some r) = (servers_both o.packets _ sent (split_gives_up_sends (counted s.context o) r job), shown)
 
 stepped_tidy : (s : ServerState) (range : ℕ) (o : RangeOutcome) → IsTidy o → AreTidy (stepped s range o)
 stepped_tidy s range o h = stepped_tells s range o ArePlain (from_servers o.packets h.0) h.1

@@ -49,7 +49,7 @@ use Rattle.checkpoint.specs.Merges.{MergeState, next_place, with_at_hand}
 use Rattle.checkpoint.specs.PageGroups.{next_group}
 use Rattle.model_partition.specs.Getting.{held_at}
 use Rattle.model_partition.specs.PlaceReads.{places_of}
-use Rattle.model_partition.specs.Splits.{SplitStep, stays, goes, ends, split_rule, may_checkpoint, begun, is_drained, split_item, may_record, pauses_and_records, drains, extents_of, open_last, all_kinds, kinds_after, first_open, seals_or_builds, with_last_sealed, is_extent, last_sealed, side_metadata, keys_record, may_say_keys, appends_keys, says_keys, keys_stand, keys_told, phase_awaits, refused, refused_by, map_told, seal_told, stream_told, told, split_reply_in, split_reply, has_stood, follows, gives_up}
+use Rattle.model_partition.specs.Splits.{SplitStep, stays, goes, ends, split_rule, may_checkpoint, has_record_numbers, begun, is_drained, split_item, may_record, pauses_and_records, drains, extents_of, open_last, all_kinds, kinds_after, first_open, seals_or_builds, with_last_sealed, is_extent, last_sealed, side_metadata, keys_record, may_say_keys, appends_keys, says_keys, keys_stand, keys_told, phase_awaits, refused, refused_by, map_told, seal_told, stream_told, told, split_reply_in, split_reply, has_stood, has_number, follows_in, follows, gives_up_in, gives_up}
 
 -- ---- jobs of its client
 
@@ -255,16 +255,16 @@ module _ (d : ServerContext) (job : SplitJob) where
 
   begun_numbered : (r : RangeState) (low high : ℕ) → Step (begun d r job low high)
   begun_numbered r low high =
-      if_elim Step (may_checkpoint r) _ _
+      if_elim Step (may_checkpoint r && has_record_numbers r) _ _
       (λ t.
       let one : (begins d r false).count ≡ suc d.count = begins_count d r false in
       record { least = omega (arith, one); most = omega (arith, one); awaited = none })
       (λ f. stays_numbered r)
     where
-      none : (next : SplitJob) → Some (record job { low = low; high = high; phase = phases.Checkpoint }) ≡ Some next → (w : ReqNo) → phase_awaits next.phase w ≡ true →
+      none : (next : SplitJob) → Some (record job { low = low; high = high; number = suc r.said.next; phase = phases.Checkpoint }) ≡ Some next → (w : ReqNo) → phase_awaits next.phase w ≡ true →
           (phase_awaits job.phase w ≡ true) ⊎ (((begins d r false).count ≡ suc d.count) × (is_same (request d) w ≡ true))
       none next is w t =
-          let same : record job { low = low; high = high; phase = phases.Checkpoint } ≡ next = cc in
+          let same : record job { low = low; high = high; number = suc r.said.next; phase = phases.Checkpoint } ≡ next = cc in
           absurd (let waits : false ≡ true = subst (λ (j : SplitJob). phase_awaits j.phase w ≡ true) (sym same) t in cc)
 
   drains_numbered : (r : RangeState) → Step (drains d r job)
@@ -343,30 +343,33 @@ module _ (d : ServerContext) (job : SplitJob) where
   pub split_reply_numbered : (r : RangeState) (body : Body) → Step (split_reply d r job body)
   split_reply_numbered r body = reply_in_numbered r job.phase refl body
 
-  pub follows_numbered : (r : RangeState) (phase : SplitPhase) → Step (follows d r job phase)
-  follows_numbered r phases.Checkpoint = if_elim Step (is_some r.control) _ _ (λ t. stays_numbered r) (λ f. drains_numbered r)
-  follows_numbered r phases.Queue = drains_numbered r
-  follows_numbered r phases.Record =
+  follows_in_numbered : (r : RangeState) (phase : SplitPhase) → Step (follows_in d r job phase)
+  follows_in_numbered r phases.Checkpoint = if_elim Step (is_some r.control) _ _ (λ t. stays_numbered r) (λ f. drains_numbered r)
+  follows_in_numbered r phases.Queue = drains_numbered r
+  follows_in_numbered r phases.Record =
       if_elim Step (has_stood r) _ _
       (λ t. builds_numbered d job.phase (record r { said = taken r.said (split_item job) }) job (first_open (record r { said = taken r.said (split_item job) }) all_kinds))
       (λ f. stays_numbered r)
-  follows_numbered r phase = stays_numbered r
+  follows_in_numbered r phase = stays_numbered r
+
+  pub follows_numbered : (r : RangeState) → Step (follows d r job)
+  follows_numbered r = if_elim Step (has_number d) _ _ (λ t. follows_in_numbered r job.phase) (λ f. stays_numbered r)
 
   again : (r : RangeState) (packets : List Packet) → Step (goes d r job packets)
   again r packets = goes_numbered d job.phase r job packets (λ w t. inl t)
 
-  gives_up_in : (r : RangeState) (phase : SplitPhase) → job.phase ≡ phase → Step (gives_up d r job phase)
-  gives_up_in r (phases.Begin q) is = again r _
-  gives_up_in r (phases.Seal kind q) is = again r _
-  gives_up_in r (phases.Build q) is = again r _
-  gives_up_in r (phases.Keys side c) is =
+  gives_up_in_numbered : (r : RangeState) (phase : SplitPhase) → job.phase ≡ phase → Step (gives_up_in d r job phase)
+  gives_up_in_numbered r (phases.Begin q) is = again r _
+  gives_up_in_numbered r (phases.Seal kind q) is = again r _
+  gives_up_in_numbered r (phases.Build q) is = again r _
+  gives_up_in_numbered r (phases.Keys side c) is =
       let o : Outcome = give_up_rule (picking d c) (request d) d.pick in
       goes_numbered d job.phase r _ _ (by_client side c is o (give_up_leaves (picking d c) (request d) d.pick))
-  gives_up_in r (phases.Complete q) is = again r _
-  gives_up_in r phase is = again r []
+  gives_up_in_numbered r (phases.Complete q) is = again r _
+  gives_up_in_numbered r phase is = stays_numbered r
 
-  pub gives_up_numbered : (r : RangeState) → Step (gives_up d r job job.phase)
-  gives_up_numbered r = gives_up_in r job.phase refl
+  pub gives_up_numbered : (r : RangeState) → Step (gives_up d r job)
+  gives_up_numbered r = if_elim Step (has_number d) _ _ (λ t. gives_up_in_numbered r job.phase refl) (λ f. stays_numbered r)
 
 -- one that begins waits for the map under that number alone
 pub begins_numbered : (d : ServerContext) (r : RangeState) (key : List ℕ) → IsNumbered d phases.Checkpoint (split_rule d r key)

@@ -30,7 +30,7 @@ use Rattle.model_partition.specs.declared.split_job.SplitPhase.{SplitPhase}
 use Rattle.model_partition.specs.declared.split_job.SplitPhase.TheVariants as phases
 use Rattle.model_partition.specs.Range.{RangeState, request, given, picking, refused_users}
 use Rattle.model_partition.specs.Checkpoints.{begins}
-use Rattle.model_partition.specs.Splits.{SplitStep, split_rule, begun, is_drained, split_item, split_record, may_record, may_checkpoint, pauses_and_records, drains, extents_of, open_last, all_kinds, kinds_after, first_open, seals_or_builds, seals_among, with_last_sealed, is_extent, last_sealed, side_metadata, keys_record, appends_keys, may_say_keys, says_keys, keys_stand, keys_told, keys_reply, refused, refused_by, map_told, seal_told, stream_told, told, has_stood, split_reply_in, split_reply, follows, seal_again, gives_up}
+use Rattle.model_partition.specs.Splits.{SplitStep, split_rule, begun, is_drained, split_item, split_record, may_record, may_checkpoint, has_record_numbers, pauses_and_records, drains, extents_of, open_last, all_kinds, kinds_after, first_open, seals_or_builds, seals_among, with_last_sealed, is_extent, last_sealed, side_metadata, keys_record, appends_keys, may_say_keys, says_keys, keys_stand, keys_told, keys_reply, refused, refused_by, map_told, seal_told, stream_told, told, has_stood, split_reply_in, split_reply, has_number, follows_in, follows, seal_again, gives_up_in, gives_up}
 use Rattle.laws_servers.specs.Sending.{AllFromServers}
 use Rattle.laws_servers.proofs.ClientPackets.{IfFromRange, listed, from_servers, given_calls, append_rule_calls, reply_calls, give_up_calls}
 use Rattle.laws_servers.proofs.RangeSteps.{refused_all, begins_tidy}
@@ -49,15 +49,15 @@ pub split_sends : (d : ServerContext) (r : RangeState) (key : List ℕ) → Send
 split_sends d r key = ((d.server, refl, inr (inr refl)), tt)
 
 begun_sends : (d : ServerContext) (r : RangeState) (job : SplitJob) (low high : ℕ) → Sends (begun d r job low high)
-begun_sends d r job low high = if_elim Sends (may_checkpoint r) _ _ (λ t. from_servers (begins d r false).packets (begins_tidy d r false).0) (λ f. tt)
+begun_sends d r job low high = if_elim Sends (may_checkpoint r && has_record_numbers r) _ _ (λ t. from_servers (begins d r false).packets (begins_tidy d r false).0) (λ f. tt)
 
 -- ---- the pause
 
 records_sends : (d : ServerContext) (r : RangeState) (job : SplitJob) → Sends (pauses_and_records d r job)
 records_sends d r job =
     let c : ClientState = picking d r.metadata in
-    let o = append_rule c (request d) (spelling (split_record r job) ∷ []) in
-    client_sends (given c o).packet (given_calls c o (append_rule_calls c (request d) (spelling (split_record r job) ∷ [])))
+    let o = append_rule c (request d) (spelling (split_record job) ∷ []) in
+    client_sends (given c o).packet (given_calls c o (append_rule_calls c (request d) (spelling (split_record job) ∷ [])))
 
 drains_sends : (d : ServerContext) (r : RangeState) (job : SplitJob) → Sends (drains d r job)
 drains_sends d r job = if_elim Sends (is_drained r && may_record r job) _ _ (λ t. records_sends d r job) (λ f. tt)
@@ -142,21 +142,27 @@ split_reply_sends d r job body = reply_in_sends d r job job.phase body
 
 -- ---- what follows a step of the range, and giving up
 
-pub follows_sends : (d : ServerContext) (r : RangeState) (job : SplitJob) (phase : SplitPhase) → Sends (follows d r job phase)
-follows_sends d r job phases.Checkpoint = if_elim Sends (is_some r.control) _ _ (λ t. tt) (λ f. drains_sends d r job)
-follows_sends d r job phases.Queue = drains_sends d r job
-follows_sends d r job phases.Record =
+follows_in_sends : (d : ServerContext) (r : RangeState) (job : SplitJob) (phase : SplitPhase) → Sends (follows_in d r job phase)
+follows_in_sends d r job phases.Checkpoint = if_elim Sends (is_some r.control) _ _ (λ t. tt) (λ f. drains_sends d r job)
+follows_in_sends d r job phases.Queue = drains_sends d r job
+follows_in_sends d r job phases.Record =
     if_elim Sends (has_stood r) _ _ (λ t. seals_among_sends d (record r { said = taken r.said (split_item job) }) job all_kinds) (λ f. tt)
-follows_sends d r job phase = tt
+follows_in_sends d r job phase = tt
+
+pub follows_sends : (d : ServerContext) (r : RangeState) (job : SplitJob) → Sends (follows d r job)
+follows_sends d r job = if_elim Sends (has_number d) _ _ (λ t. follows_in_sends d r job job.phase) (λ f. tt)
 
 seal_again_all : (d : ServerContext) (e : Option ℕ) (q : ReqNo) → AllFromServers (seal_again d e q)
 seal_again_all d None q = tt
 seal_again_all d (Some e) q = ((d.server, refl, inl refl), tt)
 
-pub split_gives_up_sends : (d : ServerContext) (r : RangeState) (job : SplitJob) (phase : SplitPhase) → Sends (gives_up d r job phase)
-split_gives_up_sends d r job (phases.Begin q) = ((d.server, refl, inr (inr refl)), tt)
-split_gives_up_sends d r job (phases.Seal kind q) = seal_again_all d (open_last (extents_of r kind)) q
-split_gives_up_sends d r job (phases.Build q) = ((d.server, refl, inl refl), tt)
-split_gives_up_sends d r job (phases.Keys side c) = client_sends (give_up_rule (picking d c) (request d) d.pick).packet (give_up_calls (picking d c) (request d) d.pick)
-split_gives_up_sends d r job (phases.Complete q) = ((d.server, refl, inr (inr refl)), tt)
-split_gives_up_sends d r job phase = tt
+gives_up_in_sends : (d : ServerContext) (r : RangeState) (job : SplitJob) (phase : SplitPhase) → Sends (gives_up_in d r job phase)
+gives_up_in_sends d r job (phases.Begin q) = ((d.server, refl, inr (inr refl)), tt)
+gives_up_in_sends d r job (phases.Seal kind q) = seal_again_all d (open_last (extents_of r kind)) q
+gives_up_in_sends d r job (phases.Build q) = ((d.server, refl, inl refl), tt)
+gives_up_in_sends d r job (phases.Keys side c) = client_sends (give_up_rule (picking d c) (request d) d.pick).packet (give_up_calls (picking d c) (request d) d.pick)
+gives_up_in_sends d r job (phases.Complete q) = ((d.server, refl, inr (inr refl)), tt)
+gives_up_in_sends d r job phase = tt
+
+pub split_gives_up_sends : (d : ServerContext) (r : RangeState) (job : SplitJob) → Sends (gives_up d r job)
+split_gives_up_sends d r job = if_elim Sends (has_number d) _ _ (λ t. gives_up_in_sends d r job job.phase) (λ f. tt)

@@ -32,9 +32,9 @@ use Rattle.laws_streams.proofs.Listings.{last_at, moved_goes}
 use Rattle.laws_streams.proofs.ListRules.{BuildsStream, Built, KeepsAll, Goes, IsBuiltOf}
 use Rattle.laws_streams.proofs.RestsOnGround.{sealed_of}
 use Rattle.laws_streams.proofs.WholeLists.{whole_last, none_whole}
-use Rattle.model_partition.specs.StreamMachine.{OpenExtent, MachineState, count, nothing, one_if_live}
-use Rattle.model_partition.specs.ServerTurns.{after_all, AreMoves}
-use Rattle.model_partition.specs.ServerTurns as machine
+use Rattle.model_histories.specs.StreamMachine.{OpenExtent, MachineState, count, nothing, one_if_live}
+use Rattle.model_histories.specs.ServerTurns.{after_all, AreMoves}
+use Rattle.model_histories.specs.ServerTurns as machine
 use Rattle.laws_stream_machine.specs.Refinement.{Sent, extents_of, IsAt, IsThere, OfExtent, OfStream, AllAsked, StreamMeans, purpose_if, stream_meant}
 use Rattle.laws_stream_machine.proofs.MachineCore.{FencedBy, Shaped, same_shape}
 use Rattle.laws_stream_machine.proofs.Refines.{Follows}

@@ -37,7 +37,7 @@ use Rattle.laws_streams.proofs.ListRules.{Goes}
 use Rattle.laws_streams.proofs.Listings.{moved_goes}
 use Rattle.laws_streams.proofs.SealAnswers.{sealed_known, seals_answered}
 use Rattle.model_partition.specs.Answering.{append_number, check_number, read_number, seal_number, stream_number}
-use Rattle.model_partition.specs.StreamMachine.{SealedExtent, MachineState, base}
+use Rattle.model_histories.specs.StreamMachine.{SealedExtent, MachineState, base}
 use Rattle.laws_stream_machine.specs.Refinement.{Purpose, Opens, Confirms, Extends, Seals, Reads, Appends, Checks, Sent, purpose_of, extents_of, IsAt, ReadsRightly, AppendMeans, CheckMeans, SealMeans, ReadMeans, StreamMeans, AllMean, Means, purpose_if, stream_meant}
 use Rattle.laws_stream_machine.proofs.ExtentSteps.{group_of, chain_len}
 use Rattle.laws_stream_machine.proofs.FactSources.{Lawful}

@@ -11,9 +11,9 @@ use Rattle.model_streams.proofs.Tests.{if_elim}
 use Rattle.laws_streams.specs.Origins.{Begins}
 use Rattle.laws_streams.proofs.Ground.{Ground, EndsAt, Sound}
 use Rattle.laws_streams.proofs.MoreKnown.{Later}
-use Rattle.model_partition.specs.Story.{Copy}
-use Rattle.model_partition.specs.StreamMachine.{In, SealedExtent, OpenExtent, base, Chain, MachineState, MachineStep, Keeps, new_copy, May}
-use Rattle.model_partition.specs.ServerTurns.{all_next}
+use Rattle.model_histories.specs.Story.{Copy}
+use Rattle.model_histories.specs.StreamMachine.{In, SealedExtent, OpenExtent, base, Chain, MachineState, MachineStep, Keeps, new_copy, May}
+use Rattle.model_histories.specs.ServerTurns.{all_next}
 
 -- a copy is as long as its group
 abbrev pub Sized : List (Copy Group) → Type 0

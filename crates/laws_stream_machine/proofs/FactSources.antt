@@ -1,8 +1,8 @@
 -- What stood before each fact of a stream.
 use Rattle.std.proofs.Common.{◌≡◌, ℕ, suc, ◌<◌, ◌≤◌, List, [], ◌∷◌, length, Bool, true, false, Option, Some, None, sym, subst, inr, ⊎_elim, if◌then◌else◌, ◌==◌}
-use Rattle.model_partition.specs.Story.{Copy}
-use Rattle.model_partition.specs.StreamMachine.{In, OpenExtent, StreamCore, Fact, AsksOpen, Opened, AsksCheck, Checked, AsksConfirm, Confirmed, Serves, Begun, AsksAppend, Appended, AsksExtend, Extended, MachineState, MachineStep, TakesOpen, TakesExtend, TakesConfirm, TakesCheck, AnswersCheck, AnswersLate, TakesAppend, Keeps, AnswersAppend, Seals, Opens, Checks, ReadsSealed, ReadsChecked, Begins, Appends, Extends, TakesConfirmed, TakesAppended, May, extend_facts, next, after, IsRun}
-use Rattle.model_partition.specs.ServerTurns.{Move, after_all, AreMoves}
+use Rattle.model_histories.specs.Story.{Copy}
+use Rattle.model_histories.specs.StreamMachine.{In, OpenExtent, StreamCore, Fact, AsksOpen, Opened, AsksCheck, Checked, AsksConfirm, Confirmed, Serves, Begun, AsksAppend, Appended, AsksExtend, Extended, MachineState, MachineStep, TakesOpen, TakesExtend, TakesConfirm, TakesCheck, AnswersCheck, AnswersLate, TakesAppend, Keeps, AnswersAppend, Seals, Opens, Checks, ReadsSealed, ReadsChecked, Begins, Appends, Extends, TakesConfirmed, TakesAppended, May, extend_facts, next, after, IsRun}
+use Rattle.model_histories.specs.ServerTurns.{Move, after_all, AreMoves}
 use Rattle.laws_tables.proofs.Extents.{followed}
 use Rattle.laws_tables.proofs.Turns.{all_good}
 

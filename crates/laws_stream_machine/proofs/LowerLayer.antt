@@ -15,9 +15,9 @@ use Rattle.laws_streams.proofs.BuildRequests.{ServersAsk, servers_ask}
 use Rattle.laws_streams.proofs.RestsOnGround.{places_of}
 use Rattle.laws_streams.proofs.Invariant.{run_moves_push}
 use Rattle.laws_streams.proofs.Listings.{moved_goes, lists_grow}
-use Rattle.model_partition.specs.StreamMachine.{MachineState, MachineStep}
-use Rattle.model_partition.specs.ServerTurns.{Turn, Whole, Above, at_first, after_all, AreMoves}
-use Rattle.model_partition.specs.ServerTurns as machine
+use Rattle.model_histories.specs.StreamMachine.{MachineState, MachineStep}
+use Rattle.model_histories.specs.ServerTurns.{Turn, Whole, Above, at_first, after_all, AreMoves}
+use Rattle.model_histories.specs.ServerTurns as machine
 use Rattle.laws_stream_machine.specs.Refinement.{Sent, extents_of, IsAt, IsUnsealedAt, IsAsked, AllAsked, AllMean}
 use Rattle.laws_stream_machine.proofs.FactSources.{lawful}
 use Rattle.laws_stream_machine.proofs.StepSequences.{Onward, Walk, all_onward, below_all, walked}

@@ -19,8 +19,8 @@ use Rattle.laws_streams.proofs.Ground.{Ground, Sound, EndsAt}
 use Rattle.laws_streams.proofs.MoreKnown.{Later}
 use Rattle.laws_streams.proofs.RestsOnGround.{Moment, Unmoved, Added, origin_of}
 use Rattle.laws_streams.proofs.LastingLengths.{place_had}
-use Rattle.model_partition.specs.Story.{Copy}
-use Rattle.model_partition.specs.StreamMachine.{In, SealedExtent, OpenExtent, base, count, one_if_live, shut_at, Chain, Opened, Checked, AsksAppend, MachineState, TakesAppend, Seals, new_copy, next}
+use Rattle.model_histories.specs.Story.{Copy}
+use Rattle.model_histories.specs.StreamMachine.{In, SealedExtent, OpenExtent, base, count, one_if_live, shut_at, Chain, Opened, Checked, AsksAppend, MachineState, TakesAppend, Seals, new_copy, next}
 use Rattle.laws_stream_machine.specs.Refinement.{Purpose, Sent, purpose_of, Appends, extents_of}
 use Rattle.laws_stream_machine.proofs.ExtentSteps.{Sized, group_of, floor_of, TiedLive, TiedShut, floor_low, floor_rises, append_tied, seal_tied, find_front, end_after, live_fits, FoundFront, chain_le}
 use Rattle.laws_stream_machine.proofs.StepSequences.{Walk, stand, walk_on, steps_to, with_lived, keep_all}

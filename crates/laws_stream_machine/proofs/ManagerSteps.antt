@@ -28,7 +28,7 @@ use Rattle.laws_streams.proofs.ListRules.{Goes}
 use Rattle.laws_streams.proofs.KeptStreams.{decide_same}
 use Rattle.laws_streams.proofs.ManagerAnswers as manager
 use Rattle.laws_streams.proofs.DecisionAnswers as decision
-use Rattle.model_partition.specs.StreamMachine.{MachineState}
+use Rattle.model_histories.specs.StreamMachine.{MachineState}
 use Rattle.laws_stream_machine.specs.Refinement.{Sent, purpose_if, stream_meant}
 use Rattle.laws_stream_machine.proofs.FactSources.{Lawful}
 use Rattle.laws_stream_machine.proofs.StepSequences.{Onward, onward_refl, Walk, stand, walk_on, walk_weaker}

@@ -14,9 +14,9 @@ use Rattle.laws_streams.proofs.Lists.{begins_length, stands_index}
 use Rattle.laws_streams.proofs.Ground.{Ground, Sound}
 use Rattle.laws_streams.proofs.MoreKnown.{Later}
 use Rattle.laws_streams.proofs.LastingLengths.{sealed_beyond}
-use Rattle.model_partition.specs.Story.{Copy}
-use Rattle.model_partition.specs.StreamMachine as machine
-use Rattle.model_partition.specs.StreamMachine.{In, SealedExtent, OpenExtent, base, count, one_if_live, all_shut, shut_at, Chain, MachineState, TakesCheck, AnswersCheck, AnswersLate, AnswersAppend, all_copies}
+use Rattle.model_histories.specs.Story.{Copy}
+use Rattle.model_histories.specs.StreamMachine as machine
+use Rattle.model_histories.specs.StreamMachine.{In, SealedExtent, OpenExtent, base, count, one_if_live, all_shut, shut_at, Chain, MachineState, TakesCheck, AnswersCheck, AnswersLate, AnswersAppend, all_copies}
 use Rattle.laws_tables.proofs.Members.{in_left, in_right}
 use Rattle.laws_stream_machine.specs.Refinement.{Sent, purpose_of, Appends, extents_of}
 use Rattle.laws_stream_machine.proofs.ExtentSteps.{Sized, group_of, TiedLive, FoundFront, chain_len, chain_both, floor_above, floor_low, live_end, find_front, keep_tied, end_after, after_chain}

@@ -38,8 +38,8 @@ use Rattle.laws_streams.proofs.NodeRules.{node_keeps}
 use Rattle.laws_streams.proofs.EventSteps.{recelled}
 use Rattle.laws_streams.proofs.StreamAnswers.{same_packet}
 use Rattle.laws_streams.proofs.NodeAnswers as node
-use Rattle.model_partition.specs.StreamMachine as machine
-use Rattle.model_partition.specs.StreamMachine.{MachineState}
+use Rattle.model_histories.specs.StreamMachine as machine
+use Rattle.model_histories.specs.StreamMachine.{MachineState}
 use Rattle.laws_stream_machine.specs.Refinement.{Purpose, Checks, Appends, Sent, purpose_of, extents_of, AsksToAppend, AppendMeans, CheckMeans}
 use Rattle.laws_stream_machine.proofs.FactSources.{Lawful}
 use Rattle.laws_stream_machine.proofs.StepSequences.{Onward, onward_refl, onward_trans, Walk, stand, walk_on, walk_weaker}

@@ -27,8 +27,8 @@ use Rattle.laws_streams.proofs.Ground.{Ground, FineBody}
 use Rattle.laws_streams.proofs.MoreKnown.{later_refl}
 use Rattle.laws_streams.proofs.RestsOnGround.{Holds}
 use Rattle.laws_streams.proofs.EventSteps.{start_good, sent_holds, shown_holds, server_fine, told_fine, user_fine}
-use Rattle.model_partition.specs.StreamMachine as machine
-use Rattle.model_partition.specs.StreamMachine.{MachineState}
+use Rattle.model_histories.specs.StreamMachine as machine
+use Rattle.model_histories.specs.StreamMachine.{MachineState}
 use Rattle.laws_stream_machine.specs.Refinement.{Sent, IsAsked, AllAsked, StreamMeans, purpose_if, stream_meant}
 use Rattle.laws_stream_machine.proofs.StepSequences.{onward_refl}
 use Rattle.laws_stream_machine.proofs.MachineCore.{Shaped}

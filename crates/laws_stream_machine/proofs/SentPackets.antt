@@ -34,7 +34,7 @@ use Rattle.laws_streams.proofs.RestsOnGround.{Unmoved}
 use Rattle.laws_streams.proofs.NodeAnswers as node
 use Rattle.laws_streams.proofs.ManagerAnswers as manager
 use Rattle.laws_streams.proofs.DecisionAnswers as decision
-use Rattle.model_partition.specs.StreamMachine as machine
+use Rattle.model_histories.specs.StreamMachine as machine
 use Rattle.laws_stream_machine.specs.Refinement.{Purpose, Opens, Checks, Confirms, Appends, Extends, Sent, purpose_of, extents_of, extents_in, IsAt, IsThere, last_known, known_of, AsksToOpen, AsksToConfirm, AsksToExtend, AsksToCheck, AsksToAppend, AsksToRead, AsksToSeal, OfExtent, OfStream, IsAsked, Tells, list_of, AppendMeans, CheckMeans, StreamMeans, purpose_if, stream_meant}
 use Rattle.laws_stream_machine.proofs.MachineCore.{get_same}
 use Rattle.laws_stream_machine.proofs.StepSequences.{Onward}

@@ -27,10 +27,10 @@ use Rattle.model_streams.specs.StreamSystem.{StreamSystem, is_server_call}
 use Rattle.laws_streams.specs.Origins.{Origin}
 use Rattle.laws_streams.proofs.Choices.{each-get}
 use Rattle.laws_streams.proofs.Ground.{Ground}
-use Rattle.model_partition.specs.Story.{Copy}
-use Rattle.model_partition.specs.StreamMachine as machine
-use Rattle.model_partition.specs.StreamMachine.{In, StreamCore, shut_at, Fact, MachineState, MachineStep, Opens, Checks, ReadsSealed, ReadsChecked, Begins, Appends, Extends, TakesConfirmed, TakesAppended, next}
-use Rattle.model_partition.specs.ServerTurns.{Phase, Idle, Opening, Checking, Sealing, Confirming, Serving, Sent as SentOut, Closing, Growing, Turn, Assigned, AllSealed, LastOpen, Found, IsShut, ConfirmedIs, Forms, AppendedAt, ExtendedTo, does, forms, all_next, is_layer}
+use Rattle.model_histories.specs.Story.{Copy}
+use Rattle.model_histories.specs.StreamMachine as machine
+use Rattle.model_histories.specs.StreamMachine.{In, StreamCore, shut_at, Fact, MachineState, MachineStep, Opens, Checks, ReadsSealed, ReadsChecked, Begins, Appends, Extends, TakesConfirmed, TakesAppended, next}
+use Rattle.model_histories.specs.ServerTurns.{Phase, Idle, Opening, Checking, Sealing, Confirming, Serving, Sent as SentOut, Closing, Growing, Turn, Assigned, AllSealed, LastOpen, Found, IsShut, ConfirmedIs, Forms, AppendedAt, ExtendedTo, does, forms, all_next, is_layer}
 use Rattle.laws_stream_machine.specs.Refinement.{Purpose, Sent, purpose_of, asked_number, meant_number, AsksToOpen, AsksToConfirm, AsksToExtend, AsksToCheck, AsksToAppend, AsksToRead, AsksToSeal, OfExtent, OfStream, IsAsked, Tells, list_of, AppendMeans, CheckMeans, StreamMeans, purpose_if, stream_meant}
 use Rattle.laws_stream_machine.specs.Refinement as ties
 use Rattle.laws_stream_machine.proofs.StepSequences.{Onward, onward_refl, onward_trans, next_onward}

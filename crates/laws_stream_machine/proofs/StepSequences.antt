@@ -4,9 +4,9 @@ use Rattle.std.proofs.lemmas.List.{append-nil}
 use Rattle.std.proofs.lemmas.Bool.{eqb-true}
 use Rattle.replica.specs.Groups.{Group}
 use Rattle.model_streams.proofs.Tests.{if_elim}
-use Rattle.model_partition.specs.Story.{Copy}
-use Rattle.model_partition.specs.StreamMachine.{In, SealedExtent, OpenExtent, StreamCore, shut_at, Fact, MachineState, MachineStep, TakesOpen, TakesExtend, TakesConfirm, TakesCheck, AnswersCheck, AnswersLate, TakesAppend, Keeps, AnswersAppend, Seals, Opens, Checks, ReadsSealed, ReadsChecked, Begins, Appends, Extends, TakesConfirmed, TakesAppended, May, extended, next}
-use Rattle.model_partition.specs.ServerTurns.{all_next, Below, Move, is_layer, after_all, AreMoves}
+use Rattle.model_histories.specs.Story.{Copy}
+use Rattle.model_histories.specs.StreamMachine.{In, SealedExtent, OpenExtent, StreamCore, shut_at, Fact, MachineState, MachineStep, TakesOpen, TakesExtend, TakesConfirm, TakesCheck, AnswersCheck, AnswersLate, TakesAppend, Keeps, AnswersAppend, Seals, Opens, Checks, ReadsSealed, ReadsChecked, Begins, Appends, Extends, TakesConfirmed, TakesAppended, May, extended, next}
+use Rattle.model_histories.specs.ServerTurns.{all_next, Below, Move, is_layer, after_all, AreMoves}
 use Rattle.laws_tables.proofs.Turns.{stays}
 use Rattle.laws_stream_machine.proofs.ExtentSteps.{IsRunFrom, end_after}
 

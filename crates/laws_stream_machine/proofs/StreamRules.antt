@@ -41,9 +41,9 @@ use Rattle.laws_streams.proofs.RestsOnGround.{places_of, sealed_of, FineCatalog}
 use Rattle.laws_streams.proofs.RisingFences.{all_passed, four_pass, not_there, no_fault, with_here}
 use Rattle.laws_streams.proofs.StreamAnswers.{same_packet, found_end, may_grow, is_other}
 use Rattle.laws_streams.proofs.ManagerAnswers as manager
-use Rattle.model_partition.specs.Story.{Copy}
-use Rattle.model_partition.specs.StreamMachine as machine
-use Rattle.model_partition.specs.StreamMachine.{In, OpenExtent, MachineState, TakesOpen, TakesConfirm, TakesExtend, count, one_if_live}
+use Rattle.model_histories.specs.Story.{Copy}
+use Rattle.model_histories.specs.StreamMachine as machine
+use Rattle.model_histories.specs.StreamMachine.{In, OpenExtent, MachineState, TakesOpen, TakesConfirm, TakesExtend, count, one_if_live}
 use Rattle.laws_stream_machine.specs.Refinement.{Opens, Sent, purpose_of, extents_of, extents_in, IsAsked, AllAsked, last_known, known_of, AsksToOpen, AsksToConfirm, AsksToExtend, Tells, list_of, StreamMeans, purpose_if, stream_meant}
 use Rattle.laws_stream_machine.proofs.FactSources.{Lawful}
 use Rattle.laws_stream_machine.proofs.StepSequences.{Onward, Walk, stand, steps_to, shut_within}

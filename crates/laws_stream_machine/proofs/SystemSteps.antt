@@ -29,7 +29,7 @@ use Rattle.laws_streams.proofs.BuildRequests.{ServersAsk}
 use Rattle.laws_streams.proofs.ListRules.{BuildsStream, Built, Goes, grown_whole}
 use Rattle.laws_streams.proofs.StreamAnswers.{same_packet}
 use Rattle.laws_streams.proofs.WholeLists.{none_whole}
-use Rattle.model_partition.specs.StreamMachine.{MachineState}
+use Rattle.model_histories.specs.StreamMachine.{MachineState}
 use Rattle.laws_stream_machine.specs.Refinement.{Sent, extents_of, IsAt, IsThere, IsAsked, AllAsked}
 use Rattle.laws_stream_machine.proofs.StepSequences.{Onward}
 use Rattle.laws_stream_machine.proofs.MachineCore.{Shaped, pushed_get}

@@ -14,7 +14,7 @@ use Rattle.model_streams.specs.Manager.{told_of, told_before, told_extents}
 use Rattle.model_streams.proofs.Tests.{if_elim}
 use Rattle.laws_streams.proofs.Ground.{Ground}
 use Rattle.laws_streams.proofs.StreamNames.{same_name, kind_same}
-use Rattle.model_partition.specs.StreamMachine.{OpenExtent, SealedExtent, base, one_if_live, shut_at, MachineState}
+use Rattle.model_histories.specs.StreamMachine.{OpenExtent, SealedExtent, base, one_if_live, shut_at, MachineState}
 use Rattle.laws_stream_machine.specs.Refinement.{Sent, extents_of}
 use Rattle.laws_stream_machine.proofs.SentPackets.{is_outside}
 use Rattle.laws_stream_machine.proofs.MachineCore.{IsIn, Shaped, same_got}

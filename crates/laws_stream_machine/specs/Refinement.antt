@@ -29,9 +29,9 @@ use Rattle.client.specs.Requests.{is_same}
 use Rattle.model_streams.specs.Manager.{sealed_lengths}
 use Rattle.model_streams.specs.Outcome.{packet}
 use Rattle.model_streams.specs.StreamSystem.{StreamSystem}
-use Rattle.model_partition.specs.Story.{Copy}
+use Rattle.model_histories.specs.Story.{Copy}
 use Rattle.model_partition.specs.Answering.{answered_number, is_answerer}
-use Rattle.model_partition.specs.StreamMachine as machine
+use Rattle.model_histories.specs.StreamMachine as machine
 
 -- ---- requests
 

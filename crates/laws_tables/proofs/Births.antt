@@ -7,7 +7,7 @@ use Rattle.wire.specs.declared.note.Note.{Note}
 use Rattle.wire.specs.declared.note.Note.TheVariants.{Acked, SealedAt, Content, Seen, Began, Done, Loaded, Split, Merged}
 use Rattle.metadata.specs.Fold.{all_keys}
 use Rattle.model_partition.specs.Past.{owners, owners_back, eldest, eldest_back, kin, kin_back, keys_of, keys_back}
-use Rattle.model_partition.specs.StreamMachine.{In}
+use Rattle.model_histories.specs.StreamMachine.{In}
 use Rattle.laws_tables.specs.Families.{HasNoBirth, IsChild}
 
 pub none_append : (r : ℕ) (xs ys : List Note) → HasNoBirth r xs → HasNoBirth r ys → HasNoBirth r (xs ++ ys)

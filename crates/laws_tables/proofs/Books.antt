@@ -1,8 +1,8 @@
 -- The line of one incarnation, and the append that it has out, event by event.
 use Rattle.std.proofs.Common.{◌≡◌, ℕ, suc, ◌+◌, ◌<◌, ◌≤◌, List, [], ◌∷◌, ◌++◌, length, Option, Some, None, refl, sym, ap, ◌∙◌, subst, inl, inr, ◌⊎◌, ⊎_elim, arith, append_assoc, length-append}
 use Rattle.commitlog.specs.Replay.{Numbered as Group}
-use Rattle.model_partition.specs.Log.{line_shown}
-use Rattle.model_partition.specs.Story.{Placed, StreamEvent, Made, Answered, Showed, Story, event_at}
+use Rattle.model_histories.specs.Log.{line_shown}
+use Rattle.model_histories.specs.Story.{Placed, StreamEvent, Made, Answered, Showed, Story, event_at}
 use Rattle.laws_tables.specs.Through.{line_through, IsTail, IsLoaded, IsAnswered, HadLine, HasAllAnswered, HasOneOut, OutAppend, HasLine}
 use Rattle.laws_tables.specs.WholeStories.{Allowed, IsServed}
 use Rattle.laws_tables.proofs.Range.{IsMadeAt, Kept, bound, event_cases, newest, made_cases, answered_made, showed_made, Origin}

@@ -2,9 +2,9 @@
 use Rattle.std.proofs.Common.{◌≡◌, ℕ, ◌+◌, ◌<◌, ◌≤◌, List, [], ◌∷◌, ◌++◌, length, map, Some, refl, sym, ap, ◌∙◌, subst, inl, inr, ⊎_elim, arith, append_assoc, length-append}
 use Rattle.std.specs.Prelude.{Contains}
 use Rattle.std.proofs.lemmas.Bool.{cases_eq}
-use Rattle.model_partition.specs.Story.{Placed, StreamEvent, Made, Answered, Showed, Story, event_at, Copy, placed, from_place, KeepsOrder}
-use Rattle.model_partition.specs.StreamMachine.{In, Fact, Confirmed, MachineState, MachineStep, TakesOpen, TakesExtend, TakesConfirm, TakesCheck, AnswersCheck, AnswersLate, TakesAppend, Keeps, AnswersAppend, Seals, Opens, Checks, ReadsSealed, ReadsChecked, Begins, Appends, Extends, TakesConfirmed, TakesAppended, next, after, IsRun}
-use Rattle.model_partition.specs.ServerTurns.{Below, Above, Move, does, all_next, after_all, AreMoves}
+use Rattle.model_histories.specs.Story.{Placed, StreamEvent, Made, Answered, Showed, Story, event_at, Copy, placed, from_place, KeepsOrder}
+use Rattle.model_histories.specs.StreamMachine.{In, Fact, Confirmed, MachineState, MachineStep, TakesOpen, TakesExtend, TakesConfirm, TakesCheck, AnswersCheck, AnswersLate, TakesAppend, Keeps, AnswersAppend, Seals, Opens, Checks, ReadsSealed, ReadsChecked, Begins, Appends, Extends, TakesConfirmed, TakesAppended, next, after, IsRun}
+use Rattle.model_histories.specs.ServerTurns.{Below, Above, Move, does, all_next, after_all, AreMoves}
 use Rattle.laws_tables.specs.Built.{ReadsInOrder, story_of, HasLoad, AnsweredBy, KeepsSource}
 use Rattle.laws_tables.specs.Fenced.{Fenced}
 use Rattle.laws_tables.proofs.Extents.{Ok, Inv, Follows, followed}

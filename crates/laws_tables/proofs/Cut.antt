@@ -5,8 +5,8 @@ use Rattle.std.proofs.lemmas.List.{map-append}
 use Rattle.std.proofs.lemmas.Bool.Decides.{nat_tests}
 use Rattle.commitlog.specs.Replay.{Numbered as Group}
 use Rattle.model_partition.specs.Lines.{next_after}
-use Rattle.model_partition.specs.Story.{Placed, Made, Answered, Story, event_at, Copy, from_place, KeepsOrder}
-use Rattle.model_partition.specs.StreamMachine.{In}
+use Rattle.model_histories.specs.Story.{Placed, Made, Answered, Story, event_at, Copy, from_place, KeepsOrder}
+use Rattle.model_histories.specs.StreamMachine.{In}
 use Rattle.laws_tables.specs.WholeStories.{IsServed}
 use Rattle.laws_tables.proofs.Lines.{along, along-append, line_at_position}
 use Rattle.laws_tables.proofs.Members.{in_contains, contains_in, in_split, in_right, in_left, in_cases}

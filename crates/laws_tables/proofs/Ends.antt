@@ -1,7 +1,7 @@
 -- The ends of loads rise in a story whose groups are called by other names too: so they do where the groups are what bytes spell.
 use Rattle.std.proofs.Common.{◌≡◌, ℕ, suc, List, [], ◌∷◌, length, Some, refl, ap, ◌∙◌, ⊎_elim}
-use Rattle.model_partition.specs.Renaming.{renamed_event, renamed}
-use Rattle.model_partition.specs.Story.{Placed, StreamEvent, Made, Answered, Showed, Story, event_at, EndsRise}
+use Rattle.model_histories.specs.Renaming.{renamed_event, renamed}
+use Rattle.model_histories.specs.Story.{Placed, StreamEvent, Made, Answered, Showed, Story, event_at, EndsRise}
 use Rattle.laws_tables.proofs.Range.{event_cases, newest, older}
 
 module _ {A B : Type 0} (f : A → B) where

@@ -3,13 +3,13 @@ use Rattle.std.proofs.Common.{◌≡◌, ℕ, suc, ◌+◌, ◌<◌, ◌≤◌, 
 use Rattle.std.proofs.lemmas.List.{append-nil}
 use Rattle.std.proofs.lemmas.Bool.{cases_lt}
 use Rattle.std.proofs.lemmas.Bool.Decides.{nat_tests}
-use Rattle.model_partition.specs.Story.{StreamEvent, Made, Answered, Showed, event_at, Copy, placed, from_place, KeepsOrder, EndsRise}
+use Rattle.model_histories.specs.Story.{StreamEvent, Made, Answered, Showed, event_at, Copy, placed, from_place, KeepsOrder, EndsRise}
 use Rattle.laws_tables.specs.Fenced.{Seen, Landed, Fenced, LogRun, visible, landed, fence, end_of, IsLogRun}
 use Rattle.laws_tables.specs.Fenced.{May as Allows}
 use Rattle.laws_tables.proofs.Range.{older, newest}
 use Rattle.laws_tables.proofs.Fenced.{ends_rise, keeps_order}
 use Rattle.laws_tables.proofs.Members.{contains_in, in_left}
-use Rattle.model_partition.specs.StreamMachine.{In, SealedExtent, OpenExtent, StreamCore, base, one_if_live, count, all_shut, last_end, first, shut_at, Chain, Fact, AsksOpen, Opened, AsksCheck, Checked, AsksConfirm, Confirmed, Serves, Begun, AsksAppend, Appended, AsksExtend, Extended, MachineState, MachineStep, TakesOpen, TakesExtend, TakesConfirm, TakesCheck, AnswersCheck, AnswersLate, TakesAppend, Keeps, AnswersAppend, Seals, Opens, Checks, ReadsSealed, ReadsChecked, Begins, Appends, Extends, TakesConfirmed, TakesAppended, knows, sees, with_live, new_live, extended, new_copy, NotYet, all_copies, May, extend_facts, next, nothing, after, IsRun}
+use Rattle.model_histories.specs.StreamMachine.{In, SealedExtent, OpenExtent, StreamCore, base, one_if_live, count, all_shut, last_end, first, shut_at, Chain, Fact, AsksOpen, Opened, AsksCheck, Checked, AsksConfirm, Confirmed, Serves, Begun, AsksAppend, Appended, AsksExtend, Extended, MachineState, MachineStep, TakesOpen, TakesExtend, TakesConfirm, TakesCheck, AnswersCheck, AnswersLate, TakesAppend, Keeps, AnswersAppend, Seals, Opens, Checks, ReadsSealed, ReadsChecked, Begins, Appends, Extends, TakesConfirmed, TakesAppended, knows, sees, with_live, new_live, extended, new_copy, NotYet, all_copies, May, extend_facts, next, nothing, after, IsRun}
 
 module _ (A : Type 0) (gen : ℕ → ℕ) where
   -- ---------------------------------------------------------------- the invariant

@@ -10,9 +10,9 @@ use Rattle.metadata.specs.declared.record.MetaItem.{MetaItem}
 use Rattle.metadata.specs.declared.record.MetaItem.TheVariants.{Ranges, Checkpoint, Regions, SplitStatus}
 use Rattle.metadata.specs.Fold.{MetadataState, first_metadata, taken}
 use Rattle.model_partition.specs.Lines.{next_after, StandsIn}
-use Rattle.model_partition.specs.Log.{line_shown}
-use Rattle.model_partition.specs.Story.{Placed, Made, Answered, Showed, Story, event_at, Copy, KeepsOrder, EndsRise}
-use Rattle.model_partition.specs.StreamMachine.{In}
+use Rattle.model_histories.specs.Log.{line_shown}
+use Rattle.model_histories.specs.Story.{Placed, Made, Answered, Showed, Story, event_at, Copy, KeepsOrder, EndsRise}
+use Rattle.model_histories.specs.StreamMachine.{In}
 use Rattle.laws_tables.specs.Families.{HasKeys, IsNamed, NamesNoOther, LoadsAbove}
 use Rattle.laws_tables.specs.Layers.{Layer}
 use Rattle.laws_tables.specs.Runs.{Forms, Logged, Notes, Records, Recorded, Trims, Confirms, Run, log_of, meta_of, record_group, first_beginning, fold_of, said, IsChainRun, ShowsLayers}

@@ -7,9 +7,9 @@ use Rattle.memtable.specs.declared.cell.Place.{Place}
 use Rattle.commitlog.specs.Replay.{Numbered as Group}
 use Rattle.metadata.specs.declared.record.KeyRange.{KeyRange}
 use Rattle.metadata.specs.declared.record.MetaItem.{MetaItem}
-use Rattle.model_partition.specs.Log.{line_shown, begins_of, dones_at, only}
+use Rattle.model_histories.specs.Log.{line_shown, begins_of, dones_at, only}
 use Rattle.model_partition.specs.Past.{Bytes, Transaction, empty_table, after_line, stored, kept, keys_of, Replays}
-use Rattle.model_partition.specs.Story.{Placed, StreamEvent, Made, Answered, Showed, event_at, Copy, placed, whole}
+use Rattle.model_histories.specs.Story.{Placed, StreamEvent, Made, Answered, Showed, event_at, Copy, placed, whole}
 use Rattle.laws_tables.specs.Families.{HasKeys, IsFirst, HasParent, IsFamily}
 use Rattle.laws_tables.specs.Layers.{Layer}
 use Rattle.laws_tables.specs.Runs.{Event, Forms, Logged, Notes, Records, Recorded, Trims, Confirms, Run, log_of, first_beginning, ShownLoad, said, next_loaded, shown_at, seen}

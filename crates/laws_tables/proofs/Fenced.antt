@@ -2,12 +2,12 @@
 use Rattle.std.proofs.Common.{◌≡◌, ℕ, ◌<◌, ◌≤◌, List, [], ◌∷◌, ◌++◌, length, map, cond, Option, Some, None, refl, sym, ap, ◌∙◌, subst, ⊎_elim, arith, append_assoc}
 use Rattle.std.specs.Prelude.{Contains}
 use Rattle.std.proofs.lemmas.List.{append-nil, append_cancel_left}
-use Rattle.model_partition.specs.Story.{Placed, StreamEvent, Made, Answered, Showed, event_at, Copy, placed, from_place, Ascending, KeepsOrder, EndsRise}
+use Rattle.model_histories.specs.Story.{Placed, StreamEvent, Made, Answered, Showed, event_at, Copy, placed, from_place, Ascending, KeepsOrder, EndsRise}
 use Rattle.laws_tables.specs.Ends.{StandsBehind}
 use Rattle.laws_tables.specs.Fenced.{Seen, Landed, Fenced, LogRun, visible, landed, fence, end_of, May, IsLogRun, stood}
 use Rattle.laws_tables.proofs.Lines.{split_at}
 use Rattle.laws_tables.proofs.Range.{bound, older, event_cases, eq_test, ne_test}
-use Rattle.model_partition.specs.StreamMachine.{In}
+use Rattle.model_histories.specs.StreamMachine.{In}
 use Rattle.laws_tables.proofs.Members.{in_contains, contains_in, in_left, in_cases}
 
 module _ (A : Type 0) where

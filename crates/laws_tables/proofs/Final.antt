@@ -9,9 +9,9 @@ use Rattle.metadata.specs.declared.record.KeyRange.{KeyRange}
 use Rattle.metadata.specs.declared.record.MetaItem.{MetaItem}
 use Rattle.metadata.specs.declared.record.MetaItem.TheVariants.{Ranges, Checkpoint, Regions, SplitStatus}
 use Rattle.metadata.specs.Fold.{MetadataState, all_keys, taken}
-use Rattle.model_partition.specs.Log.{line_shown, begins_of, dones_at}
+use Rattle.model_histories.specs.Log.{line_shown, begins_of, dones_at}
 use Rattle.model_partition.specs.Past.{Transaction, empty_table, after_line, kept, Replays, table_notes, first_range}
-use Rattle.model_partition.specs.Story.{Placed, StreamEvent, Made, Answered, Showed, event_at, Copy, placed, KeepsOrder, EndsRise, whole}
+use Rattle.model_histories.specs.Story.{Placed, StreamEvent, Made, Answered, Showed, event_at, Copy, placed, KeepsOrder, EndsRise, whole}
 use Rattle.laws_tables.specs.Ends.{StandsBehind}
 use Rattle.laws_tables.specs.Layers.{Layer}
 use Rattle.laws_tables.specs.Runs.{Event, Forms, Logged, Notes, Records, Recorded, Trims, Confirms, Run, log_of, record_group, meta_of, Beginning, first_beginning, IsBeginning, fold_of, ShownLoad, said, next_loaded, shown_at, seen, IsChainRun, ShowsLayers, KeepsKeys}

@@ -10,8 +10,8 @@ use Rattle.metadata.specs.Fold.{MetadataState, taken}
 use Rattle.metadata.specs.Keys.{within}
 use Rattle.model_partition.specs.Lines.{next_after}
 use Rattle.model_partition.specs.Past.{Bytes, Transaction, after_line}
-use Rattle.model_partition.specs.ServerRun.{place_number}
-use Rattle.model_partition.specs.Story.{StreamEvent, Made, Answered, Story}
+use Rattle.model_histories.specs.ServerRun.{place_number}
+use Rattle.model_histories.specs.Story.{StreamEvent, Made, Answered, Story}
 use Rattle.laws_tables.specs.Layers.{Layer, over, flat, limited, indexed, layer_line}
 use Rattle.laws_tables.specs.Runs.{Beginning, start_number, first_next, NotedPosition, Serving, items_out, noted_next, formed, logged, noting, recording, recorded, said, IsNarrower, Covers, MayCheckpoint, MaySplit}
 use Rattle.laws_tables.specs.Through.{HadLine, HasAllAnswered, HasOneOut, OutAppend, HasLine}

@@ -3,7 +3,7 @@ use Rattle.std.proofs.Common.{◌≡◌, ℕ, zero, suc, ◌+◌, ◌-◌, ◌<�
 use Rattle.std.proofs.lemmas.List.{append-nil, drop_all}
 use Rattle.std.proofs.lemmas.Bool.{cases_lt, cases_eq}
 use Rattle.commitlog.specs.Replay.{Numbered as Group, taken}
-use Rattle.model_partition.specs.StreamMachine.{In}
+use Rattle.model_histories.specs.StreamMachine.{In}
 use Rattle.model_partition.specs.Lines.{next_after, StandsIn}
 use Rattle.laws_tables.proofs.Members.{in_left, in_middle, in_cases, in_split}
 

@@ -7,10 +7,10 @@ use Rattle.commitlog.specs.Replay.{Numbered as Group}
 use Rattle.metadata.specs.declared.record.MetaItem.{MetaItem}
 use Rattle.metadata.specs.Fold.{MetadataState, taken}
 use Rattle.metadata.specs.Keys.{within}
-use Rattle.model_partition.specs.Log.{line_shown}
+use Rattle.model_histories.specs.Log.{line_shown}
 use Rattle.model_partition.specs.Past.{Bytes, Transaction, after_line}
-use Rattle.model_partition.specs.Story.{Placed, StreamEvent, Showed, Story, event_at, Copy, placed, from_place, KeepsOrder, EndsRise}
-use Rattle.model_partition.specs.StreamMachine.{In}
+use Rattle.model_histories.specs.Story.{Placed, StreamEvent, Showed, Story, event_at, Copy, placed, from_place, KeepsOrder, EndsRise}
+use Rattle.model_histories.specs.StreamMachine.{In}
 use Rattle.laws_tables.specs.Ends.{StandsBehind}
 use Rattle.laws_tables.specs.Layers.{Layer, empty_layer, over, flat, indexed}
 use Rattle.laws_tables.specs.Runs.{Beginning, IsBeginning, start_number, first_next, added, greater, said, replayed_by, loaded_layer, confirmed}

@@ -7,10 +7,10 @@ use Rattle.memtable.specs.declared.cell.Place.{Place}
 use Rattle.commitlog.specs.Replay.{Numbered as Group}
 use Rattle.metadata.specs.declared.record.MetaItem.{MetaItem}
 use Rattle.metadata.specs.Fold.{MetadataState}
-use Rattle.model_partition.specs.Log.{line_shown}
+use Rattle.model_histories.specs.Log.{line_shown}
 use Rattle.model_partition.specs.Past.{Bytes, Transaction, after_line, stored, kept}
-use Rattle.model_partition.specs.Story.{Placed, StreamEvent, Made, Answered, Showed, event_at, Copy, placed, from_place, KeepsOrder, EndsRise, whole}
-use Rattle.model_partition.specs.StreamMachine.{In}
+use Rattle.model_histories.specs.Story.{Placed, StreamEvent, Made, Answered, Showed, event_at, Copy, placed, from_place, KeepsOrder, EndsRise, whole}
+use Rattle.model_histories.specs.StreamMachine.{In}
 use Rattle.laws_tables.specs.Ends.{StandsBehind}
 use Rattle.laws_tables.specs.Layers.{Layer, flat}
 use Rattle.laws_tables.specs.Runs.{Event, Forms, Logged, Notes, Records, Recorded, Trims, Confirms, Run, log_of, record_group, meta_of, Beginning, IsBeginning, start_number, Serving, formed, logged, noting, recording, recorded, ShownLoad, said, next_loaded, loaded_layer, confirmed, held, shown_at, IsServing, MayStart, MayInChain, IsChainRun, ShowsLayers, ShowsLine, ChainReplays}

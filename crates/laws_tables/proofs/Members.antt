@@ -1,7 +1,7 @@
 -- Members of lists.
 use Rattle.std.proofs.Common.{◌≡◌, ℕ, zero, suc, ◌<◌, List, [], ◌∷◌, ◌++◌, length, refl, sym, ap, inl, inr, ◌⊎◌, ⊎_elim, arith}
 use Rattle.std.specs.Prelude.{Contains, slice_index_or}
-use Rattle.model_partition.specs.StreamMachine.{In}
+use Rattle.model_histories.specs.StreamMachine.{In}
 
 in_at : {A : Type 0} (x : A) (xs : List A) (k : ℕ) → k < length xs → slice_index_or xs k x ≡ x → In x xs
 in_at x [] k h e = absurd (omega arith)

@@ -11,9 +11,9 @@ use Rattle.metadata.specs.declared.record.MetaItem.{MetaItem}
 use Rattle.metadata.specs.declared.record.MetaItem.TheVariants.{Ranges}
 use Rattle.metadata.specs.Fold.{all_keys}
 use Rattle.metadata.specs.Keys.{within}
-use Rattle.model_partition.specs.Log.{is_of, only}
+use Rattle.model_histories.specs.Log.{is_of, only}
 use Rattle.model_partition.specs.Past.{Bytes, Transaction, Past, From_nothing, From_pair, owners, line_of, begun, stored, kept, keys_of, table_of, AllDone, IsMember, IsComplete, Replays}
-use Rattle.model_partition.specs.Story.{Placed, Made, Answered, Showed, event_at, placed}
+use Rattle.model_histories.specs.Story.{Placed, Made, Answered, Showed, event_at, placed}
 use Rattle.laws_tables.specs.Families.{HasKeys, IsChild, generation_of, IsToldIn, IsRange, IsFirst, HasParent}
 use Rattle.laws_tables.specs.Fenced.{Seen, Landed, Fenced, LogRun, IsLogRun}
 use Rattle.laws_tables.specs.Layers.{flat}

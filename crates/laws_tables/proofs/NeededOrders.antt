@@ -8,7 +8,7 @@ use Rattle.metadata.specs.declared.record.MetaItem.{MetaItem}
 use Rattle.metadata.specs.Fold.{all_keys}
 use Rattle.model_partition.specs.Past.{Bytes, Transaction, stored, kept}
 use Rattle.model_partition.specs.Lines.{StandsIn}
-use Rattle.model_partition.specs.Story.{Placed, Showed, Story, event_at, KeepsOrder, EndsRise}
+use Rattle.model_histories.specs.Story.{Placed, Showed, Story, event_at, KeepsOrder, EndsRise}
 use Rattle.laws_tables.specs.Fenced.{Seen, Fenced, LogRun, IsLogRun, visible}
 use Rattle.laws_tables.specs.Layers.{flat}
 use Rattle.laws_tables.specs.Runs.{Confirms, Run, log_of, meta_of, first_beginning, loaded_layer, shown_at, IsChainRun, ShowsLayers, ShowsLine, ChainReplays}

@@ -10,13 +10,13 @@ use Rattle.wire.specs.declared.rows.Row.{Row}
 use Rattle.model_partition.specs.Past.{Transaction, begun}
 use Rattle.commitlog.specs.Replay.{Numbered as Group}
 use Rattle.model_partition.specs.Lines.{next_after}
-use Rattle.model_partition.specs.Story.{Placed, StreamEvent, Made, Answered, Showed, event_at}
-use Rattle.model_partition.specs.Log.{line_shown, begins_of, dones_of, dones_at, is_of, only}
+use Rattle.model_histories.specs.Story.{Placed, StreamEvent, Made, Answered, Showed, event_at}
+use Rattle.model_histories.specs.Log.{line_shown, begins_of, dones_of, dones_at, is_of, only}
 use Rattle.laws_tables.specs.WholeStories.{IsServed, notes, observed}
 use Rattle.laws_tables.proofs.Holds.{LogStory}
 use Rattle.laws_tables.proofs.Lines.{split_at}
 use Rattle.laws_tables.proofs.Range.{IsMadeAt, IsShownAt, Kept, kept_by_servers, bound, older, event_cases, newest, eq_test, ne_test}
-use Rattle.model_partition.specs.StreamMachine.{In}
+use Rattle.model_histories.specs.StreamMachine.{In}
 use Rattle.laws_tables.proofs.Members.{in_right, in_left, in_cases}
 
 -- members by position

@@ -6,7 +6,7 @@ use Rattle.wire.specs.declared.note.Note.{Note}
 use Rattle.wire.specs.declared.note.Note.TheVariants.{Acked, SealedAt, Content, Seen, Began, Done, Loaded, Split, Merged}
 use Rattle.metadata.specs.declared.record.KeyRange.{KeyRange}
 use Rattle.model_partition.specs.Past.{Bytes, Transaction, Past, From_nothing, From_pair, owners, owners_back, eldest, eldest_back, kin, kin_back, keys_of, keys_back, kept, union, after_line, empty_table, table_of, begun, AllBegan, AllDone, IsMember, IsPastOf, IsComplete, Replays, table_notes}
-use Rattle.model_partition.specs.StreamMachine.{In}
+use Rattle.model_histories.specs.StreamMachine.{In}
 use Rattle.laws_tables.proofs.Members.{in_contains, contains_in}
 
 pub others-append : (xs ys : List Note) → table_notes (xs ++ ys) ≡ table_notes xs ++ table_notes ys

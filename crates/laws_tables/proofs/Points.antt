@@ -4,9 +4,9 @@ use Rattle.std.specs.Prelude.{Contains}
 use Rattle.std.proofs.lemmas.List.{append-nil}
 use Rattle.commitlog.specs.Replay.{Numbered as Group, replayed as replay}
 use Rattle.model_partition.specs.Lines.{next_after}
-use Rattle.model_partition.specs.Log.{line_shown}
-use Rattle.model_partition.specs.Story.{Placed, StreamEvent, Made, Answered, Showed, Story, event_at, Copy, placed, from_place, KeepsOrder, EndsRise}
-use Rattle.model_partition.specs.StreamMachine.{In}
+use Rattle.model_histories.specs.Log.{line_shown}
+use Rattle.model_histories.specs.Story.{Placed, StreamEvent, Made, Answered, Showed, Story, event_at, Copy, placed, from_place, KeepsOrder, EndsRise}
+use Rattle.model_histories.specs.StreamMachine.{In}
 use Rattle.laws_tables.specs.Runs.{added}
 use Rattle.laws_tables.specs.Through.{HadLine}
 use Rattle.laws_tables.specs.WholeStories.{IsServed}

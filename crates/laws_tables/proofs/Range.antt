@@ -4,8 +4,8 @@ use Rattle.std.proofs.lemmas.Bool.{cases_eq}
 use Rattle.std.proofs.lemmas.Bool.Decides.{nat_tests}
 use Rattle.commitlog.specs.Replay.{Numbered as Group}
 use Rattle.model_partition.specs.Lines.{next_after}
-use Rattle.model_partition.specs.Story.{Placed, StreamEvent, Made, Answered, Showed, Story, event_at}
-use Rattle.model_partition.specs.Log.{line_shown}
+use Rattle.model_histories.specs.Story.{Placed, StreamEvent, Made, Answered, Showed, Story, event_at}
+use Rattle.model_histories.specs.Log.{line_shown}
 use Rattle.laws_tables.specs.WholeStories.{next_number, Allowed, IsServed}
 
 module _ (A : Type 0) where

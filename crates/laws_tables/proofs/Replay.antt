@@ -3,10 +3,10 @@ use Rattle.std.proofs.Common.{◌≡◌, ℕ, suc, ◌<◌, ◌≤◌, List, [],
 use Rattle.std.specs.Prelude.{Contains}
 use Rattle.std.proofs.lemmas.List.{map-append}
 use Rattle.commitlog.specs.Replay.{Numbered as Group, taken, replayed as replay}
-use Rattle.model_partition.specs.StreamMachine.{In}
+use Rattle.model_histories.specs.StreamMachine.{In}
 use Rattle.model_partition.specs.Lines.{next_after}
-use Rattle.model_partition.specs.Story.{Placed, StreamEvent, Made, Answered, Showed, Story, event_at, Copy, placed, from_place, Ascending, KeepsOrder}
-use Rattle.model_partition.specs.Log.{line_shown}
+use Rattle.model_histories.specs.Story.{Placed, StreamEvent, Made, Answered, Showed, Story, event_at, Copy, placed, from_place, Ascending, KeepsOrder}
+use Rattle.model_histories.specs.Log.{line_shown}
 use Rattle.laws_tables.specs.WholeStories.{IsServed}
 use Rattle.laws_tables.proofs.Lines.{along, Rules}
 use Rattle.laws_tables.proofs.Members.{in_contains, contains_in, in_right, in_cases, in_split}

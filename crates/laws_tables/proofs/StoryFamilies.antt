@@ -7,10 +7,10 @@ use Rattle.wire.specs.declared.note.Note.TheVariants.{Began, Done, Loaded}
 use Rattle.wire.specs.declared.rows.Row.{Row}
 use Rattle.commitlog.specs.Replay.{Numbered as Group}
 use Rattle.model_partition.specs.Lines.{StandsIn}
-use Rattle.model_partition.specs.Log.{line_shown, is_of, only}
+use Rattle.model_histories.specs.Log.{line_shown, is_of, only}
 use Rattle.model_partition.specs.Past.{Bytes, Transaction, empty_table, after_line, stored, From_nothing, owners, eldest, kin, keys_of, kept, begun, first_range, AllBegan, IsMember, IsPrefixOf, Begins, Replays}
-use Rattle.model_partition.specs.Story.{Placed, StreamEvent, Made, Answered, Showed, event_at, KeepsOrder}
-use Rattle.model_partition.specs.StreamMachine.{In}
+use Rattle.model_histories.specs.Story.{Placed, StreamEvent, Made, Answered, Showed, event_at, KeepsOrder}
+use Rattle.model_histories.specs.StreamMachine.{In}
 use Rattle.laws_tables.specs.Families.{HasNoBirth, IsChild, generation_of}
 use Rattle.laws_tables.specs.Through.{IsTail, IsLoaded, IsAnswered}
 use Rattle.laws_tables.specs.WholeStories.{IsServed, observed}

@@ -6,9 +6,9 @@ use Rattle.wire.specs.declared.note.Note.{Note}
 use Rattle.wire.specs.declared.note.Note.TheVariants.{Began, Done, Loaded}
 use Rattle.wire.specs.declared.rows.Row.{Row}
 use Rattle.commitlog.specs.Replay.{Numbered as Group}
-use Rattle.model_partition.specs.Log.{line_shown, begins_of, dones_of, dones_at, only}
+use Rattle.model_histories.specs.Log.{line_shown, begins_of, dones_of, dones_at, only}
 use Rattle.model_partition.specs.Past.{Transaction, empty_table, after_line, stored, kept, keys_of, first_range, Replays}
-use Rattle.model_partition.specs.Story.{StreamEvent, Made, Answered, Showed, event_at, KeepsOrder}
+use Rattle.model_histories.specs.Story.{StreamEvent, Made, Answered, Showed, event_at, KeepsOrder}
 use Rattle.laws_tables.specs.Families.{HasNoBirth}
 use Rattle.laws_tables.specs.WholeStories.{IsServed, notes, observed, ShowsTables}
 use Rattle.laws_tables.proofs.Births.{none_append, unborn_keys}

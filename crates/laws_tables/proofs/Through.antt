@@ -4,9 +4,9 @@ use Rattle.std.specs.Prelude.{Contains}
 use Rattle.std.proofs.lemmas.Bool.{cases_eq}
 use Rattle.commitlog.specs.Replay.{Numbered as Group}
 use Rattle.model_partition.specs.Lines.{next_after, StandsIn}
-use Rattle.model_partition.specs.Log.{line_shown}
-use Rattle.model_partition.specs.Story.{Placed, StreamEvent, Made, Answered, Showed, Story, event_at, Copy, KeepsOrder}
-use Rattle.model_partition.specs.StreamMachine.{In}
+use Rattle.model_histories.specs.Log.{line_shown}
+use Rattle.model_histories.specs.Story.{Placed, StreamEvent, Made, Answered, Showed, Story, event_at, Copy, KeepsOrder}
+use Rattle.model_histories.specs.StreamMachine.{In}
 use Rattle.laws_tables.specs.Through.{line_through, IsTail, IsLoaded, IsAnswered, HadLine}
 use Rattle.laws_tables.specs.WholeStories.{next_number, IsServed}
 use Rattle.laws_tables.proofs.Lines.{along, shown_in_line, lines_in_order}

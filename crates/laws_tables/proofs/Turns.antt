@@ -1,9 +1,9 @@
 -- The stream layer under servers that follow their table keeps the order of their stream.
 use Rattle.std.proofs.Common.{◌≡◌, ℕ, zero, suc, List, [], ◌∷◌, ◌++◌, length, Bool, true, false, Option, Some, None, refl, sym, ap, subst, inl, inr, ⊎_elim, arith, if◌then◌else◌, ◌==◌}
 use Rattle.std.proofs.lemmas.Bool.Decides.{nat_tests}
-use Rattle.model_partition.specs.Story.{KeepsOrder, EndsRise}
-use Rattle.model_partition.specs.StreamMachine.{In, OpenExtent, StreamCore, count, Fact, AsksOpen, Opened, AsksCheck, Checked, AsksConfirm, Confirmed, Serves, Begun, AsksAppend, Appended, AsksExtend, Extended, MachineState, MachineStep, TakesOpen, TakesExtend, TakesConfirm, TakesCheck, AnswersCheck, AnswersLate, TakesAppend, Keeps, AnswersAppend, Seals, Opens, Checks, ReadsSealed, ReadsChecked, Begins, Appends, Extends, TakesConfirmed, TakesAppended, NotYet, May, extend_facts, next, after, IsRun}
-use Rattle.model_partition.specs.ServerTurns.{Phase, Idle, Opening, Checking, Sealing, Confirming, Serving, Sent, Closing, Growing, Turn, Assigned, AllSealed, LastOpen, Found, Fails, IsShut, ConfirmedIs, Forms, AppendedAt, ExtendedTo, IsTurn, becomes, does, forms, formed, all_next, Whole, Below, Above, Move, is_layer, MayMove, moved, after_all, AreMoves}
+use Rattle.model_histories.specs.Story.{KeepsOrder, EndsRise}
+use Rattle.model_histories.specs.StreamMachine.{In, OpenExtent, StreamCore, count, Fact, AsksOpen, Opened, AsksCheck, Checked, AsksConfirm, Confirmed, Serves, Begun, AsksAppend, Appended, AsksExtend, Extended, MachineState, MachineStep, TakesOpen, TakesExtend, TakesConfirm, TakesCheck, AnswersCheck, AnswersLate, TakesAppend, Keeps, AnswersAppend, Seals, Opens, Checks, ReadsSealed, ReadsChecked, Begins, Appends, Extends, TakesConfirmed, TakesAppended, NotYet, May, extend_facts, next, after, IsRun}
+use Rattle.model_histories.specs.ServerTurns.{Phase, Idle, Opening, Checking, Sealing, Confirming, Serving, Sent, Closing, Growing, Turn, Assigned, AllSealed, LastOpen, Found, Fails, IsShut, ConfirmedIs, Forms, AppendedAt, ExtendedTo, IsTurn, becomes, does, forms, formed, all_next, Whole, Below, Above, Move, is_layer, MayMove, moved, after_all, AreMoves}
 use Rattle.laws_tables.proofs.Extents.{stream_ends_rise, stream_keeps_order}
 
 module _ (A : Type 0) (gen : ℕ → ℕ) where

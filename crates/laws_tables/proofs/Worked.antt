@@ -6,7 +6,7 @@ use Rattle.wire.specs.declared.rows.Row.{Row}
 use Rattle.wire.specs.declared.transaction.Change.{Change}
 use Rattle.model_partition.specs.Past.{Bytes, Transaction, Replays}
 use Rattle.commitlog.specs.Replay.{Numbered as Group}
-use Rattle.model_partition.specs.Story.{Placed, Made, Answered, Showed, Story, event_at}
+use Rattle.model_histories.specs.Story.{Placed, Made, Answered, Showed, Story, event_at}
 use Rattle.laws_tables.proofs.Range.{event_cases}
 use Rattle.laws_tables.specs.Fenced.{Seen, Landed, Fenced, LogRun, IsLogRun, visible}
 use Rattle.laws_tables.specs.WholeStories.{IsServed, observed, ShowsTables}

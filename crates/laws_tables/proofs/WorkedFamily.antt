@@ -11,10 +11,10 @@ use Rattle.metadata.specs.declared.record.KeyRange.{KeyRange}
 use Rattle.metadata.specs.declared.record.MetaItem.{MetaItem}
 use Rattle.metadata.specs.declared.record.MetaItem.TheVariants.{Ranges, SplitStatus}
 use Rattle.metadata.specs.Keys.{within}
-use Rattle.model_partition.specs.Log.{is_of, only}
+use Rattle.model_histories.specs.Log.{is_of, only}
 use Rattle.model_partition.specs.Past.{Bytes, Transaction, stored, kept, keys_of, Replays}
-use Rattle.model_partition.specs.Story.{Placed, Made, Answered, Showed, Story, event_at, placed, from_place, KeepsOrder}
-use Rattle.model_partition.specs.StreamMachine.{In}
+use Rattle.model_histories.specs.Story.{Placed, Made, Answered, Showed, Story, event_at, placed, from_place, KeepsOrder}
+use Rattle.model_histories.specs.StreamMachine.{In}
 use Rattle.laws_tables.specs.Families.{HasKeys, IsChild, generation_of, IsRange, IsFirst, HasParent, IsFamily}
 use Rattle.laws_tables.specs.Fenced.{Seen, Landed, Fenced, LogRun, IsLogRun}
 use Rattle.laws_tables.specs.Layers.{Layer, empty_layer, flat}

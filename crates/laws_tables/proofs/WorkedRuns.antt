@@ -14,8 +14,8 @@ use Rattle.metadata.specs.declared.record.MetaItem.TheVariants.{Ranges, Checkpoi
 use Rattle.metadata.specs.Fold.{all_keys}
 use Rattle.metadata.specs.Keys.{within}
 use Rattle.model_partition.specs.Past.{Bytes, Transaction, empty_table, after_line, stored, kept, Replays}
-use Rattle.model_partition.specs.Story.{Placed, Made, Answered, Showed, Story, event_at, Copy}
-use Rattle.model_partition.specs.StreamMachine.{In}
+use Rattle.model_histories.specs.Story.{Placed, Made, Answered, Showed, Story, event_at, Copy}
+use Rattle.model_histories.specs.StreamMachine.{In}
 use Rattle.laws_tables.specs.Ends.{StandsBehind}
 use Rattle.laws_tables.specs.Fenced.{Seen, Landed, Fenced, LogRun, IsLogRun, visible, landed}
 use Rattle.laws_tables.specs.Layers.{Layer, empty_layer, flat, layer_line}

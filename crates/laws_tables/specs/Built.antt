@@ -1,8 +1,8 @@
 -- A stream that was built of another's: what had been done on its source by then is its own beginning, and each goes on by itself.
 use Rattle.std.specs.Prelude.{◌≡◌, ℕ, ◌<◌, ◌≤◌, List, ◌++◌, length, Some, Contains}
-use Rattle.model_partition.specs.Story.{Placed, Made, Answered, Showed, Story, event_at, Copy, KeepsOrder}
-use Rattle.model_partition.specs.StreamMachine.{In, Confirmed, MachineState}
-use Rattle.model_partition.specs.ServerTurns.{Move, after_all}
+use Rattle.model_histories.specs.Story.{Placed, Made, Answered, Showed, Story, event_at, Copy, KeepsOrder}
+use Rattle.model_histories.specs.StreamMachine.{In, Confirmed, MachineState}
+use Rattle.model_histories.specs.ServerTurns.{Move, after_all}
 
 -- The stream keeps its order, where each load is given the copies that were read and confirmed under its generation. So two streams
 -- that had one beginning agree on each load of it.

@@ -1,6 +1,6 @@
 -- Where the loads of one stream begin and end.
 use Rattle.std.specs.Prelude.{◌≡◌, ℕ, ◌≤◌, List, Some, Contains}
-use Rattle.model_partition.specs.Story.{Placed, Showed, Story, event_at, Copy, KeepsOrder}
+use Rattle.model_histories.specs.Story.{Placed, Showed, Story, event_at, Copy, KeepsOrder}
 
 -- nothing stands before this place, and no load ends before it
 pub record StandsBehind {A : Type 0} (place : ℕ) (story : Story A) (order : KeepsOrder story) : Type 0 where

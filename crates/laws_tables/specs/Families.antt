@@ -8,9 +8,9 @@ use Rattle.memtable.specs.declared.cell.Place.{Place}
 use Rattle.commitlog.specs.Replay.{Numbered as Group}
 use Rattle.metadata.specs.declared.record.KeyRange.{KeyRange}
 use Rattle.metadata.specs.declared.record.MetaItem.TheVariants.{Ranges}
-use Rattle.model_partition.specs.Log.{line_shown, is_of, only}
+use Rattle.model_histories.specs.Log.{line_shown, is_of, only}
 use Rattle.model_partition.specs.Past.{Bytes, Transaction, first_range, keys_of}
-use Rattle.model_partition.specs.Story.{Placed, Made, Answered, Showed, event_at, placed, KeepsOrder, EndsRise}
+use Rattle.model_histories.specs.Story.{Placed, Made, Answered, Showed, event_at, placed, KeepsOrder, EndsRise}
 use Rattle.laws_tables.specs.Layers.{Layer}
 use Rattle.laws_tables.specs.Runs.{Run, Records, Confirms, log_of, meta_of, record_group, first_beginning, said, seen, IsChainRun, ShowsLayers}
 use Rattle.laws_tables.specs.Through.{IsAnswered}

@@ -1,6 +1,6 @@
 -- A log with a fence: the plain picture of a stream that keeps its order.
 use Rattle.std.specs.Prelude.{◌≡◌, ℕ, ◌<◌, ◌≤◌, List, [], ◌∷◌, ◌++◌, map, Some, if◌then◌else◌, ◌==◌, Contains}
-use Rattle.model_partition.specs.Story.{StreamEvent, Made, Answered, Showed, Story, event_at, Copy, placed, from_place}
+use Rattle.model_histories.specs.Story.{StreamEvent, Made, Answered, Showed, Story, event_at, Copy, placed, from_place}
 
 pub data LogStep (A : Type 0) : Type 0 where
   -- what the users see

@@ -15,11 +15,11 @@ use Rattle.metadata.specs.declared.record.MetaItem.TheVariants.{Ranges, Checkpoi
 use Rattle.metadata.specs.Fold.{MetadataState, first_metadata, all_keys, taken}
 use Rattle.metadata.specs.Keys.{within}
 use Rattle.model_partition.specs.Lines.{next_after, StandsIn}
-use Rattle.model_partition.specs.Log.{line_shown, begins_of, dones_at}
+use Rattle.model_histories.specs.Log.{line_shown, begins_of, dones_at}
 use Rattle.model_partition.specs.Past.{Bytes, Transaction, Table, empty_table, after_line, stored, kept, IsPrefixOf}
-use Rattle.model_partition.specs.ServerRun.{place_number}
-use Rattle.model_partition.specs.Story.{Placed, Made, Answered, Showed, Story, event_at}
-use Rattle.model_partition.specs.StreamActions.{first_start}
+use Rattle.model_histories.specs.ServerRun.{place_number}
+use Rattle.model_histories.specs.Story.{Placed, Made, Answered, Showed, Story, event_at}
+use Rattle.model_histories.specs.StreamActions.{first_start}
 use Rattle.laws_tables.specs.Layers.{Layer, empty_layer, over, flat, indexed, layer_line}
 use Rattle.laws_tables.specs.Through.{OutAppend, IsLoaded}
 

@@ -1,8 +1,8 @@
 -- The line of one incarnation, read off its stream's story.
 use Rattle.std.specs.Prelude.{◌≡◌, ℕ, ◌<◌, ◌≤◌, List, [], ◌∷◌, ◌++◌, length, Option, Some, None, if◌then◌else◌, ◌==◌}
 use Rattle.commitlog.specs.Replay.{Numbered as Group}
-use Rattle.model_partition.specs.Log.{line_shown}
-use Rattle.model_partition.specs.Story.{Placed, Made, Answered, Showed, Story, event_at}
+use Rattle.model_histories.specs.Log.{line_shown}
+use Rattle.model_histories.specs.Story.{Placed, Made, Answered, Showed, Story, event_at}
 
 -- the line of this generation's load, and all that the incarnation made since
 abbrev pub line_through : {A : Type 0} → Story (Group A) → ℕ → List A

@@ -6,9 +6,9 @@ use Rattle.wire.specs.declared.note.Note.TheVariants.{Loaded}
 use Rattle.wire.specs.declared.rows.Row.{Row}
 use Rattle.commitlog.specs.Replay.{Numbered as Group}
 use Rattle.model_partition.specs.Lines.{next_after}
-use Rattle.model_partition.specs.Log.{line_shown, begins_of, dones_at}
+use Rattle.model_histories.specs.Log.{line_shown, begins_of, dones_at}
 use Rattle.model_partition.specs.Past.{Bytes, Transaction, stored, after_line, empty_table}
-use Rattle.model_partition.specs.Story.{Placed, StreamEvent, Made, Answered, Showed, Story, event_at}
+use Rattle.model_histories.specs.Story.{Placed, StreamEvent, Made, Answered, Showed, Story, event_at}
 
 -- the number that the incarnation of this generation gives next
 abbrev pub next_number : {A : Type 0} → Story (Group A) → ℕ → ℕ

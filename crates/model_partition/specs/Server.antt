@@ -91,11 +91,15 @@ split_stepped s range t =
       notes = [];
     }
 
+-- the server once a step of a range has used these numbers
+abbrev pub counted : ServerContext → RangeOutcome → ServerContext
+counted d o = record d { count = o.count }
+
 -- the step of one of its ranges that is not split
 abbrev pub stepped_alone : ServerState → ℕ → RangeOutcome → ServerOutcome
 stepped_alone s range o =
     record {
-      after = record s { context = record s.context { count = o.count }; ranges = set_range s.ranges range o.after };
+      after = record s { context = counted s.context o; ranges = set_range s.ranges range o.after };
       packets = o.packets;
       notes = o.notes;
     }
@@ -104,10 +108,19 @@ stepped_alone s range o =
 abbrev pub behind_these : RangeOutcome → ServerOutcome → ServerOutcome
 behind_these o t = record t { packets = o.packets ++ t.packets; notes = o.notes }
 
--- the step of a range, and what its split then does; where the range goes its split goes too
+-- where the range goes its split goes too
+abbrev pub ended_with : ServerState → ℕ → RangeOutcome → ServerOutcome
+ended_with s range o =
+    record {
+      after = record { context = counted s.context o; ranges = set_range s.ranges range None; splits = set_split s.splits range None };
+      packets = o.packets;
+      notes = o.notes;
+    }
+
+-- the step of a range, and what its split then does
 abbrev pub stepped_splitting : ServerState → ℕ → SplitJob → RangeOutcome → Option RangeState → ServerOutcome
-stepped_splitting s range job o None = let t = stepped_alone s range o in record t { after = record t.after { splits = set_split s.splits range None } }
-stepped_splitting s range job o (Some r) = behind_these o (split_stepped s range (follows (record s.context { count = o.count }) r job job.phase))
+stepped_splitting s range job o None = ended_with s range o
+stepped_splitting s range job o (Some r) = behind_these o (split_stepped s range (follows (counted s.context o) r job))
 
 abbrev pub stepped_with : ServerState → ℕ → Option SplitJob → RangeOutcome → ServerOutcome
 stepped_with s range None o = stepped_alone s range o
@@ -249,8 +262,8 @@ moment_rule s now = record s { context = record s.context { moment = max s.conte
 
 -- the split of a range gives up behind all that the range itself waits for
 abbrev pub given_up_splitting : ServerState → ℕ → SplitJob → RangeOutcome → Option RangeState → ServerOutcome
-given_up_splitting s range job o None = stepped_alone s range o
-given_up_splitting s range job o (Some r) = behind_these o (split_stepped s range (splits.gives_up (record s.context { count = o.count }) r job job.phase))
+given_up_splitting s range job o None = ended_with s range o
+given_up_splitting s range job o (Some r) = behind_these o (split_stepped s range (splits.gives_up (counted s.context o) r job))
 
 abbrev pub given_up : ServerState → ℕ → Option SplitJob → RangeOutcome → ServerOutcome
 given_up s range None o = stepped_alone s range o

@@ -80,14 +80,23 @@ split_fault r splits key =
     ∷ (refusals.BadSplitKey, not (is_split_key r.said.keys key))
     ∷ [])
 
-abbrev pub begin_packet : ServerContext → RangeState → List ℕ → ReqNo → Packet
-begin_packet d r key q = tells d Map (bodies.Map (maps.BeginSplit r.load.range r.load.generation key q))
+abbrev pub begin_packet : ServerContext → SplitJob → ReqNo → Packet
+begin_packet d job q = tells d Map (bodies.Map (maps.BeginSplit job.range job.generation job.key q))
 
-abbrev pub new_split : ServerContext → List ℕ → SplitJob
-new_split d key = record { key = key; low = 0; high = 0; phase = phases.Begin (request d) }
+abbrev pub new_split : ServerContext → RangeState → List ℕ → SplitJob
+new_split d r key =
+    record {
+      range = r.load.range;
+      generation = r.load.generation;
+      key = key;
+      low = 0;
+      high = 0;
+      number = 0;
+      phase = phases.Begin (request d);
+    }
 
 abbrev pub split_rule : ServerContext → RangeState → List ℕ → SplitStep
-split_rule d r key = goes d r (new_split d key) (begin_packet d r key (request d) ∷ [])
+split_rule d r key = goes d r (new_split d r key) (begin_packet d (new_split d r key) (request d) ∷ [])
 
 abbrev pub checkpointed : RangeOutcome → SplitJob → SplitStep
 checkpointed o job = record { range = o.after; job = Some job; count = o.count; packets = o.packets }
@@ -96,11 +105,16 @@ checkpointed o job = record { range = o.after; job = Some job; count = o.count; 
 abbrev pub may_checkpoint : RangeState → Bool
 may_checkpoint r = not (is_some (checkpoint_fault r)) && have_bytes r.live r.position (number_to_apply r.out r.next)
 
--- The map has numbered the two ranges, and the checkpoint begins. Where none can the split waits, and asks the map again later.
+-- whether the records of the checkpoint, of the split, and of the keys of the two have numbers of 64 bits, and one is left after them
+abbrev pub has_record_numbers : RangeState → Bool
+has_record_numbers r = nat_lt (suc (suc (suc r.said.next))) (2 ^ 64)
+
+-- The map has numbered the two ranges, and the checkpoint begins; the record of the split comes after its record. Where none can begin
+-- the split waits, and asks the map again later.
 abbrev pub begun : ServerContext → RangeState → SplitJob → ℕ → ℕ → SplitStep
 begun d r job low high =
-    if may_checkpoint r
-    then checkpointed (begins d r false) (record job { low = low; high = high; phase = phases.Checkpoint })
+    if may_checkpoint r && has_record_numbers r
+    then checkpointed (begins d r false) (record job { low = low; high = high; number = suc r.said.next; phase = phases.Checkpoint })
     else stays d r job
 
 -- ---- the pause
@@ -112,8 +126,8 @@ is_drained r = not (is_some r.out) && (length r.queue == 0)
 abbrev pub split_item : SplitJob → MetaItem
 split_item job = SplitStatus job.low job.high job.key
 
-abbrev pub split_record : RangeState → SplitJob → MetaRecord
-split_record r job = record { number = r.said.next; item = split_item job }
+abbrev pub split_record : SplitJob → MetaRecord
+split_record job = record { number = job.number; item = split_item job }
 
 -- ---- bytes of records
 
@@ -129,21 +143,21 @@ is_record_end (Some key) = is_record_key key
 abbrev pub have_key_bytes : KeyRange → List ℕ → Bool
 have_key_bytes keys key = nat_le (length keys.low) 256 && (is_record_end keys.high && is_record_key key)
 
--- whether the record and those of the keys of the two ranges have numbers of 64 bits, and one is left after them
-abbrev pub has_record_numbers : RangeState → Bool
-has_record_numbers r = nat_lt 0 r.said.next && nat_lt (suc (suc r.said.next)) (2 ^ 64)
-
 abbrev pub have_range_numbers : SplitJob → Bool
 have_range_numbers job = nat_lt job.low (2 ^ 64) && nat_lt job.high (2 ^ 64)
 
--- whether the record of the split can be written, and those of the keys after it
+-- whether the record of the split has a number, and all that stands in it has its bytes
+abbrev pub has_record : SplitJob → Bool
+has_record job = nat_lt 0 job.number && (have_range_numbers job && is_record_key job.key)
+
+-- whether the record of the split can be written, and is the next one of the range's metadata
 abbrev pub may_record : RangeState → SplitJob → Bool
-may_record r job = has_record_numbers r && (have_range_numbers job && have_key_bytes r.said.keys job.key)
+may_record r job = (r.said.next == job.number) && has_record job
 
 -- the range is paused, and its metadata says that it is split
 abbrev pub pauses_and_records : ServerContext → RangeState → SplitJob → SplitStep
 pauses_and_records d r job =
-    let o : Outcome = given (picking d r.metadata) (append_rule (picking d r.metadata) (request d) (spelling (split_record r job) ∷ [])) in
+    let o : Outcome = given (picking d r.metadata) (append_rule (picking d r.metadata) (request d) (spelling (split_record job) ∷ [])) in
     goes d (record r { pause = pauses.On; metadata = o.after }) (with_phase job phases.Record) (option_to_list o.packet)
 
 -- Until then it takes no transaction. A split whose record cannot be written goes no further.
@@ -191,26 +205,31 @@ seal_packet d e q = tells d Manager (bodies.Seal (seals.SealExtent e q))
 
 -- ---- the streams of the two ranges
 
-abbrev pub built_stream : RangeState → ℕ → StreamKind → Modify
-built_stream r range kind =
+-- a stream of one of the two is built from the range's own of its kind
+abbrev pub built_stream : SplitJob → ℕ → StreamKind → Modify
+built_stream job side kind =
     record {
-      stream = record { range = range; kind = kind };
-      sources = record { stream = record { range = r.load.range; kind = kind }; generation = r.load.generation } ∷ [];
+      stream = record { range = side; kind = kind };
+      sources = record { stream = record { range = job.range; kind = kind }; generation = job.generation } ∷ [];
     }
 
-abbrev pub built_streams : RangeState → ℕ → List Modify
-built_streams r range =
-    built_stream r range kinds.Metadata
-    ∷ built_stream r range kinds.Log
-    ∷ built_stream r range kinds.RowData
-    ∷ built_stream r range kinds.BlobData
+abbrev pub built_streams : SplitJob → ℕ → List Modify
+built_streams job side =
+    built_stream job side kinds.Metadata
+    ∷ built_stream job side kinds.Log
+    ∷ built_stream job side kinds.RowData
+    ∷ built_stream job side kinds.BlobData
     ∷ []
 
-abbrev pub build_packet : ServerContext → RangeState → SplitJob → ReqNo → Packet
-build_packet d r job q = tells d Manager (bodies.Stream (streams.MultiModify (built_streams r job.low ++ built_streams r job.high) q))
+-- the streams of the lower range, and then those of the higher one
+abbrev pub all_streams : SplitJob → List Modify
+all_streams job = built_streams job job.low ++ built_streams job job.high
+
+abbrev pub build_packet : ServerContext → SplitJob → ReqNo → Packet
+build_packet d job q = tells d Manager (bodies.Stream (streams.MultiModify (all_streams job) q))
 
 abbrev pub builds : ServerContext → RangeState → SplitJob → SplitStep
-builds d r job = goes d r (with_phase job (phases.Build (request d))) (build_packet d r job (request d) ∷ [])
+builds d r job = goes d r (with_phase job (phases.Build (request d))) (build_packet d job (request d) ∷ [])
 
 -- the next of the open extents is to be sealed; where there is none more the streams are built
 abbrev pub seals_or_builds : ServerContext → RangeState → SplitJob → Option (StreamKind × ℕ) → SplitStep
@@ -252,7 +271,7 @@ side_keys keys key High = record { low = key; high = keys.high }
 -- the metadata of one of the two, which has the extents of the range's own
 abbrev pub side_metadata : ServerContext → RangeState → SplitJob → Side → ClientState
 side_metadata d r job side =
-    new_client d.server (record { range = side_range job side; kind = kinds.Metadata }) r.load.generation
+    new_client d.server (record { range = side_range job side; kind = kinds.Metadata }) job.generation
     (record { base = r.metadata.base; extents = r.metadata.extents }) d.pick
 
 -- both records of keys have the next number of the range's own metadata
@@ -274,11 +293,11 @@ says_keys d r job side = if may_say_keys r job then appends_keys d r job side el
 
 -- ---- the end
 
-abbrev pub complete_packet : ServerContext → RangeState → ReqNo → Packet
-complete_packet d r q = tells d Map (bodies.Map (maps.CompleteSplit r.load.range r.load.generation q))
+abbrev pub complete_packet : ServerContext → SplitJob → ReqNo → Packet
+complete_packet d job q = tells d Map (bodies.Map (maps.CompleteSplit job.range job.generation q))
 
 abbrev pub completes : ServerContext → RangeState → SplitJob → SplitStep
-completes d r job = goes d r (with_phase job (phases.Complete (request d))) (complete_packet d r (request d) ∷ [])
+completes d r job = goes d r (with_phase job (phases.Complete (request d))) (complete_packet d job (request d) ∷ [])
 
 abbrev pub keys_stand : ServerContext → RangeState → SplitJob → Side → SplitStep
 keys_stand d r job Low = says_keys d r job High
@@ -350,16 +369,24 @@ split_reply d r job body = split_reply_in d r job job.phase body
 
 -- ---- what follows a step of the range
 
+-- whether the server has a number for a request that follows a step of the range
+abbrev pub has_number : ServerContext → Bool
+has_number d = nat_lt (suc d.count) (2 ^ 64)
+
 -- whether the record stands, and a number is left after its own
 abbrev pub has_stood : RangeState → Bool
 has_stood r = is_idle r.metadata.job && nat_lt (suc r.said.next) (2 ^ 64)
 
 -- The checkpoint has ended, no transaction waits any more, or the record of the split stands.
-abbrev pub follows : ServerContext → RangeState → SplitJob → SplitPhase → SplitStep
-follows d r job phases.Checkpoint = if is_some r.control then stays d r job else drains d r job
-follows d r job phases.Queue = drains d r job
-follows d r job phases.Record = if has_stood r then record_stands d r job else stays d r job
-follows d r job phase = stays d r job
+abbrev pub follows_in : ServerContext → RangeState → SplitJob → SplitPhase → SplitStep
+follows_in d r job phases.Checkpoint = if is_some r.control then stays d r job else drains d r job
+follows_in d r job phases.Queue = drains d r job
+follows_in d r job phases.Record = if has_stood r then record_stands d r job else stays d r job
+follows_in d r job phase = stays d r job
+
+-- without a number for its request nothing follows
+abbrev pub follows : ServerContext → RangeState → SplitJob → SplitStep
+follows d r job = if has_number d then follows_in d r job job.phase else stays d r job
 
 -- ---- giving up
 
@@ -373,10 +400,14 @@ keys_again d r job side c =
     goes d r (with_phase job (phases.Keys side o.after)) (option_to_list o.packet)
 
 -- what is not answered is asked again under its number, but for an append, which takes the next one
-abbrev pub gives_up : ServerContext → RangeState → SplitJob → SplitPhase → SplitStep
-gives_up d r job (phases.Begin q) = goes d r job (begin_packet d r job.key q ∷ [])
-gives_up d r job (phases.Seal kind q) = goes d r job (seal_again d (open_last (extents_of r kind)) q)
-gives_up d r job (phases.Build q) = goes d r job (build_packet d r job q ∷ [])
-gives_up d r job (phases.Keys side c) = keys_again d r job side c
-gives_up d r job (phases.Complete q) = goes d r job (complete_packet d r q ∷ [])
-gives_up d r job phase = goes d r job []
+abbrev pub gives_up_in : ServerContext → RangeState → SplitJob → SplitPhase → SplitStep
+gives_up_in d r job (phases.Begin q) = goes d r job (begin_packet d job q ∷ [])
+gives_up_in d r job (phases.Seal kind q) = goes d r job (seal_again d (open_last (extents_of r kind)) q)
+gives_up_in d r job (phases.Build q) = goes d r job (build_packet d job q ∷ [])
+gives_up_in d r job (phases.Keys side c) = keys_again d r job side c
+gives_up_in d r job (phases.Complete q) = goes d r job (complete_packet d job q ∷ [])
+gives_up_in d r job phase = stays d r job
+
+-- without a number for its request nothing is asked
+abbrev pub gives_up : ServerContext → RangeState → SplitJob → SplitStep
+gives_up d r job = if has_number d then gives_up_in d r job job.phase else stays d r job

@@ -3,9 +3,6 @@
 //! This crate has no code but the plain values that states are made of, the number of a server's next request, the packets of
 //! reads, and what a client makes of an answer; it touches nothing. Its definitions stand in specs/:
 //! - Past: what a table that is loaded again must be, said of observations alone (`Replays`).
-//! - Story and Log: what the users of one stream see of it, the order that it keeps, and what servers may do to the log of a
-//!   range.
-//! - StreamMachine and ServerTurns: one stream as its manager, the primaries of its extents and its servers make it.
 //! - Range, PlaceReads, Loading, Serving, Getting, Checkpoints, Answering, Splits and Server: the table of a server, as functions of its state.
 //! - Servers: the servers of a run, and what a loaded table shows.
 //! - Map: the partition map, its ranges in the order of their keys, and what changes them: assignments, renewals, splits and
@@ -16,8 +13,8 @@
 //! - Cluster: whole runs: the stream layer, the servers above it, the map, and the clock of leases; what each event makes of all
 //!   actors, stops and restarts of the map inside its records among them.
 //!
-//! The laws of `laws_tables`, `laws_servers` and `laws_clusters` are proved of these functions alone, and the laws in proofs/ of the
-//! map's; the crates of servers and of the map prove that their calls are them, and `world` that its runs are these.
+//! The laws of `laws_tables`, `laws_servers` and `laws_clusters` are proved of these functions and of what `model_histories` makes of
+//! them alone, and the laws in proofs/ of the map's; the crates of servers and of the map prove that their calls are them, and `world` that its runs are these.
 #![tactic(auto)]
 
 mod checkpoint_job;

@@ -1,7 +1,7 @@
 //! A split that is under way.
 use bytes::Bytes;
 use client::StreamClient;
-use wire::{RangeId, ReqNo, StreamKind};
+use wire::{Fence, RangeId, ReqNo, StreamKind};
 
 /// Which of the two ranges that a split makes: that of the lower keys, or that of the higher ones.
 #[derive(Clone, Copy, PartialEq, Eq)]
@@ -52,12 +52,15 @@ impl Drop for SplitPhase {
     }
 }
 
-/// A split of a range: the key from which on the higher range begins, the numbers of the two ranges once the map has told them
-/// (0 before), and what it waits for.
+/// A split of a range under a generation: the key from which on the higher range begins, the numbers of the two ranges, and that of
+/// its record in the range's metadata, once the map has told of the two (0 before), and what it waits for.
 pub struct SplitJob {
+    pub range: RangeId,
+    pub generation: Fence,
     pub key: Bytes,
     pub low: RangeId,
     pub high: RangeId,
+    pub number: u64,
     pub phase: SplitPhase,
 }
 
@@ -65,9 +68,12 @@ pub struct SplitJob {
 impl Drop for SplitJob {
     fn drop(self) {
         let SplitJob {
+            range: _,
+            generation: _,
             key: _,
             low: _,
             high: _,
+            number: _,
             phase: _,
         } = self;
     }

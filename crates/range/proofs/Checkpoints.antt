@@ -1,19 +1,35 @@
--- Why no checkpoint of a range begins.
-use Rattle.std.proofs.Common.{◌≡◌, Bool, true, false, Some, None, inl, inr}
+-- Why no checkpoint and no split of a range begins.
+use Rattle.std.proofs.Common.{◌≡◌, ℕ, Bool, true, false, List, Some, None, inl, inr}
 use Rattle.std.specs.Prelude.{◌||◌, not, is_some, if◌then◌else◌}
 use Rattle.wire.specs.declared.refusal.Refusal.{Refusal}
 use Rattle.wire.specs.declared.refusal.Refusal.TheVariants as refusals
 use Rattle.model_partition.specs.Range.{RangeState, is_serving, is_paused}
 use Rattle.model_partition.specs.Checkpoints.{checkpoint_fault}
-use Rattle.range.specs.Faults.{IsCheckpointRefusal}
+use Rattle.model_partition.specs.Map.{is_split_key}
+use Rattle.model_partition.specs.Splits.{split_fault}
+use Rattle.range.specs.Faults.{IsBeginningRefusal}
 
 either : (serving paused under_way : Bool) (refusal : Refusal)
-    → (if not serving then Some refusals.Loading else if paused then Some refusals.Paused else if under_way then Some refusals.Busy else None) ≡ Some refusal → IsCheckpointRefusal refusal
+    → (if not serving then Some refusals.Loading else if paused then Some refusals.Paused else if under_way then Some refusals.Busy else None) ≡ Some refusal → IsBeginningRefusal refusal
 either false paused under_way refusal is = inl cc
 either true true under_way refusal is = inr (inl cc)
-either true false true refusal is = inr (inr cc)
+either true false true refusal is = inr (inr (inl cc))
 either true false false refusal is = absurd cc
 
 -- it is loaded, it is paused, or a checkpoint is under way
-pub refused_so : (r : RangeState) (refusal : Refusal) → checkpoint_fault r ≡ Some refusal → IsCheckpointRefusal refusal
+pub refused_so : (r : RangeState) (refusal : Refusal) → checkpoint_fault r ≡ Some refusal → IsBeginningRefusal refusal
 refused_so r refusal is = either (is_serving r.stage) (is_paused r.pause) (is_some r.control || is_some r.fixed) refusal is
+
+any_of_four : (serving paused under_way divides : Bool) (refusal : Refusal)
+    → (if not serving then Some refusals.Loading else if paused then Some refusals.Paused else if under_way then Some refusals.Busy else if not divides then Some refusals.BadSplitKey else None) ≡ Some refusal
+    → IsBeginningRefusal refusal
+any_of_four false paused under_way divides refusal is = inl cc
+any_of_four true true under_way divides refusal is = inr (inl cc)
+any_of_four true false true divides refusal is = inr (inr (inl cc))
+any_of_four true false false false refusal is = inr (inr (inr cc))
+any_of_four true false false true refusal is = absurd cc
+
+-- these, a split is under way, or the key does not split it
+pub split_refused_so : (r : RangeState) (splits : Bool) (key : List ℕ) (refusal : Refusal) → split_fault r splits key ≡ Some refusal → IsBeginningRefusal refusal
+split_refused_so r splits key refusal is =
+    any_of_four (is_serving r.stage) (is_paused r.pause) (splits || (is_some r.control || is_some r.fixed)) (is_split_key r.said.keys key) refusal is

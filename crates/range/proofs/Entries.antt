@@ -1,6 +1,12 @@
 -- Entries of a map, of which one is set or taken away.
-use Rattle.std.proofs.Common.{◌≡◌, Bool, true, false, List, [], ◌∷◌, Some, refl, ap}
-use Rattle.std.specs.Map.{lookup, remove_entry, set_value}
+use Rattle.std.proofs.Common.{◌≡◌, ℕ, Bool, true, false, List, [], ◌∷◌, Some, None, Ordering, Less, Equal, Greater, arith, refl, ap}
+use Rattle.std.specs.BTreeMap.{insert_entry, is_at}
+use Rattle.std.specs.List.Sorted.{IsStrictlySortedBy}
+use Rattle.std.specs.Map.{keys_of, lookup, remove_entry, set_value}
+use Rattle.std.specs.Ordering.{nat_cmp}
+use Rattle.std.proofs.lemmas.Map.{lookup-none}
+use Rattle.std.proofs.lemmas.Map.Entries.{none_below_head}
+use Rattle.std.specs.Cmp.{nat_cmp_total}
 
 module _ {K X : Type 0} (test : K → Bool) where
   removed_step : (b : Bool) (e : K × X) (es : List (K × X)) (w : X) →
@@ -21,3 +27,50 @@ module _ {K X : Type 0} (test : K → Bool) where
   pub set_same : (es : List (K × X)) (w : X) → lookup test es ≡ Some w → set_value test es w ≡ es
   set_same [] w found = refl
   set_same (e ∷ es) w found = same_step (test e.0) e es w refl (set_same es w) found
+
+  again_step : (b : Bool) (e : K × X) (es : List (K × X)) (v w : X) → test e.0 ≡ b →
+      set_value test (set_value test es v) w ≡ set_value test es w →
+      set_value test (set_value test (e ∷ es) v) w ≡ set_value test (e ∷ es) w
+  again_step true e es v w is more = rw (is, is) refl
+  again_step false e es v w is more = rw (is, is) (ap (λ l. e ∷ l) more)
+
+  pub set_again : (es : List (K × X)) (v w : X) → set_value test (set_value test es v) w ≡ set_value test es w
+  set_again [] v w = refl
+  set_again (e ∷ es) v w = again_step (test e.0) e es v w refl (set_again es v w)
+
+  found_step : (b : Bool) (e : K × X) (es : List (K × X)) (v w : X) → test e.0 ≡ b →
+      (lookup test es ≡ Some v → lookup test (set_value test es w) ≡ Some w) → lookup test (e ∷ es) ≡ Some v →
+      lookup test (set_value test (e ∷ es) w) ≡ Some w
+  found_step true e es v w is more found = rw (is, is) refl
+  found_step false e es v w is more found = rw (is, is) (more cc)
+
+  pub found_again : (es : List (K × X)) (v w : X) → lookup test es ≡ Some v → lookup test (set_value test es w) ≡ Some w
+  found_again [] v w found = absurd cc
+  found_again (e ∷ es) v w found = found_step (test e.0) e es v w refl (found_again es v w) found
+
+  absent_step : (b : Bool) (e : K × X) (es : List (K × X)) → test e.0 ≡ b →
+      (lookup test es ≡ None → remove_entry test es ≡ es) → lookup test (e ∷ es) ≡ None → remove_entry test (e ∷ es) ≡ e ∷ es
+  absent_step true e es is more none = absurd cc
+  absent_step false e es is more none = rw is (ap (λ l. e ∷ l) (more cc))
+
+  pub removed_absent : (es : List (K × X)) → lookup test es ≡ None → remove_entry test es ≡ es
+  removed_absent [] none = refl
+  removed_absent (e ∷ es) none = absent_step (test e.0) e es refl (removed_absent es) none
+
+-- ---- entries in the order of their keys
+
+module _ {X : Type 0} (k : ℕ) where
+  inserted_step : (o : Ordering) (e : ℕ × X) (es : List (ℕ × X)) (v w : X) → nat_cmp k e.0 ≡ o →
+      IsStrictlySortedBy nat_cmp (keys_of (e ∷ es)) → (lookup (is_at (nat_cmp k)) es ≡ Some v → insert_entry nat_cmp es k w ≡ set_value (is_at (nat_cmp k)) es w) →
+      lookup (is_at (nat_cmp k)) (e ∷ es) ≡ Some v → insert_entry nat_cmp (e ∷ es) k w ≡ set_value (is_at (nat_cmp k)) (e ∷ es) w
+  inserted_step Less e es v w is sorted more found =
+      absurd (grind (arith, found, lookup-none (is_at (nat_cmp k)) (e ∷ es) (none_below_head nat_cmp_total k e es sorted is)))
+  inserted_step Equal e es v w is sorted more found = rw is refl
+  inserted_step Greater e es v w is sorted more found = rw is (ap (λ l. e ∷ l) (more cc))
+
+  -- where the key is there, its value is set
+  pub inserted_in_place : (es : List (ℕ × X)) (v w : X) → IsStrictlySortedBy nat_cmp (keys_of es) → lookup (is_at (nat_cmp k)) es ≡ Some v
+      → insert_entry nat_cmp es k w ≡ set_value (is_at (nat_cmp k)) es w
+  unfolding IsStrictlySortedBy
+  inserted_in_place [] v w sorted found = absurd cc
+  inserted_in_place (e ∷ es) v w sorted found = inserted_step (nat_cmp k e.0) e es v w refl sorted (inserted_in_place es v w sorted.1) found

@@ -12,10 +12,12 @@ refusal_of faults.NotOwner = Some refusals.NotOwner
 refusal_of faults.Loading = Some refusals.Loading
 refusal_of faults.Paused = Some refusals.Paused
 refusal_of faults.Busy = Some refusals.Busy
+refusal_of faults.BadSplitKey = Some refusals.BadSplitKey
 
--- what refuses a checkpoint of a range that the server holds: 38, 34 or 35
-abbrev pub IsCheckpointRefusal : Refusal → Type 0
-IsCheckpointRefusal refusal = (refusal ≡ refusals.Loading) ⊎ ((refusal ≡ refusals.Paused) ⊎ (refusal ≡ refusals.Busy))
+-- what refuses a checkpoint or a split of a range that the server holds: 38, 34, 35 or 39
+abbrev pub IsBeginningRefusal : Refusal → Type 0
+IsBeginningRefusal refusal =
+    (refusal ≡ refusals.Loading) ⊎ ((refusal ≡ refusals.Paused) ⊎ ((refusal ≡ refusals.Busy) ⊎ (refusal ≡ refusals.BadSplitKey)))
 
 -- the refusal that a call ends with
 abbrev pub refusal_in : {A : Type 0} → Result A RangeFault → Option Refusal

@@ -1,13 +1,13 @@
 //! Why a server does nothing with a range.
 ghost use Rattle.std.specs.Prelude.{◌≡◌, Some};
-ghost use Rattle.range.specs.Faults.{refusal_of, IsCheckpointRefusal};
+ghost use Rattle.range.specs.Faults.{refusal_of, IsBeginningRefusal};
 ghost use Rattle.range.specs.declared.fault.RangeFault.TheVariants as faults;
 
 use std::alloc::AllocError;
 use thiserror::Error;
 use wire::Refusal;
 
-/// Why a server does not give up on the jobs of a range, or begins no checkpoint of it. Nothing has changed then.
+/// Why a server does not give up on the jobs of a range, or begins no checkpoint or split of it. Nothing has changed then.
 #[derive(Clone, Copy, Debug, PartialEq, Eq, Error)]
 pub enum RangeFault {
     /// 22: no memory was left.
@@ -22,9 +22,12 @@ pub enum RangeFault {
     /// 34: the range is paused.
     #[error("the range is paused")]
     Paused,
-    /// 35: a checkpoint of the range is under way.
-    #[error("a checkpoint of the range is under way")]
+    /// 35: a checkpoint or a split of the range is under way.
+    #[error("a checkpoint or a split of the range is under way")]
     Busy,
+    /// 39: the key does not split the range.
+    #[error("the key does not split the range")]
+    BadSplitKey,
 }
 
 impl From<AllocError> for RangeFault {
@@ -46,18 +49,20 @@ impl RangeFault {
             RangeFault::Loading => Some(Refusal::Loading),
             RangeFault::Paused => Some(Refusal::Paused),
             RangeFault::Busy => Some(Refusal::Busy),
+            RangeFault::BadSplitKey => Some(Refusal::BadSplitKey),
         }
     }
 
-    /// Why no checkpoint begins.
-    pub(crate) fn of_checkpoint(refusal: Refusal) -> RangeFault
-        requires { IsCheckpointRefusal refusal }
+    /// Why no checkpoint or split begins.
+    pub(crate) fn of_beginning(refusal: Refusal) -> RangeFault
+        requires { IsBeginningRefusal refusal }
         ensures { refusal_of result ≡ Some refusal }
     {
         match refusal {
             Refusal::Loading => RangeFault::Loading,
             Refusal::Paused => RangeFault::Paused,
-            _ => RangeFault::Busy,
+            Refusal::Busy => RangeFault::Busy,
+            _ => RangeFault::BadSplitKey,
         }
     }
 }

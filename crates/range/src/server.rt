@@ -12,10 +12,11 @@ ghost use Rattle.range.specs.Faults.{refusal_in};
 use crate::answers::{answered_number, is_answerer};
 use crate::fault::RangeFault;
 use crate::sent::Sent;
-use crate::steps::{awaiting, put, refusal, settle};
+use crate::settlement::{again_room, step_room};
+use crate::steps::{awaiting, put, refusal};
 use block_types::Nodes;
 use bytes::Bytes;
-use model_partition::{ServerContext, TableView};
+use model_partition::{ServerContext, SplitJob, TableView};
 use range_core::RangeState;
 use std::alloc::{AllocError, Global};
 use std::collections::BTreeMap;
@@ -25,10 +26,11 @@ use wire::{
     TableBody,
 };
 
-/// A partition server, from one start to the next stop.
+/// A partition server, from one start to the next stop: its ranges, and the splits of these that are under way, by their numbers.
 pub struct RangeServer {
-    context: ServerContext,
-    ranges: BTreeMap<u64, RangeState>,
+    pub(crate) context: ServerContext,
+    pub(crate) ranges: BTreeMap<u64, RangeState>,
+    pub(crate) splits: BTreeMap<u64, SplitJob>,
 }
 
 // Written out, so that a crate above that lets one go has no proof of what is in it.
@@ -37,22 +39,21 @@ impl Drop for RangeServer {
         let RangeServer {
             context: _,
             ranges: _,
+            splits: _,
         } = self;
     }
 }
 
 impl Model for RangeServer {
-    ghost use Rattle.std.specs.Prelude.{[]};
     ghost use Rattle.model_partition.specs.Server.{ServerState};
 
     ghost Value = { ServerState };
 
-    // It splits no range.
-    ghost view = { λ s. record { context = s.context; ranges = s.ranges.entries; splits = [] } };
+    ghost view = { λ s. record { context = s.context; ranges = s.ranges.entries; splits = s.splits.entries } };
 }
 
 /// Whether there are numbers for the requests of any one step.
-fn has_numbers(context: &ServerContext) -> bool
+pub(crate) fn has_numbers(context: &ServerContext) -> bool
     ensures { result ≡ has_numbers context.now }
 {
     context.count < u64::MAX - 1023
@@ -81,6 +82,7 @@ impl RangeServer {
                 count: 1,
             },
             ranges: BTreeMap::new(alloc),
+            splits: BTreeMap::new(alloc),
         }
     }
 
@@ -110,7 +112,7 @@ impl RangeServer {
     }
 
     /// A transaction of a user.
-    #[tactic(auto, using(crate::proofs::Entries::removed_after, crate::proofs::Entries::set_same))]
+    #[tactic(auto, using(crate::proofs::Entries::found_again, crate::proofs::Entries::set_same, crate::proofs::Settled::stepped_after))]
     fn transact(
         &mut self,
         alloc: Global,
@@ -127,8 +129,9 @@ impl RangeServer {
         match self.ranges.get_mut(&range.0) {
             None => self.refuse(alloc, packet.from, request),
             Some(state) => {
+                let room = step_room(alloc, &self.splits, range.0)?;
                 match state.transact(alloc, &self.context, packet.from, request, changes) {
-                    Ok(taken) => Ok(settle(&mut self.ranges, &mut self.context, range.0, taken)),
+                    Ok(taken) => Ok(self.settle(range.0, taken, room)),
                     Err(full) => Err(full),
                 }
             }
@@ -136,7 +139,7 @@ impl RangeServer {
     }
 
     /// A Get of a user.
-    #[tactic(auto, using(crate::proofs::Entries::removed_after, crate::proofs::Entries::set_same))]
+    #[tactic(auto, using(crate::proofs::Entries::found_again, crate::proofs::Entries::set_same, crate::proofs::Settled::stepped_after))]
     fn get(
         &mut self,
         alloc: Global,
@@ -153,16 +156,17 @@ impl RangeServer {
         match self.ranges.get_mut(&range.0) {
             None => self.refuse(alloc, packet.from, request),
             Some(state) => {
+                let room = step_room(alloc, &self.splits, range.0)?;
                 match state.get(alloc, &self.context, packet.from, request, key) {
-                    Ok(taken) => Ok(settle(&mut self.ranges, &mut self.context, range.0, taken)),
+                    Ok(taken) => Ok(self.settle(range.0, taken, room)),
                     Err(full) => Err(full),
                 }
             }
         }
     }
 
-    /// The answer of this number, which the range waits for.
-    #[tactic(auto, using(crate::proofs::Entries::removed_after, crate::proofs::Entries::set_same))]
+    /// The answer of this number, which a range waits for, or the split of one.
+    #[tactic(auto, using(crate::proofs::Entries::found_again, crate::proofs::Entries::set_same, crate::proofs::Settled::stepped_after))]
     fn answer(
         &mut self,
         alloc: Global,
@@ -176,14 +180,17 @@ impl RangeServer {
         ensures short { IfOk result IsShort }
     {
         let Some(range) = awaiting(&self.ranges, request) else {
-            return Ok(Sent::nothing(alloc));
+            return self.split_answer(alloc, packet, request);
         };
         match self.ranges.get_mut(&range) {
             None => Ok(Sent::nothing(alloc)),
-            Some(state) => match state.answer(alloc, &self.context, request, packet) {
-                Ok(taken) => Ok(settle(&mut self.ranges, &mut self.context, range, taken)),
-                Err(full) => Err(full),
-            },
+            Some(state) => {
+                let room = step_room(alloc, &self.splits, range)?;
+                match state.answer(alloc, &self.context, request, packet) {
+                    Ok(taken) => Ok(self.settle(range, taken, room)),
+                    Err(full) => Err(full),
+                }
+            }
         }
     }
 
@@ -279,7 +286,7 @@ impl RangeServer {
         Ok((state, packets))
     }
 
-    /// What was known of the range goes, and its streams are opened.
+    /// What was known of the range goes, its split among it, and its streams are opened.
     fn assign(
         &mut self,
         alloc: Global,
@@ -299,6 +306,7 @@ impl RangeServer {
         }
         let (state, packets) = self.opening(alloc, range, generation, until)?;
         put(&mut self.ranges, range.0, state)?;
+        drop(self.splits.remove(&range.0));
         self.context.count += 1;
         Ok(Sent {
             packets,
@@ -373,10 +381,10 @@ impl RangeServer {
         }
     }
 
-    /// The jobs of a range give up on the answers that they wait for, and new extents are made on these nodes from now on.
+    /// The jobs of a range give up on the answers that they wait for, its split behind them, and new extents are made on these nodes from now on.
     /// 22: no memory. 30: the server does not hold the range. After a refusal nothing has changed. A server with no numbers left
     /// for its requests does nothing, and makes new extents on the nodes that it had.
-    #[tactic(auto, using(crate::proofs::Entries::removed_after, crate::proofs::Entries::set_same))]
+    #[tactic(auto, using(crate::proofs::Entries::found_again, crate::proofs::Entries::set_same, crate::proofs::Settled::given_up_after))]
     pub fn give_up(
         &mut self,
         alloc: Global,
@@ -398,10 +406,11 @@ impl RangeServer {
                 if !has_numbers(&told) {
                     return Ok(Sent::nothing(alloc));
                 }
+                let room = again_room(alloc, &self.splits, range.0)?;
                 match state.give_up(alloc, &told) {
                     Ok(taken) => {
                         self.context = told;
-                        Ok(settle(&mut self.ranges, &mut self.context, range.0, taken))
+                        Ok(self.settle_again(range.0, taken, room))
                     }
                     Err(_full) => Err(RangeFault::Memory),
                 }
@@ -413,8 +422,8 @@ impl RangeServer {
     /// combines, which is asked or comes of 16 indexes, the pages of its indexes are read first, and what they and the memory
     /// table say together is written, in place of all older indexes.
     /// 22: no memory. 30: the server does not hold the range. 38: the range is not served yet. 34: it is paused.
-    /// 35: a checkpoint of it is under way. After a refusal nothing has changed. A server with no numbers left for its requests does nothing.
-    #[tactic(auto, using(crate::proofs::Entries::removed_after, crate::proofs::Entries::set_same, crate::proofs::Checkpoints::refused_so))]
+    /// 35: a checkpoint or a split of it is under way. After a refusal nothing has changed. A server with no numbers left for its requests does nothing.
+    #[tactic(auto, using(crate::proofs::Entries::found_again, crate::proofs::Entries::set_same, crate::proofs::Settled::stepped_after, crate::proofs::Checkpoints::refused_so))]
     pub fn checkpoint(
         &mut self,
         alloc: Global,
@@ -430,13 +439,16 @@ impl RangeServer {
             return Err(RangeFault::NotOwner);
         };
         if let Some(refusal) = state.checkpoint_fault() {
-            return Err(RangeFault::of_checkpoint(refusal));
+            return Err(RangeFault::of_beginning(refusal));
+        }
+        if self.splits.contains_key(&range.0) {
+            return Err(RangeFault::Busy);
         }
         if !has_numbers(&self.context) {
             return Ok(Sent::nothing(alloc));
         }
         match state.checkpoint(alloc, &self.context, combine) {
-            Ok(taken) => Ok(settle(&mut self.ranges, &mut self.context, range.0, taken)),
+            Ok(taken) => Ok(self.settle(range.0, taken, None)),
             Err(_full) => Err(RangeFault::Memory),
         }
     }

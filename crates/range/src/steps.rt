@@ -1,14 +1,12 @@
-//! Steps of one range of a server.
-ghost use Rattle.std.specs.Prelude.{◌≡◌, if◌then◌else◌, OnErr, OnOk};
-ghost use Rattle.std.specs.Map.{remove_entry};
-ghost use Rattle.std.specs.BTreeMap.{insert_entry, is_at};
+//! Ranges of a server and their splits, by their numbers.
+ghost use Rattle.std.specs.Prelude.{◌≡◌, OnErr, OnOk};
+ghost use Rattle.std.specs.BTreeMap.{insert_entry};
 ghost use Rattle.std.specs.Ordering.{nat_cmp};
 ghost use Rattle.model_partition.specs.Range.{refuses};
 ghost use Rattle.model_partition.specs.Server.{awaiting};
 
-use crate::sent::Sent;
 use model_partition::ServerContext;
-use range_core::{RangeState, RangeStep};
+use range_core::RangeState;
 use std::alloc::AllocError;
 use std::collections::BTreeMap;
 use wire::{ActorId, AppendBody, Body, Packet, Refusal, ReqNo};
@@ -44,16 +42,17 @@ pub(crate) fn refusal(
     }
 }
 
-/// Holds the range from now on, in place of what was known of it. Where memory runs out (22) nothing has changed.
-pub(crate) fn put(
-    ranges: &mut BTreeMap<u64, RangeState>,
+/// Holds a range, or a split, under a number from now on, in place of what was known of it. Where memory runs out (22) nothing has
+/// changed.
+pub(crate) fn put<T: Drop>(
+    held: &mut BTreeMap<u64, T>,
     range: u64,
-    state: RangeState,
+    value: T,
 ) -> Result<(), AllocError>
-    ensures ok { OnOk result (ranges.new.entries ≡ insert_entry nat_cmp ranges.old.entries range state) }
-    ensures err { OnErr result (ranges.new.entries ≡ ranges.old.entries) }
+    ensures ok { OnOk result (held.new.entries ≡ insert_entry nat_cmp held.old.entries range value) }
+    ensures err { OnErr result (held.new.entries ≡ held.old.entries) }
 {
-    match ranges.insert(range, state) {
+    match held.insert(range, value) {
         Ok(old) => {
             drop(old);
             Ok(())
@@ -63,23 +62,4 @@ pub(crate) fn put(
             Err(AllocError)
         }
     }
-}
-
-/// What a step of a range leaves at its server.
-pub(crate) fn settle(
-    ranges: &mut BTreeMap<u64, RangeState>,
-    context: &mut ServerContext,
-    range: u64,
-    taken: RangeStep,
-) -> Sent
-    ensures ranges { ranges.new.entries ≡ (if taken.dropped then remove_entry (is_at (nat_cmp range)) ranges.old.entries else ranges.old.entries) }
-    ensures context { context.new ≡ record context.old { count = taken.count } }
-    ensures sent { (result.packets ≡ taken.packets) × (result.notes ≡ taken.notes) }
-{
-    context.count = taken.count;
-    if taken.dropped {
-        drop(ranges.remove(&range));
-    }
-    let (packets, notes) = taken.into_parts();
-    Sent { packets, notes }
 }

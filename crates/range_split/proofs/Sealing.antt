@@ -1,5 +1,5 @@
 -- The last extent of a stream is sealed, and the next step follows.
-use Rattle.std.proofs.Common.{◌≡◌, ℕ, suc, ◌+◌, true, false, List, [], ◌∷◌, Option, Some, refl, sym, ap, ◌∙◌, arith}
+use Rattle.std.proofs.Common.{◌≡◌, ℕ, suc, ◌+◌, true, false, List, [], ◌∷◌, Option, Some, sym, ap, ◌∙◌, arith}
 use Rattle.std.specs.Prelude.{if◌then◌else◌}
 use Rattle.wire.specs.declared.packet.Packet.{Packet}
 use Rattle.wire.specs.declared.streams.StreamKind.{StreamKind}
@@ -8,15 +8,7 @@ use Rattle.model_partition.specs.declared.server_context.ServerContext.{ServerCo
 use Rattle.model_partition.specs.declared.split_job.SplitJob.{SplitJob}
 use Rattle.model_partition.specs.Range.{RangeState}
 use Rattle.model_partition.specs.Splits.{extents_of, first_open, goes, is_extent, kinds_after, last_sealed, open_last, seals_among, seals_or_builds, stays, with_last_sealed}
-use Rattle.range_split.specs.Rooms.{all_streams}
 use Rattle.range_split.specs.Steps.{SplitTaken, outcome}
-
--- the streams that are built are the same
-pub same_streams : (r : RangeState) (job : SplitJob) (kind : StreamKind) (length : ℕ) → all_streams (with_last_sealed r kind length) job ≡ all_streams r job
-same_streams r job kinds.Metadata length = refl
-same_streams r job kinds.Log length = refl
-same_streams r job kinds.RowData length = refl
-same_streams r job kinds.BlobData length = refl
 
 pub seals_on : (d : ServerContext) (r : RangeState) (job left : SplitJob) (kind : StreamKind) (e length : ℕ) (after : RangeState) (found : Option (StreamKind × ℕ)) (packet : Packet)
     → is_extent e (open_last (extents_of r kind)) ≡ true → after ≡ with_last_sealed r kind length → found ≡ first_open after (kinds_after kind) → seals_or_builds d after job found ≡ goes d after left (packet ∷ [])

@@ -1,10 +1,9 @@
 //! Answers that a split waits for.
 ghost use Rattle.std.specs.Prelude.{◌≡◌, ◌<◌, ◌+◌, ◌^◌, false, IfOk, OnErr};
 ghost use Rattle.model_partition.specs.Splits as rules;
-ghost use Rattle.range_split.specs.KeyAnswers.{are_said};
 ghost use Rattle.range_split.specs.Steps.{outcome, IsShort};
 
-use crate::key_answers::{ends, keys_reply};
+use crate::key_answers::{are_said, ends, keys_reply};
 use crate::seals::{SealedExtent, last_sealed};
 use crate::side_metadata::says_keys;
 use crate::taken::SplitTaken;
@@ -20,7 +19,14 @@ fn may_checkpoint(state: &RangeState) -> bool
     state.checkpoint_fault().is_none() && state.have_bytes()
 }
 
-/// The map has numbered the two ranges: the checkpoint begins, where one can.
+/// Whether the records of the checkpoint, of the split, and of the keys of the two have numbers, and one is left after them.
+fn has_record_numbers(state: &RangeState) -> bool
+    ensures { result ≡ rules.has_record_numbers state.now }
+{
+    state.content.said.next < u64::MAX - 2
+}
+
+/// The map has numbered the two ranges: the checkpoint begins, where one can, and the record of the split comes after its record.
 fn begun(
     alloc: Global,
     context: &ServerContext,
@@ -35,12 +41,14 @@ fn begun(
     ensures kept { OnErr result (job.new ≡ job.old) }
     ensures short { IfOk result IsShort }
 {
-    if !may_checkpoint(state) {
+    if !may_checkpoint(state) || !has_record_numbers(state) {
         return Ok(SplitTaken::rests(alloc, context.count));
     }
+    let number = state.content.said.next + 1;
     let taken = state.checkpoint(alloc, context, false)?;
     job.low = low;
     job.high = high;
+    job.number = number;
     job.phase = SplitPhase::Checkpoint;
     Ok(SplitTaken {
         dropped: taken.dropped,
@@ -181,16 +189,6 @@ fn told(
         Body::Seal(body) => seal_told(alloc, context, state, job, body),
         Body::Stream(body) => stream_told(alloc, context, state, job, body),
         _ => Ok(SplitTaken::rests(alloc, context.count)),
-    }
-}
-
-/// Whether the keys of one of the two are being appended.
-fn are_said(phase: &SplitPhase) -> bool
-    ensures { result ≡ are_said phase.now }
-{
-    match phase {
-        SplitPhase::Keys { .. } => true,
-        _ => false,
     }
 }
 

@@ -62,17 +62,22 @@ pub fn begin(
     state: &RangeState,
     key: &Bytes,
 ) -> Result<(SplitJob, Packet), AllocError>
-    ensures job { IfOk result (λ x. x.0 ≡ rules.new_split context.now key.now) }
-    ensures packet { IfOk result (λ x. x.1 ≡ rules.begin_packet context.now state.now key.now (request context.now)) }
+    ensures job { IfOk result (λ x. x.0 ≡ rules.new_split context.now state.now key.now) }
+    ensures packet { IfOk result (λ x. x.1 ≡ rules.begin_packet context.now (rules.new_split context.now state.now key.now) (request context.now)) }
 {
     let asked = key.clone()?;
     let kept = key.clone()?;
     let request = next_request(context);
+    let load = &state.content.load;
     let job = SplitJob {
+        range: load.range,
+        generation: load.generation,
         key: kept,
         low: RangeId(0),
         high: RangeId(0),
+        number: 0,
         phase: SplitPhase::Begin { request },
     };
-    Ok((job, begin_packet(context, state, asked, &request)))
+    let packet = begin_packet(context, &job, asked, &request);
+    Ok((job, packet))
 }

@@ -1,11 +1,12 @@
 //! What comes of a split behind a step of its range.
-ghost use Rattle.std.specs.Prelude.{◌≡◌, ◌∷◌, ◌<◌, ◌≤◌, ◌+◌, ◌^◌, [], None, true, length};
+ghost use Rattle.std.specs.Prelude.{◌≡◌, ◌∷◌, ◌<◌, ◌≤◌, ◌+◌, ◌^◌, [], Some, true, false, length};
 ghost use Rattle.metadata.specs.Record.{spelling};
 ghost use Rattle.model_partition.specs.Splits as rules;
-ghost use Rattle.range_split.specs.Rooms.{Serves, all_streams, record_if};
+ghost use Rattle.range_split.specs.Rooms.{Serves, record_if, room_of};
 ghost use Rattle.range_split.specs.Steps.{behind, goes_on, outcome};
 
 use crate::appends::send;
+use crate::next_packet::{NextPacket, has_number};
 use crate::room::SplitRoom;
 use crate::seals::{first_open, seals_or_builds};
 use crate::taken::{SplitTaken, append_reserved, push_some};
@@ -13,13 +14,6 @@ use client::{Appending, Job};
 use model_partition::{Pause, ServerContext, SplitJob, SplitPhase};
 use range_core::RangeState;
 use wire::{Modifies, Packet};
-
-/// What a step sends, and the number of the server's next request.
-#[derive(Drop)]
-struct NextPacket {
-    count: u64,
-    packet: Option<Packet>,
-}
 
 /// The range is paused, and the record of its split is appended to its metadata.
 fn pauses_and_records(
@@ -29,16 +23,13 @@ fn pauses_and_records(
     blocks: Appending,
 ) -> NextPacket
     requires numbers { context.now.count + 1 < 2 ^ 64 }
-    requires blocks { blocks ≡ spelling (rules.split_record state.old job.old) ∷ [] }
+    requires blocks { blocks ≡ spelling (rules.split_record job.old) ∷ [] }
     ensures { rules.pauses_and_records context.now state.old job.old ≡ goes_on state.new job.new result.count result.packet }
 {
     state.pause = Pause::On;
     let packet = send(&mut state.content.metadata, context, blocks);
     job.phase = SplitPhase::Record;
-    NextPacket {
-        count: context.count + 1,
-        packet,
-    }
+    NextPacket::sends(context, packet)
 }
 
 /// The range takes no transaction any more, and once none waits it is paused.
@@ -49,20 +40,17 @@ fn drains(
     blocks: Option<Appending>,
 ) -> NextPacket
     requires numbers { context.now.count + 1 < 2 ^ 64 }
-    requires blocks { blocks ≡ record_if state.old job.old }
+    requires blocks { blocks ≡ record_if job.old }
     ensures { rules.drains context.now state.old job.old ≡ goes_on state.new job.new result.count result.packet }
 {
-    if state.is_drained() {
+    if state.is_drained() && state.content.said.next == job.number {
         if let Some(blocks) = blocks {
             return pauses_and_records(context, state, job, blocks);
         }
     }
     state.pause = Pause::AfterQueue;
     job.phase = SplitPhase::Queue;
-    NextPacket {
-        count: context.count,
-        packet: None,
-    }
+    NextPacket::none(context)
 }
 
 /// Whether the record stands, and a number is left after its own.
@@ -81,26 +69,13 @@ fn record_stands(
 ) -> NextPacket
     requires numbers { context.now.count + 1 < 2 ^ 64 }
     requires stood { rules.has_stood state.old ≡ true }
-    requires streams { streams ≡ all_streams state.old job.old }
+    requires streams { streams ≡ rules.all_streams job.old }
     ensures { rules.record_stands context.now state.old job.old ≡ goes_on state.new job.new result.count result.packet }
 {
     state.content.said.next += 1;
     let found = first_open(state);
     let packet = seals_or_builds(context, job, found, streams);
-    NextPacket {
-        count: context.count + 1,
-        packet: Some(packet),
-    }
-}
-
-/// Nothing comes behind the step.
-fn nothing(count: u64) -> NextPacket
-    ensures { result ≡ record { count = count; packet = None } }
-{
-    NextPacket {
-        count,
-        packet: None,
-    }
+    NextPacket::sends(context, Some(packet))
 }
 
 /// What comes of a split behind a step of its range, with what was made beforehand.
@@ -112,35 +87,37 @@ fn followed(
     streams: Option<Modifies>,
 ) -> NextPacket
     requires numbers { context.now.count + 1 < 2 ^ 64 }
-    requires serves { Serves (record { key = None; record_blocks = blocks; streams = streams }) state.old job.old job.old.phase }
-    ensures { rules.follows context.now state.old job.old job.old.phase ≡ goes_on state.new job.new result.count result.packet }
+    requires serves { Serves job.old job.old.phase blocks streams }
+    ensures { rules.follows_in context.now state.old job.old job.old.phase ≡ goes_on state.new job.new result.count result.packet }
 {
     match job.phase {
         SplitPhase::Checkpoint => {
             if state.content.control.is_some() {
-                return nothing(context.count);
+                return NextPacket::none(context);
             }
             drains(context, state, job, blocks)
         }
         SplitPhase::Queue => drains(context, state, job, blocks),
         SplitPhase::Record => {
             if !has_stood(state) {
-                return nothing(context.count);
+                return NextPacket::none(context);
             }
             let Some(streams) = streams else {
                 unreachable!()
             };
             record_stands(context, state, job, streams)
         }
-        _ => nothing(context.count),
+        _ => NextPacket::none(context),
     }
 }
 
 /// What comes of a split behind a step of its range that did not drop it, in the same event; the context has the number that the
 /// step left. Once the checkpoint has ended the range takes no transaction any more; once none waits and none is being appended it
 /// is paused, and the record of the split is appended to its metadata; and once that stands the first of the open last extents is
-/// to be sealed, or the streams of the two ranges are to be built. It takes no memory but the room that was made before the step.
-/// What the step sent, at most 1,400 packets, comes first.
+/// to be sealed, or the streams of the two ranges are to be built. Where the server has no number left nothing comes. It takes no
+/// memory but the room that was made before the step, and neither the range goes nor the split ends. What the step sent, at most
+/// 1,400 packets, comes first.
+#[tactic(auto, using(crate::proofs::Rooms::serves))]
 pub fn follow(
     context: &ServerContext,
     state: &mut RangeState,
@@ -148,11 +125,12 @@ pub fn follow(
     room: SplitRoom,
     sent: Vec<Packet>,
 ) -> SplitTaken
-    requires numbers { context.now.count + 1 < 2 ^ 64 }
     requires few { length sent.items ≤ 1400 }
-    requires serves { Serves room state.old job.old job.old.phase }
-    ensures value { behind sent.items (rules.follows context.now state.old job.old job.old.phase) ≡ outcome result state.new job.new }
+    requires serves { room_of job.old job.old.phase ≡ Some room }
+    ensures value { behind sent.items (rules.follows context.now state.old job.old) ≡ outcome result state.new job.new }
     ensures few { length result.packets ≤ 1401 }
+    ensures held { result.dropped ≡ false }
+    ensures under_way { result.ended ≡ false }
 {
     let SplitRoom {
         key: _,
@@ -160,7 +138,11 @@ pub fn follow(
         streams,
         mut packets,
     } = room;
-    let NextPacket { count, packet } = followed(context, state, job, blocks, streams);
+    let NextPacket { count, packet } = if has_number(context) {
+        followed(context, state, job, blocks, streams)
+    } else {
+        NextPacket::none(context)
+    };
     append_reserved(&mut packets, sent);
     push_some(&mut packets, packet);
     SplitTaken::sends(count, packets)

@@ -20,6 +20,16 @@ use range_core::RangeState;
 use std::alloc::{AllocError, Global};
 use wire::{Body, Packet};
 
+/// Whether the keys of one of the two are being appended.
+pub(crate) fn are_said(phase: &SplitPhase) -> bool
+    ensures { result ≡ are_said phase.now }
+{
+    match phase {
+        SplitPhase::Keys { .. } => true,
+        _ => false,
+    }
+}
+
 /// The range goes, and its split with it: those who wait are told that this server does not hold it (30).
 pub(crate) fn ends(
     alloc: Global,
@@ -48,7 +58,7 @@ fn completes(
 {
     let mut packets = Vec::with_capacity(alloc, 1)?;
     let request = next_request(context);
-    packets.push_reserved(complete_packet(context, state, &request));
+    packets.push_reserved(complete_packet(context, job, &request));
     job.phase = SplitPhase::Complete { request };
     Ok(SplitTaken::sends(context.count + 1, packets))
 }

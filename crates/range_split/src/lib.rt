@@ -8,9 +8,11 @@
 //! - `split_fault` is the first reason why no split begins, and `begin` begins one; `awaits` says which answers it waits for, and
 //!   `reply` is what it does with one.
 //! - `follow` is what comes behind a step of the range itself, in the same event: once the checkpoint has ended, once no transaction
-//!   waits, and once the record of the split stands. It takes no memory: `SplitRoom::for_step` is made before the step.
+//!   waits, and once the record of the split stands. It takes no memory: `SplitRoom::for_step` is made before the step, of the split
+//!   alone, so it serves whatever the step does to the range.
 //! - `give_up` sends again what is not answered, or has an extent sealed, behind the range's own, with the room of
 //!   `SplitRoom::for_give_up`.
+//! - Where the server has no number left for a request these two do nothing; neither drops the range, nor ends the split.
 //! - The children are named by the record of their keys only once their streams are built, and the map is told only once both stand.
 //! - Where memory runs out (22) nothing has changed, and that is the one error that no clause limits.
 #![tactic(auto)]
@@ -23,6 +25,7 @@ mod built_streams;
 mod following;
 mod giving_up;
 mod key_answers;
+mod next_packet;
 mod packets;
 mod records;
 mod room;

@@ -1,14 +1,10 @@
 //! What a split asks of the map and of the manager.
 ghost use Rattle.std.specs.Prelude.{◌≡◌};
-ghost use Rattle.wire.specs.declared.actor.ActorId.TheVariants.{Manager};
-ghost use Rattle.wire.specs.declared.body.Body.TheVariants as bodies;
-ghost use Rattle.wire.specs.declared.body.StreamBody.TheVariants as streams;
 ghost use Rattle.model_partition.specs.Range.{tells};
 ghost use Rattle.model_partition.specs.Splits as rules;
 
 use bytes::Bytes;
-use model_partition::ServerContext;
-use range_core::RangeState;
+use model_partition::{ServerContext, SplitJob};
 use wire::{ActorId, Body, ExtentId, MapBody, Modifies, Packet, ReqNo, SealBody, StreamBody};
 
 fn tells(context: &ServerContext, to: ActorId, body: Body) -> Packet
@@ -24,16 +20,16 @@ fn tells(context: &ServerContext, to: ActorId, body: Body) -> Packet
 /// The map is asked for the numbers of the two ranges.
 pub(crate) fn begin_packet(
     context: &ServerContext,
-    state: &RangeState,
+    job: &SplitJob,
     key: Bytes,
     request: &ReqNo,
 ) -> Packet
-    ensures { result ≡ rules.begin_packet context.now state.now key request.now }
+    requires { key ≡ job.now.key }
+    ensures { result ≡ rules.begin_packet context.now job.now request.now }
 {
-    let load = &state.content.load;
     let body = MapBody::BeginSplit {
-        range: load.range,
-        generation: load.generation,
+        range: job.range,
+        generation: job.generation,
         key,
         request: *request,
     };
@@ -51,9 +47,15 @@ pub(crate) fn seal_packet(context: &ServerContext, extent: ExtentId, request: &R
     tells(context, ActorId::Manager, Body::Seal(body))
 }
 
-/// The manager is asked to build these streams.
-pub(crate) fn build_packet(context: &ServerContext, list: Modifies, request: &ReqNo) -> Packet
-    ensures { result ≡ tells context.now Manager (bodies.Stream (streams.MultiModify list request.now)) }
+/// The manager is asked to build the streams of the two.
+pub(crate) fn build_packet(
+    context: &ServerContext,
+    job: &SplitJob,
+    list: Modifies,
+    request: &ReqNo,
+) -> Packet
+    requires { list ≡ rules.all_streams job.now }
+    ensures { result ≡ rules.build_packet context.now job.now request.now }
 {
     let body = StreamBody::MultiModify {
         list,
@@ -63,17 +65,12 @@ pub(crate) fn build_packet(context: &ServerContext, list: Modifies, request: &Re
 }
 
 /// The map is asked to put the two in the place of the range.
-pub(crate) fn complete_packet(
-    context: &ServerContext,
-    state: &RangeState,
-    request: &ReqNo,
-) -> Packet
-    ensures { result ≡ rules.complete_packet context.now state.now request.now }
+pub(crate) fn complete_packet(context: &ServerContext, job: &SplitJob, request: &ReqNo) -> Packet
+    ensures { result ≡ rules.complete_packet context.now job.now request.now }
 {
-    let load = &state.content.load;
     let body = MapBody::CompleteSplit {
-        range: load.range,
-        generation: load.generation,
+        range: job.range,
+        generation: job.generation,
         request: *request,
     };
     tells(context, ActorId::Map, Body::Map(body))

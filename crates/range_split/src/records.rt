@@ -73,17 +73,13 @@ fn copied_key(key: &Bytes) -> Result<Bytes, AllocError>
     Ok(key.clone()?)
 }
 
-/// Whether the record of a split can be written under a number, and those of the keys after it.
-fn may_record(state: &RangeState, job: &SplitJob) -> bool
-    ensures value { result ≡ rules.may_record state.now job.now }
-    ensures number { result ≡ true → (0 < state.now.said.next) × (state.now.said.next < 2 ^ 64) }
+/// Whether the record of a split has a number, and all that stands in it has its bytes.
+fn has_record(job: &SplitJob) -> bool
+    ensures value { result ≡ rules.has_record job.now }
+    ensures number { result ≡ true → 0 < job.now.number }
     ensures key { result ≡ true → IsKey job.now.key }
 {
-    let said = &state.content.said;
-    0 < said.next
-        && said.next < u64::MAX - 1
-        && have_range_numbers(job)
-        && have_key_bytes(&said.keys, &job.key)
+    0 < job.number && have_range_numbers(job) && is_record_key(&job.key)
 }
 
 /// The record of a split under a number, ready to be appended.
@@ -105,18 +101,14 @@ fn split_append(alloc: Global, number: u64, job: &SplitJob) -> Result<Appending,
     }
 }
 
-/// The record of a split, ready to be appended, if it can be written. An error is out of memory (22).
-pub(crate) fn record_of(
-    alloc: Global,
-    state: &RangeState,
-    job: &SplitJob,
-) -> Result<Option<Appending>, AllocError>
-    ensures { IfOk result (λ blocks. blocks ≡ record_if state.now job.now) }
+/// The record of a split, ready to be appended, if it has one. An error is out of memory (22).
+pub(crate) fn record_of(alloc: Global, job: &SplitJob) -> Result<Option<Appending>, AllocError>
+    ensures { IfOk result (λ blocks. blocks ≡ record_if job.now) }
 {
-    if !may_record(state, job) {
+    if !has_record(job) {
         return Ok(None);
     }
-    Ok(Some(split_append(alloc, state.content.said.next, job)?))
+    Ok(Some(split_append(alloc, job.number, job)?))
 }
 
 /// Whether the records of the keys can be written.

@@ -7,7 +7,6 @@ use crate::records::record_of;
 use bytes::Bytes;
 use client::Appending;
 use model_partition::{SplitJob, SplitPhase};
-use range_core::RangeState;
 use std::alloc::{AllocError, Global};
 use std::marker::Model;
 use wire::{Modifies, Packet};
@@ -54,22 +53,17 @@ impl SplitRoom {
     }
 
     /// Room for what comes behind a step of the range, where anything may: none is needed while the split waits for an answer of its
-    /// own. It serves `follow` behind each step that leaves the keys and the next number of the range's metadata as they are, as
-    /// each does behind which something comes. An error is out of memory (22).
-    pub fn for_step(
-        alloc: Global,
-        state: &RangeState,
-        job: &SplitJob,
-    ) -> Result<Option<SplitRoom>, AllocError>
-        ensures { IfOk result (λ room. room ≡ room_of state.now job.now job.now.phase) }
+    /// own. It serves `follow` behind any step, since it depends on the split alone. An error is out of memory (22).
+    pub fn for_step(alloc: Global, job: &SplitJob) -> Result<Option<SplitRoom>, AllocError>
+        ensures { IfOk result (λ room. room ≡ room_of job.now job.now.phase) }
     {
         match job.phase {
             SplitPhase::Checkpoint | SplitPhase::Queue => {
-                let blocks = record_of(alloc, state, job)?;
+                let blocks = record_of(alloc, job)?;
                 Ok(Some(SplitRoom::of(alloc, None, blocks, None)?))
             }
             SplitPhase::Record => {
-                let streams = all_streams(alloc, state, job)?;
+                let streams = all_streams(alloc, job)?;
                 Ok(Some(SplitRoom::of(alloc, None, None, Some(streams))?))
             }
             _ => Ok(None),
@@ -77,12 +71,8 @@ impl SplitRoom {
     }
 
     /// Room for `give_up`, behind the range's own. An error is out of memory (22).
-    pub fn for_give_up(
-        alloc: Global,
-        state: &RangeState,
-        job: &SplitJob,
-    ) -> Result<SplitRoom, AllocError>
-        ensures { IfOk result (λ room. room ≡ again_room_of state.now job.now job.now.phase) }
+    pub fn for_give_up(alloc: Global, job: &SplitJob) -> Result<SplitRoom, AllocError>
+        ensures { IfOk result (λ room. room ≡ again_room_of job.now job.now.phase) }
     {
         match job.phase {
             SplitPhase::Begin { .. } => {
@@ -90,7 +80,7 @@ impl SplitRoom {
                 SplitRoom::of(alloc, Some(key), None, None)
             }
             SplitPhase::Build { .. } => {
-                let streams = all_streams(alloc, state, job)?;
+                let streams = all_streams(alloc, job)?;
                 SplitRoom::of(alloc, None, None, Some(streams))
             }
             _ => SplitRoom::of(alloc, None, None, None),

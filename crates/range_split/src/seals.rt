@@ -4,7 +4,6 @@ ghost use Rattle.wire.specs.declared.streams.StreamKind.TheVariants as kinds;
 ghost use Rattle.client.specs.Client.{sealed_last};
 ghost use Rattle.model_partition.specs.Range as ranges;
 ghost use Rattle.model_partition.specs.Splits as rules;
-ghost use Rattle.range_split.specs.Rooms.{all_streams as streams_of};
 ghost use Rattle.range_split.specs.Steps.{outcome, IsShort};
 
 use crate::built_streams::all_streams;
@@ -109,14 +108,15 @@ pub(crate) fn seals_or_builds(
     found: Option<(StreamKind, ExtentId)>,
     streams: Modifies,
 ) -> Packet
-    ensures { (r : ranges.RangeState) → streams ≡ streams_of r job.old
-        → rules.seals_or_builds context.now r job.old found ≡ rules.goes context.now r job.new (result ∷ []) }
+    requires streams { streams ≡ rules.all_streams job.old }
+    ensures { (r : ranges.RangeState) → rules.seals_or_builds context.now r job.old found ≡ rules.goes context.now r job.new (result ∷ []) }
 {
     let request = next_request(context);
     match found {
         None => {
+            let packet = build_packet(context, job, streams, &request);
             job.phase = SplitPhase::Build { request };
-            build_packet(context, streams, &request)
+            packet
         }
         Some((kind, extent)) => {
             job.phase = SplitPhase::Seal { kind, request };
@@ -177,7 +177,7 @@ pub(crate) fn last_sealed(
     if !is_open_last(state, sealed.kind, sealed.extent) {
         return Ok(SplitTaken::rests(alloc, context.count));
     }
-    let streams = all_streams(alloc, state, job)?;
+    let streams = all_streams(alloc, job)?;
     let mut packets = Vec::with_capacity(alloc, 1)?;
     seal_last_of(state, sealed.kind, sealed.length);
     let found = first_open_after(state, sealed.kind);

@@ -48,7 +48,7 @@ fn side_metadata(
         alloc,
         context.server,
         stream,
-        state.content.load.generation,
+        job.generation,
         &list,
         context.pick,
     )

@@ -50,7 +50,7 @@ verb_for (lines.Happens (events.Assign range server until)) word words h = (verb
 verb_for (lines.Happens (events.Renew range server until)) word words h = (verbs.Renew, h.0)
 verb_for (lines.Happens (events.Moment now)) word words h = (verbs.Moment, h.0)
 verb_for (lines.Happens (events.Checkpoint server range combine)) word words h = (verbs.Checkpoint, h.0)
-verb_for (lines.Happens (events.Split server range key)) word words h = absurd h
+verb_for (lines.Happens (events.Split server range key)) word words h = (verbs.Split, h.0)
 verb_for (lines.Happens (events.Merge server left right)) word words h = absurd h
 
 -- a line begins with a verb

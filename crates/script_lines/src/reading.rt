@@ -8,7 +8,7 @@ ghost use Rattle.script_lines.specs.declared.line.Line.{Line};
 
 use crate::line::Line;
 use crate::requesting::{nodes, request};
-use crate::spelling::number;
+use crate::spelling::{key, number};
 use crate::verb::{Verb, verb_of};
 use crate::word::{actor, fate, manner, numbers, server};
 use model_streams::Event;
@@ -58,6 +58,7 @@ fn line_behind(alloc: Global, verb: Verb, words: &[&str]) -> Result<Option<Line>
         Verb::Decide => Ok(decide(words)),
         Verb::GiveUp => Ok(give_up(words)),
         Verb::Checkpoint => Ok(checkpoint(words)),
+        Verb::Split => split(alloc, words),
         Verb::Assign => Ok(assign(words)),
         Verb::Renew => Ok(renew(words)),
         Verb::Moment => Ok(moment(words)),
@@ -190,6 +191,23 @@ fn checkpoint(words: &[&str]) -> Option<Line>
         range: RangeId(number(range)?),
         combine: manner(kind)?,
     }))
+}
+
+/// A split of a range at a server: the key at which the upper one begins.
+fn split(alloc: Global, words: &[&str]) -> Result<Option<Line>, AllocError>
+    ensures { IfOk result (λ line. Reads HasForm line (codes "split" ∷ map (λ w. w.now) words.now)) }
+{
+    let [by, range, name] = words else {
+        return Ok(None);
+    };
+    let (Some(by), Some(range)) = (number(by), number(range)) else {
+        return Ok(None);
+    };
+    Ok(Some(Line::Happens(Event::Split {
+        server: server(by),
+        range: RangeId(range),
+        key: key(alloc, name)?,
+    })))
 }
 
 fn assign(words: &[&str]) -> Option<Line>

@@ -72,7 +72,7 @@ const PLACED: &str =
     "loaded 1 1 1 0\nbegan 1 1 1\nacked 1 0 5024\ndone 1 1 1\nuser 1 0 committed 1\nbegan 1 1 2\nsealed 1 5024\nacked 2 0 24\ndone 1 1 2\nuser 1 1 committed 2\nacked 3 0 31\nacked 3 31 28\nacked 4 0 46\nseen 4 1 0 46\nseen 2 1 0 24\nseen 3 1 31 28\nloaded 1 2 3 2\nseen 3 1 0 31\nseen 1 1 24 5000\nuser 1 2 value ";
 
 /// What is printed of so many bytes of the letter `q`, behind a text.
-fn with_value(alloc: Global, text: &str, count: usize) -> Result<String, Fail> {
+pub(crate) fn with_value(alloc: Global, text: &str, count: usize) -> Result<String, Fail> {
     let mut all = String::new(alloc);
     all.push_str(text)?;
     for _ in 0..count {

@@ -50,7 +50,7 @@ fn assign(drive: &mut Drive, alloc: Global) -> Result<(), Fail> {
     step(drive, alloc, assignment())
 }
 
-fn stop_of(actor: &ActorId) -> Event {
+pub(crate) fn stop_of(actor: &ActorId) -> Event {
     Event::Stop {
         actor: *actor,
         call: 0,
@@ -62,7 +62,7 @@ fn delivery_of(number: usize) -> Event {
     Event::Deliver { number }
 }
 
-fn restart_of(actor: &ActorId) -> Event {
+pub(crate) fn restart_of(actor: &ActorId) -> Event {
     Event::Restart { actor: *actor }
 }
 
@@ -98,7 +98,7 @@ pub(crate) fn settle(drive: &mut Drive, alloc: Global, fault: &Fault) -> Result<
 }
 
 /// So many bytes of a letter.
-fn value_of(alloc: Global, letter: u8, length: usize) -> Result<Bytes, Fail> {
+pub(crate) fn value_of(alloc: Global, letter: u8, length: usize) -> Result<Bytes, Fail> {
     let mut bytes = Vec::new(alloc);
     bytes.resize(length, letter)?;
     Ok(Bytes::from_vec(bytes)?)

@@ -28,7 +28,7 @@
 //!
 //! # Scripts
 //!
-//! The lines of a script, and those that are printed, are in docs/FORMATS.md. docs/WALKS.md goes through three of examples/. The
+//! The lines of a script, and those that are printed, are in docs/FORMATS.md. docs/WALKS.md goes through all of examples/. The
 //! gate runs the program on the file `stdin` beside this folder, and what it prints must be the file `stdout`.
 //!
 //! # What is proved of it
@@ -78,6 +78,12 @@ mod rows;
 mod runs;
 #[cfg(test)]
 mod scripts_run;
+#[cfg(test)]
+mod split_failover;
+#[cfg(test)]
+mod split_refusals;
+#[cfg(test)]
+mod split_scripts;
 #[cfg(test)]
 mod stops;
 #[cfg(test)]

@@ -24,6 +24,11 @@ const WALKS: &[(&str, &str)] = &[
         "setup 3 1 4096 8\nmoment 1\nassign 1 1 100\nsettle\nuser 1 tx 1 1 +a=1 +b=2\nsettle\ncheckpoint 1 1 plain\ncheckpoint 1 1 plain\nuser 1 tx 1 1 +b=3\nsettle\nstop s1 0 drop\nrestart s1\nassign 1 1 100\nsettle\nuser 1 get 1 1 a\nuser 1 get 1 1 b\nsettle\n",
         "loaded 1 1 1 0\nbegan 1 1 1\nacked 1 0 33\ndone 1 1 1\nuser 1 0 committed 1\nrefused 35 Busy\nbegan 1 1 2\nacked 1 33 24\nacked 2 0 20\ndone 1 1 2\nuser 1 1 committed 2\nacked 2 20 28\nacked 3 0 46\nseen 3 1 0 46\nseen 1 1 0 57\nseen 2 1 20 28\nloaded 1 2 3 2\nseen 2 1 0 20\nuser 1 3 value 33\nuser 1 2 value 31\n",
     ),
+    // How a range splits while it serves.
+    (
+        "setup 3 1 4096 1\nmoment 1\nassign 1 1 100\nsettle\nuser 1 tx 1 1 +a=1 +z=2\nsettle\nsplit 1 1 m\ndeliver last\ndeliver last\nuser 1 tx 1 1 +a=3 -z\nsettle\ndecide 3\nsettle\ndecide 1\nsettle\ndecide 2\nsettle\nassign 2 1 200\nsettle\nassign 3 1 200\nsettle\nuser 1 get 1 2 a\nsettle\nuser 1 get 1 3 z\nsettle\nuser 1 get 1 1 a\nuser 1 route z\nsettle\n",
+        "loaded 1 1 1 0\nbegan 1 1 1\nacked 1 0 33\ndone 1 1 1\nuser 1 0 committed 1\nbegan 1 1 2\nacked 1 33 28\nacked 2 0 20\ndone 1 1 2\nuser 1 1 committed 2\nacked 2 20 28\nacked 3 0 46\nacked 3 46 28\nsealed 3 74\nsealed 1 61\nsealed 2 48\nacked 4 0 15\nacked 5 0 15\nsplit 1 2 3 6d\ncontent 3 1 74 2\nseen 4 1 0 15\ncontent 1 1 61 2\nseen 2 1 20 28\nloaded 2 2 3 1\ncontent 3 1 74 2\nseen 5 1 0 15\ncontent 1 1 61 2\nseen 2 1 20 28\nloaded 3 2 3 0\nuser 1 2 value 33\nuser 1 3 value none\nuser 1 4 refused 30 NotOwner\nuser 1 5 route 3 1\n",
+    ),
 ];
 
 #[test]

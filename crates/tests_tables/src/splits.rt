@@ -301,7 +301,6 @@ fn split_begun(splitting: &mut Splitting, key: &'static [u8]) -> Result<Option<R
 }
 
 /// What is sent first behind a step of the range that left this number and these packets.
-#[tactic(auto, using(range_split::proofs::Rooms::serves_now))]
 fn followed(
     state: &mut RangeState,
     job: &mut SplitJob,
@@ -312,10 +311,10 @@ fn followed(
     requires { length sent.items ≤ 1400 }
 {
     let told = ServerContext {
-        count: count.min(1_000),
+        count,
         ..context(1, 1)
     };
-    match SplitRoom::for_step(alloc, state, job)? {
+    match SplitRoom::for_step(alloc, job)? {
         None => Ok(sends_of(&sent)),
         Some(room) => {
             let taken = follow(&told, state, job, room, sent);
@@ -380,12 +379,11 @@ fn split_awaits(splitting: &Splitting, asked: u64) -> bool {
 }
 
 /// What the split sends again first.
-#[tactic(auto, using(range_split::proofs::Rooms::serves_again_now))]
 fn sends_again(splitting: &mut Splitting, alloc: Global, count: u32) -> Result<Sends, Fail> {
     match &mut splitting.job {
         None => Ok(Sends::Nothing),
         Some(job) => {
-            let room = SplitRoom::for_give_up(alloc, &splitting.state, job)?;
+            let room = SplitRoom::for_give_up(alloc, job)?;
             let sent = Vec::new(alloc);
             let taken = give_up(&context(count, 1), &splitting.state, job, room, sent);
             Ok(sends_of(&taken.packets))

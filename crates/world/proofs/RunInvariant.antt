@@ -1,13 +1,14 @@
--- A run stays a run; what it shows is honest, and replays.
+-- A run stays a run; what it shows agrees and is kept, and where no range is split it is honest.
 use Rattle.std.proofs.Common.{◌≡◌, ◌<◌, ◌+◌, ℕ, suc, List, [], ◌∷◌, ◌++◌, Result, Ok, Err, OnOk, OnErr, refl, sym, ap, ◌∙◌, subst, take, length, slice_index_or, arith}
 use Rattle.std.proofs.Math.Seq.{take-suc}
 use Rattle.model_streams.specs.declared.event.Event.{Event}
-use Rattle.model_partition.specs.Cluster.{Cluster, cluster_after, cluster_after_all, first_cluster}
+use Rattle.model_streams.specs.Honest.{Agree, Kept}
+use Rattle.model_partition.specs.Cluster.{AreUnsplit, Cluster, cluster_after, cluster_after_all, first_cluster}
 use Rattle.model_partition.specs.Honest.{Honest}
-use Rattle.laws_servers.proofs.EventsAsMoves.{led_by, moves_agree, moves_keep}
-use Rattle.laws_clusters.proofs.Theorem.{led_replays as all_replays}
+use Rattle.laws_servers.proofs.EventsAsMoves.{led_agrees as all_agree, led_keeps as all_kept}
+use Rattle.laws_clusters.proofs.Theorem.{led_honest as all_honest}
 use Rattle.world_streams.specs.declared.fault.WorldFault.{WorldFault}
-use Rattle.world.specs.Cluster.{ClusterState, ClusterMirrors, ClusterSimulates, ReachedBy, IsRun}
+use Rattle.world.specs.Cluster.{ClusterState, ClusterMirrors, ClusterSimulates, ReachedBy, IsRun, IsUnsplitRun}
 
 -- ---- events
 
@@ -30,15 +31,17 @@ led_next x y first events i event is l h came =
     taken : take (i + 1) events ≡ take i events ++ slice_index_or events i event ∷ []
     taken = ap (λ k. take k events) one_more ∙ take-suc events i event l
 
-pub led_honest : (nodes servers target batch : ℕ) (events : List Event) (x : ClusterState) → ReachedBy events (first_cluster nodes servers target batch) x → Honest x.stream_layer.notes
-led_honest nodes servers target batch events x h =
-    let first : Cluster = first_cluster nodes servers target batch in
-    subst Honest (sym h.stream_layer.notes)
-    (record {
-      agree = moves_agree nodes target (cluster_after_all first events).stream_layer (led_by events first);
-      kept = moves_keep nodes target (cluster_after_all first events).stream_layer (led_by events first);
-      replays = all_replays nodes servers target batch events;
-    })
+-- ---- what was observed
+
+pub led_agrees : (nodes servers target batch : ℕ) (events : List Event) (x : ClusterState) → ReachedBy events (first_cluster nodes servers target batch) x → Agree x.stream_layer.notes
+led_agrees nodes servers target batch events x h = subst Agree (sym h.stream_layer.notes) (all_agree nodes servers target batch events)
+
+pub led_keeps : (nodes servers target batch : ℕ) (events : List Event) (x : ClusterState) → ReachedBy events (first_cluster nodes servers target batch) x → Kept x.stream_layer.notes
+led_keeps nodes servers target batch events x h = subst Kept (sym h.stream_layer.notes) (all_kept nodes servers target batch events)
+
+pub led_honest : (nodes servers target batch : ℕ) (events : List Event) (x : ClusterState) → ReachedBy events (first_cluster nodes servers target batch) x → AreUnsplit events →
+    Honest x.stream_layer.notes
+led_honest nodes servers target batch events x h unsplit = subst Honest (sym h.stream_layer.notes) (all_honest nodes servers target batch events unsplit)
 
 -- ---- runs
 
@@ -63,5 +66,11 @@ goes_on old new event (Ok x) h ok err = record {
 }
 goes_on old new event (Err x) h ok err = subst IsRun (sym err) h
 
-pub is_honest : (x : ClusterState) → IsRun x → Honest x.stream_layer.notes
-is_honest x h = led_honest h.nodes h.servers h.target h.batch h.events x h.led
+pub run_agrees : (x : ClusterState) → IsRun x → Agree x.stream_layer.notes
+run_agrees x h = led_agrees h.nodes h.servers h.target h.batch h.events x h.led
+
+pub run_keeps : (x : ClusterState) → IsRun x → Kept x.stream_layer.notes
+run_keeps x h = led_keeps h.nodes h.servers h.target h.batch h.events x h.led
+
+pub is_honest : (x : ClusterState) → IsUnsplitRun x → Honest x.stream_layer.notes
+is_honest x h = led_honest h.nodes h.servers h.target h.batch h.events x h.led h.unsplit

@@ -5,10 +5,10 @@ use Rattle.wire.specs.declared.actor.ActorId.TheVariants.{Node, Manager, Map, Se
 use Rattle.wire.specs.declared.packet.Packet.{Packet}
 use Rattle.wire.specs.declared.refusal.Refusal.{Refusal}
 use Rattle.model_streams.specs.declared.event.Event.{Event}
-use Rattle.model_streams.specs.declared.event.Event.TheVariants.{Decide, GiveUp, Checkpoint, Assign, Renew}
+use Rattle.model_streams.specs.declared.event.Event.TheVariants.{Decide, GiveUp, Checkpoint, Split, Assign, Renew}
 use Rattle.model_streams.specs.Maps.{entry_at}
-use Rattle.model_partition.specs.Servers.{ServerCell, checkpoint_refusal_at, give_up_refusal}
-use Rattle.model_partition.specs.Cluster.{Cluster, cluster_after, cluster_after_all, first_cluster}
+use Rattle.model_partition.specs.Servers.{ServerCell, checkpoint_refusal_at, give_up_refusal, split_refusal_at}
+use Rattle.model_partition.specs.Cluster.{AreUnsplit, Cluster, cluster_after, cluster_after_all, first_cluster}
 use Rattle.world_map.specs.Seen.{MapSeen, MapMirrors, assign_refusal, renew_refusal}
 use Rattle.world_manager.specs.Seen.{decision_refusal}
 use Rattle.world_streams.specs.StreamLayer.{StreamLayerState, StreamLayerMirrors}
@@ -46,6 +46,16 @@ pub record IsRun (x : ClusterState) : Type 0 where
   pub events : List Event
   pub led : ReachedBy events (first_cluster nodes servers target batch) x
 
+-- some events by which no range is split made this, from the start of some setup
+pub record IsUnsplitRun (x : ClusterState) : Type 0 where
+  pub nodes : ℕ
+  pub servers : ℕ
+  pub target : ℕ
+  pub batch : ℕ
+  pub events : List Event
+  pub unsplit : AreUnsplit events
+  pub led : ReachedBy events (first_cluster nodes servers target batch) x
+
 -- whom a packet is for, where there is one
 abbrev pub addressee_of : Option Packet → Option ActorId
 addressee_of None = None
@@ -64,6 +74,7 @@ abbrev pub refusal_of : ClusterState → Event → Option Refusal
 refusal_of x (Decide e) = decision_refusal x.stream_layer.manager e
 refusal_of x (GiveUp server range pick) = give_up_refusal range pick (entry_at x.servers server)
 refusal_of x (Checkpoint server range combine) = checkpoint_refusal_at range (entry_at x.servers server)
+refusal_of x (Split server range key) = split_refusal_at range key (entry_at x.servers server)
 refusal_of x (Assign range server until) = assign_refusal x.map x.moment range server
 refusal_of x (Renew range server until) = renew_refusal x.map range server
 refusal_of x event = None

@@ -2,7 +2,7 @@
 ghost use Rattle.std.specs.Prelude.{◌≡◌, [], None, Some, IfOk, IfSome, OnOk, OnErr, option_map, slice_get};
 ghost use Rattle.model_streams.specs.declared.event.Event.TheVariants as events;
 ghost use Rattle.model_streams.specs.Maps.{entry_at};
-ghost use Rattle.model_partition.specs.Servers.{checkpoint_refusal_at, give_up_refusal};
+ghost use Rattle.model_partition.specs.Servers.{checkpoint_refusal_at, give_up_refusal, split_refusal_at};
 ghost use Rattle.model_partition.specs.Cluster.{first_cluster};
 ghost use Rattle.world_manager.specs.Seen.{decision_refusal};
 ghost use Rattle.world_nodes.specs.Seen.{seen_of};
@@ -13,6 +13,7 @@ ghost use Rattle.model_partition.specs.Cluster.{map_starts};
 ghost use Rattle.world.specs.Cluster.{ClusterSimulates, ClusterMirrors, IsBelow, addressee_of, refusal_of};
 
 use block_types::Nodes;
+use bytes::Bytes;
 use disk::MemDisk;
 use enode::Node;
 use model_streams::Event;
@@ -235,6 +236,21 @@ impl Cluster {
             .checkpoint(alloc, &mut self.servers, server, range, combine)
     }
 
+    fn split(
+        &mut self,
+        alloc: Global,
+        server: ServerNo,
+        range: RangeId,
+        key: &Bytes,
+    ) -> Result<Option<Refusal>, WorldFault>
+        ensures refusal { IfOk result (λ refusal. refusal ≡ split_refusal_at range key.now (entry_at self.old.servers server)) }
+        ensures ok { OnOk result (ClusterSimulates self.old self.new (events.Split server range key.now)) }
+        ensures err { OnErr result (self.new ≡ self.old) }
+    {
+        self.stream_layer
+            .split(alloc, &mut self.servers, server, range, key)
+    }
+
     fn assign(
         &mut self,
         alloc: Global,
@@ -272,8 +288,9 @@ impl Cluster {
         self.map.moment(moment);
     }
 
-    /// The next event. It answers why an event is refused: a decision 1 or 10, giving up and a renewal 30, a checkpoint 30, 38 or 35,
-    /// and an assignment 30 or 31; nothing else is. An error is out of memory (22), and nothing has changed.
+    /// The next event. It answers why an event is refused: a decision 1 or 10, giving up and a renewal 30, a checkpoint 30, 38, 34
+    /// or 35, a split 30, 38, 34, 35 or 39, and an assignment 30 or 31; nothing else is. An error is out of memory (22), and
+    /// nothing has changed.
     pub(crate) fn step(
         &mut self,
         alloc: Global,
@@ -319,7 +336,8 @@ impl Cluster {
                 range,
                 combine,
             } => self.checkpoint(alloc, *server, *range, *combine),
-            Event::Split { .. } | Event::Merge { .. } => Ok(None),
+            Event::Split { server, range, key } => self.split(alloc, *server, *range, key),
+            Event::Merge { .. } => Ok(None),
         }
     }
 

@@ -1,11 +1,12 @@
 //! A run: a cluster that events brought to where it is.
 ghost use Rattle.std.specs.Prelude.{◌≡◌, IfOk, OnOk, OnErr, option_map};
+ghost use Rattle.model_streams.specs.Honest.{Agree, Kept};
 ghost use Rattle.model_partition.specs.Cluster.{first_cluster};
 ghost use Rattle.model_partition.specs.Honest.{Honest};
 ghost use Rattle.wire.specs.Refusal.{number_of};
 ghost use Rattle.world_nodes.specs.Seen.{seen_of};
 ghost use Rattle.world_streams.specs.Nodes.{running_at};
-ghost use Rattle.world.specs.Cluster.{ClusterSimulates, ClusterMirrors, refusal_of};
+ghost use Rattle.world.specs.Cluster.{ClusterSimulates, ClusterMirrors, IsUnsplitRun, refusal_of};
 
 use crate::cluster::Cluster;
 use disk::MemDisk;
@@ -17,7 +18,8 @@ use wire::{Note, Packet};
 use world_streams::{Setup, WorldFault};
 
 /// A cluster that events made. At each moment it is what the model makes of some list of events, from the start of some
-/// setup. So what was observed of extents is honest, and what was observed of tables replays, at any moment and of any run.
+/// setup. So what was observed of extents agrees and is kept, at any moment and of any run; and what was observed of tables
+/// replays, at any moment of any run in which no range is split.
 pub struct Run {
     cluster: Cluster,
 }
@@ -53,8 +55,10 @@ impl Run {
 
     /// One event more. It answers the number of the refusal where the event is refused: a decision, where there is no such
     /// extent (1) or no place has answered with its length (10); giving up and a renewal, where the server does not hold the
-    /// range (30); an assignment, of an unknown range (30) or while another server holds it (31). Nothing has changed then. An
-    /// error is out of memory (22), and nothing has changed then either.
+    /// range (30); a checkpoint, where the server does not hold the range (30), the range is not served yet (38) or is paused (34),
+    /// or a checkpoint or a split of it is under way (35); a split for the same (30, 38, 34, 35), and where the key does not split
+    /// the keys of the range (39); an assignment, of an unknown range (30) or while another server holds it (31). Nothing has
+    /// changed then. An error is out of memory (22), and nothing has changed then either.
     pub fn step(&mut self, alloc: Global, event: &Event) -> Result<Option<u8>, WorldFault>
         ensures ok { OnOk result (ClusterSimulates self.old self.new event.now) }
         ensures err { OnErr result (self.new ≡ self.old) }
@@ -74,12 +78,15 @@ impl Run {
         self.cluster.sent()
     }
 
-    /// All that was observed, in order. Whatever was asked, lost, repeated or reordered: all that is shown of an extent
-    /// agrees, and every acknowledged append stands in it at its answered offset; and each table that a load shows is that
-    /// of a line of transactions that has every one that was acknowledged under an earlier generation, in order, each once.
+    /// All that was observed, in order. Whatever was asked, lost, repeated, reordered or split: all that is shown of an extent
+    /// agrees, and every acknowledged append stands in it at its answered offset. Where no event split a range, what was
+    /// observed of tables replays too: each table that a load shows is that of a line of transactions that has every one that was
+    /// acknowledged under an earlier generation, in order, each once.
     pub fn observations(&self) -> &[Note]
         ensures notes { result.now ≡ self.now.stream_layer.notes }
-        ensures honest { Honest result.now }
+        ensures agree { Agree result.now }
+        ensures kept { Kept result.now }
+        ensures honest { IsUnsplitRun self.now → Honest result.now }
     {
         self.cluster.observations()
     }

@@ -1,10 +1,11 @@
 //! One server, over its starts and stops.
 ghost use Rattle.std.specs.Prelude.{◌≡◌, [], None, option_map, IfOk, OnErr};
-ghost use Rattle.model_partition.specs.Servers.{cell_checkpoints, cell_gives_up, cell_stops, cell_starts, cell_takes, checkpoint_fault_of, give_up_fault, cell_loads, table_of_view};
+ghost use Rattle.model_partition.specs.Servers.{cell_checkpoints, cell_gives_up, cell_splits, cell_stops, cell_starts, cell_takes, checkpoint_fault_of, give_up_fault, cell_loads, split_fault_of, table_of_view};
 ghost use Rattle.world_server.specs.Seen.{cell_outcome, moment_shown, new_server};
 ghost use Rattle.world_steps.specs.ActorStep.{IsFew, table_step};
 
 use block_types::Nodes;
+use bytes::Bytes;
 use model_partition::TableView;
 use range::{RangeServer, Sent};
 use std::alloc::{AllocError, Global};
@@ -127,8 +128,8 @@ impl ServerActor {
     }
 
     /// Has it begin a checkpoint of a range, which combines the range's indexes where that is asked. It answers why it does not:
-    /// it does not hold the range (30), the range is not served yet (38), or a checkpoint of it is under way (35). Nothing comes
-    /// of it where it has stopped. An error is out of memory (22), and nothing has changed.
+    /// it does not hold the range (30), the range is not served yet (38) or is paused (34), or a checkpoint or a split of it is
+    /// under way (35). Nothing comes of it where it has stopped. An error is out of memory (22), and nothing has changed.
     pub fn checkpoint(
         &mut self,
         alloc: Global,
@@ -149,6 +150,34 @@ impl ServerActor {
                 Err(fault) => match fault.refusal() {
                     None => Err(AllocError),
                     Some(why) => Ok(ActorStep::refused(alloc, why)),
+                },
+            },
+        }
+    }
+
+    /// Has it begin a split of a range at a key. It answers why it does not: it does not hold the range (30), the range is not
+    /// served yet (38) or is paused (34), a checkpoint or a split of it is under way (35), or the key does not split its keys (39).
+    /// Nothing comes of it where it has stopped. An error is out of memory (22), and nothing has changed.
+    pub fn split(
+        &mut self,
+        alloc: Global,
+        range: RangeId,
+        key: &Bytes,
+    ) -> Result<ActorStep, AllocError>
+        ensures ok { IfOk result (λ step. cell_splits self.old.cell range key.now self.old.cell.state ≡ cell_outcome self.new.cell step) }
+        ensures same { self.new ≡ record self.old { cell = self.new.cell } }
+        ensures plain { IfOk result (λ step. step.notes ≡ []) }
+        ensures refusal { IfOk result (λ step. step.refusal ≡ split_fault_of range key.now self.old.cell.state) }
+        ensures err { OnErr result (self.new ≡ self.old) }
+        ensures few { IfOk result IsFew }
+    {
+        match &mut self.server {
+            None => Ok(ActorStep::silent(alloc)),
+            Some(server) => match server.split(alloc, range, key) {
+                Ok(sent) => Ok(performed(alloc, sent)),
+                Err(fault) => match fault.refusal() {
+                    None => Err(AllocError),
+                    Some(reason) => Ok(ActorStep::refused(alloc, reason)),
                 },
             },
         }

@@ -7,7 +7,7 @@ ghost use Rattle.model_streams.specs.StreamSystem.{StreamSystem, happens, moved,
 ghost use Rattle.model_streams.specs.StreamSystem.Move.{Asks};
 ghost use Rattle.model_streams.specs.declared.event.Event.TheVariants as events;
 ghost use Rattle.model_streams.specs.Outcome.{packet};
-ghost use Rattle.model_partition.specs.Servers.{checkpoint_refusal_at, give_up_refusal, server_checkpoints, server_gives_up, server_takes};
+ghost use Rattle.model_partition.specs.Servers.{checkpoint_refusal_at, give_up_refusal, server_checkpoints, server_gives_up, server_splits, server_takes, split_refusal_at};
 ghost use Rattle.world_steps.specs.ActorStep.{IsFew, nothing};
 ghost use Rattle.world_nodes.specs.Seen.{seen_of};
 ghost use Rattle.world_manager.specs.Seen.{ManagerMirrors, ManagerSimulates, decision_refusal};
@@ -26,6 +26,7 @@ use crate::setup::Setup;
 use crate::showing::{Given, give, show};
 use crate::submitting::request;
 use block_types::Nodes;
+use bytes::Bytes;
 use disk::MemDisk;
 use enode::Node;
 use model_streams::Event;
@@ -450,8 +451,8 @@ impl StreamLayer {
     }
 
     /// A server begins a checkpoint of a range, which combines the range's indexes where that is asked. It answers why it does not:
-    /// it does not hold the range (30), the range is not served yet (38), or a checkpoint of it is under way (35). An error is out
-    /// of memory (22), and nothing has changed.
+    /// it does not hold the range (30), the range is not served yet (38) or is paused (34), or a checkpoint or a split of it is
+    /// under way (35). An error is out of memory (22), and nothing has changed.
     pub fn checkpoint(
         &mut self,
         alloc: Global,
@@ -477,6 +478,48 @@ impl StreamLayer {
                     ..
                 } = step;
                 move_in(&mut self.post, asked.into_vec());
+                show(
+                    alloc,
+                    &mut self.notes,
+                    told,
+                    Rows {
+                        items: Vec::new(alloc),
+                    },
+                );
+                Ok(refusal)
+            }
+            Err(_full) => Err(WorldFault::Memory),
+        }
+    }
+
+    /// A server begins a split of a range at a key. It answers why it does not: it does not hold the range (30), the range is not
+    /// served yet (38) or is paused (34), a checkpoint or a split of it is under way (35), or the key does not split its keys (39).
+    /// An error is out of memory (22), and nothing has changed.
+    pub fn split(
+        &mut self,
+        alloc: Global,
+        servers: &mut Servers,
+        server: ServerNo,
+        range: RangeId,
+        key: &Bytes,
+    ) -> Result<Option<Refusal>, WorldFault>
+        ensures ok { OnOk result (AfterServers self.old self.new servers.new.cells (server_splits servers.old.cells server range key.now)) }
+        ensures refusal { IfOk result (λ refusal. refusal ≡ split_refusal_at range key.now (entry_at servers.old.cells server)) }
+        ensures err { OnErr result (self.new ≡ self.old) }
+        ensures servers_err { OnErr result (servers.new ≡ servers.old) }
+        ensures servers_same { (servers.new.moment ≡ servers.old.moment) × (servers.new.batch ≡ servers.old.batch) }
+    {
+        make_room(&mut self.post)?;
+        self.notes.make_room()?;
+        match servers.split(alloc, server, range, key) {
+            Ok(step) => {
+                let ActorStep {
+                    packets: begun,
+                    tables: told,
+                    refusal,
+                    ..
+                } = step;
+                move_in(&mut self.post, begun.into_vec());
                 show(
                     alloc,
                     &mut self.notes,

@@ -1,8 +1,7 @@
 use Rattle.std.proofs.Common.{List, ◌∷◌, [], ◌++◌, sym, ap, ◌∙◌}
 use Rattle.wire.specs.declared.packet.Packet.{Packet}
 use Rattle.model_partition.specs.Range.{RangeState}
-use Rattle.range_split.specs.Rooms.{all_streams}
-use Rattle.range_split.proofs.Sealing.{same_streams, seals_on, sent}
+use Rattle.range_split.proofs.Sealing.{seals_on, sent}
 use Rattle.range_split.proofs.seals.last_sealed.Goals as goal
 
 pub returns-clause-ok : goal.returns-clause-ok
@@ -12,8 +11,7 @@ returns-clause-ok c =
     let length = c.args.sealed.length in
     let after : RangeState = c.seal_last_of.new.state in
     let packet : Packet = c.seals_or_builds.result in
-    let streams = c.in_ok-streams.ensures ∙ sym (same_streams c.args.state.now job kind length) ∙ ap (λ (x : RangeState). all_streams x job) (sym c.seal_last_of.ensures) in
     let packets = c.push_reserved.ensures.items ∙ ap (λ (l : List Packet). l ++ packet ∷ []) c.in_ok-packets.ensures.items in
     seals_on c.args.context.now c.args.state.now job c.seals_or_builds.new.job kind c.args.sealed.extent length after c.first_open_after-found.result packet
-    (sym c.is_open_last.ensures ∙ c.if-not-is_open_last.false) c.seal_last_of.ensures c.first_open_after-found.ensures (c.seals_or_builds.ensures after streams)
+    (sym c.is_open_last.ensures ∙ c.if-not-is_open_last.false) c.seal_last_of.ensures c.first_open_after-found.ensures (c.seals_or_builds.ensures after)
     ∙ sent c.args.context.now after c.seals_or_builds.new.job packet c.sends.result c.push_reserved.new.self.items c.sends.ensures packets

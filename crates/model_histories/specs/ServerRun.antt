@@ -22,15 +22,15 @@ use Rattle.streams.specs.Streams.{kind_number}
 use Rattle.streams.specs.declared.table.Position.{Position}
 use Rattle.model_streams.specs.Maps.{changed, changed_at, entry_at}
 use Rattle.model_partition.specs.declared.table_note.TableNote.{TableNote}
-use Rattle.model_partition.specs.StreamMachine.{base}
-use Rattle.model_partition.specs.Story.{Placed, StreamEvent, Made, Answered, Showed, Story}
+use Rattle.model_histories.specs.StreamMachine.{base}
+use Rattle.model_histories.specs.Story.{Placed, StreamEvent, Made, Answered, Showed, Story}
 use Rattle.model_partition.specs.Range.{RangeState}
 use Rattle.model_partition.specs.Loading.{Group}
 use Rattle.model_partition.specs.Serving.{transact_rule}
 use Rattle.model_partition.specs.Answering.{answered_number, is_answerer, answer_rule}
 use Rattle.model_partition.specs.Server.{ServerState, range_of, is_newer, awaiting, has_numbers}
 use Rattle.model_partition.specs.Servers.{ServerCell, ServersOutcome, server_takes, server_gives_up, server_checkpoints, server_splits, server_stops, server_starts, told_moment, first_servers}
-use Rattle.model_partition.specs.StreamActions.{PlacedBytes, ExtentRead, StreamAction, Reads, Forms, Stands, Shows, Finds, Stores, transact_actions, answer_actions}
+use Rattle.model_histories.specs.StreamActions.{PlacedBytes, ExtentRead, StreamAction, Reads, Forms, Stands, Shows, Finds, Stores, transact_actions, answer_actions}
 
 -- ---- places
 

@@ -4,7 +4,7 @@ use Rattle.wire.specs.declared.note.Note.{Note}
 use Rattle.wire.specs.declared.note.Note.TheVariants.{Began, Done, Loaded}
 use Rattle.model_partition.specs.Past.{Transaction}
 use Rattle.commitlog.specs.Replay.{Numbered as Group, replayed as replay}
-use Rattle.model_partition.specs.Story.{Placed, StreamEvent, Made, Answered, Showed}
+use Rattle.model_histories.specs.Story.{Placed, StreamEvent, Made, Answered, Showed}
 
 -- the line that a load makes of what it shows
 abbrev pub line_shown : {A : Type 0} → List (Placed (Group A)) → List A

@@ -1,6 +1,6 @@
 -- One stream as its manager, the primaries of its extents and its servers make it.
 use Rattle.std.specs.Prelude.{◌≡◌, ℕ, suc, ◌+◌, ◌*◌, ◌<◌, ◌≤◌, List, [], ◌∷◌, ◌++◌, length, map, Option, Some, None, if◌then◌else◌, ◌==◌, nat_le, ◌⊎◌}
-use Rattle.model_partition.specs.Story.{StreamEvent, Made, Answered, Showed, Story, Copy, placed, from_place}
+use Rattle.model_histories.specs.Story.{StreamEvent, Made, Answered, Showed, Story, Copy, placed, from_place}
 
 abbrev pub In : {A : Type 0} → A → List A → Type 0
 In x [] = ⊥

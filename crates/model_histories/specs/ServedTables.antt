@@ -13,18 +13,18 @@ use Rattle.commitlog.specs.Replay.{Numbered}
 use Rattle.model_streams.specs.Maps.{entry_at}
 use Rattle.model_partition.specs.declared.table_note.TableNote.{TableNote}
 use Rattle.model_partition.specs.declared.table_note.TableNote.TheVariants as tables
-use Rattle.model_partition.specs.Log.{line_shown}
+use Rattle.model_histories.specs.Log.{line_shown}
 use Rattle.model_partition.specs.Past.{Bytes, stored, after_line, empty_table, first_range}
-use Rattle.model_partition.specs.Story.{Copy, Placed, StreamEvent, Made, Answered, Showed, Story, event_at, whole, KeepsOrder, EndsRise}
+use Rattle.model_histories.specs.Story.{Copy, Placed, StreamEvent, Made, Answered, Showed, Story, event_at, whole, KeepsOrder, EndsRise}
 use Rattle.model_partition.specs.Range.{RangeState, waiting_out, is_serving}
 use Rattle.model_partition.specs.Loading.{Group}
-use Rattle.model_partition.specs.IndexContents.{entries_in, served_entries}
+use Rattle.model_histories.specs.IndexContents.{entries_in, served_entries}
 use Rattle.model_partition.specs.Server.{ServerState, range_of}
 use Rattle.model_partition.specs.Servers.{ServerCell}
-use Rattle.model_partition.specs.Renaming.{renamed, decoded}
-use Rattle.model_partition.specs.TableContents.{StandsAt, table_in}
-use Rattle.model_partition.specs.StreamActions.{PlacedBytes}
-use Rattle.model_partition.specs.ServerRun.{ServerRun, ServerEvent, Takes, Splits, log_name, metadata_name, place_number}
+use Rattle.model_histories.specs.Renaming.{renamed, decoded}
+use Rattle.model_histories.specs.TableContents.{StandsAt, table_in}
+use Rattle.model_histories.specs.StreamActions.{PlacedBytes}
+use Rattle.model_histories.specs.ServerRun.{ServerRun, ServerEvent, Takes, Splits, log_name, metadata_name, place_number}
 
 -- ---- premises
 

@@ -1,6 +1,6 @@
 -- What loaded tables and served ranges have of each key, where the bytes of extents are known: the pages of their indexes are those that stand at
 -- their places.
-use Rattle.std.specs.Prelude.{List, [], ◌∷◌, ◌++◌, map, take, drop, Option, Some, None, ℕ}
+use Rattle.std.specs.Prelude.{List, [], ◌∷◌, ◌++◌, map, take, drop, ℕ}
 use Rattle.memtable.specs.declared.cell.Place.{Place}
 use Rattle.memtable.specs.Entries.{Entries, put_all}
 use Rattle.checkpoint_format.specs.declared.index.PageAt.{PageAt}

@@ -8,7 +8,7 @@ use Rattle.metadata.specs.declared.record.MetaItem.{MetaItem}
 use Rattle.metadata.specs.declared.record.MetaRecord.{MetaRecord}
 use Rattle.metadata.specs.Reading.{group_at}
 use Rattle.model_partition.specs.Past.{Transaction}
-use Rattle.model_partition.specs.Story.{Placed, StreamEvent, Made, Answered, Showed, Story, Copy}
+use Rattle.model_histories.specs.Story.{Placed, StreamEvent, Made, Answered, Showed, Story, Copy}
 
 module _ {A B : Type 0} (f : A → B) where
   abbrev pub renamed_copy : Copy A → Copy B

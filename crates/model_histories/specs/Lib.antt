@@ -1,0 +1,10 @@
+pub mod StreamMachine
+pub mod Story
+pub mod Log
+pub mod ServerTurns
+pub mod Renaming
+pub mod TableContents
+pub mod IndexContents
+pub mod StreamActions
+pub mod ServerRun
+pub mod ServedTables
