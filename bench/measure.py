@@ -132,9 +132,9 @@ def splits(keys):
 
 
 def routes(ranges):
-    """The seconds of 20,000 routes over so many ranges that splits made."""
-    without, routed = at_sizes(lambda times: scripts.many_ranges(ranges, times), [0, 20_000])
-    did(routed, b"route", 20_000)
+    """The seconds of 200,000 routes over so many ranges that splits made."""
+    without, routed = at_sizes(lambda times: scripts.many_ranges(ranges, times), [0, 200_000])
+    did(routed, b"route", 200_000)
     return [routed.seconds - without.seconds]
 
 
@@ -176,7 +176,7 @@ SIZES = [
       ("time of a Get of each key, in order", "s", 2.3)]),
     ("puts after a checkpoint of 20,000 keys, and then a load", 10_000, loads_behind, [("time of a load", "s", 2.3)]),
     ("keys of 100 bytes, and a split in their middle", 20_000, splits, [TIME]),
-    ("ranges that splits made, and 20,000 routes", 500, routes, [("time of the routes", "s", 1.3)]),
+    ("ranges that splits made, and 200,000 routes", 500, routes, [("time of the routes", "s", 1.3)]),
 ]
 
 # A run of many less one of few, for what one request takes; so many things are brought back, so often.

@@ -9,7 +9,7 @@ ghost use Rattle.commitlog.specs.Replay.{Numbered as Group};
 ghost use Rattle.model_histories.specs.StreamMachine.{after, Extended, In, IsRun, MachineStep};
 ghost use Rattle.model_partition.specs.Past.{Bytes, Transaction, Replays, table_notes, first_range};
 ghost use Rattle.model_partition.specs.Range.{RangeState};
-ghost use Rattle.model_histories.specs.ServedTables.{AreFirst, AreSeenAs, AreUnsplit, IsAtLine, ServesAt, StreamsInOrder};
+ghost use Rattle.model_histories.specs.ServedTables.{AreFirst, AreSeenAs, AreUnborn, IsAtLine, ServesAt, StreamsInOrder};
 ghost use Rattle.model_histories.specs.ServerRun.{ServerEvent, log_name, run_of};
 ghost use Rattle.model_histories.specs.Story.{KeepsOrder, EndsRise};
 ghost use Rattle.model_histories.specs.ServerTurns.{after_all, AreMoves, Growing, Move};
@@ -42,21 +42,21 @@ pub fn tables_replay()
     ensures families { (layer_at : Place → Layer) (h : List Note) → IsFamily layer_at h → Replays h }
 {}
 
-/// Where no range is split, whatever comes to servers, from whomever and however often, wherever they stop, start, give up or make
-/// checkpoints: if what they see of the metadata and the log of a range keeps its order, no generation is confirmed twice, loads of that log end in the order of
+/// Whatever comes to servers, from whomever and however often, wherever they stop, start, give up, make checkpoints or split ranges, where
+/// the map gives the number of a range to neither of the two that a split makes: if what they see of the metadata and the log of a range keeps its order, no generation is confirmed twice, loads of that log end in the order of
 /// their generations, and what reads were shown and appends were answered for keeps its bytes, then what they load replays, where the
 /// map assigns the first range alone (`law`). The tables of any range that is served, its indexes among them, are at any moment the
-/// table of the line that ends at its log position, whatever other ranges its server holds (`steps`), and whichever copies of the log
+/// table of the line that ends at its log position, whatever other ranges its server holds, also while it is split (`steps`), and whichever copies of the log
 /// each load is taken for (`served`). Nothing is said of who answers them: any streams, of any number of any machines, are allowed that
 /// keep their order.
 pub fn servers_replay()
-    ensures law { (batch servers : ℕ) (texts : ℕ → Bytes) (events : List ServerEvent) (notes : List Note) → AreUnsplit events → AreFirst events →
+    ensures law { (batch servers : ℕ) (texts : ℕ → Bytes) (events : List ServerEvent) (notes : List Note) → AreUnborn first_range events → AreFirst events →
         StreamsInOrder texts first_range (run_of batch servers events) →
         AreSeenAs texts (run_of batch servers events).notes (table_notes notes) → Replays notes }
-    ensures steps { (batch servers : ℕ) (texts : ℕ → Bytes) (events : List ServerEvent) (s range : ℕ) (r : RangeState) → AreUnsplit events →
+    ensures steps { (batch servers : ℕ) (texts : ℕ → Bytes) (events : List ServerEvent) (s range : ℕ) (r : RangeState) → AreUnborn range events →
         (p : StreamsInOrder texts range (run_of batch servers events)) →
         ServesAt (run_of batch servers events) s range r → IsAtLine texts ((run_of batch servers events).story (log_name range)) p.log.copies r }
-    ensures served { (batch servers : ℕ) (texts : ℕ → Bytes) (events : List ServerEvent) (s range : ℕ) (r : RangeState) → AreUnsplit events →
+    ensures served { (batch servers : ℕ) (texts : ℕ → Bytes) (events : List ServerEvent) (s range : ℕ) (r : RangeState) → AreUnborn range events →
         StreamsInOrder texts range (run_of batch servers events) →
         ServesAt (run_of batch servers events) s range r → (log : KeepsOrder ((run_of batch servers events).story (log_name range))) →
         IsAtLine texts ((run_of batch servers events).story (log_name range)) log.copies r }

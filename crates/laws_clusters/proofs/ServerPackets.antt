@@ -52,7 +52,7 @@ use Rattle.laws_servers.proofs.RangeSteps.{transact_tidy, get_tidy, checkpoint_t
 use Rattle.laws_clusters.proofs.RangeSteps as going
 use Rattle.laws_loads.proofs.Entries.{entry_set, set_twice}
 use Rattle.laws_server_runs.proofs.Actions.{same_test}
-use Rattle.laws_server_runs.proofs.Unsplit.{stepped_is, given_up_is, unawaited, not_refused, HaveNoSplits}
+use Rattle.laws_server_runs.proofs.Unsplit.{stepped_is, given_up_is, unawaited, transact_effect_is, get_effect_is, answer_effect_is, unawaited_effect, not_refused, HaveNoSplits}
 use Rattle.laws_server_runs.proofs.RangeLists.{inserted_here, inserted_other, ascending_inserted, left_here, left_other, ascending_left}
 use Rattle.laws_clusters.proofs.OtherEvents.{told_nothing, refuses_stands, renew_stands, rule_done, run_done, rests_quiet, quiet_stands, picks_stand, still_runs, StandsAfter, nobody_stands, cell_stands}
 use Rattle.laws_clusters.proofs.RangeRules.{Done, both, transact_done, get_done, give_up_done, checkpoint_done, answer_done, assigned_done}
@@ -257,9 +257,10 @@ module _ (generation : ℕ → ℕ) (plenty : (g n : ℕ) → (i : ℕ) × (n �
 
       transact_held : (p : Packet) (changes : List Change) (q : ReqNo) → Good (transact_effect st p range changes q (Some r)) (transacts_in st p range changes q (Some r))
       transact_held p changes q =
-          step_good (transact_rule st.context r p.from q changes) (transact_actions r (transact_rule st.context r p.from q changes))
+          subst (λ e. Good e (transacts_in st p range changes q (Some r))) (sym (transact_effect_is st none p range changes q r))
+          (step_good (transact_rule st.context r p.from q changes) (transact_actions r (transact_rule st.context r p.from q changes))
           (transact_done generation nodes target c y x range held.counted i st.context (by range held.counted) (view_at range y s) (seen_here range) r h past p.from q changes) (transact_tidy st.context r p.from q changes).0
-          (transact_leaves st.context r p.from q changes)
+          (transact_leaves st.context r p.from q changes))
 
       get_held : (p : Packet) (key : List ℕ) (q : ReqNo) → Good Rests (gets_in st p range key q (Some r))
       get_held p key q =
@@ -269,9 +270,10 @@ module _ (generation : ℕ → ℕ) (plenty : (g n : ℕ) → (i : ℕ) × (n �
       answer_held : (p : Packet) → Contains w.post (packet p.from (Server s) p.body) → is_answerer p.from p.body ≡ true → (v : ReqNo) → answered_number p.body ≡ Some v →
           Good (answer_effect st p v range (Some r)) (answer_in st p v range (Some r))
       answer_held p there gives v number =
-          step_good (answer_rule st.context r v p.body) (answer_actions st.context r v p.body (answer_rule st.context r v p.body))
+          subst (λ e. Good e (answer_in st p v range (Some r))) (sym (answer_effect_is st none p v range r))
+          (step_good (answer_rule st.context r v p.body) (answer_actions st.context r v p.body (answer_rule st.context r v p.body))
           (answer_done generation nodes target c y x range held.counted i st.context (by range held.counted) (view_at range y s) (seen_here range) r h past rows_asked p.from s p.body there gives v number) (answer_shows st.context r v p.body).0
-          (answer_leaves st.context r v p.body)
+          (answer_leaves st.context r v p.body))
 
       give_up_held : (o : ServerOutcome) → gives_up st range (Some r) ≡ Some o → Good Rests o
       give_up_held o e =
@@ -307,7 +309,8 @@ module _ (generation : ℕ → ℕ) (plenty : (g n : ℕ) → (i : ℕ) × (n �
 
     table_good : (p : Packet) (body : TableBody) → Good (table_effect st p body) (table_rule st p body)
     table_good p (tables.Transact range changes q) = transact_good p range changes q (range_of st.ranges range) refl
-    table_good p (tables.Get range key q) = get_good p range key q (range_of st.ranges range) refl
+    table_good p (tables.Get range key q) =
+        subst (λ e. Good e (gets_in st p range key q (range_of st.ranges range))) (sym (get_effect_is st none p range key q (range_of st.ranges range))) (get_good p range key q (range_of st.ranges range) refl)
     table_good p body = rests_good
 
     answer_good : (p : Packet) → Contains w.post (packet p.from (Server s) p.body) → is_answerer p.from p.body ≡ true → (v : ReqNo) → answered_number p.body ≡ Some v → (range : ℕ) (o : Option RangeState) →
@@ -317,7 +320,8 @@ module _ (generation : ℕ → ℕ) (plenty : (g n : ℕ) → (i : ℕ) × (n �
 
     awaited_good : (p : Packet) → Contains w.post (packet p.from (Server s) p.body) → is_answerer p.from p.body ≡ true → (v : ReqNo) → answered_number p.body ≡ Some v → (o : Option ℕ) →
         Good (awaited_effect st p v o) (answer_of st p v o)
-    awaited_good p there gives v number None = subst (Good Rests) (sym (unawaited st none p v)) rests_good
+    awaited_good p there gives v number None =
+        subst (λ e. Good e (answer_of st p v None)) (sym (unawaited_effect st none p v)) (subst (Good Rests) (sym (unawaited st none p v)) rests_good)
     awaited_good p there gives v number (Some range) = answer_good p there gives v number range (range_of st.ranges range) refl
 
     numbered_good : (p : Packet) → Contains w.post (packet p.from (Server s) p.body) → (o : Option ReqNo) → answered_number p.body ≡ o → Good (numbered_effect st p o) (numbered_rule st p o)

@@ -34,7 +34,7 @@ use Rattle.laws_stream_machine.proofs.LowerLayer.{below_start}
 use Rattle.laws_ranges.specs.Serves.{Apart, metadata_of, log_of}
 use Rattle.laws_streams.proofs.Choices.{contains_get}
 use Rattle.laws_server_runs.proofs.LoadedWithin.{loaded_within}
-use Rattle.laws_server_runs.proofs.Theorem.{run_replays, served_at_line}
+use Rattle.laws_server_runs.proofs.Theorem.{unsplit_replays, unsplit_served}
 use Rattle.laws_server_runs.proofs.Unsplit.{HaveNoSplits, unsplit as no_splits}
 use Rattle.laws_servers.proofs.EventsAsMoves.{led_agrees, led_keeps}
 use Rattle.laws_clusters.specs.Orders.{ComesOfStreams}
@@ -325,13 +325,13 @@ module _ (nodes target batch count : ℕ) where
       let o : ComesOfStreams c (run coming) = stands_ordered c (run coming) x.stands in
       let bytes : ℕ → Bytes = (o.contents).0 in
       let right : AllTellRightly bytes c.stream_layer.notes = (o.contents).1 in
-      run_replays bytes batch count coming c.stream_layer.notes x.unsplit x.first (all_in_order c (run coming) x.stands bytes right first_range) (o.told bytes right)
+      unsplit_replays bytes batch count coming c.stream_layer.notes x.unsplit x.first (all_in_order c (run coming) x.stands bytes right first_range) (o.told bytes right)
 
   -- each range that is served is at its line, over any texts that have all that was observed
   stands_at_line : (c : Cluster) (coming : List ServerEvent) → StandsWith c coming → (texts : ℕ → Bytes) → AllTellRightly texts c.stream_layer.notes → (s range : ℕ) (r : RangeState) →
       ServesAt (run coming) s range r → (order : KeepsOrder ((run coming).story (log_name range))) → IsAtLine texts ((run coming).story (log_name range)) order.copies r
   stands_at_line c coming x texts all s range r at order =
-      served_at_line texts batch count coming s range r x.unsplit (all_in_order c (run coming) x.stands texts all range) at order
+      unsplit_served texts batch count coming s range r x.unsplit (all_in_order c (run coming) x.stands texts all range) at order
 
 abbrev pub after_run : (nodes servers target batch : ℕ) → List Event → Cluster
 after_run nodes servers target batch events = cluster_after_all (first_cluster nodes servers target batch) events

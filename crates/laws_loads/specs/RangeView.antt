@@ -4,18 +4,26 @@ use Rattle.wire.specs.declared.streams.StreamKind.{StreamKind}
 use Rattle.wire.specs.declared.streams.StreamKind.TheVariants as kinds
 use Rattle.block_types.specs.Limits.{group_size}
 use Rattle.replica.specs.Groups.{joined}
+use Rattle.metadata.specs.declared.record.MetaRecord.{MetaRecord}
 use Rattle.model_histories.specs.Story.{StreamEvent, Made, Answered, Showed, Story}
 use Rattle.model_partition.specs.Loading.{Group}
 use Rattle.model_histories.specs.StreamActions.{PlacedBytes, StreamAction, Reads, Forms, Stands, Shows, Finds, Stores}
 use Rattle.model_histories.specs.ServerRun.{RangeHistory, is_kind, one_more_read, begun_at, place_number, placed_reads, placed_behind, bytes_read}
 
--- the history of the range at the server, the stories of the range's streams, and the bytes that reads were shown and those that
--- appends were answered for
+-- what a split of the range is to its metadata: nothing, or no checkpoint begins before its record is sent, or that record is out
+pub data SplitStage : Type 0 where
+  Free : SplitStage
+  Drains : SplitStage
+  Recording : (out : MetaRecord) → SplitStage
+
+-- the history of the range at the server, the stories of the range's streams, the bytes that reads were shown and those that
+-- appends were answered for, and its split
 pub record RangeView : Type 0 where
   pub history : RangeHistory
   pub story : StreamKind → Story Group
   pub shown : List PlacedBytes
   pub answered : List PlacedBytes
+  pub split : SplitStage
 
 abbrev pub with_kind : (StreamKind → Story Group) → StreamKind → StreamEvent Group → StreamKind → Story Group
 with_kind stories kind event other = if is_kind other kind then event ∷ stories other else stories other

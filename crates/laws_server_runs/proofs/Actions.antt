@@ -1,6 +1,7 @@
 -- What a range at a server sees of its own actions, and of those of other ranges and servers.
 use Rattle.std.proofs.Common.{◌≡◌, ℕ, ◌+◌, Bool, List, [], ◌∷◌, ◌++◌, length, true, false, ◌&&◌, ◌==◌, refl, sym, ap, ◌∙◌, inl, inr, arith, if◌then◌else◌}
 use Rattle.std.proofs.lemmas.Bool.Decides.{nat_tests}
+use Rattle.std.specs.List.{AllByRecursion}
 use Rattle.std.proofs.lemmas.Bool.{cases_eq}
 use Rattle.wire.specs.declared.streams.StreamKind.TheVariants as kinds
 use Rattle.wire.specs.declared.streams.StreamName.{StreamName}
@@ -9,8 +10,8 @@ use Rattle.replica.specs.Groups.{joined}
 use Rattle.model_streams.specs.Maps.{changed, entry_at}
 use Rattle.model_partition.specs.Loading.{Group}
 use Rattle.model_histories.specs.Story.{StreamEvent, Story, Made, Answered, Showed}
-use Rattle.model_histories.specs.StreamActions.{StreamAction, Reads, Forms, Stands, Shows, Finds, Stores, PlacedBytes}
-use Rattle.model_histories.specs.ServerRun.{ServerRun, RangeHistory, ServerEvent, Takes, GivesUp, Checkpoints, Splits, Stops, Starts, Moment, RangeEffect, Begins, Does, Rests, after_action, after_actions, with_event, with_effect, cell_effect, after_event, is_kind, is_stream, one_more_read, begun_at, stream_named, place_number, placed_reads, placed_behind, bytes_read}
+use Rattle.model_histories.specs.StreamActions.{StreamAction, Reads, Forms, Stands, Shows, Finds, Stores, PlacedBytes, SideAction}
+use Rattle.model_histories.specs.ServerRun.{ServerRun, RangeHistory, ServerEvent, Takes, GivesUp, Checkpoints, Splits, Stops, Starts, Moment, RangeEffect, Begins, Does, Tells, Rests, after_action, after_actions, after_sides, with_event, with_effect, cell_effect, after_event, is_kind, is_stream, one_more_read, begun_at, stream_named, place_number, placed_reads, placed_behind, bytes_read}
 use Rattle.laws_loads.specs.RangeView.{view_after, view_after_all}
 use Rattle.laws_server_runs.specs.RangeInvariant.{IsLonger}
 use Rattle.laws_server_runs.specs.RunInvariant.{view_at}
@@ -171,9 +172,58 @@ actions_longer s range g x (action ∷ earlier) =
       answered = λ k. longer_twice (x.answered k) ((after_actions s range g x earlier).answered k) _ (one.answered k) (more.answered k);
     }
 
+-- ---- the two ranges that a split makes
+
+pub sides_rest : (s g : ℕ) (x : ServerRun) (sides : List SideAction) → ((after_sides s g x sides).servers ≡ x.servers) × ((after_sides s g x sides).notes ≡ x.notes)
+sides_rest s g x [] = (refl, refl)
+sides_rest s g x (side ∷ earlier) =
+    let one = action_rest s side.range g (after_sides s g x earlier) side.action in
+    let more = sides_rest s g x earlier in
+    (one.0 ∙ more.0, one.1 ∙ more.1)
+
+pub sides_longer : (s g : ℕ) (x : ServerRun) (sides : List SideAction) → Longer x (after_sides s g x sides)
+sides_longer s g x [] = same_run x
+sides_longer s g x (side ∷ earlier) =
+    let one : Longer x (after_sides s g x earlier) = sides_longer s g x earlier in
+    let more : Longer (after_sides s g x earlier) (after_sides s g x (side ∷ earlier)) = action_longer s side.range g (after_sides s g x earlier) side.action in
+    record {
+      story = λ n. longer_twice (x.story n) ((after_sides s g x earlier).story n) _ (one.story n) (more.story n);
+      shown = λ k. longer_twice (x.shown k) ((after_sides s g x earlier).shown k) _ (one.shown k) (more.shown k);
+      answered = λ k. longer_twice (x.answered k) ((after_sides s g x earlier).answered k) _ (one.answered k) (more.answered k);
+    }
+
+-- none of them is this range
+abbrev pub AreOthers : ℕ → List SideAction → Type 0
+AreOthers k sides = AllByRecursion (λ (side : SideAction). k ≡ side.range → ⊥) sides
+
+-- so that it has what it had
+pub record SidesBeside (k : ℕ) (x y : ServerRun) : Type 0 where
+  pub history : (t : ℕ) → y.history t k ≡ x.history t k
+  pub story : (n : StreamName) → n.range ≡ k → y.story n ≡ x.story n
+  pub shown : y.shown k ≡ x.shown k
+  pub answered : y.answered k ≡ x.answered k
+
+pub sides_beside : (s g k : ℕ) (x : ServerRun) (sides : List SideAction) → AreOthers k sides → SidesBeside k x (after_sides s g x sides)
+sides_beside s g k x [] others = record { history = λ t. refl; story = λ n is. refl; shown = refl; answered = refl }
+sides_beside s g k x (side ∷ earlier) others =
+    let before : ServerRun = after_sides s g x earlier in
+    let old : SidesBeside k x before = sides_beside s g k x earlier others.1 in
+    let bytes = action_bytes s side.range g k others.0 before side.action in
+    record {
+      history = λ t. action_apart s side.range g t k ((λ i. (t == s) && other_test k side.range others.0 i) ∙ and_no (t == s)) before side.action ∙ old.history t;
+      story = λ n is. action_beside s side.range g n (other_test n.range side.range (λ same. others.0 (sym is ∙ same))) before side.action ∙ old.story n is;
+      shown = bytes.0 ∙ old.shown;
+      answered = bytes.1 ∙ old.answered;
+    }
+  where
+    and_no : (b : Bool) → (b && false) ≡ false
+    and_no true = refl
+    and_no false = refl
+
 effect_longer : (s : ℕ) (x : ServerRun) (effect : RangeEffect) → Longer x (with_effect s x effect)
 effect_longer s x (Begins range) = record { story = λ n. longer_same (x.story n); shown = λ k. longer_same (x.shown k); answered = λ k. longer_same (x.answered k) }
 effect_longer s x (Does range g actions) = actions_longer s range g x actions
+effect_longer s x (Tells g sides) = sides_longer s g x sides
 effect_longer s x Rests = same_run x
 
 pub event_longer : (x : ServerRun) (event : ServerEvent) → Longer x (after_event x event)

@@ -24,7 +24,7 @@ use Rattle.model_histories.specs.ServedTables.{AllStand}
 use Rattle.model_histories.specs.ServerRun.{place_number}
 use Rattle.laws_loads.proofs.Rows.{Ordered}
 use Rattle.laws_loads.specs.MemoryLayers.{layer_in}
-use Rattle.laws_loads.specs.RangeView.{RangeView}
+use Rattle.laws_loads.specs.RangeView.{RangeView, Free}
 use Rattle.laws_loads.specs.Sound.{OutFits}
 use Rattle.laws_tables.specs.Runs as chains
 use Rattle.laws_tables.specs.Runs.{Run, Serving, first_beginning, held, noting, said, IsServing, MayInChain}
@@ -32,9 +32,10 @@ use Rattle.laws_checkpoints.specs.IndexLayers.{layer_at}
 use Rattle.laws_checkpoints.proofs.CheckpointRecords.{job_notes}
 use Rattle.laws_checkpoints.proofs.WrittenPages.{writing_begins}
 use Rattle.laws_checkpoints.specs.WritingPages.{WritesPages}
-use Rattle.laws_server_runs.specs.CheckpointInvariant.{CheckpointParts, parts_of, HoldsNone, HasNoted, Writes, HoldsPhase, HoldsCheckpoint, AppendsPhase, AppendsRows, ReadsNext}
+use Rattle.laws_server_runs.specs.CheckpointInvariant.{CheckpointParts, parts_of, HoldsNone, HasNoted, Writes, HoldsPhase, HoldsCheckpoint, AppendsPhase, AppendsRows, ReadsNext, out_beside, MetadataBeside, AppendsMetadata}
 use Rattle.laws_server_runs.specs.NamedIndexes.{NamesSuch}
 use Rattle.laws_server_runs.specs.RangeInvariant.{IsOfPages, append_of, Matches}
+use Rattle.laws_server_runs.proofs.MetadataJobs.{free_beside, free_out, free_none, idle_metadata}
 use Rattle.laws_server_runs.proofs.RowAppends.{idle_phase, appended_group, pages_group, index_group_is}
 use Rattle.client.specs.declared.job.Job.TheVariants as jobs
 use Rattle.model_partition.specs.Range.{request, picking, given}
@@ -51,9 +52,12 @@ module _ (texts : ℕ → Bytes) where
     pub installed : AreInstalled texts r.indexes r.said.indexes
     pub ordered : Ordered r.live
     pub named : NamesSuch (IsOfPages texts) r.said
+    -- it is not split, and nothing is appended to its metadata
+    pub free : v.split ≡ Free
+    pub idle : r.metadata.job ≡ jobs.Idle
 
-  pub beside : (v : RangeView) (s : Serving) (r : RangeState) → Matches texts v s r → MatchesBeside v s r
-  beside v s r m = record { position = m.position; next = m.next; out = m.out; live = m.live; said = m.said; installed = m.installed; ordered = m.ordered; named = m.named }
+  pub beside : (v : RangeView) (s : Serving) (r : RangeState) → Matches texts v s r → v.split ≡ Free → r.metadata.job ≡ jobs.Idle → MatchesBeside v s r
+  beside v s r m free idle = record { position = m.position; next = m.next; out = m.out; live = m.live; said = m.said; installed = m.installed; ordered = m.ordered; named = m.named; free = free; idle = idle }
 
   -- a range that is dropped holds nothing
   abbrev pub MatchesIf : RangeView → Serving → Option RangeState → Type 0
@@ -88,7 +92,21 @@ module _ (texts : ℕ → Bytes) where
     pub with_control : (reading : Option PlaceRead) (c : ClientState) (job : CheckpointState) → HoldsPhase texts (parts_of v s r) job job.phase → AppendsPhase c job job.phase → ReadsNext reading (Some job) →
         Matches texts v s (record r { reading = reading; rows = c; control = Some job })
     with_control reading c job h appends next =
-        record { position = m.position; next = m.next; out = m.out; live = m.live; checkpoint = h; said = m.said; installed = m.installed; ordered = m.ordered; named = m.named; rows = appends; reads = next }
+        record {
+          position = m.position;
+          next = m.next;
+          out = m.out;
+          live = m.live;
+          checkpoint = h;
+          said = m.said;
+          installed = m.installed;
+          ordered = m.ordered;
+          named = m.named;
+          rows = appends;
+          reads = next;
+          beside = free_beside v.split m.free (v.history.append kinds.Metadata) s.record_out (Some job) r.said.next;
+          metadata = idle_metadata r.metadata.job m.idle v.split (free_none v.split m.free) (Some job);
+        }
 
     go : r.rows.job ≡ jobs.Idle → (job : CheckpointState) → HoldsPhase texts (parts_of v s r) job job.phase → ReadsNext r.reading (Some job) → (group : Option Group) →
         ((c : ClientState) (some : Group) → group ≡ Some some → c.group ≡ some → AppendsPhase c job job.phase) → MatchesIf v s (rows_go d r (job, group)).after
@@ -98,7 +116,7 @@ module _ (texts : ℕ → Bytes) where
         with_control r.reading c job h (appends c group refl (appended_group (picking d r.rows) (request d) group idle)) next
 
     -- the next pages are appended, and behind the last ones the index
-    pub writes_on : (job : CheckpointState) → Writes texts (parts_of v s r) job → s.record_out ≡ None → r.rows.job ≡ jobs.Idle → MatchesIf v s (writes_pages d r job).after
+    pub writes_on : (job : CheckpointState) → Writes texts (parts_of v s r) job → out_beside v.split s.record_out ≡ None → r.rows.job ≡ jobs.Idle → MatchesIf v s (writes_pages d r job).after
     writes_on job h none idle = by (next_group job.pages) refl
       where
         by : (group : Option Group) → next_group job.pages ≡ group → MatchesIf v s (rows_go d r (next_append job group)).after
@@ -121,7 +139,7 @@ module _ (texts : ℕ → Bytes) where
 
   -- The range has no checkpoint, its live layer can be written in pages, and its position and its next number in a record.
   module _ (v : RangeView) (s : Serving) (r : RangeState) (m : Matches texts v s r) (none : r.control ≡ None) (are : AreEntries r.live) (at : IsPosition r.position) (number : IsNext (number_to_apply r.out r.next))
-      (fits : OutFits r.out) where
+      (fits : OutFits r.out) (free : v.split ≡ Free) where
     pub nothing : HoldsNone (parts_of v s r)
     nothing = subst (HoldsCheckpoint texts (parts_of v s r)) none m.checkpoint
 
@@ -139,8 +157,11 @@ module _ (texts : ℕ → Bytes) where
     writes_now : Writes texts (parts_of v (noting s) (with_fixed r)) (new_job r)
     writes_now = record { noted = noted_now; are_written = are; pages = λ all. begin_pages r.live are; merged = refl }
 
+    metadata_idle : r.metadata.job ≡ jobs.Idle
+    metadata_idle = subst (MetadataBeside r.metadata.job) free (subst (AppendsMetadata r.metadata.job v.split) none m.metadata)
+
     pub beside_now : MatchesBeside v (noting s) (with_fixed r)
-    beside_now = record { position = m.position; next = m.next; out = m.out; live = λ all key. refl; said = m.said; installed = m.installed; ordered = tt; named = m.named }
+    beside_now = record { position = m.position; next = m.next; out = m.out; live = λ all key. refl; said = m.said; installed = m.installed; ordered = tt; named = m.named; free = free; idle = metadata_idle }
 
     pub idle_now : r.rows.job ≡ jobs.Idle
     idle_now = subst (AppendsRows r.rows) none m.rows
@@ -150,9 +171,9 @@ module _ (texts : ℕ → Bytes) where
     plain_begins d = writes_on v (noting s) (with_fixed r) beside_now d (new_job r) writes_now nothing.record_out idle_now
 
   -- and it may note it
-  pub may_note : (run : Run) (v : RangeView) (r : RangeState) → IsServing run r.load.generation → Matches texts v (held first_beginning run r.load.generation) r → r.control ≡ None →
+  pub may_note : (run : Run) (v : RangeView) (r : RangeState) → IsServing run r.load.generation → Matches texts v (held first_beginning run r.load.generation) r → r.control ≡ None → v.split ≡ Free →
       MayInChain (layer_at texts) first_beginning run (chains.Notes r.load.generation)
-  may_note run v r serving m none =
+  may_note run v r serving m none free =
       let h : HoldsNone (parts_of v (held first_beginning run r.load.generation) r) =
       subst (HoldsCheckpoint texts (parts_of v (held first_beginning run r.load.generation) r)) none m.checkpoint in
-      (serving, h.noted, h.record_out)
+      (serving, h.noted, sym (free_out v.split free (held first_beginning run r.load.generation).record_out) ∙ h.record_out)

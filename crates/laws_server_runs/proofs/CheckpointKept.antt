@@ -12,7 +12,7 @@ use Rattle.model_partition.specs.Past.{Bytes}
 use Rattle.model_partition.specs.Range.{RangeState, RangeOutcome, is_serving, is_paused}
 use Rattle.model_histories.specs.ServedTables.{AreSeenAs}
 use Rattle.model_histories.specs.StreamActions.{StreamAction}
-use Rattle.laws_loads.specs.RangeView.{RangeView, view_after_all}
+use Rattle.laws_loads.specs.RangeView.{RangeView, Free, view_after_all}
 use Rattle.laws_loads.specs.Sound.{AreSound, IsSound}
 use Rattle.laws_loads.specs.StaysLoading.{IsAsBeforeIf, LeavesAsBefore}
 use Rattle.laws_tables.specs.Runs.{Run, first_beginning, held, IsServing}
@@ -74,7 +74,7 @@ merges_beside d r job =
     (λ merge newer is fixed. (let next : CheckpointState = combined_job (merged job merge) newer in writes_beside d r (next_append next (next_group next.pages))))
 
 -- also where none begins
-rule_beside : (d : ServerContext) (r : RangeState) (combine : Bool) → LeavesQueue r (checkpoint_rule d r combine)
+pub rule_beside : (d : ServerContext) (r : RangeState) (combine : Bool) → LeavesQueue r (checkpoint_rule d r combine)
 rule_beside d r combine =
     if_elim (LeavesQueue r) (have_bytes r.live r.position (number_to_apply r.out r.next)) _ _
     (λ t. if_elim (LeavesQueue r) (combines combine r.indexes) _ _ (λ t. merges_beside d r (new_combining_job r)) (λ f. begins_beside d r (next_append (new_job r) (next_group (new_job r).pages))))
@@ -175,12 +175,12 @@ module _ (texts : ℕ → Bytes) (subject : ℕ) (run : Run) (v : RangeView) (r 
       by true s false false x e = (s, none_under_way r.control (both_false (is_some r.control) (is_some r.fixed) x))
 
   -- where pages can have its memory table, but for the numbers of extents
-  pub checkpoint_kept : (combine : Bool) → checkpoint_fault r ≡ None → AreLow r.live → StepKept texts subject run v r [] (checkpoint_rule d r combine)
-  checkpoint_kept combine may low =
+  pub checkpoint_kept : (combine : Bool) → checkpoint_fault r ≡ None → v.split ≡ Free → AreLow r.live → StepKept texts subject run v r [] (checkpoint_rule d r combine)
+  checkpoint_kept combine may free low =
       let serving : is_serving r.stage ≡ true = (may_begin may).0 in
       let k : Serves texts run v r = serves_of texts subject run v r serving kept in
       let step : CheckpointStep texts subject run v r [] (checkpoint_rule d r combine) =
-      begins_step texts subject run v r k.matches k.shown streams d combine (may_begin may).1 low kept.sound.out_fits kept.sound.numbered kept.held in
+      begins_step texts subject run v r k.matches k.shown streams d combine (may_begin may).1 free low kept.sound.out_fits kept.sound.numbered kept.held in
       without_actions texts subject run v r (checkpoint_rule d r combine)
       (leaves_kept texts subject run v r kept streams serving (checkpoint_rule d r combine) []
       (rule_beside d r combine) (λ z e. step))

@@ -33,7 +33,8 @@ use Rattle.model_partition.specs.PlaceReads.{is_place, place_of, places_of}
 use Rattle.model_partition.specs.Range.{RangeState, answers}
 use Rattle.model_partition.specs.Servers.{entries_if}
 use Rattle.laws_loads.proofs.PageAnswers.{read_of, merged, unread}
-use Rattle.laws_loads.specs.RangeView.{RangeView}
+use Rattle.wire.specs.declared.streams.StreamKind.TheVariants as kinds
+use Rattle.laws_loads.specs.RangeView.{RangeView, Free}
 use Rattle.laws_loads.specs.Sound.{OutFits}
 use Rattle.laws_tables.specs.Runs.{Serving, noting}
 use Rattle.laws_checkpoints.specs.CombinedLayers.{merged_with, installed_entries, written_entries}
@@ -41,9 +42,10 @@ use Rattle.laws_checkpoints.specs.ShownTables.{HoldsBytes}
 use Rattle.laws_checkpoints.specs.WritingPages.{WritesPages}
 use Rattle.laws_checkpoints.proofs.CombinedLayers.{merged_begins, merged_goes, merged_held, merged_ends, written_are}
 use Rattle.laws_checkpoints.proofs.HeldPages.{same_place}
-use Rattle.laws_server_runs.specs.CheckpointInvariant.{parts_of, Merges, Writes, HoldsPhase, HoldsCheckpoint, AppendsPhase, AppendsRows, ReadsNext}
+use Rattle.laws_server_runs.specs.CheckpointInvariant.{parts_of, Merges, Writes, HoldsPhase, HoldsCheckpoint, AppendsPhase, AppendsRows, ReadsNext, MetadataPhase, AppendsMetadata}
 use Rattle.laws_server_runs.specs.RangeInvariant.{Matches}
 use Rattle.laws_server_runs.proofs.CheckpointBegins.{MatchesBeside, MatchesIf, beside, noted_with, with_control, writes_on, begin_pages, noted_now, beside_now, idle_now, nothing}
+use Rattle.laws_server_runs.proofs.MetadataJobs.{is_free}
 use Rattle.laws_server_runs.proofs.NamedIndexes.{written_named}
 
 module _ (texts : ℕ → Bytes) where
@@ -113,7 +115,7 @@ module _ (texts : ℕ → Bytes) where
         }
 
         unread_beside : MatchesBeside texts v s (unread r)
-        unread_beside = record { position = m.position; next = m.next; out = m.out; live = m.live; said = m.said; installed = m.installed; ordered = m.ordered; named = m.named }
+        unread_beside = record { position = m.position; next = m.next; out = m.out; live = m.live; said = m.said; installed = m.installed; ordered = m.ordered; named = m.named; free = m.free; idle = m.idle }
 
         written_match : MatchesIf texts v s (writes_pages d (unread r) (combined_job (merged job merge) newer)).after
         written_match =
@@ -139,26 +141,34 @@ module _ (texts : ℕ → Bytes) where
 
   -- what is fixed and noted is what the run says then
   pub combining_begins : (v : RangeView) (s : Serving) (r : RangeState) (m : Matches texts v s r) (none : r.control ≡ None) (are : AreEntries r.live) (at : IsPosition r.position) (number : IsNext (number_to_apply r.out r.next))
-      (fits : OutFits r.out) (d : ServerContext) → HoldsBytes texts r.held → MatchesIf texts v (noting s) (begins_combining d r).after
-  combining_begins v s r m none are at number fits d right =
-      merges_match v (noting s) (with_fixed r) (beside_now texts v s r m none are at number fits) d (new_combining_job r) refl
+      (fits : OutFits r.out) (free : v.split ≡ Free) (d : ServerContext) → HoldsBytes texts r.held → MatchesIf texts v (noting s) (begins_combining d r).after
+  combining_begins v s r m none are at number fits free d right =
+      merges_match v (noting s) (with_fixed r) (beside_now texts v s r m none are at number fits free) d (new_combining_job r) refl
       (record {
-        noted = noted_with texts (parts_of v (noting s) (with_fixed r)) (new_job r) true (merge_of r.indexes) no_pages checkpoints.Combining (noted_now texts v s r m none are at number fits);
-        none = (nothing texts v s r m none are at number fits).record_out;
+        noted = noted_with texts (parts_of v (noting s) (with_fixed r)) (new_job r) true (merge_of r.indexes) no_pages checkpoints.Combining (noted_now texts v s r m none are at number fits free);
+        none = (nothing texts v s r m none are at number fits free).record_out;
         combine = refl;
         merged = merged_begins texts r.said.keys r.indexes;
       })
-      (idle_now texts v s r m none are at number fits) right
+      (idle_now texts v s r m none are at number fits free) right
 
   -- ---- a page has come
 
   module _ (v : RangeView) (s : Serving) (r : RangeState) (m : Matches texts v s r) (right : HoldsBytes texts r.held) (d : ServerContext) where
+    -- the checkpoint that is under way
+    module _ (job : CheckpointState) (under_way : r.control ≡ Some job) where
+      free_now : v.split ≡ Free
+      free_now = is_free v.split (v.history.append kinds.Metadata) s.record_out r.control r.said.next job under_way m.beside
+
+      phase_now : MetadataPhase r.metadata.job job.phase
+      phase_now = subst (AppendsMetadata r.metadata.job v.split) under_way m.metadata
+
     module _ (place : Place) (entries : Entries) (says : page_in texts place ≡ entries) where
       -- nothing else waits for a page
-      by_phase : (job : CheckpointState) (phase : CheckpointPhase) → job.phase ≡ phase → HoldsPhase texts (parts_of v s r) job phase → AppendsPhase r.rows job phase → next_place job.merge ≡ Some place →
+      by_phase : (job : CheckpointState) → r.control ≡ Some job → (phase : CheckpointPhase) → job.phase ≡ phase → HoldsPhase texts (parts_of v s r) job phase → AppendsPhase r.rows job phase → next_place job.merge ≡ Some place →
           MatchesIf texts v s (merges d r (merged job (with_page r.said.keys job.merge entries))).after
-      by_phase job checkpoints.Combining is h idle next =
-          merges_match v s r (beside texts v s r m) d (merged job (with_page r.said.keys job.merge entries)) is
+      by_phase job under_way checkpoints.Combining is h idle next =
+          merges_match v s r (beside texts v s r m (free_now job under_way) (subst (MetadataPhase r.metadata.job) is (phase_now job under_way))) d (merged job (with_page r.said.keys job.merge entries)) is
           (record {
             noted = noted_with texts (parts_of v s r) job job.combine (with_page r.said.keys job.merge entries) job.pages job.phase h.noted;
             none = h.none;
@@ -166,33 +176,33 @@ module _ (texts : ℕ → Bytes) where
             merged = merged_goes texts r.said.keys job.merge place entries next says ∙ h.merged;
           })
           idle right
-      by_phase job checkpoints.Pages is h idle next = absurd (let z : None ≡ Some place = sym (ap next_place h.0.merged) ∙ next in cc)
-      by_phase job checkpoints.Index is h idle next = absurd (let z : None ≡ Some place = sym (ap next_place h.0.merged) ∙ next in cc)
-      by_phase job (checkpoints.Record index) is h idle next = absurd (let z : None ≡ Some place = sym (ap next_place h.writes.merged) ∙ next in cc)
-      by_phase job (checkpoints.Trim before to_blob q) is h idle next = absurd (let z : None ≡ Some place = sym (ap next_place h.1) ∙ next in cc)
+      by_phase job under_way checkpoints.Pages is h idle next = absurd (let z : None ≡ Some place = sym (ap next_place h.0.merged) ∙ next in cc)
+      by_phase job under_way checkpoints.Index is h idle next = absurd (let z : None ≡ Some place = sym (ap next_place h.0.merged) ∙ next in cc)
+      by_phase job under_way (checkpoints.Record index) is h idle next = absurd (let z : None ≡ Some place = sym (ap next_place h.writes.merged) ∙ next in cc)
+      by_phase job under_way (checkpoints.Trim before to_blob q) is h idle next = absurd (let z : None ≡ Some place = sym (ap next_place h.1) ∙ next in cc)
 
     -- bytes of the place that is read, which stand there
     module _ (asked : PlaceRead) (out : r.reading ≡ Some asked) (at : Place) (there : is_place asked.place at ≡ true) (bytes : Bytes) (stand : bytes_in texts at ≡ bytes) where
-      comes_match : (job : CheckpointState) → HoldsPhase texts (parts_of v s r) job job.phase → AppendsPhase r.rows job job.phase → ReadsNext r.reading (Some job) → (entries : Entries) → entries_at bytes ≡ Some entries →
+      comes_match : (job : CheckpointState) → r.control ≡ Some job → HoldsPhase texts (parts_of v s r) job job.phase → AppendsPhase r.rows job job.phase → ReadsNext r.reading (Some job) → (entries : Entries) → entries_at bytes ≡ Some entries →
           (next : Option Place) → next_place job.merge ≡ next → MatchesIf texts v s (page_comes d r job next entries).after
-      comes_match job h idle reads entries spells None e = m
-      comes_match job h idle reads entries spells (Some place) e =
+      comes_match job under_way h idle reads entries spells None e = m
+      comes_match job under_way h idle reads entries spells (Some place) e =
           let is_there : place ≡ at = sym (reads asked place out e) ∙ same_place asked.place at there in
           let says : page_in texts place ≡ entries = ap (page_in texts) is_there ∙ ap (λ b. entries_if (entries_at b)) stand ∙ ap entries_if spells in
-          by_phase place entries says job job.phase refl h idle e
+          by_phase place entries says job under_way job.phase refl h idle e
 
-      pub read_match : (control : Option CheckpointState) → HoldsCheckpoint texts (parts_of v s r) control → AppendsRows r.rows control → ReadsNext r.reading control → (entries : Option Entries) → entries_at bytes ≡ entries →
+      pub read_match : (control : Option CheckpointState) → r.control ≡ control → HoldsCheckpoint texts (parts_of v s r) control → AppendsRows r.rows control → ReadsNext r.reading control → (entries : Option Entries) → entries_at bytes ≡ entries →
           MatchesIf texts v s (page_read d r control entries).after
-      read_match None h idle reads entries spells = m
-      read_match (Some job) h idle reads None spells = m
-      read_match (Some job) h idle reads (Some entries) spells = comes_match job h idle reads entries spells (next_place job.merge) refl
+      read_match None under_way h idle reads entries spells = m
+      read_match (Some job) under_way h idle reads None spells = m
+      read_match (Some job) under_way h idle reads (Some entries) spells = comes_match job under_way h idle reads entries spells (next_place job.merge) refl
 
     bytes_match : (reading : Option PlaceRead) → r.reading ≡ reading → (at : Place) (bytes : Bytes) → bytes_in texts at ≡ bytes → MatchesIf texts v s (page_bytes d r reading at bytes).after
     bytes_match None out at bytes stand = m
     bytes_match (Some asked) out at bytes stand = by (is_place asked.place at) refl
       where
         by : (b : Bool) → is_place asked.place at ≡ b → MatchesIf texts v s (if b then page_read d r r.control (entries_at bytes) else answers d r []).after
-        by true there = read_match asked out at there bytes stand r.control m.checkpoint m.rows m.reads (entries_at bytes) refl
+        by true there = read_match asked out at there bytes stand r.control refl m.checkpoint m.rows m.reads (entries_at bytes) refl
         by false other = m
 
     -- what the bytes are that an answer brings, if it brings any

@@ -132,7 +132,7 @@ module _ (texts : ℕ → Bytes) (subject : ℕ) (run : Run) (v : RangeView) (r 
 
   module _ (c : ClientState) where
     matches_with : AppendsRows c r.control → Matches texts v (held first_beginning run r.load.generation) (record r { rows = c })
-    matches_with appends = record { position = m.position; next = m.next; out = m.out; live = m.live; checkpoint = m.checkpoint; said = m.said; installed = m.installed; ordered = m.ordered; named = m.named; rows = appends; reads = m.reads }
+    matches_with appends = record { position = m.position; next = m.next; out = m.out; live = m.live; checkpoint = m.checkpoint; said = m.said; installed = m.installed; ordered = m.ordered; named = m.named; rows = appends; reads = m.reads; beside = m.beside; metadata = m.metadata }
 
     of_range : (actions : List StreamAction) (o : RangeOutcome) → CheckpointStep texts subject run v (record r { rows = c }) actions o → CheckpointStep texts subject run v r actions o
     of_range actions o s = record { next = s.next; goes = s.goes; shown = s.shown; matches = s.matches; streams = s.streams; longer = s.longer; seen = s.seen }

@@ -1,5 +1,5 @@
 -- What is appended to row data for a checkpoint comes to stand: its pages, and then its index, whose record may be written then.
-use Rattle.std.proofs.Common.{◌≡◌, ℕ, suc, ◌+◌, ◌<◌, ◌≤◌, ◌^◌, true, nat_lt, length, Option, Some, None, sym, ap, subst, inl, arith}
+use Rattle.std.proofs.Common.{◌≡◌, ℕ, suc, ◌+◌, ◌<◌, ◌≤◌, ◌^◌, true, nat_lt, length, Option, Some, None, sym, ap, ◌∙◌, subst, inl, arith}
 use Rattle.std.specs.Prelude.{◌⊎◌}
 use Rattle.std.proofs.lemmas.Bool.{ltb-true, leb-true}
 use Rattle.wire.specs.declared.streams.StreamKind.TheVariants as kinds
@@ -23,15 +23,16 @@ use Rattle.model_histories.specs.Renaming.{decoded_record}
 use Rattle.model_histories.specs.ServedTables.{AllStand}
 use Rattle.model_histories.specs.StreamActions.{Forms, record_group}
 use Rattle.model_histories.specs.TableContents.{StandsAt}
-use Rattle.laws_loads.specs.RangeView.{RangeView, view_after, metadata_of}
+use Rattle.laws_loads.specs.RangeView.{RangeView, Free, view_after, metadata_of}
 use Rattle.laws_tables.specs.Runs as chains
 use Rattle.laws_tables.specs.Runs.{Run, Serving, first_beginning, held, recording, said, IsServing, MayInChain}
 use Rattle.laws_checkpoints.specs.IndexLayers.{layer_at, IsWritten}
 use Rattle.laws_checkpoints.proofs.CheckpointRecords.{may_parts, said_number, record_spelled, may_checkpoint, index_written, index_filed}
 use Rattle.laws_checkpoints.proofs.WrittenPages.{writing_goes}
-use Rattle.laws_server_runs.specs.CheckpointInvariant.{item_of, parts_of, entries_to_write, Writes, HoldsPhase}
+use Rattle.laws_server_runs.specs.CheckpointInvariant.{item_of, parts_of, entries_to_write, Writes, HoldsPhase, MetadataPhase, AppendsMetadata}
 use Rattle.laws_server_runs.specs.RangeInvariant.{Matches}
 use Rattle.laws_server_runs.proofs.CheckpointBegins.{MatchesIf, beside, noted_with, nothing_next, writes_on}
+use Rattle.laws_server_runs.proofs.MetadataJobs.{is_free, free_beside, free_out}
 use Rattle.laws_server_runs.proofs.NamedIndexes.{written_named}
 use Rattle.checkpoint.specs.Pages.{AreFiled}
 use Rattle.checkpoint_format.specs.Page.{pages_of}
@@ -63,13 +64,16 @@ module _ (texts : ℕ → Bytes) where
   StandsRightlyIf v (Some job) (Some (news.Appended e offset)) = StandsRightly v job e offset
   StandsRightlyIf v job told = Unit {0}
 
-  module _ (v : RangeView) (s : Serving) (r : RangeState) (m : Matches texts v s r) (d : ServerContext) (job : CheckpointState) where
+  module _ (v : RangeView) (s : Serving) (r : RangeState) (m : Matches texts v s r) (d : ServerContext) (job : CheckpointState) (under_way : r.control ≡ Some job) where
+    free : v.split ≡ Free
+    free = is_free v.split (v.history.append kinds.Metadata) s.record_out r.control r.said.next job under_way m.beside
+
     -- ---- pages
 
     -- one more group of them stands
-    pub pages_go : HoldsPhase texts (parts_of v s r) job checkpoints.Pages → (e offset : ℕ) → e < 2 ^ 64 → may_stand_at job.pages offset ≡ true →
+    pub pages_go : job.phase ≡ checkpoints.Pages → HoldsPhase texts (parts_of v s r) job checkpoints.Pages → (e offset : ℕ) → e < 2 ^ 64 → may_stand_at job.pages offset ≡ true →
         (AllStand texts v.answered → GroupStands job checkpoints.Pages e offset) → r.rows.job ≡ jobs.Idle → MatchesIf texts v s (writes_pages d r (pages_stand job e offset)).after
-    pages_go h e offset known may stands idle = writes_on texts v s r (beside texts v s r m) d (pages_stand job e offset) more h.1 idle
+    pages_go pages h e offset known may stands idle = writes_on texts v s r (beside texts v s r m free (subst (MetadataPhase r.metadata.job) pages (subst (AppendsMetadata r.metadata.job v.split) under_way m.metadata))) d (pages_stand job e offset) more h.1 idle
       where
         more : Writes texts (parts_of v s r) (pages_stand job e offset)
         more = record {
@@ -136,7 +140,7 @@ module _ (texts : ℕ → Bytes) where
           × (chains.MayCheckpoint (layer_at texts) first_beginning z (item_of job place) ⊎ chains.MaySplit (layer_at texts) first_beginning z (item_of job place)))
           (sym same) (
             serving,
-            h.1,
+            sym (free_out v.split free s.record_out) ∙ h.1,
             number_is,
             inl (
                 may_checkpoint texts first_beginning s r job h.0.noted.fixed place m.said m.installed (written_named texts r.said.indexes m.named.indexes) h.0.noted.are_entries (written_there all) (h.0.noted.layer all)
@@ -167,7 +171,7 @@ module _ (texts : ℕ → Bytes) where
             pages = h.0.pages;
             merged = h.0.merged;
           };
-          out = ap (λ k. Some (record { append = k; group = chains.record_group r.said.next (item_of job place) })) same;
+          out = free_out v.split free _ ∙ ap (λ k. Some (record { append = k; group = chains.record_group r.said.next (item_of job place) })) same;
           written = written_there;
           filed = filed_there;
           numbered = (may_parts r job may).1;
@@ -178,4 +182,6 @@ module _ (texts : ℕ → Bytes) where
         named = m.named;
         rows = idle;
         reads = nothing_next texts r.reading job h.0.merged;
+        beside = free_beside v.split free _ _ (Some (with_phase job (checkpoints.Record place))) r.said.next;
+        metadata = tt;
       }

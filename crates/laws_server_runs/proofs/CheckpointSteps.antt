@@ -1,5 +1,5 @@
 -- The steps of a checkpoint at a range that is served: what they leave is what a run of the range says that goes on with what they may do.
-use Rattle.std.proofs.Common.{◌≡◌, ℕ, ◌<◌, ◌≤◌, ◌^◌, nat_lt, List, [], ◌∷◌, ◌++◌, length, Bool, true, false, Option, Some, None, refl, sym, ap, ◌∙◌, subst}
+use Rattle.std.proofs.Common.{◌≡◌, ℕ, ◌<◌, ◌≤◌, ◌^◌, nat_lt, List, [], ◌∷◌, ◌++◌, length, Bool, true, false, Option, Some, None, refl, sym, ap, ◌∙◌, subst, inl}
 use Rattle.std.specs.Prelude.{if◌then◌else◌}
 use Rattle.std.proofs.lemmas.Bool.{ltb-true}
 use Rattle.model_streams.proofs.Tests.{if_elim}
@@ -30,11 +30,11 @@ use Rattle.model_histories.specs.Renaming.{renamed_event, decoded_record}
 use Rattle.model_histories.specs.ServedTables.{AllStand}
 use Rattle.model_histories.specs.StreamActions.{PlacedBytes, Forms, Stands, Finds, Stores, StreamAction, bytes_actions, last_position, record_group, record_stood_in, record_stood, record_actions, index_stood_in, index_stood}
 use Rattle.laws_loads.proofs.Renaming.{mapped_length}
-use Rattle.laws_loads.specs.RangeView.{RangeView, view_after, view_after_all, metadata_of}
+use Rattle.laws_loads.specs.RangeView.{RangeView, Free, view_after, view_after_all, metadata_of}
 use Rattle.laws_loads.specs.Sound.{OutFits}
 use Rattle.laws_tables.specs.Runs as chains
 use Rattle.laws_tables.specs.Runs.{Run, Serving, first_beginning, held, noting, IsServing}
-use Rattle.laws_server_runs.specs.CheckpointInvariant.{item_of, parts_of, HasRecordOut, HoldsPhase, HoldsCheckpoint, AppendsPhase, AppendsRows, entries_to_write}
+use Rattle.laws_server_runs.specs.CheckpointInvariant.{item_of, parts_of, HasRecordOut, HoldsPhase, HoldsCheckpoint, AppendsPhase, AppendsRows, AppendsMetadata, entries_to_write}
 use Rattle.laws_server_runs.specs.RangeInvariant.{IsOfPages, Matches, StreamsKept, AreObserved, GoesOn, Rests, Adds, IsLonger, InOrder}
 use Rattle.laws_server_runs.specs.Places.{AreLow}
 use Rattle.laws_server_runs.proofs.CheckpointNumbers.{HaveBytes, bytes_had, entries_writable, number_is_next}
@@ -42,6 +42,7 @@ use Rattle.laws_server_runs.proofs.CheckpointBegins.{MatchesIf, plain_begins, ma
 use Rattle.laws_server_runs.proofs.CheckpointRecorded.{answer_event, trim_event, may_answer, may_trim_log, now_taken, recorded_match, trim_reply_match}
 use Rattle.laws_server_runs.proofs.CheckpointRows.{below, GroupStands, StandsRightlyIf, pages_go, group_spells, written_there, filed_there, may_append, records_match}
 use Rattle.laws_server_runs.proofs.CheckpointStreams.{noted_streams, trimmed_streams, recording_streams, recorded_streams}
+use Rattle.laws_server_runs.proofs.MetadataJobs.{HasNoRecord, MetadataLeft, TellsOther, is_free, no_record, idle_metadata}
 use Rattle.laws_server_runs.proofs.ServedNotes.{same_here, view_both}
 use Rattle.laws_server_runs.proofs.Fronts.{longer_twice}
 use Rattle.laws_server_runs.proofs.HeldCheckpoints.{longer_holds}
@@ -85,27 +86,27 @@ module _ (texts : ℕ → Bytes) (subject : ℕ) where
     -- ---- it begins
 
     -- The range has no checkpoint, its live layer can be written in pages, and its position and its next number in a record.
-    noting_step : r.control ≡ None → (o : RangeOutcome) → MatchesIf texts v (noting s) o.after → CheckpointStep run v r [] o
-    noting_step none o matches = record {
+    noting_step : r.control ≡ None → v.split ≡ Free → (o : RangeOutcome) → MatchesIf texts v (noting s) o.after → CheckpointStep run v r [] o
+    noting_step none free o matches = record {
       next = chains.Notes g ∷ run;
       goes = Adds _ run Rests refl;
       shown = serving;
       matches = subst (λ z. MatchesIf texts v z o.after) (sym (same_here g (noting s) s)) matches;
-      streams = noted_streams texts run v streams g (may_note texts run v r serving m none);
+      streams = noted_streams texts run v streams g (may_note texts run v r serving m none free);
       longer = ([], refl);
       seen = λ notes old. old;
     }
 
     -- it begins where all its numbers have their bytes, and else nothing does
-    pub begins_step : (combine : Bool) → r.control ≡ None → AreLow r.live → OutFits r.out → 1 ≤ r.next → HoldsBytes texts r.held → CheckpointStep run v r [] (checkpoint_rule d r combine)
-    begins_step combine none low fits numbered right =
+    pub begins_step : (combine : Bool) → r.control ≡ None → v.split ≡ Free → AreLow r.live → OutFits r.out → 1 ≤ r.next → HoldsBytes texts r.held → CheckpointStep run v r [] (checkpoint_rule d r combine)
+    begins_step combine none free low fits numbered right =
         if_elim (λ (o : RangeOutcome). CheckpointStep run v r [] o) (have_bytes r.live r.position (number_to_apply r.out r.next)) _ _
         (λ t. (let n : HaveBytes r.live r.position (number_to_apply r.out r.next) = bytes_had r.live r.position (number_to_apply r.out r.next) t in
         let are : AreEntries r.live = entries_writable r.live low n.extents in
         let number : IsNext (number_to_apply r.out r.next) = number_is_next r.out r.next fits numbered n.number in
         if_elim (λ (o : RangeOutcome). CheckpointStep run v r [] o) (combines combine r.indexes) _ _
-        (λ t. noting_step none (begins_combining d r) (combining_begins texts v s r m none are n.place number fits d right))
-        (λ f. noting_step none (begins_pages d r) (plain_begins texts v s r m none are n.place number fits d))))
+        (λ t. noting_step none free (begins_combining d r) (combining_begins texts v s r m none are n.place number fits free d right))
+        (λ f. noting_step none free (begins_pages d r) (plain_begins texts v s r m none are n.place number fits free d))))
         (λ f. rests_step _ m)
 
     -- ---- a page has come
@@ -128,6 +129,8 @@ module _ (texts : ℕ → Bytes) (subject : ℕ) where
         named = m.named;
         rows = m.rows;
         reads = m.reads;
+        beside = m.beside;
+        metadata = m.metadata;
       }
 
       found_step : (o : RangeOutcome) → MatchesIf texts found_view s o.after → CheckpointStep run v r (Finds found ∷ []) o
@@ -158,13 +161,13 @@ module _ (texts : ℕ → Bytes) (subject : ℕ) where
     counted = ap length streams.metadata ∙ mapped_length (renamed_event decoded_record) (metadata_of v)
 
     module _ (all : AllStand texts v.answered) (idle : r.rows.job ≡ jobs.Idle) where
-      index_holds : (job : CheckpointState) (h : HoldsPhase texts (parts_of v s r) job checkpoints.Index) (e offset : ℕ) (known : e < 2 ^ 64) (low : offset < 2 ^ 32) →
+      index_holds : (job : CheckpointState) (there : r.control ≡ Some job) (h : HoldsPhase texts (parts_of v s r) job checkpoints.Index) (e offset : ℕ) (known : e < 2 ^ 64) (low : offset < 2 ^ 32) →
           (AllStand texts v.answered → GroupStands texts job checkpoints.Index e offset) → may_record r job ≡ true → IsOfPages texts (index_place job e offset)
-      index_holds job h e offset known low stands may = (
+      index_holds job there h e offset known low stands may = (
         job.pages.index,
         entries_to_write texts (parts_of v s r) job h.0.noted.fixed,
-        written_there texts v s r m d job h e offset known low stands may all,
-        filed_there texts v s r m d job h e offset known low stands may all,
+        written_there texts v s r m d job there h e offset known low stands may all,
+        filed_there texts v s r m d job there h e offset known low stands may all,
       )
 
       index_step : (job : CheckpointState) → r.control ≡ Some job → HoldsPhase texts (parts_of v s r) job checkpoints.Index → (e offset : ℕ) → e < 2 ^ 64 → may_stand_at job.pages offset ≡ true →
@@ -181,27 +184,27 @@ module _ (texts : ℕ → Bytes) (subject : ℕ) where
           by true may =
               let place : Place = index_place job e offset in
               let c : ClientState = (given (picking d r.metadata) (append_rule (picking d r.metadata) (request d) (record_group r job place))).after in
-              let spells : decoded_record (record_group r job place) ≡ chains.record_group r.said.next (item_of job place) = group_spells texts v s r m d job h e offset known low stands may in
+              let spells : decoded_record (record_group r job place) ≡ chains.record_group r.said.next (item_of job place) = group_spells texts v s r m d job there h e offset known low stands may in
               record {
                 next = chains.Records g r.said.next (item_of job place) ∷ run;
                 goes = Adds _ run Rests refl;
                 shown = serving;
                 matches = subst (λ z. Matches texts (view_after g v (Forms kinds.Metadata (record_group r job place))) z (record r { metadata = c; control = Some (with_phase job (checkpoints.Record place)) }))
-                    (sym (same_here g _ _)) (records_match texts v s r m d job h e offset known low stands may (length (chains.meta_of run)) counted c idle);
+                    (sym (same_here g _ _)) (records_match texts v s r m d job there h e offset known low stands may (length (chains.meta_of run)) counted c idle);
                 streams = recording_streams texts run v streams g r.said.next (item_of job place) (record_group r job place) spells
-                    (record { number = r.said.next; combine = job.combine; index = place; position = job.position; next = job.next; spells = spells; fits = h.0.noted.position; holds = index_holds job h e offset known low stands may }) (λ keys is. absurd cc)
-                    (may_append texts v s r m d job h e offset known low stands may run refl serving all);
+                    (inl (record { number = r.said.next; combine = job.combine; index = place; position = job.position; next = job.next; spells = spells; fits = h.0.noted.position; holds = index_holds job there h e offset known low stands may })) (λ keys is. absurd cc)
+                    (may_append texts v s r m d job there h e offset known low stands may run refl serving all);
                 longer = ([], refl);
                 seen = λ notes old. old;
               }
 
-      rows_phase : (job : CheckpointState) → r.control ≡ Some job → (phase : CheckpointPhase) → HoldsPhase texts (parts_of v s r) job phase → (e offset : ℕ) → e < 2 ^ 64 → may_stand_at job.pages offset ≡ true →
+      rows_phase : (job : CheckpointState) → r.control ≡ Some job → (phase : CheckpointPhase) → job.phase ≡ phase → HoldsPhase texts (parts_of v s r) job phase → (e offset : ℕ) → e < 2 ^ 64 → may_stand_at job.pages offset ≡ true →
           (AllStand texts v.answered → GroupStands texts job phase e offset) → CheckpointStep run v r (index_stood_in r job phase e offset) (rows_stand d r job phase e offset)
-      rows_phase job there checkpoints.Combining h e offset known may stands = rests_step _ m
-      rows_phase job there checkpoints.Pages h e offset known may stands = rests_step _ (pages_go texts v s r m d job h e offset known may stands idle)
-      rows_phase job there checkpoints.Index h e offset known may stands = index_step job there h e offset known may stands
-      rows_phase job there (checkpoints.Record index) h e offset known may stands = rests_step _ m
-      rows_phase job there (checkpoints.Trim before to_blob q) h e offset known may stands = rests_step _ m
+      rows_phase job there checkpoints.Combining is h e offset known may stands = rests_step _ m
+      rows_phase job there checkpoints.Pages is h e offset known may stands = rests_step _ (pages_go texts v s r m d job there is h e offset known may stands idle)
+      rows_phase job there checkpoints.Index is h e offset known may stands = index_step job there h e offset known may stands
+      rows_phase job there (checkpoints.Record index) is h e offset known may stands = rests_step _ m
+      rows_phase job there (checkpoints.Trim before to_blob q) is h e offset known may stands = rests_step _ m
 
     -- nothing is made of what stands in an extent whose number has more than 64 bits
     pub rows_job : (control : Option CheckpointState) → r.control ≡ control → HoldsCheckpoint texts (parts_of v s r) control → r.rows.job ≡ jobs.Idle → (e offset : ℕ) (packets : List Packet) → StandsRightlyIf texts v control (Some (news.Appended e offset)) →
@@ -211,7 +214,7 @@ module _ (texts : ℕ → Bytes) (subject : ℕ) where
       where
         by : (b : Bool) → nat_lt e (2 ^ 64) ≡ b →
             CheckpointStep run v r (if b then index_stood r (Some job) e offset else []) (if b then rows_stand d r job job.phase e offset else goes d r [] [])
-        by true t = rows_phase right.all idle job there job.phase h e offset (ltb-true e (2 ^ 64) t) right.may (λ all. right.stands)
+        by true t = rows_phase right.all idle job there job.phase refl h e offset (ltb-true e (2 ^ 64) t) right.may (λ all. right.stands)
         by false f = rests_step _ m
 
     -- ---- the metadata
@@ -220,47 +223,52 @@ module _ (texts : ℕ → Bytes) (subject : ℕ) where
       abbrev now : RangeState
       now = record r { metadata = c }
 
-      matches_now : Matches texts v s now
-      matches_now = record { position = m.position; next = m.next; out = m.out; live = m.live; checkpoint = m.checkpoint; said = m.said; installed = m.installed; ordered = m.ordered; named = m.named; rows = m.rows; reads = m.reads }
+      matches_now : AppendsMetadata c.job v.split r.control → Matches texts v s now
+      matches_now appends = record { position = m.position; next = m.next; out = m.out; live = m.live; checkpoint = m.checkpoint; said = m.said; installed = m.installed; ordered = m.ordered; named = m.named; rows = m.rows; reads = m.reads; beside = m.beside; metadata = appends }
 
-      stood_step : (job : CheckpointState) (index : Place) → r.control ≡ Some job → r.rows.job ≡ jobs.Idle → HasRecordOut texts (parts_of v s r) job index → (e offset : ℕ) →
+      -- a client that waits for nothing
+      matches_idle : c.job ≡ jobs.Idle → HasNoRecord v.split → Matches texts v s now
+      matches_idle idle none = matches_now (idle_metadata c.job idle v.split none r.control)
+
+      stood_step : c.job ≡ jobs.Idle → (job : CheckpointState) (index : Place) → r.control ≡ Some job → r.rows.job ≡ jobs.Idle → HasRecordOut texts (parts_of v s r) job index → (e offset : ℕ) →
           CheckpointStep run v r (record_stood_in r job (checkpoints.Record index) e offset) (trims d (recorded now job index) job)
-      stood_step job index there idle h e offset =
+      stood_step waits job index there idle h e offset =
+          let free : v.split ≡ Free = is_free v.split (v.history.append kinds.Metadata) s.record_out r.control r.said.next job there m.beside in
           let next : CheckpointState = last_job job.position job.next (checkpoints.Trim (trim_index r.log job.position) (have_places (recorded now job index).indexes) (request d)) in
           record {
             next = trim_event texts r job ∷ answer_event texts v r job index offset ∷ run;
             goes = Adds _ _ (Adds _ run Rests refl) refl;
             shown = serving;
-            matches = subst (λ z. Matches texts (view_after g v (Stands kinds.Metadata e (last_position r.metadata offset) (record_group r job index))) z (now_taken texts v s r m job index h c next)) (sym (same_here g _ _))
-                (recorded_match texts v s r m job index h e offset c next (trim_index r.log job.position) (have_places (recorded now job index).indexes) (request d) refl refl stand idle);
+            matches = subst (λ z. Matches texts (view_after g v (Stands kinds.Metadata e (last_position r.metadata offset) (record_group r job index))) z (now_taken texts v s r m job index h free c next)) (sym (same_here g _ _))
+                (recorded_match texts v s r m job index h free e offset c next (trim_index r.log job.position) (have_places (recorded now job index).indexes) (request d) refl refl stand idle waits);
             streams = trimmed_streams texts (answer_event texts v r job index offset ∷ run) (view_after g v (Stands kinds.Metadata e (last_position r.metadata offset) (record_group r job index)))
-                (recorded_streams texts run v streams g e (last_position r.metadata offset) (record_group r job index) (may_answer texts v s r m job index h run refl serving offset)) g _
-                (may_trim_log texts v s r m job index h run refl serving offset);
+                (recorded_streams texts run v streams g e (last_position r.metadata offset) (record_group r job index) (may_answer texts v s r m job index h free run refl serving offset)) g _
+                (may_trim_log texts v s r m job index h free run refl serving offset);
             longer = (record { extent = e; offset = offset; bytes = joined (record_group r job index) } ∷ [], refl);
             seen = λ notes old. old;
           }
 
-      metadata_phase : (job : CheckpointState) → r.control ≡ Some job → (phase : CheckpointPhase) → AppendsPhase r.rows job phase → HoldsPhase texts (parts_of v s r) job phase → (e offset : ℕ) →
+      metadata_phase : c.job ≡ jobs.Idle → HasNoRecord v.split → (job : CheckpointState) → r.control ≡ Some job → (phase : CheckpointPhase) → AppendsPhase r.rows job phase → HoldsPhase texts (parts_of v s r) job phase → (e offset : ℕ) →
           CheckpointStep run v r (record_stood_in r job phase e offset) (record_stands d now job phase)
-      metadata_phase job there checkpoints.Combining appends h e offset = rests_step _ matches_now
-      metadata_phase job there checkpoints.Pages appends h e offset = rests_step _ matches_now
-      metadata_phase job there checkpoints.Index appends h e offset = rests_step _ matches_now
-      metadata_phase job there (checkpoints.Record index) appends h e offset =
+      metadata_phase waits none job there checkpoints.Combining appends h e offset = rests_step _ (matches_idle waits none)
+      metadata_phase waits none job there checkpoints.Pages appends h e offset = rests_step _ (matches_idle waits none)
+      metadata_phase waits none job there checkpoints.Index appends h e offset = rests_step _ (matches_idle waits none)
+      metadata_phase waits none job there (checkpoints.Record index) appends h e offset =
           subst (λ b. CheckpointStep run v r (record_stood_in r job (checkpoints.Record index) e offset) (if b then trims d (recorded now job index) job else goes d now [] []))
-          (sym h.numbered) (stood_step job index there appends h e offset)
-      metadata_phase job there (checkpoints.Trim before to_blob q) appends h e offset = rests_step _ matches_now
+          (sym h.numbered) (stood_step waits job index there appends h e offset)
+      metadata_phase waits none job there (checkpoints.Trim before to_blob q) appends h e offset = rests_step _ (matches_idle waits none)
 
-      metadata_job : (control : Option CheckpointState) → r.control ≡ control → AppendsRows r.rows control → HoldsCheckpoint texts (parts_of v s r) control → (e offset : ℕ) (packets : List Packet) →
+      metadata_job : c.job ≡ jobs.Idle → HasNoRecord v.split → (control : Option CheckpointState) → r.control ≡ control → AppendsRows r.rows control → HoldsCheckpoint texts (parts_of v s r) control → (e offset : ℕ) (packets : List Packet) →
           CheckpointStep run v r (record_stood r control e offset) (record_told d now control (Some (news.Appended e offset)) packets)
-      metadata_job None there appends h e offset packets = rests_step _ matches_now
-      metadata_job (Some job) there appends h e offset packets = metadata_phase job there job.phase appends h e offset
+      metadata_job waits none None there appends h e offset packets = rests_step _ (matches_idle waits none)
+      metadata_job waits none (Some job) there appends h e offset packets = metadata_phase waits none job there job.phase appends h e offset
 
       -- whatever the metadata's client tells
-      pub metadata_step : (told : Option News) (packets : List Packet) → CheckpointStep run v r (record_actions r told) (record_told d now r.control told packets)
-      metadata_step None packets = rests_step _ matches_now
-      metadata_step (Some news.Fenced) packets = rests_step _ tt
-      metadata_step (Some (news.Appended e offset)) packets = metadata_job r.control refl m.rows m.checkpoint e offset packets
-      metadata_step (Some told) packets = rests_step _ matches_now
+      pub metadata_step : (told : Option News) (packets : List Packet) → MetadataLeft v.split r.control told c.job → TellsOther v.split told → CheckpointStep run v r (record_actions r told) (record_told d now r.control told packets)
+      metadata_step None packets left other = rests_step _ (matches_now left)
+      metadata_step (Some news.Fenced) packets left other = rests_step _ tt
+      metadata_step (Some (news.Appended e offset)) packets left other = metadata_job left (no_record v.split e offset other) r.control refl m.rows m.checkpoint e offset packets
+      metadata_step (Some told) packets left other = rests_step _ (matches_now left)
 
     -- ---- the Trim
 
@@ -294,6 +302,8 @@ module _ (texts : ℕ → Bytes) (subject : ℕ) where
         named = m.named;
         rows = m.rows;
         reads = m.reads;
+        beside = m.beside;
+        metadata = m.metadata;
       }
 
       stored_streams : StreamsKept texts run stored

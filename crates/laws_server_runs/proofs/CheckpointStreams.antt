@@ -18,7 +18,7 @@ use Rattle.laws_tables.proofs.Range.{event_cases}
 use Rattle.laws_tables.specs.Runs as chains
 use Rattle.laws_tables.specs.Runs.{Run, first_beginning, MayInChain}
 use Rattle.laws_checkpoints.specs.IndexLayers.{layer_at}
-use Rattle.laws_server_runs.specs.RangeInvariant.{IsCheckpointRecord, IsOfPages, StreamsKept}
+use Rattle.laws_server_runs.specs.RangeInvariant.{IsRecord, IsOfPages, StreamsKept}
 
 module _ (texts : ℕ → Bytes) (run : Run) (v : RangeView) (streams : StreamsKept texts run v) (g : ℕ) where
   -- nothing is done with a stream
@@ -43,7 +43,7 @@ module _ (texts : ℕ → Bytes) (run : Run) (v : RangeView) (streams : StreamsK
   }
 
   -- a record's append begins
-  pub recording_streams : (number : ℕ) (item : MetaItem) (group : Group) → decoded_record group ≡ chains.record_group number item → IsCheckpointRecord (IsOfPages texts) group → ((keys : KeyRange) → item ≡ Ranges keys → ⊥) →
+  pub recording_streams : (number : ℕ) (item : MetaItem) (group : Group) → decoded_record group ≡ chains.record_group number item → IsRecord (IsOfPages texts) group → ((keys : KeyRange) → item ≡ Ranges keys → ⊥) →
       MayInChain (layer_at texts) first_beginning run (chains.Records g number item) → StreamsKept texts (chains.Records g number item ∷ run) (view_after g v (Forms kinds.Metadata group))
   recording_streams number item group spells is other may = record {
     log = streams.log;
@@ -52,11 +52,11 @@ module _ (texts : ℕ → Bytes) (run : Run) (v : RangeView) (streams : StreamsK
     keys = (other, streams.keys);
     spelled = streams.spelled;
     records = λ a h one at.
-        ⊎_elim {C = IsCheckpointRecord (IsOfPages texts) one}
+        ⊎_elim {C = IsRecord (IsOfPages texts) one}
         (λ new.
         let e : Made g group ≡ Made h one = new.1 in
         let same : group ≡ one = cc in
-        subst (IsCheckpointRecord (IsOfPages texts)) same is)
+        subst (IsRecord (IsOfPages texts)) same is)
         (λ old. streams.records a h one old)
         (event_cases Group (Made g group) (metadata_of v) a (Made h one) at);
   }
@@ -72,7 +72,7 @@ module _ (texts : ℕ → Bytes) (run : Run) (v : RangeView) (streams : StreamsK
     keys = streams.keys;
     spelled = streams.spelled;
     records = λ a h one there.
-        ⊎_elim {C = IsCheckpointRecord (IsOfPages texts) one} (λ new. (let z : told ≡ Made h one = new.1 in absurd cc)) (λ old. streams.records a h one old)
+        ⊎_elim {C = IsRecord (IsOfPages texts) one} (λ new. (let z : told ≡ Made h one = new.1 in absurd cc)) (λ old. streams.records a h one old)
         (event_cases Group told (metadata_of v) a (Made h one) there);
   }
     where

@@ -1,6 +1,6 @@
 -- The answers to the opening and the confirmation of a range keep what is kept of it; where its generation is confirmed, it is served
 -- from then on with the layer of the line that its load shows.
-use Rattle.std.proofs.Common.{◌≡◌, inl, inr, ℕ, ◌<◌, true, nat_lt, List, [], ◌∷◌, ◌++◌, length, Option, Some, None, is_some, refl, sym, ◌∙◌, subst, arith}
+use Rattle.std.proofs.Common.{◌≡◌, inl, inr, ℕ, ◌<◌, true, false, nat_lt, List, [], ◌∷◌, ◌++◌, length, Option, Some, None, is_some, refl, sym, ap, ◌∙◌, subst, arith}
 use Rattle.std.specs.Prelude.{if◌then◌else◌}
 use Rattle.std.proofs.lemmas.Bool.{ltb-true}
 use Rattle.wire.specs.declared.actor.ReqNo.{ReqNo}
@@ -10,6 +10,7 @@ use Rattle.wire.specs.declared.body.Body.{Body}
 use Rattle.wire.specs.declared.body.Body.TheVariants as bodies
 use Rattle.wire.specs.declared.body.StreamBody.{StreamBody}
 use Rattle.wire.specs.declared.body.StreamBody.TheVariants as stream_bodies
+use Rattle.wire.specs.declared.streams.StreamKind.TheVariants as kinds
 use Rattle.wire.specs.declared.note.Note.{Note}
 use Rattle.wire.specs.declared.note.Note.TheVariants.{Loaded}
 use Rattle.wire.specs.declared.rows.Row.{Row}
@@ -32,7 +33,7 @@ use Rattle.model_partition.specs.Loading.{has_position, log_end, open_region, op
 use Rattle.model_histories.specs.Log.{line_shown}
 use Rattle.model_partition.specs.Past.{Bytes, Transaction, stored}
 use Rattle.model_histories.specs.IndexContents.{entries_in}
-use Rattle.model_partition.specs.Range.{RangeState, RangeOutcome, answers, dropped}
+use Rattle.model_partition.specs.Range.{RangeState, RangeOutcome, answers, dropped, is_serving}
 use Rattle.model_histories.specs.ServedTables.{AreSeenAs}
 use Rattle.model_histories.specs.ServerRun.{place_number}
 use Rattle.model_histories.specs.StreamActions.{StreamAction, confirmed_actions, load_actions}
@@ -44,9 +45,10 @@ use Rattle.laws_tables.specs.Runs.{Run, first_beginning, confirmed, replayed_by,
 use Rattle.laws_loads.proofs.Rows.{Ordered}
 use Rattle.laws_loads.specs.MemoryLayers.{layer_in}
 use Rattle.laws_checkpoints.specs.IndexLayers.{layer_at}
-use Rattle.laws_server_runs.specs.CheckpointInvariant.{parts_of, HoldsCheckpoint, AppendsRows, ReadsNext}
+use Rattle.laws_server_runs.specs.CheckpointInvariant.{parts_of, out_beside, HoldsCheckpoint, AppendsRows, ReadsNext}
+use Rattle.laws_server_runs.proofs.MetadataJobs.{free_beside, free_none, idle_metadata}
 use Rattle.laws_server_runs.specs.RangeInvariant.{HasReadAll, Matches, Serves, PhaseIs, StageIs, RangeKept, StreamsKept, InOrder, AreObserved, Rests, Adds, StepKept}
-use Rattle.laws_loads.specs.RangeView.{RangeView, view_after_all}
+use Rattle.laws_loads.specs.RangeView.{RangeView, Free, view_after_all}
 use Rattle.laws_server_runs.proofs.Behind.{end_fits}
 use Rattle.laws_server_runs.proofs.ConfirmedLoad.{start_of, metadata_end, shows, view_shown, spelled_groups, shown_records, run_loaded, log_stop, named_are, said_is, next_is, position_is, records_keep, whole_layer, first_load, streams_loaded}
 use Rattle.laws_server_runs.proofs.LoadedRows.{table_load}
@@ -68,7 +70,7 @@ module _ (texts : ℕ → Bytes) (subject : ℕ) (run : Run) (v : RangeView) (r 
   -- ---- the range is served
 
   module _ (h : HasReadAll texts v.history r) (sorted : Ordered r.live) (order : InOrder texts (view_shown v r)) (region : Region) (is : open_region r.regions ≡ Some region) (some : 0 < region.next)
-      (counted : has_position r.log ≡ true) where
+      (counted : has_position r.log ≡ true) (free : v.split ≡ Free) where
     abbrev served : RangeState
     served =
         record r {
@@ -99,13 +101,15 @@ module _ (texts : ℕ → Bytes) (subject : ℕ) (run : Run) (v : RangeView) (r 
       out = refl;
       live = λ stand key. layer_now key;
       checkpoint = subst (λ control. HoldsCheckpoint texts (parts_of (view_shown v r) (confirmed first_beginning (place_number (start_of r)) end (spelled_groups v r) (shown_records v r)) served) control)
-          (sym h.log.none) (record { entries = h.log.fixed; layer = refl; noted = refl; record_out = refl });
+          (sym h.log.none) (record { entries = h.log.fixed; layer = refl; noted = refl; record_out = ap (λ x. out_beside x None) free });
       said = said_is texts run v r h.log streams order;
       installed = h.installed;
       ordered = sorted;
       named = named_are texts run v r h.log streams order;
       rows = subst (AppendsRows r.rows) (sym h.log.none) h.log.rows;
       reads = subst (ReadsNext r.reading) (sym h.log.none) tt;
+      beside = free_beside v.split free (v.history.append kinds.Metadata) None r.control r.said.next;
+      metadata = idle_metadata r.metadata.job h.log.idle v.split (free_none v.split free) r.control;
     }
 
     serves_now : Serves texts (run_loaded run v r) (view_shown v r) served
@@ -162,8 +166,8 @@ module _ (texts : ℕ → Bytes) (subject : ℕ) (run : Run) (v : RangeView) (r 
   no_action : (o : RangeOutcome) → StepKept texts subject run v r [] o → LoadStep o []
   no_action o s order = if_elim (λ (actions : List StreamAction). StepKept texts subject run v r actions o) (is_some o.after) [] [] (λ t. s) (λ f. s)
 
-  confirmation_kept : HasReadAll texts v.history r → Ordered r.live → LoadStep (serves d r) (shows r ∷ [])
-  confirmation_kept h sorted =
+  confirmation_kept : HasReadAll texts v.history r → Ordered r.live → v.split ≡ Free → LoadStep (serves d r) (shows r ∷ [])
+  confirmation_kept h sorted free =
       if_elim (λ (o : RangeOutcome). LoadStep o (shows r ∷ [])) (has_position r.log) (serves_from d r (open_region r.regions)) (dropped d r)
       (λ t. from t (open_region r.regions) refl) (λ f order. gone)
     where
@@ -171,7 +175,7 @@ module _ (texts : ℕ → Bytes) (subject : ℕ) (run : Run) (v : RangeView) (r 
       from counted None e = λ order. gone
       from counted (Some region) e =
           if_elim (λ (o : RangeOutcome). LoadStep o (shows r ∷ [])) (nat_lt 0 region.next) (serves_region d r region) (dropped d r)
-          (λ t order. region_kept h sorted order region e (ltb-true 0 region.next t) counted) (λ f order. gone)
+          (λ t order. region_kept h sorted order region e (ltb-true 0 region.next t) counted free) (λ f order. gone)
 
   refused_kept : (body : AppendBody) → StepKept texts subject run v r [] (load_refused d r body)
   refused_kept (appends.Refused w refusals.Stale) = gone
@@ -195,12 +199,12 @@ module _ (texts : ℕ → Bytes) (subject : ℕ) (run : Run) (v : RangeView) (r 
   is_confirming stages.Confirming phase q is e = refl
   is_confirming stages.Serving phase q is e = absurd cc
 
-  module _ (opened : r.stage ≡ stages.Opening → (lists : StreamLists) → StepKept texts subject run v r [] (opens d r lists)) where
+  module _ (opened : r.stage ≡ stages.Opening → (lists : StreamLists) → StepKept texts subject run v r [] (opens d r lists)) (loads : is_serving r.stage ≡ false → v.split ≡ Free) where
     told_kept : (phase : LoadPhase) → r.load.phase ≡ phase → (body : StreamBody) → LoadStep (load_told d r phase body) (confirmed_actions r phase body)
     told_kept (phases.Opening q) e (stream_bodies.Opened w lists) = no_action (opens d r lists) (opened (is_opening r.stage r.load.phase q kept.phase e) lists)
     told_kept (phases.Confirming q) e (stream_bodies.Confirmed w) =
         let confirming : r.stage ≡ stages.Confirming = is_confirming r.stage r.load.phase q kept.phase e in
-        confirmation_kept (subst (λ (z : Stage). StageIs texts run v r z) confirming kept.stage) ordered
+        confirmation_kept (subst (λ (z : Stage). StageIs texts run v r z) confirming kept.stage) ordered (loads (ap is_serving confirming))
     told_kept phase e body = no_action (answers d r []) calm
 
     answer_kept : (body : Body) → LoadStep (load_reply d r body) (load_actions r body)

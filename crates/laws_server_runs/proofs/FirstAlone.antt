@@ -1,5 +1,5 @@
 -- Where the map assigns the first range alone, servers hold and show no other.
-use Rattle.std.proofs.Common.{◌≡◌, ℕ, ◌-◌, List, [], ◌∷◌, ◌++◌, Some, None, slice_set, refl, sym, ap, ◌∙◌, subst, inl, inr}
+use Rattle.std.proofs.Common.{◌≡◌, ℕ, ◌-◌, List, [], ◌∷◌, ◌++◌, Option, Some, None, slice_set, refl, sym, ap, ◌∙◌, subst, inl, inr}
 use Rattle.std.proofs.lemmas.Bool.{cases_eq}
 use Rattle.wire.specs.declared.actor.ActorId.TheVariants as actors
 use Rattle.wire.specs.declared.note.Note.{Note}
@@ -7,23 +7,24 @@ use Rattle.model_streams.specs.Maps.{entry_at}
 use Rattle.model_partition.specs.declared.table_note.TableNote.{TableNote}
 use Rattle.model_histories.specs.Log.{only}
 use Rattle.model_partition.specs.Past.{Bytes, first_range}
-use Rattle.model_partition.specs.Range.{RangeState}
-use Rattle.model_partition.specs.Server.{ServerState, ServerOutcome, range_of, new_range}
+use Rattle.model_partition.specs.Range.{RangeState, RangeOutcome}
+use Rattle.model_partition.specs.Server.{ServerState, ServerOutcome, range_of, set_range, new_range, split_of}
+use Rattle.model_partition.specs.declared.split_job.SplitJob.{SplitJob}
 use Rattle.model_partition.specs.Servers.{ServerCell}
 use Rattle.model_histories.specs.ServerRun.{ServerRun, RangeEffect, ServerEvent, Takes, GivesUp, Checkpoints, Splits, Stops, Starts, Moment, run_of, after_event}
-use Rattle.model_histories.specs.StreamActions.{PlacedBytes}
-use Rattle.model_histories.specs.ServedTables.{IsOfFirst, IsFirst, AreFirst, AreUnsplit, AreSeenAs}
+use Rattle.model_histories.specs.StreamActions.{StreamAction, PlacedBytes}
+use Rattle.model_histories.specs.ServedTables.{IsOfFirst, IsFirst, AreFirst, AreSeenAs}
 use Rattle.laws_loads.proofs.Entries.{entry_set, entry_other}
 use Rattle.laws_loads.specs.RangeView.{view_after_all}
 use Rattle.laws_server_runs.specs.Places.{NotesWithin, StepLaid, RunLaid}
 use Rattle.laws_server_runs.specs.RunInvariant.{view_at}
-use Rattle.laws_server_runs.specs.Turns.{Turn, Idles, Opens, Acts, Calms, outcome_of, RunStep, Keeps, Passes, Turns}
+use Rattle.laws_server_runs.specs.Turns.{IsStep, IsEffect, Own, None_done, OfOthers, Turn, Idles, Opens, Acts, outcome_of, RunStep, Keeps, Passes, Turns}
 use Rattle.laws_server_runs.proofs.Fronts.{SeenBoth, seen_both}
-use Rattle.laws_server_runs.proofs.LaidRuns.{rule_laid, bare, all_laid, event_notes}
+use Rattle.laws_server_runs.proofs.LaidRuns.{bare, all_laid, event_notes}
+use Rattle.laws_server_runs.proofs.LaidSplits.{laid_step}
 use Rattle.laws_server_runs.proofs.OwnNotes.{only_both, own_notes}
 use Rattle.laws_server_runs.proofs.RangeLists.{inserted_other, left_other}
-use Rattle.laws_server_runs.proofs.RunSteps.{AllAssigned, event_step}
-use Rattle.laws_server_runs.proofs.Unsplit.{unsplit}
+use Rattle.laws_server_runs.proofs.RunSteps.{IsAnyPair, AllAssigned, any_numbered, event_step}
 
 abbrev IsTheFirst : ℕ → Type 0
 IsTheFirst range = range ≡ first_range
@@ -59,59 +60,53 @@ module _ (x : ServerRun) (laid : RunLaid x) (first : HoldsFirst x.servers) where
       | inr other ↦ first t c q (sym (entry_other x.servers s cell (record cell { state = Some next }) at t other) ∙ there) up k r held
     ]
 
-    turn_first : (e : RangeEffect) (o : ServerOutcome) → Turn IsTheFirst st e o → HoldsFirst (slice_set x.servers (s - 1) (record cell { state = Some o.after })) × AreOfFirst o.notes
-    turn_first e o (Idles next packets same) = (one_first next (λ k r held. first s cell st at is k r (sym (ap (λ l. range_of l k) same) ∙ held)), ([], tt))
-    turn_first e o (Opens range assigned d generation until next packets new) = (one_first next mine, ([], tt))
+    effect_first : (range : ℕ) (r : RangeState) → range_of st.ranges range ≡ Some r → (job : Option SplitJob) (actions : List StreamAction) (o : RangeOutcome) (later : Option SplitJob) → IsStep IsAnyPair r job actions o later →
+        (next : ServerState) → next.ranges ≡ set_range st.ranges range o.after → HoldsFirst (slice_set x.servers (s - 1) (record cell { state = Some next })) × AreOfFirst o.notes
+    effect_first range r held job actions o later taken next left = (
+      one_first next mine,
+      ((view_after_all r.load.generation (view_at range x s) actions).shown, subst (λ n. NotesWithin n (view_after_all r.load.generation (view_at range x s) actions).shown o.notes) is_first step.notes),
+    )
+      where
+        is_first : range ≡ first_range
+        is_first = first s cell st at is range r held
+
+        step : StepLaid range (view_at range x s) r.load.generation actions o
+        step = laid_step range (view_at range x s) r (laid.ranges s cell st at is range r held) IsAnyPair job actions o later taken
+
+        mine : (k : ℕ) (z : RangeState) → range_of next.ranges k ≡ Some z → k ≡ first_range
+        mine k z found = elim (cases_eq k range) [
+          | inl same ↦ same ∙ is_first
+          | inr other ↦ first s cell st at is k z (sym (left_other st.ranges range o.after k other) ∙ sym (ap (λ l. range_of l k) left) ∙ found)
+        ]
+
+    any_effect : (range : ℕ) (r : RangeState) → range_of st.ranges range ≡ Some r → (job : Option SplitJob) (e : RangeEffect) (o : RangeOutcome) (later : Option SplitJob) → IsEffect IsAnyPair range r job e o later →
+        (next : ServerState) → next.ranges ≡ set_range st.ranges range o.after → HoldsFirst (slice_set x.servers (s - 1) (record cell { state = Some next })) × AreOfFirst o.notes
+    any_effect range r held job e o later (Own own actions after left_job step) next left = effect_first range r held job actions o later step next left
+    any_effect range r held job e o later (None_done own after left_job step) next left = effect_first range r held job [] o later step next left
+    any_effect range r held job e o later (OfOthers split d body after left_job step) next left = effect_first range r held (Some split) [] o later step next left
+
+    turn_first : (e : RangeEffect) (o : ServerOutcome) → Turn IsTheFirst IsAnyPair st e o → HoldsFirst (slice_set x.servers (s - 1) (record cell { state = Some o.after })) × AreOfFirst o.notes
+    turn_first e o (Idles next packets same splits) = (one_first next (λ k r held. first s cell st at is k r (sym (ap (λ l. range_of l k) same) ∙ held)), ([], tt))
+    turn_first e o (Opens range assigned d generation until next packets new splits) = (one_first next mine, ([], tt))
       where
         mine : (k : ℕ) (r : RangeState) → range_of next.ranges k ≡ Some r → k ≡ first_range
         mine k r held = elim (cases_eq k range) [
           | inl same ↦ same ∙ assigned
           | inr other ↦ first s cell st at is k r (sym (inserted_other st.ranges range (new_range d range generation until) k other) ∙ sym (ap (λ l. range_of l k) new) ∙ held)
         ]
-    turn_first e o (Acts range r held actions ro rule next left) = (
-      one_first next mine,
-      ((view_after_all r.load.generation (view_at range x s) actions).shown, subst (λ n. NotesWithin n (view_after_all r.load.generation (view_at range x s) actions).shown ro.notes) is_first step.notes),
-    )
-      where
-        is_first : range ≡ first_range
-        is_first = first s cell st at is range r held
+    turn_first e o (Acts range r held effect ro later is_effect next packets left splits) = any_effect range r held (split_of st.splits range) effect ro later is_effect next left
 
-        step : StepLaid range (view_at range x s) r.load.generation actions ro
-        step = rule_laid range (view_at range x s) r (laid.ranges s cell st at is range r held) actions ro rule
-
-        mine : (k : ℕ) (z : RangeState) → range_of next.ranges k ≡ Some z → k ≡ first_range
-        mine k z found = elim (cases_eq k range) [
-          | inl same ↦ same ∙ is_first
-          | inr other ↦ first s cell st at is k z (sym (left_other st.ranges range ro.after k other) ∙ sym (ap (λ l. range_of l k) left) ∙ found)
-        ]
-    turn_first e o (Calms range r held ro rule next left) = (
-      one_first next mine,
-      ((view_at range x s).shown, subst (λ n. NotesWithin n (view_at range x s).shown ro.notes) is_first step.notes),
-    )
-      where
-        is_first : range ≡ first_range
-        is_first = first s cell st at is range r held
-
-        step : StepLaid range (view_at range x s) r.load.generation [] ro
-        step = rule_laid range (view_at range x s) r (laid.ranges s cell st at is range r held) [] ro rule
-
-        mine : (k : ℕ) (z : RangeState) → range_of next.ranges k ≡ Some z → k ≡ first_range
-        mine k z found = elim (cases_eq k range) [
-          | inl same ↦ same ∙ is_first
-          | inr other ↦ first s cell st at is k z (sym (left_other st.ranges range ro.after k other) ∙ sym (ap (λ l. range_of l k) left) ∙ found)
-        ]
-
-  step_first : (notes : List TableNote) (y : ServerRun) → RunStep IsTheFirst x notes y → HoldsFirst y.servers × AreOfFirst notes
+  step_first : (notes : List TableNote) (y : ServerRun) → RunStep IsTheFirst IsAnyPair x notes y → HoldsFirst y.servers × AreOfFirst notes
   step_first notes y (Keeps servers packets like) = (
     λ t c q there up k r held. elim (like t c q there up) [
-      | inl none ↦ absurd (let z : None ≡ Some r = sym (ap (λ l. range_of l k) none) ∙ held in cc)
+      | inl none ↦ absurd (let z : None ≡ Some r = sym (ap (λ l. range_of l k) none.0) ∙ held in cc)
       | inr old ↦ first t old.0 old.1 old.2 old.3 k r (sym (ap (λ l. range_of l k) old.4) ∙ held)
     ],
     ([], tt),
   )
   step_first notes y (Passes servers like) = (
     λ t c q there up k r held. elim (like t c q there up) [
-      | inl none ↦ absurd (let z : None ≡ Some r = sym (ap (λ l. range_of l k) none) ∙ held in cc)
+      | inl none ↦ absurd (let z : None ≡ Some r = sym (ap (λ l. range_of l k) none.0) ∙ held in cc)
       | inr old ↦ first t old.0 old.1 old.2 old.3 k r (sym (ap (λ l. range_of l k) old.4) ∙ held)
     ],
     ([], tt),
@@ -124,8 +119,8 @@ module _ (texts : ℕ → Bytes) (batch servers : ℕ) where
     holds : HoldsFirst x.servers
     seen : (notes : List Note) → AreSeenAs texts x.notes notes → only first_range notes ≡ notes
 
-  one_more : (event : ServerEvent) (earlier : List ServerEvent) → AreUnsplit (event ∷ earlier) → IsFirst event → IsOfTheFirst (run_of batch servers earlier) → IsOfTheFirst (run_of batch servers (event ∷ earlier))
-  one_more event earlier are first old = record { holds = step.0; seen = all }
+  one_more : (event : ServerEvent) (earlier : List ServerEvent) → IsFirst event → IsOfTheFirst (run_of batch servers earlier) → IsOfTheFirst (run_of batch servers (event ∷ earlier))
+  one_more event earlier first old = record { holds = step.0; seen = all }
     where
       x : ServerRun
       x = run_of batch servers earlier
@@ -134,7 +129,7 @@ module _ (texts : ℕ → Bytes) (batch servers : ℕ) where
       more = (outcome_of x.servers event).notes
 
       step : HoldsFirst (after_event x event).servers × AreOfFirst more
-      step = step_first x (all_laid batch servers earlier are.1) old.holds more (after_event x event) (event_step IsTheFirst x (unsplit batch servers earlier are.1) event are.0 (first_assigned event first))
+      step = step_first x (all_laid batch servers earlier) old.holds more (after_event x event) (event_step IsTheFirst IsAnyPair x event (first_assigned event first) (any_numbered event))
 
       all : (notes : List Note) → AreSeenAs texts (after_event x event).notes notes → only first_range notes ≡ notes
       all notes seen =
@@ -152,9 +147,9 @@ module _ (texts : ℕ → Bytes) (batch servers : ℕ) where
       nothing [] seen = refl
       nothing (note ∷ notes) seen = absurd seen
 
-  of_first : (events : List ServerEvent) → AreUnsplit events → AreFirst events → IsOfTheFirst (run_of batch servers events)
-  of_first [] are first = none_yet
-  of_first (event ∷ earlier) are first = one_more event earlier are first.0 (of_first earlier are.1 first.1)
+  of_first : (events : List ServerEvent) → AreFirst events → IsOfTheFirst (run_of batch servers events)
+  of_first [] first = none_yet
+  of_first (event ∷ earlier) first = one_more event earlier first.0 (of_first earlier first.1)
 
-  pub only_first : (events : List ServerEvent) → AreUnsplit events → AreFirst events → (notes : List Note) → AreSeenAs texts (run_of batch servers events).notes notes → only first_range notes ≡ notes
-  only_first events are first notes seen = (of_first events are first).seen notes seen
+  pub only_first : (events : List ServerEvent) → AreFirst events → (notes : List Note) → AreSeenAs texts (run_of batch servers events).notes notes → only first_range notes ≡ notes
+  only_first events first notes seen = (of_first events first).seen notes seen

@@ -80,7 +80,7 @@ module _ (texts : ℕ → Bytes) (subject : ℕ) (run : Run) (v : RangeView) (r 
 
     -- what is kept tells nothing of what was shown
     kept_found : RangeKept texts subject run view_found r
-    kept_found = others_kept texts subject run run v r view_found refl kept (suc r.load.generation) Rests ([], refl) (λ serves same. no_more r.load.generation same)
+    kept_found = others_kept texts subject run run v r view_found refl refl kept (suc r.load.generation) Rests ([], refl) (λ serves same. no_more r.load.generation same)
 
     rests_found : FoundLeft (answers d r [])
     rests_found = goes_left texts subject run v r streams d (Finds found ∷ []) v.history (found ∷ v.shown) refl r _ _ kept_found refl (λ serves. serves)
@@ -133,7 +133,7 @@ module _ (texts : ℕ → Bytes) (subject : ℕ) (run : Run) (v : RangeView) (r 
   -- ---- answers
 
   rested : StepKept texts subject run v r [] (answers d r [])
-  rested = rests_kept texts subject run v r kept streams d r.until r.metadata r.log r.gets r.held _ _ (λ idle. idle) (λ idle. idle) refl (λ h. h)
+  rested = rests_kept texts subject run v r kept streams d r.until r.metadata r.log r.gets r.held _ _ (λ idle. idle) (λ e a. a) (λ idle. idle) refl (λ h. h)
 
   told_kept : (body : ReadBody) → Given (bytes_told_actions body) (index_told d r body)
   told_kept (reads.Bytes w e offset bytes) = bytes_kept e offset bytes r.reading refl
@@ -178,7 +178,7 @@ module _ (texts : ℕ → Bytes) (subject : ℕ) (run : Run) (v : RangeView) (r 
   come_kept w e offset bytes order =
       goes_left texts subject run v r streams d (Finds (found e offset bytes) ∷ []) v.history (found e offset bytes ∷ v.shown) refl
       (record r { held = now; gets = (try_all d (record r { held = now }) (map (without w) r.gets)).waiting }) _ _
-      (same_kept texts subject run (view_found e offset bytes) r r.until r.metadata r.log r.rows r.blob_data r.reading _ now (λ idle. idle) (λ idle. idle) refl (λ control a. a)
+      (same_kept texts subject run (view_found e offset bytes) r r.until r.metadata r.log r.rows r.blob_data r.reading _ now (λ idle. idle) (λ e a. a) (λ idle. idle) refl (λ control a. a)
       (λ read is. (read, is, refl)) (λ read is. (read, is, refl)) (λ right. holds_came texts r.held (read_at r.gets w) (place_of e offset bytes) bytes right (taken_there (texts e) offset bytes order.shown.0)) (kept_found e offset bytes))
       refl (λ serves. serves)
     where

@@ -1,5 +1,5 @@
 -- Whatever comes to servers, what is kept of a range at all of them stays so, where its streams keep their order.
-use Rattle.std.proofs.Common.{◌≡◌, ◌⊎◌, ℕ, ◌-◌, List, [], ◌++◌, Bool, true, false, ◌&&◌, ◌==◌, Some, None, slice_set, refl, sym, ap, ◌∙◌, subst, inl, inr, append-nil, if◌then◌else◌}
+use Rattle.std.proofs.Common.{◌≡◌, ◌⊎◌, ℕ, ◌-◌, List, [], ◌++◌, Bool, true, false, ◌&&◌, ◌==◌, Option, Some, None, slice_set, refl, sym, ap, ◌∙◌, subst, inl, inr, append-nil, if◌then◌else◌}
 use Rattle.std.specs.BTreeMap.{insert_entry}
 use Rattle.std.specs.Ordering.{nat_cmp}
 use Rattle.std.proofs.lemmas.Bool.{cases_eq}
@@ -11,26 +11,29 @@ use Rattle.model_partition.specs.declared.table_note.TableNote.{TableNote}
 use Rattle.model_histories.specs.Log.{only}
 use Rattle.model_partition.specs.Past.{Bytes}
 use Rattle.model_partition.specs.Range.{RangeState, RangeOutcome}
-use Rattle.model_partition.specs.Server.{ServerState, ServerOutcome, range_of, set_range, new_range}
+use Rattle.model_partition.specs.Server.{ServerState, ServerOutcome, range_of, set_range, new_range, split_of, set_split}
+use Rattle.model_partition.specs.declared.split_job.SplitJob.{SplitJob}
 use Rattle.model_partition.specs.Servers.{ServerCell}
-use Rattle.model_histories.specs.StreamActions.{StreamAction}
-use Rattle.model_histories.specs.ServerRun.{ServerRun, RangeEffect, Begins, Does, Rests, first_history, with_effect, with_outcome, after_actions, stream_named}
+use Rattle.model_histories.specs.StreamActions.{StreamAction, SideAction, split_sides}
+use Rattle.model_histories.specs.ServerRun.{ServerRun, RangeEffect, Begins, Does, Rests, first_history, with_effect, with_outcome, after_actions, after_sides, stream_named}
 use Rattle.model_histories.specs.ServedTables.{AreSeenAs}
 use Rattle.laws_loads.proofs.Entries.{entry_set, entry_other}
 use Rattle.laws_loads.specs.RangeView.{view_after_all}
 use Rattle.laws_server_runs.specs.Places.{StepLaid, RunLaid}
 use Rattle.laws_server_runs.specs.RangeInvariant.{StreamsKept, InOrder}
-use Rattle.laws_server_runs.specs.RunInvariant.{view_at, RunKept}
-use Rattle.laws_server_runs.specs.Turns.{IsRule, Turn, Idles, Opens, Acts, Calms, HoldNoMore, RunStep, Keeps, Passes, Turns}
-use Rattle.laws_server_runs.proofs.Actions.{same_test, other_test, actions_here, actions_apart, actions_beside, actions_bytes, actions_rest}
+use Rattle.laws_server_runs.specs.RunInvariant.{view_at, AreApart, RunKept}
+use Rattle.laws_server_runs.specs.Turns.{IsStep, LeavesSplit, IsEffect, Own, None_done, OfOthers, Turn, Idles, Opens, Acts, HoldNoMore, RunStep, Keeps, Passes, Turns}
+use Rattle.laws_server_runs.proofs.Actions.{same_test, other_test, actions_here, actions_apart, actions_beside, actions_bytes, actions_rest, AreOthers, SidesBeside, sides_beside, sides_rest}
 use Rattle.laws_server_runs.proofs.Beside.{Was, IsNew, beside_kept}
 use Rattle.laws_server_runs.proofs.Fronts.{SeenBoth, seen_both}
-use Rattle.laws_server_runs.proofs.LaidRuns.{rule_laid}
+use Rattle.laws_server_runs.proofs.LaidRuns.{sides_laid}
+use Rattle.laws_server_runs.proofs.LaidSplits.{laid_step}
+use Rattle.laws_server_runs.proofs.SideActions.{sides_append, sides_others}
+use Rattle.laws_server_runs.proofs.SplitTurns.{step_turn}
 use Rattle.laws_server_runs.proofs.Others.{streams_same}
 use Rattle.laws_server_runs.proofs.OwnNotes.{only_both, own_notes, other_notes}
-use Rattle.laws_server_runs.proofs.RangeLists.{inserted_here, inserted_other, left_here, left_other}
-use Rattle.laws_server_runs.proofs.RunSteps.{IsAny}
-use Rattle.laws_server_runs.proofs.Rules.{rule_kept}
+use Rattle.laws_server_runs.proofs.RangeLists.{inserted_here, inserted_other, dropped_here, dropped_other, left_here, left_other}
+use Rattle.laws_server_runs.proofs.RunSteps.{IsAny, IsAnyPair}
 use Rattle.laws_server_runs.proofs.Steps.{stepped_kept}
 
 and_false : (b : Bool) → (b && false) ≡ false
@@ -47,10 +50,10 @@ module _ (texts : ℕ → Bytes) (subject : ℕ) (x : ServerRun) (laid : RunLaid
 
   -- servers that hold no more than they held
   like_was : (servers : List ServerCell) → HoldNoMore x.servers servers → (y : ServerRun) → ((t : ℕ) → y.history t subject ≡ x.history t subject) →
-      (t : ℕ) (c : ServerCell) (q : ServerState) → entry_at servers t ≡ Some c → c.state ≡ Some q → (r : RangeState) → range_of q.ranges subject ≡ Some r → Was texts subject x kept y t r ⊎ IsNew texts subject x kept y t r
+      (t : ℕ) (c : ServerCell) (q : ServerState) → entry_at servers t ≡ Some c → c.state ≡ Some q → (r : RangeState) → range_of q.ranges subject ≡ Some r → Was texts subject x kept y t q r ⊎ IsNew texts subject x kept y t q r
   like_was servers like y same t c q there up r held = elim (like t c q there up) [
-    | inl none ↦ absurd (let z : None ≡ Some r = sym (ap (λ l. range_of l subject) none) ∙ held in cc)
-    | inr old ↦ inl (old.0, old.1, old.2, old.3, sym (ap (λ l. range_of l subject) old.4) ∙ held, same t)
+    | inl none ↦ absurd (let z : None ≡ Some r = sym (ap (λ l. range_of l subject) none.0) ∙ held in cc)
+    | inr old ↦ inl (old.0, old.1, old.2, old.3, sym (ap (λ l. range_of l subject) old.4) ∙ held, same t, ap (λ l. split_of l subject) old.5)
   ]
 
   keeps : (servers : List ServerCell) (packets : List Packet) → HoldNoMore x.servers servers → RunKept texts subject (with_outcome x (record { servers = servers; packets = packets; notes = [] }))
@@ -71,8 +74,8 @@ module _ (texts : ℕ → Bytes) (subject : ℕ) (x : ServerRun) (laid : RunLaid
 
     -- what the servers hold of the range after a turn that is none of the range
     module _ (next : ServerState) (y : ServerRun) (servers_are : y.servers ≡ slice_set x.servers (s - 1) (record cell { state = Some next })) (apart : (t : ℕ) → (t ≡ s → ⊥) → y.history t subject ≡ x.history t subject)
-        (mine : (r : RangeState) → range_of next.ranges subject ≡ Some r → Was texts subject x kept y s r ⊎ IsNew texts subject x kept y s r) where
-      held_by : (t : ℕ) (c : ServerCell) (q : ServerState) → entry_at y.servers t ≡ Some c → c.state ≡ Some q → (r : RangeState) → range_of q.ranges subject ≡ Some r → Was texts subject x kept y t r ⊎ IsNew texts subject x kept y t r
+        (mine : (r : RangeState) → range_of next.ranges subject ≡ Some r → Was texts subject x kept y s next r ⊎ IsNew texts subject x kept y s next r) where
+      held_by : (t : ℕ) (c : ServerCell) (q : ServerState) → entry_at y.servers t ≡ Some c → c.state ≡ Some q → (r : RangeState) → range_of q.ranges subject ≡ Some r → Was texts subject x kept y t q r ⊎ IsNew texts subject x kept y t q r
       held_by t c q there up r held = elim (cases_eq t s) [
         | inl same ↦
             (let both : Some (record cell { state = Some next }) ≡ Some c =
@@ -80,23 +83,24 @@ module _ (texts : ℕ → Bytes) (subject : ℕ) (x : ServerRun) (laid : RunLaid
             let is_cell : record cell { state = Some next } ≡ c = cc in
             let state : Some next ≡ Some q = ap (λ (z : ServerCell). z.state) is_cell ∙ up in
             let e : next ≡ q = cc in
-            subst (λ n. Was texts subject x kept y n r ⊎ IsNew texts subject x kept y n r) (sym same) (mine r (ap (λ (z : ServerState). range_of z.ranges subject) e ∙ held)))
-        | inr other ↦ inl (c, q, sym (entry_other x.servers s cell (record cell { state = Some next }) at t other) ∙ sym (ap (λ l. entry_at l t) servers_are) ∙ there, up, held, apart t other)
+            subst (λ n. Was texts subject x kept y n q r ⊎ IsNew texts subject x kept y n q r) (sym same)
+            (subst (λ z. Was texts subject x kept y s z r ⊎ IsNew texts subject x kept y s z r) e (mine r (ap (λ (z : ServerState). range_of z.ranges subject) e ∙ held))))
+        | inr other ↦ inl (c, q, sym (entry_other x.servers s cell (record cell { state = Some next }) at t other) ∙ sym (ap (λ l. entry_at l t) servers_are) ∙ there, up, held, apart t other, refl)
       ]
 
-    idles : (next : ServerState) (packets : List Packet) → next.ranges ≡ st.ranges → RunKept texts subject (Next Rests (record { after = next; packets = packets; notes = [] }))
-    idles next packets same =
+    idles : (next : ServerState) (packets : List Packet) → next.ranges ≡ st.ranges → next.splits ≡ st.splits → RunKept texts subject (Next Rests (record { after = next; packets = packets; notes = [] }))
+    idles next packets same splits =
         let y : ServerRun = Next Rests (record { after = next; packets = packets; notes = [] }) in
         beside_kept texts subject x kept y (record {
-          holds = held_by next y refl (λ t other. refl) (λ r held. inl (cell, st, at, is, sym (ap (λ l. range_of l subject) same) ∙ held, refl));
+          holds = held_by next y refl (λ t other. refl) (λ r held. inl (cell, st, at, is, sym (ap (λ l. range_of l subject) same) ∙ held, refl, ap (λ l. split_of l subject) splits));
           story = λ kind. refl;
           answered = refl;
           notes = silent;
         })
 
-    opens : (range : ℕ) (d : ServerContext) (generation until : ℕ) (next : ServerState) (packets : List Packet) → next.ranges ≡ insert_entry nat_cmp st.ranges range (new_range d range generation until) →
+    opens : (range : ℕ) (d : ServerContext) (generation until : ℕ) (next : ServerState) (packets : List Packet) → next.ranges ≡ insert_entry nat_cmp st.ranges range (new_range d range generation until) → next.splits ≡ set_split st.splits range None →
         RunKept texts subject (Next (Begins range) (record { after = next; packets = packets; notes = [] }))
-    opens range d generation until next packets new =
+    opens range d generation until next packets new splits =
         beside_kept texts subject x kept y (record {
           holds = held_by next y refl (λ t other. ap (λ b. if b then first_history else x.history t subject) (ap (λ b. b && (subject == range)) (other_test t s other))) mine;
           story = λ kind. refl;
@@ -107,14 +111,21 @@ module _ (texts : ℕ → Bytes) (subject : ℕ) (x : ServerRun) (laid : RunLaid
         y : ServerRun
         y = Next (Begins range) (record { after = next; packets = packets; notes = [] })
 
-        mine : (r : RangeState) → range_of next.ranges subject ≡ Some r → Was texts subject x kept y s r ⊎ IsNew texts subject x kept y s r
+        mine : (r : RangeState) → range_of next.ranges subject ≡ Some r → Was texts subject x kept y s next r ⊎ IsNew texts subject x kept y s next r
         mine r held = elim (cases_eq subject range) [
           | inl same ↦
               (let found : Some (new_range d range generation until) ≡ Some r =
               sym (inserted_here st.ranges range (new_range d range generation until)) ∙ sym (ap (λ l. range_of l range) new) ∙ subst (λ n. range_of next.ranges n ≡ Some r) same held in
               let is_new : new_range d range generation until ≡ r = cc in
               let cleared : ((s == s) && (subject == range)) ≡ true = (λ i. same_test s i && (ap (λ n. n == range) same ∙ same_test range) i) in
-              inr (d, generation, until, sym is_new ∙ ap (λ n. new_range d n generation until) (sym same), ap (λ b. if b then first_history else x.history s subject) cleared))
+              inr (
+                d,
+                generation,
+                until,
+                sym is_new ∙ ap (λ n. new_range d n generation until) (sym same),
+                ap (λ b. if b then first_history else x.history s subject) cleared,
+                ap (λ l. split_of l subject) splits ∙ ap (split_of (set_split st.splits range None)) same ∙ dropped_here st.splits range (laid.splits s cell st at is),
+              ))
           | inr other ↦
               inl (
                 cell,
@@ -123,36 +134,49 @@ module _ (texts : ℕ → Bytes) (subject : ℕ) (x : ServerRun) (laid : RunLaid
                 is,
                 sym (inserted_other st.ranges range (new_range d range generation until) subject other) ∙ sym (ap (λ l. range_of l subject) new) ∙ held,
                 ap (λ b. if b then first_history else x.history s subject) ((λ i. (s == s) && other_test subject range other i) ∙ and_false (s == s)),
+                ap (λ l. split_of l subject) splits ∙ dropped_other st.splits range subject other,
               )
         ]
 
+    -- what a step leaves of the splits
+    split_here : (range : ℕ) (later : Option SplitJob) (after : List (ℕ × SplitJob)) → LeavesSplit st.splits range later after → split_of after range ≡ later
+    split_here range later after (inl (same, is_later)) = ap (λ l. split_of l range) same ∙ is_later
+    split_here range None after (inr e) = ap (λ l. split_of l range) e ∙ dropped_here st.splits range (laid.splits s cell st at is)
+    split_here range (Some job) after (inr e) = ap (λ l. split_of l range) e ∙ inserted_here st.splits range job
+
+    split_other : (range : ℕ) (later : Option SplitJob) (after : List (ℕ × SplitJob)) (k : ℕ) → (k ≡ range → ⊥) → LeavesSplit st.splits range later after → split_of after k ≡ split_of st.splits k
+    split_other range later after k other (inl (same, is_later)) = ap (λ l. split_of l k) same
+    split_other range None after k other (inr e) = ap (λ l. split_of l k) e ∙ dropped_other st.splits range k other
+    split_other range (Some job) after k other (inr e) = ap (λ l. split_of l k) e ∙ inserted_other st.splits range job k other
+
     -- ---- a range acts
 
-    module _ (r : RangeState) (actions : List StreamAction) (o : RangeOutcome) (rule : IsRule r actions o) (next : ServerState) where
+    module _ (r : RangeState) (actions : List StreamAction) (o : RangeOutcome) (later : Option SplitJob) (next : ServerState) (packets : List Packet) where
       abbrev After : ℕ → ServerRun
-      After range = Next (Does range r.load.generation actions) (record { after = next; packets = o.packets; notes = o.notes })
+      After range = Next (Does range r.load.generation actions) (record { after = next; packets = packets; notes = o.notes })
 
-      step_laid : (range : ℕ) → range_of st.ranges range ≡ Some r → StepLaid range (view_at range x s) r.load.generation actions o
-      step_laid range held = rule_laid range (view_at range x s) r (laid.ranges s cell st at is range r held) actions o rule
+      step_laid : (range : ℕ) → range_of st.ranges range ≡ Some r → (job : Option SplitJob) → IsStep IsAnyPair r job actions o later → StepLaid range (view_at range x s) r.load.generation actions o
+      step_laid range held job step = laid_step range (view_at range x s) r (laid.ranges s cell st at is range r held) IsAnyPair job actions o later step
 
       -- the range itself
-      acts_here : range_of st.ranges subject ≡ Some r → next.ranges ≡ set_range st.ranges subject o.after → Kept (After subject)
-      acts_here held left order =
+      acts_here : range_of st.ranges subject ≡ Some r → IsStep IsAnyPair r (split_of st.splits subject) actions o later → next.ranges ≡ set_range st.ranges subject o.after → LeavesSplit st.splits subject later next.splits → Kept (After subject)
+      acts_here held step left splits order =
           let all : InOrder texts (view_at subject (After subject) s) = record { log = order.log; metadata = order.metadata; once = order.once; ends = order.ends; shown = order.shown; answered = order.answered } in
           let here : InOrder texts (view_after_all r.load.generation (view_at subject x s) actions) = subst (λ v. InOrder texts v) (actions_here s subject r.load.generation x actions) all in
           let streams : StreamsKept texts kept.run (view_at subject x s) = streams_same texts kept.run (view_at subject x 0) (view_at subject x s) refl refl kept.streams in
-          let l : StepLaid subject (view_at subject x s) r.load.generation actions o = step_laid subject held in
-          stepped_kept texts subject x kept s cell st at is r held actions o
-          (rule_kept texts subject kept.run (view_at subject x s) r (kept.ranges s cell st at is r held) streams (laid.ranges s cell st at is subject r held).low actions o rule here)
+          let l : StepLaid subject (view_at subject x s) r.load.generation actions o = step_laid subject held (split_of st.splits subject) step in
+          stepped_kept texts subject x kept s cell st at is r held actions o later
+          (step_turn texts subject kept.run (view_at subject x s) r streams (laid.ranges s cell st at is subject r held).low IsAnyPair (split_of st.splits subject) actions o later step (kept.ranges s cell st at is r held) here)
           (λ notes seen. own_notes texts (view_after_all r.load.generation (view_at subject x s) actions).shown subject o.notes notes l.notes seen)
-          next (ap (λ z. range_of z subject) left ∙ left_here st.ranges subject r o.after (laid.ascending s cell st at is) held) o.packets
+          next (ap (λ z. range_of z subject) left ∙ left_here st.ranges subject r o.after (laid.ascending s cell st at is) held) (split_here subject later next.splits splits) packets
 
       -- another range
-      acts_beside : (range : ℕ) → (subject ≡ range → ⊥) → range_of st.ranges range ≡ Some r → next.ranges ≡ set_range st.ranges range o.after → RunKept texts subject (After range)
-      acts_beside range other held left =
+      acts_beside : (range : ℕ) → (subject ≡ range → ⊥) → range_of st.ranges range ≡ Some r → (job : Option SplitJob) → IsStep IsAnyPair r job actions o later → next.ranges ≡ set_range st.ranges range o.after → LeavesSplit st.splits range later next.splits →
+          RunKept texts subject (After range)
+      acts_beside range other held job step left splits =
           beside_kept texts subject x kept (After range) (record {
             holds = held_by next (After range) refl (λ t apart. same_history t)
-                (λ z found. inl (cell, st, at, is, sym (left_other st.ranges range o.after subject other) ∙ sym (ap (λ l. range_of l subject) left) ∙ found, same_history s));
+                (λ z found. inl (cell, st, at, is, sym (left_other st.ranges range o.after subject other) ∙ sym (ap (λ l. range_of l subject) left) ∙ found, same_history s, split_other range later next.splits subject other splits));
             story = λ kind. actions_beside s range r.load.generation (stream_named subject kind) (other_test subject range other) x actions;
             answered = (actions_bytes s range r.load.generation subject other x actions).1;
             notes = told;
@@ -165,27 +189,79 @@ module _ (texts : ℕ → Bytes) (subject : ℕ) (x : ServerRun) (laid : RunLaid
               (before : List Note) × AreSeenAs texts x.notes before × (only subject notes ≡ only subject before)
           told notes seen =
               let b : SeenBoth texts (after_actions s range r.load.generation x actions).notes o.notes notes = seen_both texts (after_actions s range r.load.generation x actions).notes o.notes notes seen in
-              let l : StepLaid range (view_at range x s) r.load.generation actions o = step_laid range held in
+              let l : StepLaid range (view_at range x s) r.load.generation actions o = step_laid range held job step in
               let none : only subject b.later ≡ [] = other_notes texts (view_after_all r.load.generation (view_at range x s) actions).shown range subject other o.notes b.later l.notes b.second_seen in (
                 b.before,
                 subst (λ l. AreSeenAs texts l b.before) (actions_rest s range r.load.generation x actions).1 b.first_seen,
                 ap (only subject) b.is ∙ only_both subject b.before b.later ∙ ap (λ l. only subject b.before ++ l) none ∙ append-nil (only subject b.before),
               )
 
-      acts : (range : ℕ) → range_of st.ranges range ≡ Some r → next.ranges ≡ set_range st.ranges range o.after → Kept (After range)
-      acts range held left order = elim (cases_eq subject range) [
-        | inl same ↦ subst (λ n. range_of st.ranges n ≡ Some r → next.ranges ≡ set_range st.ranges n o.after → Kept (After n)) same acts_here held left order
-        | inr other ↦ acts_beside range other held left
+      acts : (range : ℕ) → range_of st.ranges range ≡ Some r → IsStep IsAnyPair r (split_of st.splits range) actions o later → next.ranges ≡ set_range st.ranges range o.after → LeavesSplit st.splits range later next.splits → Kept (After range)
+      acts range held step left splits order = elim (cases_eq subject range) [
+        | inl same ↦
+            subst (λ n. range_of st.ranges n ≡ Some r → IsStep IsAnyPair r (split_of st.splits n) actions o later → next.ranges ≡ set_range st.ranges n o.after → LeavesSplit st.splits n later next.splits → Kept (After n)) same acts_here
+            held step left splits order
+        | inr other ↦ acts_beside range other held (split_of st.splits range) step left splits
       ]
 
-    turn_kept : (e : RangeEffect) (o : ServerOutcome) → Turn IsAny st e o → Kept (Next e o)
-    turn_kept e o (Idles next packets same) order = idles next packets same
-    turn_kept e o (Opens range assigned d generation until next packets new) order = opens range d generation until next packets new
-    turn_kept e o (Acts range r held actions ro rule next left) order = acts r actions ro rule next range held left order
-    turn_kept e o (Calms range r held ro rule next left) order = acts r [] ro rule next range held left order
+-- ---- the two ranges that a split makes
 
-  -- a step of all
-  pub step_kept : (notes : List TableNote) (y : ServerRun) → RunStep IsAny x notes y → Kept y
-  step_kept notes y (Keeps servers packets like) order = keeps servers packets like
-  step_kept notes y (Passes servers like) order = passes servers like
+module _ (texts : ℕ → Bytes) (subject s g : ℕ) (x : ServerRun) (kept : RunKept texts subject x) (sides : List SideAction) (others : AreOthers subject sides) where
+  abbrev told_run : ServerRun
+  told_run = after_sides s g x sides
+
+  apart : SidesBeside subject x told_run
+  apart = sides_beside s g subject x sides others
+
+  -- a range that is none of them
+  pub sides_kept : RunKept texts subject told_run
+  sides_kept = beside_kept texts subject x kept told_run (record {
+    holds = λ t c q there up r held. inl (c, q, subst (λ l. entry_at l t ≡ Some c) (sides_rest s g x sides).0 there, up, held, apart.history t, refl);
+    story = λ kind. apart.story (stream_named subject kind) refl;
+    answered = apart.answered;
+    notes = λ notes seen. (notes, subst (λ l. AreSeenAs texts l notes) (sides_rest s g x sides).1 seen, refl);
+  })
+
+-- ---- a step of all
+
+module _ (texts : ℕ → Bytes) (subject : ℕ) (x : ServerRun) (laid : RunLaid x) (kept : RunKept texts subject x) (apart : AreApart subject x.servers) where
+  abbrev KeptThen : ServerRun → Type 0
+  KeptThen y = InOrder texts (view_at subject y 0) → RunKept texts subject y
+
+  module _ (s : ℕ) (cell : ServerCell) (st : ServerState) (at : entry_at x.servers s ≡ Some cell) (is : cell.state ≡ Some st) where
+    abbrev Then : RangeEffect → ServerOutcome → ServerRun
+    Then e o = with_outcome (with_effect s x e) (record { servers = slice_set x.servers (s - 1) (record cell { state = Some o.after }); packets = o.packets; notes = o.notes })
+
+    effect_kept : (range : ℕ) (r : RangeState) → range_of st.ranges range ≡ Some r → (job : Option SplitJob) → split_of st.splits range ≡ job → (e : RangeEffect) (o : RangeOutcome) (later : Option SplitJob) → IsEffect IsAnyPair range r job e o later →
+        (next : ServerState) (packets : List Packet) → next.ranges ≡ set_range st.ranges range o.after → LeavesSplit st.splits range later next.splits → KeptThen (Then e (record { after = next; packets = packets; notes = o.notes }))
+    effect_kept range r held job split e o later (Own own actions after left_job step) next packets left splits order =
+        acts texts subject x laid kept s cell st at is r actions o later next packets range held (subst (λ j. IsStep IsAnyPair r j actions o later) (sym split) step) left splits order
+    effect_kept range r held job split e o later (None_done own after left_job step) next packets left splits order =
+        acts texts subject x laid kept s cell st at is r [] o later next packets range held (subst (λ j. IsStep IsAnyPair r j [] o later) (sym split) step) left splits order
+    effect_kept range r held job split e o later (OfOthers splitting d body after left_job step) next packets left splits order =
+        subst (λ servers. KeptThen (with_outcome y (record { servers = slice_set servers (s - 1) (record cell { state = Some next }); packets = packets; notes = o.notes }))) rest
+        (acts texts subject y (sides_laid s splitting.generation x laid sides (sides_append d r splitting body)) (sides_kept texts subject s splitting.generation x kept sides others)
+        s cell st (subst (λ l. entry_at l s ≡ Some cell) (sym rest) at) is r [] o later next packets range held (subst (λ j. IsStep IsAnyPair r j [] o later) (sym split) step) left splits) order
+      where
+        sides : List SideAction
+        sides = split_sides d r splitting body
+
+        others : AreOthers subject sides
+        others = sides_others subject d r splitting body (apart s cell st at is range splitting split)
+
+        y : ServerRun
+        y = after_sides s splitting.generation x sides
+
+        rest : y.servers ≡ x.servers
+        rest = (sides_rest s splitting.generation x sides).0
+
+    turn_kept : (e : RangeEffect) (o : ServerOutcome) → Turn IsAny IsAnyPair st e o → KeptThen (Then e o)
+    turn_kept e o (Idles next packets same splits) order = idles texts subject x laid kept s cell st at is next packets same splits
+    turn_kept e o (Opens range assigned d generation until next packets new splits) order = opens texts subject x laid kept s cell st at is range d generation until next packets new splits
+    turn_kept e o (Acts range r held effect ro later is_effect next packets left splits) order = effect_kept range r held (split_of st.splits range) refl effect ro later is_effect next packets left splits order
+
+  -- whatever comes to servers none of whose splits makes the range
+  pub step_kept : (notes : List TableNote) (y : ServerRun) → RunStep IsAny IsAnyPair x notes y → KeptThen y
+  step_kept notes y (Keeps servers packets like) order = keeps texts subject x laid kept servers packets like
+  step_kept notes y (Passes servers like) order = passes texts subject x laid kept servers like
   step_kept notes y (Turns s cell st at is e o turn) order = turn_kept s cell st at is e o turn order

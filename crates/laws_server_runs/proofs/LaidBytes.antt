@@ -60,7 +60,7 @@ module _ (generation : ℕ) where
   actions_cover v [] place w = w
   actions_cover v (action ∷ earlier) place w = action_covers (view_after_all generation v earlier) action place (actions_cover v earlier place w)
 
-  view_both : (v : RangeView) (xs ys : List StreamAction) → view_after_all generation v (xs ++ ys) ≡ view_after_all generation (view_after_all generation v ys) xs
+  pub view_both : (v : RangeView) (xs ys : List StreamAction) → view_after_all generation v (xs ++ ys) ≡ view_after_all generation (view_after_all generation v ys) xs
   view_both v [] ys = refl
   view_both v (x ∷ xs) ys = ap (λ w. view_after generation w x) (view_both v xs ys)
 

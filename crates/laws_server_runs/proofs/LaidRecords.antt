@@ -45,12 +45,13 @@ use Rattle.laws_tables.specs.Runs.{Run, Serving, first_beginning, record_group, 
 use Rattle.laws_server_runs.specs.CheckpointInvariant.{HoldsPhase, HoldsCheckpoint, HasRecordOut, item_of, parts_of}
 use Rattle.laws_server_runs.specs.NamedIndexes.{NamesSuch}
 use Rattle.laws_server_runs.specs.Places.{IsLaid, AreWithin, PagesWithin, IndexesWithin, placed_of, IndexLaid, TableLaid, JobWithin, RangeLaid, IsQuiet}
-use Rattle.laws_server_runs.specs.RangeInvariant.{groups_read, IsCheckpointRecord, AreCheckpoints, ReadsLog, HasReadAll, PhaseIs, StageIs, RangeKept, StreamsKept, Serves}
+use Rattle.laws_server_runs.specs.RangeInvariant.{groups_read, IsRecord, IsCheckpointRecord, AreCheckpoints, ReadsLog, HasReadAll, PhaseIs, StageIs, RangeKept, StreamsKept, Serves}
 use Rattle.laws_server_runs.proofs.Folding.{IsFoldOf, groups_folded}
 use Rattle.laws_server_runs.proofs.HeldRecords.{record_begun}
 use Rattle.laws_server_runs.proofs.LaidBytes.{Covers, entries_on, pages_on}
 use Rattle.laws_server_runs.proofs.LaidLayers.{within_put, within_filter}
 use Rattle.laws_server_runs.proofs.LoadedLine.{reads_groups, groups_renamed}
+use Rattle.laws_server_runs.proofs.MetadataJobs.{some_out}
 use Rattle.laws_server_runs.proofs.NamedIndexes.{places_of, named_by_load}
 use Rattle.laws_server_runs.proofs.ServedNotes.{serves_of}
 
@@ -59,8 +60,12 @@ use Rattle.laws_server_runs.proofs.ServedNotes.{serves_of}
 record_on : (Old New : Place → Type 0) → ((place : Place) → Old place → New place) → (group : Group) → IsCheckpointRecord Old group → IsCheckpointRecord New group
 record_on Old New on group c = record { number = c.number; combine = c.combine; index = c.index; position = c.position; next = c.next; spells = c.spells; fits = c.fits; holds = on c.index c.holds }
 
+any_record_on : (Old New : Place → Type 0) → ((place : Place) → Old place → New place) → (group : Group) → IsRecord Old group → IsRecord New group
+any_record_on Old New on group (inl c) = inl (record_on Old New on group c)
+any_record_on Old New on group (inr s) = inr s
+
 pub records_on : (Old New : Place → Type 0) → ((place : Place) → Old place → New place) → (story : Story Group) → AreCheckpoints Old story → AreCheckpoints New story
-records_on Old New on story all a g group at = record_on Old New on group (all a g group at)
+records_on Old New on story all a g group at = any_record_on Old New on group (all a g group at)
 
 module _ (texts : ℕ → Bytes) where
   pub index_on : (old new : List PlacedBytes) → Covers old new → (place : Place) → IndexLaid texts old place → IndexLaid texts new place
@@ -176,7 +181,7 @@ module _ (texts : ℕ → Bytes) (subject : ℕ) (run : Run) (v : RangeView) (r 
       spelled : decoded_record group ≡ record_group r.said.next (item_of job index)
       spelled =
           let told : event_at (meta_of run) (v.history.append kinds.Metadata) ≡ Some (Made g (record_group r.said.next (item_of job index))) =
-          record_begun run g (record { append = v.history.append kinds.Metadata; group = record_group r.said.next (item_of job index) }) out.out in
+          record_begun run g (record { append = v.history.append kinds.Metadata; group = record_group r.said.next (item_of job index) }) (some_out v.split holds.record_out _ out.out) in
           let seen : event_at (meta_of run) (v.history.append kinds.Metadata) ≡ Some (Made h (decoded_record group)) =
           ap (λ z. event_at z (v.history.append kinds.Metadata)) streams.metadata ∙ made_at decoded_record (metadata_of v) (v.history.append kinds.Metadata) h group at in
           let both : Some (Made h (decoded_record group)) ≡ Some (Made g (record_group r.said.next (item_of job index))) = sym seen ∙ told in

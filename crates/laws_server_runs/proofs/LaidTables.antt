@@ -14,7 +14,10 @@ use Rattle.model_histories.specs.IndexContents.{entries_in}
 use Rattle.model_partition.specs.Loading.{Group}
 use Rattle.model_partition.specs.Past.{Bytes}
 use Rattle.model_partition.specs.Range.{RangeState, RangeOutcome}
-use Rattle.model_partition.specs.Server.{ServerState, ServerOutcome, range_of, set_range}
+use Rattle.model_partition.specs.Server.{ServerState, ServerOutcome, range_of, set_range, split_of}
+use Rattle.model_partition.specs.declared.split_job.SplitJob.{SplitJob}
+use Rattle.model_partition.specs.Splits.{new_split, split_rule}
+use Rattle.wire.specs.declared.packet.Packet.{Packet}
 use Rattle.model_partition.specs.Servers.{ServerCell}
 use Rattle.model_histories.specs.ServedTables.{AllStand}
 use Rattle.model_histories.specs.Story.{Made, Story, event_at, KeepsOrder}
@@ -25,18 +28,21 @@ use Rattle.laws_loads.specs.RangeView.{RangeView, view_after, view_after_all, me
 use Rattle.laws_tables.proofs.Range.{newest, event_cases}
 use Rattle.laws_server_runs.specs.NamedIndexes.{NamesSuch}
 use Rattle.laws_server_runs.specs.Places.{IsLaid, IndexesWithin, NotesWithin, placed_of, bytes_of, IndexLaid, TableLaid, TablesWithin, RangeLaid, IsRecording, FormsRecords, Quiet, OfRecord, IsConfirmed, TablesAre, RuleLaid, RunLaid}
-use Rattle.laws_server_runs.specs.RangeInvariant.{IsCheckpointRecord, AreCheckpoints, RangeKept, StreamsKept}
-use Rattle.laws_server_runs.specs.RunInvariant.{view_at, RunKept}
-use Rattle.laws_server_runs.specs.Turns.{IsRule, Turn, Idles, Opens, Acts, Calms, RunStep, Keeps, Passes, Turns}
+use Rattle.laws_server_runs.specs.RangeInvariant.{IsCheckpointRecord, AreCheckpoints, StreamsKept}
+use Rattle.laws_server_runs.specs.RunInvariant.{view_at, with_stage, HeldKept, RunKept}
+use Rattle.laws_server_runs.specs.Turns.{of_split, IsStep, Alone, BeginsSplit, Drops, Follows, Leaves, Holds, Hears, IsEffect, Own, None_done, OfOthers, Turn, Idles, Opens, Acts, RunStep, Keeps, Passes, Turns}
 use Rattle.laws_server_runs.proofs.Actions.{other_test, actions_here, actions_beside, actions_longer}
 use Rattle.laws_server_runs.proofs.HeldRecords.{named_by_server}
 use Rattle.laws_server_runs.proofs.LaidBytes.{Covers, entries_on, laid_on, pages_on}
 use Rattle.laws_server_runs.proofs.LaidLayers.{laid_front}
 use Rattle.laws_server_runs.proofs.LaidRecords.{records_on, index_on, quiet_made, serves_checkpoint, record_laid, confirmed_laid}
-use Rattle.laws_server_runs.proofs.LaidRuns.{rule_left, run_covers}
+use Rattle.laws_server_runs.proofs.LaidRuns.{run_covers}
+use Rattle.laws_server_runs.proofs.LaidRules.{rule_left}
+use Rattle.laws_server_runs.proofs.LaidSplits.{laid_reads, laid_step}
 use Rattle.laws_server_runs.proofs.Others.{streams_same}
 use Rattle.laws_server_runs.proofs.RangeLists.{left_here}
-use Rattle.laws_server_runs.proofs.RunSteps.{IsAny}
+use Rattle.laws_server_runs.proofs.RunSteps.{IsAny, IsAnyPair}
+use Rattle.laws_server_runs.proofs.Unsplit.{HaveNoSplits}
 use Rattle.laws_server_runs.proofs.ServedNotes.{serves_of}
 
 -- ---- more bytes
@@ -96,13 +102,13 @@ module _ (texts : ℕ → Bytes) where
       abbrev Next : RangeEffect → ServerOutcome → ServerRun
       Next e o = with_outcome (with_effect s x e) (record { servers = slice_set x.servers (s - 1) (record cell { state = Some o.after }); packets = o.packets; notes = o.notes })
 
-      module _ (range : ℕ) (r : RangeState) (held : range_of st.ranges range ≡ Some r) (actions : List StreamAction) (o : RangeOutcome) (rule : IsRule r actions o) (next : ServerState)
+      module _ (range : ℕ) (r : RangeState) (held : range_of st.ranges range ≡ Some r) (actions : List StreamAction) (o : RangeOutcome) (ruled : RuleLaid range (view_at range x s) r actions o) (next : ServerState) (packets : List Packet)
           (left : next.ranges ≡ set_range st.ranges range o.after) where
         abbrev g : ℕ
         g = r.load.generation
 
         abbrev y : ServerRun
-        y = Next (Does range g actions) (record { after = next; packets = o.packets; notes = o.notes })
+        y = Next (Does range g actions) (record { after = next; packets = packets; notes = o.notes })
 
         abbrev v : RangeView
         v = view_at range x s
@@ -115,9 +121,6 @@ module _ (texts : ℕ → Bytes) where
 
         bytes : (k : ℕ) → Covers (bytes_of x k) (bytes_of y k)
         bytes k = run_covers x (after_actions s range g x actions) (actions_longer s range g x actions) k
-
-        ruled : RuleLaid range v r actions o
-        ruled = rule_left range v r (laid.ranges s cell st at is range r held) actions o rule
 
         -- what the server has then
         there : entry_at y.servers s ≡ Some (record cell { state = Some next })
@@ -142,20 +145,22 @@ module _ (texts : ℕ → Bytes) where
           names_before : (job : CheckpointState) → r.control ≡ Some job → NamesSuch Now r.said
           names_before job under_way =
               let kept : RunKept texts range x = premises.kept in
-              let mine : RangeKept texts range kept.run v r = kept.ranges s cell st at is r held in
-              named_by_server Now texts kept.run v r (streams_same texts kept.run (view_at range x 0) v refl refl kept.streams) premises.order before
-              (serves_of texts range kept.run v r (serves_checkpoint texts kept.run v r job under_way r.stage mine.stage) mine)
+              let mine : HeldKept texts range kept.run v r (split_of st.splits range) = kept.ranges s cell st at is r held in
+              let u : RangeView = with_stage v mine.split in
+              named_by_server Now texts kept.run u r (streams_same texts kept.run (view_at range x 0) u refl refl kept.streams) premises.order before
+              (serves_of texts range kept.run u r (serves_checkpoint texts kept.run u r job under_way r.stage mine.range.stage) mine.range)
 
           record_now : (group : Group) (earlier : List StreamAction) → actions ≡ Forms kinds.Metadata group ∷ earlier → (a : Option RangeState) → o.after ≡ a → IsRecording r a → IsCheckpointRecord Now group
           record_now group earlier done None e none = absurd none
           record_now group earlier done (Some z) e sends =
               let mine : range_of next.ranges range ≡ Some z = found ∙ e in
-              let now : RangeKept texts range kept_now.run w z = kept_now.ranges s (record cell { state = Some next }) next there refl z mine in
-              let laid : RangeLaid range w z = laid_now.ranges s (record cell { state = Some next }) next there refl range z mine in
-              let streams : StreamsKept texts kept_now.run w = streams_same texts kept_now.run (view_at range y 0) w refl refl kept_now.streams in
+              let now : HeldKept texts range kept_now.run w z (split_of next.splits range) = kept_now.ranges s (record cell { state = Some next }) next there refl z mine in
+              let v_now : RangeView = with_stage w now.split in
+              let laid : RangeLaid range v_now z = laid_reads range w v_now z refl (λ place within. within) (laid_now.ranges s (record cell { state = Some next }) next there refl range z mine) in
+              let streams : StreamsKept texts kept_now.run v_now = streams_same texts kept_now.run (view_at range y 0) v_now refl refl kept_now.streams in
               let same : w ≡ view_after g (view_after_all g v earlier) (Forms kinds.Metadata group) = here ∙ ap (view_after_all g v) done in
               let names : NamesSuch Now z.said = subst (NamesSuch Now) (sym sends.said) (names_before sends.before sends.under_way) in
-              record_laid texts range kept_now.run w z now laid streams premises.answered names sends.job sends.index sends.control sends.phase g group
+              record_laid texts range kept_now.run v_now z now.range laid streams premises.answered names sends.job sends.index sends.control sends.phase g group
               (subst (λ (u : RangeView). event_at (metadata_of u) (u.history.append kinds.Metadata) ≡ Some (Made g group)) (sym same)
               (newest Group (Made g group) (metadata_of (view_after_all g v earlier))))
 
@@ -166,7 +171,7 @@ module _ (texts : ℕ → Bytes) where
                 | inl new ↦
                     (let made : Made g group ≡ Made h other = new.1 in
                     let same : group ≡ other = cc in
-                    subst (IsCheckpointRecord Now) same (record_now group earlier e o.after refl recording))
+                    inl (subst (IsCheckpointRecord Now) same (record_now group earlier e o.after refl recording)))
                 | inr old ↦ before a h other (quiet_made g v earlier quiet a h other old)
               ]
 
@@ -182,7 +187,7 @@ module _ (texts : ℕ → Bytes) where
               let u : RangeView = view_after g v (Shows c.start c.log_end c.metadata_end) in
               let shown : IsLaid u.shown table.live = subst (λ (done : List StreamAction). IsLaid (view_after_all g v done).shown table.live) c.shows live in
               subst (λ (z : RangeView). TableLaid texts (placed_of z) table) (sym same)
-              (confirmed_laid texts range kept.run v r (kept.ranges s cell st at is r held) c.start c.log_end c.metadata_end
+              (confirmed_laid texts range kept.run (with_stage v (kept.ranges s cell st at is r held).split) r (kept.ranges s cell st at is r held).range c.start c.log_end c.metadata_end
               (subst (λ (z : RangeView). KeepsOrder (metadata_of z)) same order) (subst (λ (z : RangeView). AreCheckpoints (IndexLaid texts (placed_of z)) (metadata_of z)) same all)
               c.request c.phase table c.indexes (laid_front u.answered u.shown table.live shown))
 
@@ -198,28 +203,66 @@ module _ (texts : ℕ → Bytes) where
           | inr other ↦ records_later x y k (actions_beside s range g (metadata_name k) (other_test k range other) x actions) (bytes k) all
         ]
 
-      turn_records : (e : RangeEffect) (o : ServerOutcome) → Turn IsAny st e o → RunLaid (Next e o) → (k : ℕ) → StepPremises x (Next e o) k → RecordsLaid x k → RecordsLaid (Next e o) k
-      turn_records e o (Idles next packets same) laid_now k premises all = all
-      turn_records e o (Opens range assigned d generation until next packets new) laid_now k premises all = all
-      turn_records e o (Acts range r held actions ro rule next left) laid_now k premises all = any_records range r held actions ro rule next left laid_now k premises all
-      turn_records e o (Calms range r held ro rule next left) laid_now k premises all = any_records range r held [] ro rule next left laid_now k premises all
+      -- a range that is not split
+      ruled_by : (range : ℕ) (r : RangeState) → range_of st.ranges range ≡ Some r → (job : Option SplitJob) → job ≡ None → (actions : List StreamAction) (o : RangeOutcome) (later : Option SplitJob) → IsStep IsAnyPair r job actions o later →
+          RuleLaid range (view_at range x s) r actions o
+      ruled_by range r held job none actions o later (Alone own_actions own rule) = rule_left range (view_at range x s) r (laid.ranges s cell st at is range r held) own_actions own rule
+      ruled_by range r held job none actions o later (BeginsSplit d key may free) = record {
+        step = laid_step range (view_at range x s) r (laid.ranges s cell st at is range r held) IsAnyPair None [] (of_split (split_rule d r key)) (Some (new_split d r key)) (BeginsSplit d key may free);
+        forms = Quiet [] tt;
+        tables = tt;
+      }
+      ruled_by range r held job none actions o later (Drops split own_actions own rule calm gone) = absurd cc
+      ruled_by range r held job none actions o later (Follows split own_actions own rule calm room d counts next left) = absurd cc
+      ruled_by range r held job none actions o later (Leaves split c d next left) = absurd cc
+      ruled_by range r held job none actions o later (Holds split until count) = absurd cc
+      ruled_by range r held job none actions o later (Hears split d body numbered) = absurd cc
 
-      turn_tables : (e : RangeEffect) (o : ServerOutcome) → Turn IsAny st e o → ((k : ℕ) → RunKept texts k x) → ((k : ℕ) → KeepsOrder ((Next e o).story (metadata_name k))) → ((k : ℕ) → RecordsLaid (Next e o) k) →
-          TablesWithin texts (bytes_of (Next e o)) o.notes
-      turn_tables e o (Idles next packets same) kept order all = tt
-      turn_tables e o (Opens range assigned d generation until next packets new) kept order all = tt
-      turn_tables e o (Acts range r held actions ro rule next left) kept order all = acts_tables range r held actions ro rule next left (kept range) (order range) (all range)
-      turn_tables e o (Calms range r held ro rule next left) kept order all = acts_tables range r held [] ro rule next left (kept range) (order range) (all range)
+      module _ (unsplit : st.splits ≡ []) where
+        none_of : (range : ℕ) → split_of st.splits range ≡ None
+        none_of range = ap (λ l. split_of l range) unsplit
 
-    -- ---- a step of all
+        effect_records : (range : ℕ) (r : RangeState) (held : range_of st.ranges range ≡ Some r) (job : Option SplitJob) → job ≡ None → (e : RangeEffect) (o : RangeOutcome) (later : Option SplitJob) → IsEffect IsAnyPair range r job e o later →
+            (next : ServerState) (packets : List Packet) → next.ranges ≡ set_range st.ranges range o.after → RunLaid (Next e (record { after = next; packets = packets; notes = o.notes })) →
+            (k : ℕ) → StepPremises x (Next e (record { after = next; packets = packets; notes = o.notes })) k → RecordsLaid x k → RecordsLaid (Next e (record { after = next; packets = packets; notes = o.notes })) k
+        effect_records range r held job none e o later (Own own actions after left_job step) next packets left laid_now k premises all =
+            any_records range r held actions o (ruled_by range r held job none actions o later step) next packets left laid_now k premises all
+        effect_records range r held job none e o later (None_done own after left_job step) next packets left laid_now k premises all =
+            any_records range r held [] o (ruled_by range r held job none [] o later step) next packets left laid_now k premises all
+        effect_records range r held job none e o later (OfOthers split d body after left_job step) next packets left laid_now k premises all = absurd cc
 
-    pub step_records : (notes : List TableNote) (y : ServerRun) → RunStep IsAny x notes y → RunLaid y → (k : ℕ) → StepPremises x y k → RecordsLaid x k → RecordsLaid y k
-    step_records notes y (Keeps servers packets like) laid_now k premises all = all
-    step_records notes y (Passes servers like) laid_now k premises all = all
-    step_records notes y (Turns s cell st at is e o turn) laid_now k premises all = turn_records s cell st at is e o turn laid_now k premises all
+        effect_tables : (range : ℕ) (r : RangeState) (held : range_of st.ranges range ≡ Some r) (job : Option SplitJob) → job ≡ None → (e : RangeEffect) (o : RangeOutcome) (later : Option SplitJob) → IsEffect IsAnyPair range r job e o later →
+            (next : ServerState) (packets : List Packet) → next.ranges ≡ set_range st.ranges range o.after → RunKept texts range x → KeepsOrder ((Next e (record { after = next; packets = packets; notes = o.notes })).story (metadata_name range)) →
+            RecordsLaid (Next e (record { after = next; packets = packets; notes = o.notes })) range → TablesWithin texts (bytes_of (Next e (record { after = next; packets = packets; notes = o.notes }))) o.notes
+        effect_tables range r held job none e o later (Own own actions after left_job step) next packets left kept order all =
+            acts_tables range r held actions o (ruled_by range r held job none actions o later step) next packets left kept order all
+        effect_tables range r held job none e o later (None_done own after left_job step) next packets left kept order all =
+            acts_tables range r held [] o (ruled_by range r held job none [] o later step) next packets left kept order all
+        effect_tables range r held job none e o later (OfOthers split d body after left_job step) next packets left kept order all = absurd cc
 
-    pub step_tables : (notes : List TableNote) (y : ServerRun) → RunStep IsAny x notes y → ((k : ℕ) → RunKept texts k x) → ((k : ℕ) → KeepsOrder (y.story (metadata_name k))) → ((k : ℕ) → RecordsLaid y k) →
-        TablesWithin texts (bytes_of y) notes
-    step_tables notes y (Keeps servers packets like) kept order all = tt
-    step_tables notes y (Passes servers like) kept order all = tt
-    step_tables notes y (Turns s cell st at is e o turn) kept order all = turn_tables s cell st at is e o turn kept order all
+        turn_records : (e : RangeEffect) (o : ServerOutcome) → Turn IsAny IsAnyPair st e o → RunLaid (Next e o) → (k : ℕ) → StepPremises x (Next e o) k → RecordsLaid x k → RecordsLaid (Next e o) k
+        turn_records e o (Idles next packets same splits) laid_now k premises all = all
+        turn_records e o (Opens range assigned d generation until next packets new splits) laid_now k premises all = all
+        turn_records e o (Acts range r held effect ro later is_effect next packets left splits) laid_now k premises all =
+            effect_records range r held (split_of st.splits range) (none_of range) effect ro later is_effect next packets left laid_now k premises all
+
+        turn_tables : (e : RangeEffect) (o : ServerOutcome) → Turn IsAny IsAnyPair st e o → ((k : ℕ) → RunKept texts k x) → ((k : ℕ) → KeepsOrder ((Next e o).story (metadata_name k))) → ((k : ℕ) → RecordsLaid (Next e o) k) →
+            TablesWithin texts (bytes_of (Next e o)) o.notes
+        turn_tables e o (Idles next packets same splits) kept order all = tt
+        turn_tables e o (Opens range assigned d generation until next packets new splits) kept order all = tt
+        turn_tables e o (Acts range r held effect ro later is_effect next packets left splits) kept order all =
+            effect_tables range r held (split_of st.splits range) (none_of range) effect ro later is_effect next packets left (kept range) (order range) (all range)
+
+    -- ---- a step of all, where no server has a split
+
+    module _ (unsplit : HaveNoSplits x.servers) where
+      pub step_records : (notes : List TableNote) (y : ServerRun) → RunStep IsAny IsAnyPair x notes y → RunLaid y → (k : ℕ) → StepPremises x y k → RecordsLaid x k → RecordsLaid y k
+      step_records notes y (Keeps servers packets like) laid_now k premises all = all
+      step_records notes y (Passes servers like) laid_now k premises all = all
+      step_records notes y (Turns s cell st at is e o turn) laid_now k premises all = turn_records s cell st at is (unsplit s cell at st is) e o turn laid_now k premises all
+
+      pub step_tables : (notes : List TableNote) (y : ServerRun) → RunStep IsAny IsAnyPair x notes y → ((k : ℕ) → RunKept texts k x) → ((k : ℕ) → KeepsOrder (y.story (metadata_name k))) → ((k : ℕ) → RecordsLaid y k) →
+          TablesWithin texts (bytes_of y) notes
+      step_tables notes y (Keeps servers packets like) kept order all = tt
+      step_tables notes y (Passes servers like) kept order all = tt
+      step_tables notes y (Turns s cell st at is e o turn) kept order all = turn_tables s cell st at is (unsplit s cell at st is) e o turn kept order all

@@ -12,6 +12,10 @@ pub mod Replaying
 mod HeldCheckpoints
 mod LoadedRecords
 mod RowAppends
+mod MetadataJobs
+pub mod ServingStays
+pub mod SplitMore
+pub mod SplitTurns
 mod IndexOrder
 mod SeenTables
 mod IndexRead
@@ -39,6 +43,7 @@ pub mod ServedForms
 pub mod ServedStands
 pub mod Served
 pub mod Rules
+pub mod Apart
 pub mod Theorem
 pub mod Worked
 pub mod Unconfirmed
@@ -59,6 +64,9 @@ pub mod Unsplit
 pub mod RunSteps
 pub mod Actions
 pub mod LaidRuns
+mod LaidRules
+mod LaidSplits
+mod SideActions
 mod HeldRecords
 mod LaidRecords
 mod LaidTables
@@ -70,4 +78,5 @@ pub mod FirstAlone
 pub mod Folding
 pub mod OneRegion
 pub mod WorkedRanges
+pub mod WorkedSplits
 pub mod CheckpointActions

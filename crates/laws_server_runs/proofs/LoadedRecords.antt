@@ -1,11 +1,11 @@
 -- What a load shows of metadata whose records are those of checkpoints: one region without end, and all keys.
-use Rattle.std.proofs.Common.{◌≡◌, ℕ, zero, suc, ◌-◌, Bool, List, [], ◌∷◌, ◌++◌, map, drop, Some, nat_lt, refl, sym, ap, ◌∙◌, subst}
+use Rattle.std.proofs.Common.{◌≡◌, ◌⊎◌, ⊎_elim, inl, inr, ℕ, zero, suc, ◌-◌, Bool, List, [], ◌∷◌, ◌++◌, map, drop, Some, nat_lt, refl, sym, ap, ◌∙◌, subst}
 use Rattle.std.specs.Prelude.{Contains}
 use Rattle.std.specs.List.{AllByRecursion}
 use Rattle.streams.specs.declared.table.Position.{Position}
 use Rattle.memtable.specs.declared.cell.Place.{Place}
 use Rattle.metadata.specs.declared.record.MetaItem.{MetaItem}
-use Rattle.metadata.specs.declared.record.MetaItem.TheVariants.{Checkpoint}
+use Rattle.metadata.specs.declared.record.MetaItem.TheVariants.{SplitStatus, Checkpoint}
 use Rattle.metadata.specs.Fold.{MetadataState, taken}
 use Rattle.metadata.specs.Record.{IsPosition}
 use Rattle.commitlog.specs.Replay.{Numbered, next_of}
@@ -16,7 +16,7 @@ use Rattle.model_histories.specs.Log.{line_shown}
 use Rattle.model_histories.specs.Renaming.{renamed_placed, decoded_record}
 use Rattle.model_histories.specs.Story.{Placed, Showed, Story, event_at, Copy, placed, from_place, KeepsOrder}
 use Rattle.laws_tables.specs.Runs.{fold_of}
-use Rattle.laws_server_runs.specs.RangeInvariant.{IsCheckpointRecord, AreCheckpoints}
+use Rattle.laws_server_runs.specs.RangeInvariant.{IsRecord, AreCheckpoints}
 use Rattle.laws_server_runs.proofs.OneRegion.{KeepsOneRegion, AllKeepOneRegion}
 use Rattle.laws_server_runs.proofs.Order.{first_there, later_there}
 
@@ -34,8 +34,15 @@ module _ (Holds : Place → Type 0) where
     pub fits : IsPosition position
     pub holds : Holds index
 
+  -- that of a split's record
+  pub record IsOfSplit (item : MetaItem) : Type 0 where
+    pub low : ℕ
+    pub high : ℕ
+    pub key : List ℕ
+    pub is : item ≡ SplitStatus low high key
+
   abbrev pub AreOfCheckpoints : List MetaItem → Type 0
-  AreOfCheckpoints items = AllByRecursion IsOfCheckpoint items
+  AreOfCheckpoints items = AllByRecursion (λ item. IsOfCheckpoint item ⊎ IsOfSplit item) items
 
   left_of : (n : ℕ) (items : List MetaItem) → AreOfCheckpoints items → AreOfCheckpoints (drop n items)
   left_of zero items all = all
@@ -58,25 +65,28 @@ module _ (Holds : Place → Type 0) where
 
   pub checkpoints_keep : (items : List MetaItem) (m : MetadataState) → AreOfCheckpoints items → AllKeepOneRegion m items
   checkpoints_keep [] m all = tt
-  checkpoints_keep (item ∷ items) m all = (subst (KeepsOneRegion m) (sym all.0.is) all.0.fits, checkpoints_keep items (taken m item) all.1)
+  checkpoints_keep (item ∷ items) m all =
+      (⊎_elim {C = KeepsOneRegion m item} (λ c. subst (KeepsOneRegion m) (sym c.is) c.fits) (λ s. subst (KeepsOneRegion m) (sym s.is) tt) all.0, checkpoints_keep items (taken m item) all.1)
 
   pub keys_stay : (items : List MetaItem) (m : MetadataState) → AreOfCheckpoints items → (fold_of m items).keys ≡ m.keys
   keys_stay [] m all = refl
-  keys_stay (item ∷ items) m all = keys_stay items (taken m item) all.1 ∙ ap (λ i. (taken m i).keys) all.0.is
+  keys_stay (item ∷ items) m all =
+      keys_stay items (taken m item) all.1 ∙ ⊎_elim {C = (taken m item).keys ≡ m.keys} (λ c. ap (λ i. (taken m i).keys) c.is) (λ s. ap (λ i. (taken m i).keys) s.is) all.0
 
   -- ---- what a load shows
 
-  pub item_there : (group : Group) → IsCheckpointRecord Holds group → AreOfCheckpoints (decoded_record group).items
-  item_there group r = subst (λ (n : Numbered MetaItem). AreOfCheckpoints n.items) (sym r.spells) (record { combine = r.combine; index = r.index; position = r.position; next = r.next; is = refl; fits = r.fits; holds = r.holds }, tt)
+  pub item_there : (group : Group) → IsRecord Holds group → AreOfCheckpoints (decoded_record group).items
+  item_there group (inr r) = subst (λ (n : Numbered MetaItem). AreOfCheckpoints n.items) (sym r.spells) (inr (record { low = r.low; high = r.high; key = r.key; is = refl }), tt)
+  item_there group (inl r) = subst (λ (n : Numbered MetaItem). AreOfCheckpoints n.items) (sym r.spells) (inl (record { combine = r.combine; index = r.index; position = r.position; next = r.next; is = refl; fits = r.fits; holds = r.holds }), tt)
 
   abbrev Shown : List (Copy Group) → Type 0
   Shown cs = GroupsOf (map (λ p. p.group) (map (renamed_placed decoded_record) (map placed cs)))
 
-  all_shown : (cs : List (Copy Group)) → ((c : Copy Group) → Contains cs c → IsCheckpointRecord Holds c.group) → Shown cs
+  all_shown : (cs : List (Copy Group)) → ((c : Copy Group) → Contains cs c → IsRecord Holds c.group) → Shown cs
   all_shown [] all = tt
   all_shown (c ∷ cs) all = (item_there c.group (all c (first_there c cs)), all_shown cs (λ d there. all d (later_there c d cs there)))
 
-  from_shown : (start : ℕ) (cs : List (Copy Group)) → ((c : Copy Group) → Contains cs c → IsCheckpointRecord Holds c.group) → Shown (from_place start cs)
+  from_shown : (start : ℕ) (cs : List (Copy Group)) → ((c : Copy Group) → Contains cs c → IsRecord Holds c.group) → Shown (from_place start cs)
   from_shown start [] all = tt
   from_shown start (c ∷ cs) all =
       if_elim Shown (nat_lt c.from start) (from_place start cs) (c ∷ cs) (λ t. from_shown start cs (λ d there. all d (later_there c d cs there))) (λ f. all_shown (c ∷ cs) all)

@@ -1,5 +1,5 @@
 -- What is kept of a range through the rules that show nothing: a Get, giving up, and a load up to its confirmation.
-use Rattle.std.proofs.Common.{◌≡◌, ◌≤◌, ℕ, List, [], ◌∷◌, ◌++◌, Option, Some, None, option_map, ◌∙◌, refl, sym, ap, subst, inl}
+use Rattle.std.proofs.Common.{◌≡◌, ◌≤◌, ℕ, true, List, [], ◌∷◌, ◌++◌, Option, Some, None, option_map, ◌∙◌, refl, sym, ap, subst, inl}
 use Rattle.std.proofs.lemmas.List.{append-nil}
 use Rattle.wire.specs.declared.actor.ActorId.{ActorId}
 use Rattle.wire.specs.declared.actor.ReqNo.{ReqNo}
@@ -17,7 +17,7 @@ use Rattle.model_partition.specs.declared.stage.Stage.TheVariants as stages
 use Rattle.model_partition.specs.declared.waiting.PlaceRead.{PlaceRead}
 use Rattle.model_partition.specs.declared.waiting.WaitingGet.{WaitingGet}
 use Rattle.model_partition.specs.Past.{Bytes}
-use Rattle.model_partition.specs.Range.{RangeState, RangeOutcome, request, used, picking, dropped}
+use Rattle.model_partition.specs.Range.{RangeState, RangeOutcome, request, used, picking, dropped, is_serving}
 use Rattle.model_partition.specs.Getting.{get_fault, gets, get_rule, standing}
 use Rattle.model_partition.specs.Answering.{give_up_all}
 use Rattle.model_partition.specs.Server.{new_range}
@@ -30,7 +30,8 @@ use Rattle.laws_tables.specs.Runs.{Run, Serving, first_beginning, held as held_b
 use Rattle.model_partition.specs.CheckpointStates.{CheckpointState}
 use Rattle.laws_checkpoints.specs.ShownTables.{HoldsBytes}
 use Rattle.laws_server_runs.proofs.HeldBytes.{holds_used}
-use Rattle.laws_server_runs.specs.CheckpointInvariant.{AppendsRows, ReadsNext}
+use Rattle.laws_server_runs.specs.CheckpointInvariant.{AppendsRows, AppendsMetadata, ReadsNext}
+use Rattle.laws_server_runs.proofs.MetadataJobs.{metadata_gives_up}
 use Rattle.laws_server_runs.proofs.RowAppends.{idle_gives_up, give_up_appends, base_given_up}
 use Rattle.model_partition.specs.PlaceReads.{moved_on}
 use Rattle.laws_server_runs.specs.RangeInvariant.{ReadsMetadata, ReadsLog, Matches, StageIs, RangeKept, StreamsKept, AreObserved, Rests, KeptIf, ServesAnew, StepKept}
@@ -38,7 +39,7 @@ use Rattle.laws_server_runs.specs.RangeInvariant.{ReadsMetadata, ReadsLog, Match
 -- ---- the same range, but for what nothing is kept of
 
 module _ (texts : ℕ → Bytes) (subject : ℕ) (run : Run) (v : RangeView) (r : RangeState) (until : ℕ) (metadata log : ClientState) (rows : ClientState) (blob_data : StreamList) (reading : Option PlaceRead) (gets : List WaitingGet) (held : List (Place × List ℕ))
-    (metadata_idle : r.metadata.job ≡ jobs.Idle → metadata.job ≡ jobs.Idle) (log_idle : r.log.job ≡ jobs.Idle → log.job ≡ jobs.Idle)
+    (metadata_idle : r.metadata.job ≡ jobs.Idle → metadata.job ≡ jobs.Idle) (metadata_on : is_serving r.stage ≡ true → AppendsMetadata r.metadata.job v.split r.control → AppendsMetadata metadata.job v.split r.control) (log_idle : r.log.job ≡ jobs.Idle → log.job ≡ jobs.Idle)
     (log_base : log.base ≡ r.log.base) (rows_same : (control : Option CheckpointState) → AppendsRows r.rows control → AppendsRows rows control) (reading_same : (read : PlaceRead) → r.reading ≡ Some read → (z : PlaceRead) × (reading ≡ Some z) × (z.place ≡ read.place))
     (reading_was : (read : PlaceRead) → reading ≡ Some read → (z : PlaceRead) × (r.reading ≡ Some z) × (read.place ≡ z.place)) (held_same : HoldsBytes texts r.held → HoldsBytes texts held) where
   abbrev other : RangeState
@@ -57,8 +58,8 @@ module _ (texts : ℕ → Bytes) (subject : ℕ) (run : Run) (v : RangeView) (r 
       let old : (z : PlaceRead) × (r.reading ≡ Some z) × (read.place ≡ z.place) = reading_was read out in
       old.2 ∙ next old.0 place old.1 first
 
-  matches_same : (s : Serving) → Matches texts v s r → Matches texts v s other
-  matches_same s m = record {
+  matches_same : is_serving r.stage ≡ true → (s : Serving) → Matches texts v s r → Matches texts v s other
+  matches_same serves s m = record {
     position = m.position;
     next = m.next;
     out = m.out;
@@ -70,31 +71,33 @@ module _ (texts : ℕ → Bytes) (subject : ℕ) (run : Run) (v : RangeView) (r 
     named = m.named;
     rows = rows_same r.control m.rows;
     reads = next_same r.control m.reads;
+    beside = m.beside;
+    metadata = metadata_on serves m.metadata;
   }
 
-  stage_same : (stage : Stage) → StageIs texts run v r stage → StageIs texts run v other stage
-  stage_same stages.Opening h = record { metadata = h.metadata; log = h.log; live = h.live; fixed = h.fixed; none = h.none; indexes = h.indexes; rows = rows_same None h.rows }
-  stage_same (stages.Checking kinds.Metadata) h = metadata_same h
-  stage_same (stages.Checking kinds.Log) h = (log_same h.0, h.1)
-  stage_same (stages.Checking kinds.RowData) h = h
-  stage_same (stages.Checking kinds.BlobData) h = h
-  stage_same (stages.Reading kinds.Metadata position) h = metadata_same h
-  stage_same (stages.Reading kinds.Log position) h = (log_same h.0, h.1)
-  stage_same (stages.Reading kinds.RowData position) h = h
-  stage_same (stages.Reading kinds.BlobData position) h = h
-  stage_same (stages.Indexing position) h =
+  stage_same : (stage : Stage) → r.stage ≡ stage → StageIs texts run v r stage → StageIs texts run v other stage
+  stage_same stages.Opening e h = record { metadata = h.metadata; log = h.log; live = h.live; fixed = h.fixed; none = h.none; indexes = h.indexes; rows = rows_same None h.rows }
+  stage_same (stages.Checking kinds.Metadata) e h = metadata_same h
+  stage_same (stages.Checking kinds.Log) e h = (log_same h.0, h.1)
+  stage_same (stages.Checking kinds.RowData) e h = h
+  stage_same (stages.Checking kinds.BlobData) e h = h
+  stage_same (stages.Reading kinds.Metadata position) e h = metadata_same h
+  stage_same (stages.Reading kinds.Log position) e h = (log_same h.0, h.1)
+  stage_same (stages.Reading kinds.RowData position) e h = h
+  stage_same (stages.Reading kinds.BlobData position) e h = h
+  stage_same (stages.Indexing position) e h =
       let z : (z : PlaceRead) × (reading ≡ Some z) × (z.place ≡ h.1.read.place) = reading_same h.1.read h.1.out in
       (record { log = log_same h.0.log; installed = h.0.installed }, record { read = z.0; named = h.1.named; out = z.1; next = h.1.next; place = z.2 ∙ h.1.place })
-  stage_same stages.Confirming h = record { log = log_same h.log; installed = h.installed }
-  stage_same stages.Serving h = record { shown = h.shown; matches = matches_same (held_by first_beginning run r.load.generation) h.matches }
+  stage_same stages.Confirming e h = record { log = log_same h.log; installed = h.installed }
+  stage_same stages.Serving e h = record { shown = h.shown; matches = matches_same (ap is_serving e) (held_by first_beginning run r.load.generation) h.matches }
 
   -- the end of the lease, what the clients know, the other streams and the Gets may be others
   pub same_kept : RangeKept texts subject run v r → RangeKept texts subject run v other
-  same_kept kept = record { range = kept.range; phase = kept.phase; sound = kept.sound; stage = stage_same r.stage kept.stage; held = held_same kept.held }
+  same_kept kept = record { range = kept.range; phase = kept.phase; sound = kept.sound; stage = stage_same r.stage refl kept.stage; held = held_same kept.held }
 
 -- the lease of a range is renewed
 pub renewed_kept : (texts : ℕ → Bytes) (subject : ℕ) (run : Run) (v : RangeView) (r : RangeState) → RangeKept texts subject run v r → (until : ℕ) → RangeKept texts subject run v (record r { until = until })
-renewed_kept texts subject run v r kept until = same_kept texts subject run v r until r.metadata r.log r.rows r.blob_data r.reading r.gets r.held (λ e. e) (λ e. e) refl (λ control a. a) (λ read e. (read, e, refl)) (λ read e. (read, e, refl)) (λ h. h) kept
+renewed_kept texts subject run v r kept until = same_kept texts subject run v r until r.metadata r.log r.rows r.blob_data r.reading r.gets r.held (λ e. e) (λ e a. a) (λ e. e) refl (λ control a. a) (λ read e. (read, e, refl)) (λ read e. (read, e, refl)) (λ h. h) kept
 
 -- a range whose load begins
 pub new_kept : (texts : ℕ → Bytes) (subject : ℕ) (run : Run) (v : RangeView) (d : ServerContext) → v.history ≡ first_history → (generation until : ℕ) → RangeKept texts subject run v (new_range d subject generation until)
@@ -131,17 +134,17 @@ calm_kept texts subject run v r o streams quiet kept anew = record {
 module _ (texts : ℕ → Bytes) (subject : ℕ) (run : Run) (v : RangeView) (r : RangeState) (kept : RangeKept texts subject run v r) (streams : StreamsKept texts run v) (d : ServerContext) where
   -- nothing is done with a stream, and the range stays at its stage
   pub rests_kept : (until : ℕ) (metadata log : ClientState) (gets : List WaitingGet) (held : List (Place × List ℕ)) (count : ℕ) (packets : List Packet) →
-      (r.metadata.job ≡ jobs.Idle → metadata.job ≡ jobs.Idle) → (r.log.job ≡ jobs.Idle → log.job ≡ jobs.Idle) → log.base ≡ r.log.base → (HoldsBytes texts r.held → HoldsBytes texts held) →
+      (r.metadata.job ≡ jobs.Idle → metadata.job ≡ jobs.Idle) → (is_serving r.stage ≡ true → AppendsMetadata r.metadata.job v.split r.control → AppendsMetadata metadata.job v.split r.control) → (r.log.job ≡ jobs.Idle → log.job ≡ jobs.Idle) → log.base ≡ r.log.base → (HoldsBytes texts r.held → HoldsBytes texts held) →
       StepKept texts subject run v r []
       (record { after = Some (record r { until = until; metadata = metadata; log = log; gets = gets; held = held }); count = count; packets = packets; notes = [] })
-  rests_kept until metadata log gets held count packets metadata_idle log_idle log_base held_same =
+  rests_kept until metadata log gets held count packets metadata_idle metadata_on log_idle log_base held_same =
       calm_kept texts subject run v r
       (record { after = Some (record r { until = until; metadata = metadata; log = log; gets = gets; held = held }); count = count; packets = packets; notes = [] })
-      streams refl (same_kept texts subject run v r until metadata log r.rows r.blob_data r.reading gets held metadata_idle log_idle log_base (λ control a. a) (λ read e. (read, e, refl)) (λ read e. (read, e, refl)) held_same kept, refl) (λ serves. inl serves)
+      streams refl (same_kept texts subject run v r until metadata log r.rows r.blob_data r.reading gets held metadata_idle metadata_on log_idle log_base (λ control a. a) (λ read e. (read, e, refl)) (λ read e. (read, e, refl)) held_same kept, refl) (λ serves. inl serves)
 
   gets_kept : (from : ActorId) (q : ReqNo) (key : List ℕ) (fault : Option Refusal) → StepKept texts subject run v r [] (gets d r from q key fault)
-  gets_kept from q key (Some refusal) = rests_kept r.until r.metadata r.log r.gets r.held _ _ (λ e. e) (λ e. e) refl (λ h. h)
-  gets_kept from q key None = rests_kept r.until r.metadata r.log _ _ _ _ (λ e. e) (λ e. e) refl (holds_used texts r.held r.indexes key (standing r key))
+  gets_kept from q key (Some refusal) = rests_kept r.until r.metadata r.log r.gets r.held _ _ (λ e. e) (λ e a. a) (λ e. e) refl (λ h. h)
+  gets_kept from q key None = rests_kept r.until r.metadata r.log _ _ _ _ (λ e. e) (λ e a. a) (λ e. e) refl (holds_used texts r.held r.indexes key (standing r key))
 
   -- a Get
   pub get_kept : (from : ActorId) (q : ReqNo) (key : List ℕ) → StepKept texts subject run v r [] (get_rule d r from q key)
@@ -163,7 +166,7 @@ module _ (texts : ℕ → Bytes) (subject : ℕ) (run : Run) (v : RangeView) (r 
   pub give_up_kept : StepKept texts subject run v r [] (give_up_all d r)
   give_up_kept =
       calm_kept texts subject run v r (give_up_all d r) streams refl (
-        same_kept texts subject run v r r.until _ _ _ r.blob_data _ _ r.held (idle_gives_up (picking d r.metadata) (request (used d)) d.pick) (idle_gives_up (picking d r.log) (request d) d.pick)
+        same_kept texts subject run v r r.until _ _ _ r.blob_data _ _ r.held (idle_gives_up (picking d r.metadata) (request (used d)) d.pick) (λ e a. metadata_gives_up (picking d r.metadata) (request (used d)) d.pick v.split r.control a) (idle_gives_up (picking d r.log) (request d) d.pick)
             (base_given_up (picking d r.log) (request d) r.log.job) (give_up_appends (picking d r.rows) (request (used (used d))) d.pick) (moved r.reading) (was_moved r.reading) (λ h. h) kept,
         refl,
       )

@@ -3,11 +3,11 @@ use Rattle.std.proofs.Common.{◌≡◌, ℕ, Bool, List, [], true, false, Optio
 use Rattle.std.specs.Prelude.{if◌then◌else◌}
 use Rattle.wire.specs.declared.actor.ReqNo.{ReqNo}
 use Rattle.wire.specs.declared.body.Body.{Body}
-use Rattle.client.specs.Client.{awaits}
+use Rattle.client.specs.Client.{awaits, reply_rule}
 use Rattle.client.specs.Load.{load_awaits}
 use Rattle.model_partition.specs.declared.server_context.ServerContext.{ServerContext}
 use Rattle.model_partition.specs.Past.{Bytes}
-use Rattle.model_partition.specs.Range.{RangeState, RangeOutcome, is_serving}
+use Rattle.model_partition.specs.Range.{RangeState, RangeOutcome, is_serving, picking, request}
 use Rattle.model_partition.specs.PlaceReads.{reads_under, reads_page}
 use Rattle.model_partition.specs.Answering.{load_reply, log_reply, is_taken, answer_rule, metadata_reply, index_reply, page_reply, trim_reply, gets_reply}
 use Rattle.model_partition.specs.Checkpoints.{rows_reply, trim_awaits}
@@ -23,6 +23,7 @@ use Rattle.laws_server_runs.proofs.ServedNotes.{serves_of}
 use Rattle.laws_server_runs.proofs.ClientAnswers.{busy}
 use Rattle.laws_server_runs.proofs.Fronts.{order_before_actions}
 use Rattle.laws_server_runs.proofs.IndexRead.{index_reply_kept, page_reply_kept, gets_reply_kept}
+use Rattle.laws_server_runs.proofs.MetadataJobs.{TellsOther}
 use Rattle.laws_server_runs.proofs.LoadsAnswers.{metadata_kept, log_loading_kept}
 
 module _ (texts : ℕ → Bytes) (subject : ℕ) (run : Run) (v : RangeView) (r : RangeState) (kept : RangeKept texts subject run v r) (streams : StreamsKept texts run v) (d : ServerContext) where
@@ -31,16 +32,16 @@ module _ (texts : ℕ → Bytes) (subject : ℕ) (run : Run) (v : RangeView) (r 
   KeptBy actions o =
       InOrder texts (view_after_all r.load.generation v (if is_some o.after then actions o else [])) → StepKept texts subject run v r (if is_some o.after then actions o else []) o
 
-  module _ (w : ReqNo) (body : Body) (load : load_awaits r.load.phase w ≡ true → KeptBy (λ o. load_actions r body) (load_reply d r body))
+  module _ (w : ReqNo) (body : Body) (other : load_awaits r.load.phase w ≡ false → awaits r.metadata.job w ≡ true → TellsOther v.split (reply_rule (picking d r.metadata) (request d) body).news) (load : load_awaits r.load.phase w ≡ true → KeptBy (λ o. load_actions r body) (load_reply d r body))
       (serving : is_serving r.stage ≡ true → awaits r.log.job w ≡ true → StepKept texts subject run v r (if is_some (log_reply d r body).after then (if is_taken r body then log_actions d r body (log_reply d r body) else []) else []) (log_reply d r body)) where
     log_answer : awaits r.log.job w ≡ true → (t : Bool) → is_serving r.stage ≡ t → KeptBy (λ o. if is_taken r body then log_actions d r body o else []) (log_reply d r body)
     log_answer waited true e = λ order. serving e waited
     log_answer waited false e = λ order. log_loading_kept texts subject run v r kept streams d e w body waited
 
-    metadata_answer : awaits r.metadata.job w ≡ true → KeptBy (λ o. metadata_actions d r body) (metadata_reply d r body)
-    metadata_answer waited order =
+    metadata_answer : load_awaits r.load.phase w ≡ false → awaits r.metadata.job w ≡ true → KeptBy (λ o. metadata_actions d r body) (metadata_reply d r body)
+    metadata_answer unasked waited order =
         metadata_kept texts subject run v r kept streams d
-        (order_before_actions texts r.load.generation v (if is_some (metadata_reply d r body).after then metadata_actions d r body else []) order).answered w body waited
+        (order_before_actions texts r.load.generation v (if is_some (metadata_reply d r body).after then metadata_actions d r body else []) order).answered w body waited (other unasked waited)
 
     -- an answer to row data
     rows_answer : awaits r.rows.job w ≡ true → (t : Bool) → is_serving r.stage ≡ t → KeptBy (λ o. rows_actions d r body) (rows_reply d r body)
@@ -69,7 +70,7 @@ module _ (texts : ℕ → Bytes) (subject : ℕ) (run : Run) (v : RangeView) (r 
         KeptBy (λ o. if a then load_actions r body else if b then metadata_actions d r body else if c then (if is_taken r body then log_actions d r body o else []) else if e then rows_actions d r body else if f then bytes_actions body else if g then [] else bytes_actions body)
         (chosen a b c e f p g)
     answered true b c e f p g x y z u t = load x
-    answered false true c e f p g x y z u t = metadata_answer y
+    answered false true c e f p g x y z u t = metadata_answer x y
     answered false false true e f p g x y z u t = log_answer z (is_serving r.stage) refl
     answered false false false true f p g x y z u t = rows_answer u (is_serving r.stage) refl
     answered false false false false true true g x y z u t = page_reply_kept texts subject run v r kept streams d body

@@ -37,6 +37,7 @@ use Rattle.laws_loads.proofs.CheckpointAnswers.{record_news_same}
 use Rattle.laws_server_runs.proofs.CheckpointKept.{leaves_kept, leaves_queue}
 use Rattle.laws_server_runs.proofs.CheckpointSteps.{metadata_step as record_step}
 use Rattle.laws_server_runs.proofs.ClientAnswers.{IsIdleIf, reply_takes, busy}
+use Rattle.laws_server_runs.proofs.MetadataJobs.{TellsOther, metadata_left}
 use Rattle.laws_server_runs.proofs.Loads.{rests_kept}
 use Rattle.laws_server_runs.proofs.ServedNotes.{serves_of}
 use Rattle.laws_server_runs.proofs.LoadsSteps.{Left, IsLoading, drops_left, reads_log_left, reads_log_from_left, reads_metadata_left}
@@ -70,10 +71,10 @@ module _ (texts : ℕ → Bytes) (subject : ℕ) (run : Run) (v : RangeView) (r 
 
   -- ---- the metadata
 
-  module _ (w : ReqNo) (waited : awaits r.metadata.job w ≡ true) (groups : List Group) (packets : List Packet) (c : ClientState) where
+  module _ (w : ReqNo) (waited : awaits r.metadata.job w ≡ true) (unserved : is_serving r.stage ≡ false) (groups : List Group) (packets : List Packet) (c : ClientState) where
     metadata_rests : (count : ℕ) → StepKept texts subject run v r [] (record { after = Some (record r { metadata = c }); count = count; packets = packets; notes = [] })
     metadata_rests count =
-        rests_kept texts subject run v r kept streams d r.until c r.log r.gets r.held count packets (λ idle. absurd (busy r.metadata.job w waited idle)) (λ idle. idle) refl (λ h. h)
+        rests_kept texts subject run v r kept streams d r.until c r.log r.gets r.held count packets (λ idle. absurd (busy r.metadata.job w waited idle)) (λ e. absurd (let z : true ≡ false = sym e ∙ unserved in cc)) (λ idle. idle) refl (λ h. h)
 
     -- the next extent is read, or the log
     metadata_next : r.load.phase ≡ phases.Opened → ReadsMetadata v.history r → c.job ≡ jobs.Idle → (position : ℕ) → NoneRead (reads_metadata d (record r { metadata = c }) position)
@@ -126,9 +127,9 @@ module _ (texts : ℕ → Bytes) (subject : ℕ) (run : Run) (v : RangeView) (r 
     metadata_step stage p s told idle = metadata_rests (suc d.count)
 
   -- an answer to the metadata's client
-  pub metadata_kept : AllStand texts v.answered → (w : ReqNo) (body : Body) → awaits r.metadata.job w ≡ true →
+  pub metadata_kept : AllStand texts v.answered → (w : ReqNo) (body : Body) → awaits r.metadata.job w ≡ true → TellsOther v.split (reply_rule (picking d r.metadata) (request d) body).news →
       StepKept texts subject run v r (if is_some (metadata_reply d r body).after then metadata_actions d r body else []) (metadata_reply d r body)
-  metadata_kept stand w body waited = at_stage (is_serving r.stage) refl
+  metadata_kept stand w body waited other = at_stage (is_serving r.stage) refl
     where
       o : Outcome
       o = reply_rule (picking d r.metadata) (request d) body
@@ -146,16 +147,17 @@ module _ (texts : ℕ → Bytes) (subject : ℕ) (run : Run) (v : RangeView) (r 
       at_stage true e =
           leaves_kept texts subject run v r kept streams e (told true) (record_actions r o.news)
           (leaves_queue r (told true) (record_news_same d r o.after o.news (option_to_list o.packet)))
-          (λ z there. record_step texts subject run v r (serves_of texts subject run v r e kept).matches (serves_of texts subject run v r e kept).shown streams d o.after stand o.news (option_to_list o.packet))
+          (λ z there. record_step texts subject run v r (serves_of texts subject run v r e kept).matches (serves_of texts subject run v r e kept).shown streams d o.after stand o.news (option_to_list o.packet)
+          (metadata_left (picking d r.metadata) (request d) body v.split r.control (serves_of texts subject run v r e kept).matches.metadata) other)
       at_stage false e =
-          metadata_step w waited (groups_of body) (option_to_list o.packet) o.after r.stage kept.phase kept.stage o.news (reply_takes (picking d r.metadata) (request d) body).idle
+          metadata_step w waited e (groups_of body) (option_to_list o.packet) o.after r.stage kept.phase kept.stage o.news (reply_takes (picking d r.metadata) (request d) body).idle
 
   -- ---- the log
 
   module _ (w : ReqNo) (waited : awaits r.log.job w ≡ true) (groups : List Group) (packets : List Packet) (c : ClientState) where
     log_rests : c.base ≡ r.log.base → (count : ℕ) → StepKept texts subject run v r [] (record { after = Some (record r { log = c }); count = count; packets = packets; notes = [] })
     log_rests base count =
-        rests_kept texts subject run v r kept streams d r.until r.metadata c r.gets r.held count packets (λ idle. idle) (λ idle. absurd (busy r.log.job w waited idle)) base (λ h. h)
+        rests_kept texts subject run v r kept streams d r.until r.metadata c r.gets r.held count packets (λ idle. idle) (λ e a. a) (λ idle. absurd (busy r.log.job w waited idle)) base (λ h. h)
 
     abbrev now : RangeState
     now = record r { log = c }
@@ -255,7 +257,7 @@ module _ (texts : ℕ → Bytes) (subject : ℕ) (run : Run) (v : RangeView) (r 
 
     replied_kept : is_serving r.stage ≡ false → (t : Bool) → StepKept texts subject run v r (if is_some (replied t).after then (if t then log_actions d r body (replied t) else []) else []) (replied t)
     replied_kept unserved true = taken_kept (is_serving r.stage) unserved
-    replied_kept unserved false = rests_kept texts subject run v r kept streams d r.until r.metadata r.log r.gets r.held d.count [] (λ idle. idle) (λ idle. idle) refl (λ h. h)
+    replied_kept unserved false = rests_kept texts subject run v r kept streams d r.until r.metadata r.log r.gets r.held d.count [] (λ idle. idle) (λ e a. a) (λ idle. idle) refl (λ h. h)
 
   -- an answer to the log's client of a range that is not served yet
   pub log_loading_kept : is_serving r.stage ≡ false → (w : ReqNo) (body : Body) → awaits r.log.job w ≡ true →

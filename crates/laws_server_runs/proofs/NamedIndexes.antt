@@ -1,6 +1,6 @@
 -- The indexes that metadata names where its records are those of checkpoints: each is one of a record that was formed, and has all
 -- keys.
-use Rattle.std.proofs.Common.{◌≡◌, ℕ, Bool, true, false, if◌then◌else◌, List, [], ◌∷◌, map, Some, refl, sym, subst}
+use Rattle.std.proofs.Common.{◌≡◌, ⊎_elim, ℕ, Bool, true, false, if◌then◌else◌, List, [], ◌∷◌, map, Some, refl, sym, subst}
 use Rattle.std.specs.List.{AllByRecursion}
 use Rattle.memtable.specs.declared.cell.Place.{Place}
 use Rattle.metadata.specs.declared.record.IndexRange.{IndexRange}
@@ -21,7 +21,10 @@ use Rattle.model_partition.specs.Past.{Bytes}
 module _ (Holds : Place → Type 0) where
   pub one_more_named : (m : MetadataState) (item : MetaItem) (all : AreOfCheckpoints Holds (item ∷ [])) → NamesSuch Holds m → NamesSuch Holds (taken m item)
   one_more_named m item all n =
-      subst (λ i. NamesSuch Holds (taken m i)) (sym all.0.is) (record { keys = n.keys; indexes = (record { holds = all.0.holds; keys = n.keys }, others all.0.combine) })
+      ⊎_elim {C = NamesSuch Holds (taken m item)}
+      (λ c. subst (λ i. NamesSuch Holds (taken m i)) (sym c.is) (record { keys = n.keys; indexes = (record { holds = c.holds; keys = n.keys }, others c.combine) }))
+      (λ s. subst (λ i. NamesSuch Holds (taken m i)) (sym s.is) (record { keys = n.keys; indexes = n.indexes }))
+      all.0
     where
       others : (combine : Bool) → AreNamed Holds (if combine then [] else m.indexes)
       others true = tt

@@ -22,7 +22,7 @@ use Rattle.model_partition.specs.Past.{Bytes, Transaction, Past, From_nothing, F
 use Rattle.model_partition.specs.Loading.{Group}
 use Rattle.model_histories.specs.Story.{StreamEvent, Showed, event_at, KeepsOrder, EndsRise}
 use Rattle.model_histories.specs.ServerRun.{ServerRun, ServerEvent, run_of, log_name, metadata_name}
-use Rattle.model_histories.specs.ServedTables.{AllStand, LoadsOnce, AreFirst, AreUnsplit, AreSeenAs, StreamsInOrder}
+use Rattle.model_histories.specs.ServedTables.{AllStand, LoadsOnce, AreFirst, AreUnborn, AreSeenAs, StreamsInOrder}
 use Rattle.model_histories.specs.TableContents.{StandsAt}
 use Rattle.laws_tables.specs.Fenced.{Seen, Fenced, LogRun, IsLogRun}
 use Rattle.laws_tables.proofs.Fenced.{keeps_order, ends_rise}
@@ -161,18 +161,18 @@ stands = record { before = []; behind = []; is = sym (append-nil (joined group))
 module _ (texts : ℕ → Bytes) (x : ServerRun) where
   abbrev WithoutOrder : List ServerEvent → Type 0
   WithoutOrder events =
-      AreUnsplit events × AreFirst events × KeepsOrder (x.story (metadata_name first_range)) × LoadsOnce (x.story (log_name first_range)) × EndsRise (x.story (log_name first_range)) × AllStand texts (x.shown first_range)
+      AreUnborn first_range events × AreFirst events × KeepsOrder (x.story (metadata_name first_range)) × LoadsOnce (x.story (log_name first_range)) × EndsRise (x.story (log_name first_range)) × AllStand texts (x.shown first_range)
 
   abbrev WithoutMetadata : List ServerEvent → Type 0
   WithoutMetadata events =
-      AreUnsplit events × AreFirst events × KeepsOrder (x.story (log_name first_range)) × LoadsOnce (x.story (log_name first_range)) × EndsRise (x.story (log_name first_range)) × AllStand texts (x.shown first_range)
+      AreUnborn first_range events × AreFirst events × KeepsOrder (x.story (log_name first_range)) × LoadsOnce (x.story (log_name first_range)) × EndsRise (x.story (log_name first_range)) × AllStand texts (x.shown first_range)
 
   abbrev WithoutOnce : List ServerEvent → Type 0
   WithoutOnce events =
-      AreUnsplit events × AreFirst events × KeepsOrder (x.story (metadata_name first_range)) × KeepsOrder (x.story (log_name first_range)) × EndsRise (x.story (log_name first_range)) × AllStand texts (x.shown first_range)
+      AreUnborn first_range events × AreFirst events × KeepsOrder (x.story (metadata_name first_range)) × KeepsOrder (x.story (log_name first_range)) × EndsRise (x.story (log_name first_range)) × AllStand texts (x.shown first_range)
 
   abbrev WithoutFirst : List ServerEvent → Type 0
-  WithoutFirst events = AreUnsplit events × StreamsInOrder texts first_range x
+  WithoutFirst events = AreUnborn first_range events × StreamsInOrder texts first_range x
 
 pub order_is_needed : Law WithoutOrder → ⊥
 order_is_needed law = not_invented rows (law 1 1 texts invented h

@@ -15,7 +15,7 @@ use Rattle.laws_loads.specs.RangeView.{RangeView, log_of, metadata_of}
 use Rattle.laws_tables.specs.Runs as chains
 use Rattle.laws_tables.specs.Runs.{Event, Run, Serving, first_beginning, held, IsServing}
 use Rattle.laws_tables.proofs.Range.{older}
-use Rattle.laws_server_runs.specs.CheckpointInvariant.{parts_of, HoldsCheckpoint}
+use Rattle.laws_server_runs.specs.CheckpointInvariant.{parts_of, out_beside, HoldsCheckpoint, AppendsMetadata, StandsBeside}
 use Rattle.laws_server_runs.specs.RangeInvariant.{HasReadNothing, ReadsMetadata, ReadsLog, generation_of, GoesOn, Rests, Adds, IsLonger, append_of, Matches, Serves, StageIs, RangeKept, AllSpelled, AreCheckpoints, IsOfPages, ReadsIndexes, HasReadAll, StreamsKept}
 use Rattle.laws_server_runs.proofs.Fronts.{stand_shorter}
 use Rattle.laws_server_runs.proofs.HeldCheckpoints.{longer_holds}
@@ -76,21 +76,25 @@ module _ (texts : ℕ → Bytes) where
 module _ (texts : ℕ → Bytes) (subject : ℕ) where
   -- ---- a range that is served
 
-  module _ (run later : Run) (v v' : RangeView) (same : v'.history ≡ v.history) (g : ℕ) (goes : GoesOn g run later) (longer : IsLonger v.answered v'.answered) (u : RangeState) where
+  module _ (run later : Run) (v v' : RangeView) (same : v'.history ≡ v.history) (split : v'.split ≡ v.split) (g : ℕ) (goes : GoesOn g run later) (longer : IsLonger v.answered v'.answered) (u : RangeState) where
     still_matches : (s : Serving) → Matches texts v s u → Matches texts v' s u
     still_matches s m = record {
       position = m.position;
       next = m.next;
       out = m.out ∙ ap (λ (h : RangeHistory). append_of (h.append kinds.Log) u.out) (sym same);
       live = λ all. m.live (stand_shorter texts v.answered v'.answered longer all);
-      checkpoint = subst (λ n. HoldsCheckpoint texts (record (parts_of v' s u) { append = n }) u.control) (ap (λ (h : RangeHistory). h.append kinds.Metadata) (sym same))
-          (longer_holds texts (parts_of v s u) v'.answered longer u.control m.checkpoint);
+      checkpoint = subst (λ x. HoldsCheckpoint texts (record (parts_of v' s u) { record_out = out_beside x s.record_out }) u.control) (sym split)
+          (subst (λ n. HoldsCheckpoint texts (record (parts_of v' s u) { append = n; record_out = out_beside v.split s.record_out }) u.control) (ap (λ (h : RangeHistory). h.append kinds.Metadata) (sym same))
+          (longer_holds texts (parts_of v s u) v'.answered longer u.control m.checkpoint));
       said = m.said;
       installed = m.installed;
       ordered = m.ordered;
       named = m.named;
       rows = m.rows;
       reads = m.reads;
+      beside = subst (λ x. StandsBeside x (v'.history.append kinds.Metadata) s.record_out u.control u.said.next) (sym split)
+          (subst (λ (h : RangeHistory). StandsBeside v.split (h.append kinds.Metadata) s.record_out u.control u.said.next) (sym same) m.beside);
+      metadata = subst (λ z. AppendsMetadata u.metadata.job z u.control) (sym split) m.metadata;
     }
 
     still_serves : (u.load.generation ≡ g → ⊥) → Serves texts run v u → Serves texts later v' u
@@ -114,7 +118,7 @@ module _ (texts : ℕ → Bytes) (subject : ℕ) where
     still_at stages.Serving apart k = still_serves (apart refl) k
 
   -- a range that is not served under that generation keeps what it keeps
-  pub others_kept : (run later : Run) (v : RangeView) (u : RangeState) (v' : RangeView) → v'.history ≡ v.history → RangeKept texts subject run v u → (g : ℕ) → GoesOn g run later →
+  pub others_kept : (run later : Run) (v : RangeView) (u : RangeState) (v' : RangeView) → v'.history ≡ v.history → v'.split ≡ v.split → RangeKept texts subject run v u → (g : ℕ) → GoesOn g run later →
       IsLonger v.answered v'.answered → (is_serving u.stage ≡ true → u.load.generation ≡ g → ⊥) → RangeKept texts subject later v' u
-  others_kept run later v u v' same k g goes longer apart =
-      record { range = k.range; phase = k.phase; sound = k.sound; stage = still_at run later v v' same g goes longer u u.stage apart k.stage; held = k.held }
+  others_kept run later v u v' same split k g goes longer apart =
+      record { range = k.range; phase = k.phase; sound = k.sound; stage = still_at run later v v' same split g goes longer u u.stage apart k.stage; held = k.held }

@@ -104,6 +104,8 @@ module _ (texts : ℕ → Bytes) (subject : ℕ) where
       named = k.matches.named;
       rows = k.matches.rows;
       reads = k.matches.reads;
+      beside = k.matches.beside;
+      metadata = k.matches.metadata;
     }
 
     formed_serves : StreamsKept texts run v → Serves texts formed_run formed_view formed_range

@@ -109,16 +109,18 @@ module _ (texts : ℕ → Bytes) (subject : ℕ) where
           named = m.named;
           rows = m.rows;
           reads = m.reads;
+          beside = m.beside;
+          metadata = m.metadata;
         };
       }
 
-  anew_served : (run : Run) (r : RangeState) (o : Option RangeState) → is_serving r.stage ≡ true → ServesAnew texts run r o
+  pub anew_served : (run : Run) (r : RangeState) (o : Option RangeState) → is_serving r.stage ≡ true → ServesAnew texts run r o
   anew_served run r None serving = tt
   anew_served run r (Some next) serving = λ s. inl serving
 
   -- ---- steps
 
-  goes_both : (g : ℕ) (run mid later : Run) → GoesOn g run mid → GoesOn g mid later → GoesOn g run later
+  pub goes_both : (g : ℕ) (run mid later : Run) → GoesOn g run mid → GoesOn g mid later → GoesOn g run later
   goes_both g run mid later one Rests = one
   goes_both g run mid later one (Adds e earlier on under) = Adds e earlier (goes_both g run mid earlier one on) under
 

@@ -121,6 +121,8 @@ module _ (texts : ℕ → Bytes) (subject : ℕ) (run : Run) (v : RangeView) (r 
       named = k.matches.named;
       rows = k.matches.rows;
       reads = k.matches.reads;
+      beside = k.matches.beside;
+      metadata = k.matches.metadata;
     }
 
     -- what was made is as before

@@ -1,5 +1,5 @@
 -- A step of a range at one server keeps what is kept of it at all servers.
-use Rattle.std.proofs.Common.{◌≡◌, ⊎_elim, ℕ, suc, ◌-◌, List, ◌++◌, true, ◌&&◌, ◌==◌, Some, slice_set, refl, sym, ap, ◌∙◌, subst, inl, inr, arith}
+use Rattle.std.proofs.Common.{◌≡◌, ⊎_elim, ℕ, suc, ◌-◌, List, ◌++◌, true, ◌&&◌, ◌==◌, Some, Option, slice_set, refl, sym, ap, ◌∙◌, subst, inl, inr, arith}
 use Rattle.std.proofs.lemmas.Bool.{cases_eq}
 use Rattle.wire.specs.declared.note.Note.{Note}
 use Rattle.wire.specs.declared.packet.Packet.{Packet}
@@ -9,7 +9,8 @@ use Rattle.model_partition.specs.declared.stage.Stage.TheVariants as stages
 use Rattle.model_histories.specs.Log.{only}
 use Rattle.model_partition.specs.Past.{Bytes}
 use Rattle.model_partition.specs.Range.{RangeState, RangeOutcome, is_serving}
-use Rattle.model_partition.specs.Server.{ServerState, range_of}
+use Rattle.model_partition.specs.Server.{ServerState, range_of, split_of}
+use Rattle.model_partition.specs.declared.split_job.SplitJob.{SplitJob}
 use Rattle.model_partition.specs.Servers.{ServerCell}
 use Rattle.model_histories.specs.StreamActions.{StreamAction}
 use Rattle.model_histories.specs.ServerRun.{ServerRun, after_actions, with_outcome}
@@ -17,8 +18,8 @@ use Rattle.model_histories.specs.ServedTables.{AreSeenAs, ServesAt}
 use Rattle.laws_loads.proofs.Entries.{entry_set, entry_other}
 use Rattle.laws_loads.specs.RangeView.{RangeView, view_after_all}
 use Rattle.laws_tables.specs.Runs.{Run, IsServing}
-use Rattle.laws_server_runs.specs.RangeInvariant.{StageIs, RangeKept, StreamsKept, AreObserved, GoesOn, Rests, IsLonger, IsAlone, KeptIf, ServesAnew, StepKept}
-use Rattle.laws_server_runs.specs.RunInvariant.{view_at, RunKept}
+use Rattle.laws_server_runs.specs.RangeInvariant.{StageIs, RangeKept, StreamsKept, AreObserved, GoesOn, Rests, IsLonger, IsAlone, ServesAnew}
+use Rattle.laws_server_runs.specs.RunInvariant.{view_at, with_stage, HeldKept, HeldIf, TurnKept, RunKept}
 use Rattle.laws_server_runs.proofs.Actions.{other_test, actions_here, actions_apart, actions_rest}
 use Rattle.laws_server_runs.proofs.Fronts.{SeenBoth, seen_both}
 use Rattle.laws_server_runs.proofs.Others.{streams_same, others_kept}
@@ -38,14 +39,14 @@ module _ (texts : ℕ → Bytes) (subject : ℕ) where
       by stages.Confirming b e = absurd cc
 
   -- the range that is served at a server, and what is kept of it
-  pub kept_at : (x : ServerRun) (k : RunKept texts subject x) (t : ℕ) (u : RangeState) → ServesAt x t subject u → RangeKept texts subject k.run (view_at subject x t) u
+  pub kept_at : (x : ServerRun) (k : RunKept texts subject x) (t : ℕ) (u : RangeState) (at : ServesAt x t subject u) → HeldKept texts subject k.run (view_at subject x t) u (split_of at.state.splits subject)
   kept_at x k t u at = k.ranges t at.cell at.state at.there at.runs u at.held
 
   module _ (x : ServerRun) (k : RunKept texts subject x) (s : ℕ) (cell : ServerCell) (st : ServerState) (at : entry_at x.servers s ≡ Some cell) (is : cell.state ≡ Some st)
-      (r : RangeState) (held : range_of st.ranges subject ≡ Some r) (actions : List StreamAction) (o : RangeOutcome)
-      (step : StepKept texts subject k.run (view_at subject x s) r actions o)
+      (r : RangeState) (held : range_of st.ranges subject ≡ Some r) (actions : List StreamAction) (o : RangeOutcome) (later : Option SplitJob)
+      (step : TurnKept texts subject k.run (view_at subject x s) r actions o later)
       (own_seen : (notes : List Note) → AreSeenAs texts o.notes notes → only subject notes ≡ notes)
-      (after : ServerState) (left : range_of after.ranges subject ≡ o.after) (packets : List Packet) where
+      (after : ServerState) (left : range_of after.ranges subject ≡ o.after) (left_split : split_of after.splits subject ≡ later) (packets : List Packet) where
     abbrev g : ℕ
     g = r.load.generation
 
@@ -67,11 +68,11 @@ module _ (texts : ℕ → Bytes) (subject : ℕ) where
 
     -- ---- the range itself
 
-    own_range : (z : RangeState) → range_of after.ranges subject ≡ Some z → RangeKept texts subject step.next (view_at subject next_run s) z × (z.load.generation ≡ g)
+    own_range : (z : RangeState) → range_of after.ranges subject ≡ Some z → HeldKept texts subject step.next (view_at subject next_run s) z (split_of after.splits subject) × (z.load.generation ≡ g)
     own_range z found =
-        let h : KeptIf texts subject step.next (view_after_all g (view_at subject x s) actions) g (Some z) =
-        subst (λ q. KeptIf texts subject step.next (view_after_all g (view_at subject x s) actions) g q) (sym left ∙ found) step.kept in
-        (subst (λ v. RangeKept texts subject step.next v z) (sym here) h.0, h.1)
+        let h : HeldIf texts subject step.next (view_after_all g (view_at subject x s) actions) g (Some z) later =
+        subst (λ q. HeldIf texts subject step.next (view_after_all g (view_at subject x s) actions) g q later) (sym left ∙ found) step.kept in
+        (subst (λ j. HeldKept texts subject step.next (view_at subject next_run s) z j) (sym left_split) (subst (λ v. HeldKept texts subject step.next v z later) (sym here) h.0), h.1)
 
     -- ---- the others
 
@@ -84,20 +85,23 @@ module _ (texts : ℕ → Bytes) (subject : ℕ) where
     history_apart : (t : ℕ) → (t ≡ s → ⊥) → next_run.history t subject ≡ x.history t subject
     history_apart t apart = actions_apart s subject g t subject (ap (λ b. b && (subject == subject)) (other_test t s apart)) x actions
 
-    other_range : (t : ℕ) → (t ≡ s → ⊥) → (u : RangeState) → ((is_serving u.stage ≡ true) → ServesAt x t subject u) → RangeKept texts subject k.run (view_at subject x t) u →
-        RangeKept texts subject step.next (view_at subject next_run t) u
-    other_range t apart u serves h = elim step.alone [
+    other_range : (t : ℕ) → (t ≡ s → ⊥) → (u : RangeState) (j : Option SplitJob) → ((is_serving u.stage ≡ true) → ServesAt x t subject u) → HeldKept texts subject k.run (view_at subject x t) u j →
+        HeldKept texts subject step.next (view_at subject next_run t) u j
+    other_range t apart u j serves h = elim step.alone [
       | inl still ↦
-          others_kept texts subject k.run step.next (view_at subject x t) u (view_at subject next_run t) (history_apart t apart) h (suc u.load.generation)
-          (subst (λ z. GoesOn (suc u.load.generation) k.run z) (sym still) Rests) longer (λ e same. no_more u.load.generation same)
+          with_range (others_kept texts subject k.run step.next (with_stage (view_at subject x t) h.split) u (with_stage (view_at subject next_run t) h.split) (history_apart t apart) refl h.range (suc u.load.generation)
+          (subst (λ z. GoesOn (suc u.load.generation) k.run z) (sym still) Rests) longer (λ e same. no_more u.load.generation same))
       | inr first ↦ elim first [
         | inl served ↦ on (λ e same. apart (k.own t s u r (serves e) (r_serves served) same))
-        | inr none ↦ on (λ e same. none (subst (λ z. IsServing k.run z) same (shown_at k.run (view_at subject x t) u h e)))
+        | inr none ↦ on (λ e same. none (subst (λ z. IsServing k.run z) same (shown_at k.run (with_stage (view_at subject x t) h.split) u h.range e)))
       ]
     ]
       where
-        on : (is_serving u.stage ≡ true → u.load.generation ≡ g → ⊥) → RangeKept texts subject step.next (view_at subject next_run t) u
-        on never = others_kept texts subject k.run step.next (view_at subject x t) u (view_at subject next_run t) (history_apart t apart) h g step.goes longer never
+        with_range : RangeKept texts subject step.next (with_stage (view_at subject next_run t) h.split) u → HeldKept texts subject step.next (view_at subject next_run t) u j
+        with_range kept = record { split = h.split; range = kept; splits = h.splits }
+
+        on : (is_serving u.stage ≡ true → u.load.generation ≡ g → ⊥) → HeldKept texts subject step.next (view_at subject next_run t) u j
+        on never = with_range (others_kept texts subject k.run step.next (with_stage (view_at subject x t) h.split) u (with_stage (view_at subject next_run t) h.split) (history_apart t apart) refl h.range g step.goes longer never)
 
     -- ---- all servers
 
@@ -112,14 +116,15 @@ module _ (texts : ℕ → Bytes) (subject : ℕ) where
         cc
 
     all_ranges : (t : ℕ) (c : ServerCell) (q : ServerState) → entry_at next_run.servers t ≡ Some c → c.state ≡ Some q → (u : RangeState) → range_of q.ranges subject ≡ Some u →
-        RangeKept texts subject step.next (view_at subject next_run t) u
+        HeldKept texts subject step.next (view_at subject next_run t) u (split_of q.splits subject)
     all_ranges t c q there up u found = elim (cases_eq t s) [
       | inl same ↦
           (let e : after ≡ q = at_here c q (subst (λ n. entry_at next_run.servers n ≡ Some c) same there) up in
-          subst (λ n. RangeKept texts subject step.next (view_at subject next_run n) u) (sym same) (own_range u (ap (λ (z : ServerState). range_of z.ranges subject) e ∙ found)).0)
+          subst (λ n. HeldKept texts subject step.next (view_at subject next_run n) u (split_of q.splits subject)) (sym same)
+          (subst (λ (z : ServerState). HeldKept texts subject step.next (view_at subject next_run s) u (split_of z.splits subject)) e (own_range u (ap (λ (z : ServerState). range_of z.ranges subject) e ∙ found)).0))
       | inr apart ↦
           (let old : entry_at x.servers t ≡ Some c = there_before t apart c there in
-          other_range t apart u (λ e. record { cell = c; state = q; there = old; runs = up; held = found; serves = e }) (k.ranges t c q old up u found))
+          other_range t apart u (split_of q.splits subject) (λ e. record { cell = c; state = q; there = old; runs = up; held = found; serves = e }) (k.ranges t c q old up u found))
     ]
 
     -- ---- who serves
@@ -145,7 +150,7 @@ module _ (texts : ℕ → Bytes) (subject : ℕ) where
         let theirs : ServesAt x t subject w = before t apart w two in
         let equal : g ≡ w.load.generation = sym mine.generation ∙ same in
         ⊎_elim {C = ⊥} (λ served. apart (k.own t s w r theirs (r_serves served) (sym equal)))
-        (λ none. none (subst (λ z. IsServing k.run z) (sym equal) (shown_at k.run (view_at subject x t) w (kept_at x k t w theirs) theirs.serves)))
+        (λ none. none (subst (λ z. IsServing k.run z) (sym equal) (shown_at k.run (with_stage (view_at subject x t) (kept_at x k t w theirs).split) w (kept_at x k t w theirs).range theirs.serves)))
         mine.was
 
     own_one : (a b : ℕ) (u w : RangeState) → ServesAt next_run a subject u → ServesAt next_run b subject w → u.load.generation ≡ w.load.generation → a ≡ b

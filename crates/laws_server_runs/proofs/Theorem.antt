@@ -6,16 +6,17 @@ use Rattle.model_histories.specs.Log.{only}
 use Rattle.model_partition.specs.Past.{Bytes, Replays, table_notes, first_range}
 use Rattle.model_partition.specs.Range.{RangeState}
 use Rattle.model_histories.specs.Renaming.{decoded, decoded_record}
-use Rattle.model_partition.specs.Server.{range_of}
+use Rattle.model_partition.specs.Server.{range_of, split_of}
 use Rattle.model_histories.specs.Story.{KeepsOrder, EndsRise}
 use Rattle.model_histories.specs.ServerRun.{ServerRun, ServerEvent, after_event, first_run, run_of, log_name, metadata_name}
-use Rattle.model_histories.specs.ServedTables.{AreFirst, AreUnsplit, AreSeenAs, StreamsInOrder, IsAtLine, ServesAt}
+use Rattle.model_histories.specs.ServedTables.{AreFirst, AreUnsplit, AreUnborn, AreSeenAs, StreamsInOrder, IsAtLine, ServesAt}
 use Rattle.laws_loads.proofs.Renaming.{renamed_keeps}
 use Rattle.laws_tables.proofs.Ends.{renamed_ends_rise}
 use Rattle.laws_tables.proofs.Final.{tables_of_first_range_replay}
 use Rattle.laws_checkpoints.specs.IndexLayers.{layer_at}
-use Rattle.laws_server_runs.specs.RangeInvariant.{InOrder, AreObserved, RangeKept}
-use Rattle.laws_server_runs.specs.RunInvariant.{view_at, RunKept}
+use Rattle.laws_server_runs.specs.RangeInvariant.{InOrder, AreObserved}
+use Rattle.laws_server_runs.specs.RunInvariant.{view_at, with_stage, HeldKept, RunKept}
+use Rattle.laws_loads.specs.RangeView.{RangeView}
 use Rattle.laws_server_runs.specs.Turns.{outcome_of}
 use Rattle.laws_server_runs.proofs.Actions.{Longer, event_longer}
 use Rattle.laws_server_runs.proofs.FirstAlone.{only_first}
@@ -24,11 +25,11 @@ use Rattle.laws_server_runs.proofs.HeldLine.{at_line}
 use Rattle.laws_server_runs.proofs.Kept.{step_kept}
 use Rattle.laws_server_runs.proofs.LaidRuns.{bare, all_laid}
 use Rattle.laws_server_runs.proofs.Others.{streams_same}
-use Rattle.laws_server_runs.proofs.RunSteps.{IsAny, any_assigned, event_step}
+use Rattle.laws_server_runs.proofs.RunSteps.{IsAny, IsAnyPair, any_assigned, any_numbered, event_step}
 use Rattle.laws_server_runs.proofs.SeenTables.{seen_as, all_seen}
 use Rattle.laws_server_runs.proofs.ServedNotes.{serves_of}
 use Rattle.laws_server_runs.proofs.Steps.{kept_at}
-use Rattle.laws_server_runs.proofs.Unsplit.{unsplit}
+use Rattle.laws_server_runs.proofs.Apart.{StaysApart, unborn_apart, unsplit_apart}
 
 module _ (texts : ℕ → Bytes) (subject : ℕ) where
   -- what is premised of a run was so before its last event
@@ -61,41 +62,68 @@ module _ (texts : ℕ → Bytes) (subject : ℕ) where
       nothing_seen [] seen = ((λ l. []), tt, refl)
       nothing_seen (note ∷ notes) seen = absurd seen
 
-  -- whatever comes
-  pub all_kept : (batch servers : ℕ) (events : List ServerEvent) → AreUnsplit events → StreamsInOrder texts subject (run_of batch servers events) → RunKept texts subject (run_of batch servers events)
+  -- whatever comes, where the range is none of the two of a split at servers
+  pub all_kept : (batch servers : ℕ) (events : List ServerEvent) → StaysApart subject batch servers events → StreamsInOrder texts subject (run_of batch servers events) → RunKept texts subject (run_of batch servers events)
   all_kept batch servers [] are order = first_kept batch servers
   all_kept batch servers (event ∷ earlier) are order =
       let x : ServerRun = run_of batch servers earlier in
       let k : RunKept texts subject x = all_kept batch servers earlier are.1 (before x (after_event x event) (event_longer x event) order) in
-      step_kept texts subject x (all_laid batch servers earlier are.1) k (outcome_of x.servers event).notes (after_event x event) (event_step IsAny x (unsplit batch servers earlier are.1) event are.0 (any_assigned event)) (of_view (after_event x event) order)
+      step_kept texts subject x (all_laid batch servers earlier) k are.0 (outcome_of x.servers event).notes (after_event x event) (event_step IsAny IsAnyPair x event (any_assigned event) (any_numbered event)) (of_view (after_event x event) order)
 
 module _ (texts : ℕ → Bytes) (batch servers : ℕ) where
   -- what is loaded replays, where the map assigns the first range alone
-  pub run_replays : (events : List ServerEvent) (h : List Note) → AreUnsplit events → AreFirst events → StreamsInOrder texts first_range (run_of batch servers events) →
+  pub apart_replays : (events : List ServerEvent) (h : List Note) → StaysApart first_range batch servers events → AreFirst events → StreamsInOrder texts first_range (run_of batch servers events) →
       AreSeenAs texts (run_of batch servers events).notes (table_notes h) → Replays h
-  run_replays events h are first order seen =
+  apart_replays events h apart first order seen =
       let x : ServerRun = run_of batch servers events in
-      let k : RunKept texts first_range x = all_kept texts first_range batch servers events are order in
+      let k : RunKept texts first_range x = all_kept texts first_range batch servers events apart order in
       let o : AreObserved texts first_range k.run (only first_range (table_notes h)) = k.seen (table_notes h) seen in
       tables_of_first_range_replay (layer_at texts) o.0 k.run h k.streams.chain k.streams.keys o.1
       (subst (λ z. KeepsOrder z) (sym k.streams.log) (renamed_keeps decoded (x.story (log_name first_range)) order.log))
       (subst (λ z. EndsRise z) (sym k.streams.log) (renamed_ends_rise decoded (x.story (log_name first_range)) order.ends))
       (subst (λ z. KeepsOrder z) (sym k.streams.metadata) (renamed_keeps decoded_record (x.story (metadata_name first_range)) order.metadata))
-      (sym (only_first texts batch servers events are first (table_notes h) seen) ∙ o.2)
+      (sym (only_first texts batch servers events first (table_notes h) seen) ∙ o.2)
+
+  -- and no split makes it
+  pub run_replays : (events : List ServerEvent) (h : List Note) → AreUnborn first_range events → AreFirst events → StreamsInOrder texts first_range (run_of batch servers events) →
+      AreSeenAs texts (run_of batch servers events).notes (table_notes h) → Replays h
+  run_replays events h are first order seen = apart_replays events h (unborn_apart first_range batch servers events are) first order seen
 
   -- A range that is served is at its line, whichever copies belong to its loads by the order of its log.
-  pub served_at_line : (events : List ServerEvent) (s range : ℕ) (r : RangeState) → AreUnsplit events → StreamsInOrder texts range (run_of batch servers events) →
+  pub apart_at_line : (events : List ServerEvent) (s range : ℕ) (r : RangeState) → StaysApart range batch servers events → StreamsInOrder texts range (run_of batch servers events) →
       ServesAt (run_of batch servers events) s range r → (log : KeepsOrder ((run_of batch servers events).story (log_name range))) →
       IsAtLine texts ((run_of batch servers events).story (log_name range)) log.copies r
-  served_at_line events s range r are order at log =
+  apart_at_line events s range r apart order at log =
       let x : ServerRun = run_of batch servers events in
-      let k : RunKept texts range x = all_kept texts range batch servers events are order in
-      let h : RangeKept texts range k.run (view_at range x s) r = kept_at texts range x k s r at in
+      let k : RunKept texts range x = all_kept texts range batch servers events apart order in
+      let h : HeldKept texts range k.run (view_at range x s) r (split_of at.state.splits range) = kept_at texts range x k s r at in
+      let v : RangeView = with_stage (view_at range x s) h.split in
       let o : AreObserved texts range k.run (only range (seen_as texts x.notes)) = k.seen (seen_as texts x.notes) (all_seen texts x.notes) in
-      at_line texts k.run (view_at range x s) r (streams_same texts k.run (view_at range x 0) (view_at range x s) refl refl k.streams) (serves_of texts range k.run (view_at range x s) r at.serves h)
-      o.0 o.1 log order.ends order.metadata h.sound.out_fits order.answered
+      at_line texts k.run v r (streams_same texts k.run (view_at range x 0) v refl refl k.streams) (serves_of texts range k.run v r at.serves h.range)
+      o.0 o.1 log order.ends order.metadata h.range.sound.out_fits order.answered
+
+  -- also while it is split, where no split makes it
+  pub served_at_line : (events : List ServerEvent) (s range : ℕ) (r : RangeState) → AreUnborn range events → StreamsInOrder texts range (run_of batch servers events) →
+      ServesAt (run_of batch servers events) s range r → (log : KeepsOrder ((run_of batch servers events).story (log_name range))) →
+      IsAtLine texts ((run_of batch servers events).story (log_name range)) log.copies r
+  served_at_line events s range r are order at log = apart_at_line events s range r (unborn_apart range batch servers events are) order at log
 
   -- and so by those that its streams are premised to have
-  pub run_at_line : (events : List ServerEvent) (s range : ℕ) (r : RangeState) → AreUnsplit events → (p : StreamsInOrder texts range (run_of batch servers events)) →
+  pub run_at_line : (events : List ServerEvent) (s range : ℕ) (r : RangeState) → AreUnborn range events → (p : StreamsInOrder texts range (run_of batch servers events)) →
       ServesAt (run_of batch servers events) s range r → IsAtLine texts ((run_of batch servers events).story (log_name range)) p.log.copies r
   run_at_line events s range r are p at = served_at_line events s range r are p at p.log
+
+  -- ---- where there are no splits
+
+  pub unsplit_replays : (events : List ServerEvent) (h : List Note) → AreUnsplit events → AreFirst events → StreamsInOrder texts first_range (run_of batch servers events) →
+      AreSeenAs texts (run_of batch servers events).notes (table_notes h) → Replays h
+  unsplit_replays events h are first order seen = apart_replays events h (unsplit_apart first_range batch servers events are) first order seen
+
+  pub unsplit_served : (events : List ServerEvent) (s range : ℕ) (r : RangeState) → AreUnsplit events → StreamsInOrder texts range (run_of batch servers events) →
+      ServesAt (run_of batch servers events) s range r → (log : KeepsOrder ((run_of batch servers events).story (log_name range))) →
+      IsAtLine texts ((run_of batch servers events).story (log_name range)) log.copies r
+  unsplit_served events s range r are order at log = apart_at_line events s range r (unsplit_apart range batch servers events are) order at log
+
+  pub unsplit_at_line : (events : List ServerEvent) (s range : ℕ) (r : RangeState) → AreUnsplit events → (p : StreamsInOrder texts range (run_of batch servers events)) →
+      ServesAt (run_of batch servers events) s range r → IsAtLine texts ((run_of batch servers events).story (log_name range)) p.log.copies r
+  unsplit_at_line events s range r are p at = apart_at_line events s range r (unsplit_apart range batch servers events are) p at p.log

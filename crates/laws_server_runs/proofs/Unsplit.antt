@@ -1,5 +1,5 @@
 -- Over events that split no range no server has a split, and each step of a range is a step of it alone.
-use Rattle.std.proofs.Common.{◌≡◌, ℕ, zero, suc, ◌-◌, ◌^◌, List, [], ◌∷◌, map, Bool, true, false, ◌==◌, nat_lt, Option, Some, None, is_some, option_map, slice_get, slice_set, refl, sym, ap, ◌∙◌, subst, inl, inr, if◌then◌else◌}
+use Rattle.std.proofs.Common.{◌≡◌, ℕ, zero, suc, ◌-◌, ◌^◌, List, [], ◌∷◌, ◌++◌, map, Bool, true, false, ◌==◌, nat_lt, Option, Some, None, is_some, option_map, slice_get, slice_set, refl, sym, ap, ◌∙◌, subst, inl, inr, if◌then◌else◌}
 use Rattle.std.proofs.lemmas.Bool.{cases_eq}
 use Rattle.block_types.specs.declared.record.Nodes.{Nodes}
 use Rattle.wire.specs.declared.actor.ActorId.{ActorId}
@@ -21,9 +21,10 @@ use Rattle.model_partition.specs.Serving.{transact_rule}
 use Rattle.model_partition.specs.Getting.{get_rule}
 use Rattle.model_partition.specs.Checkpoints.{checkpoint_rule}
 use Rattle.model_partition.specs.Answering.{answered_number, is_answerer, answer_rule, give_up_all}
-use Rattle.model_partition.specs.Server.{ServerState, ServerOutcome, range_of, awaiting, rests, split_of, set_split, split_awaiting, stepped, stepped_with, stepped_alone, is_newer, assign_rule, renew_rule, told_by_map, map_rule, transacts_in, gets_in, table_rule, answer_in, split_answer, answer_of, numbered_rule, taken_rule, has_numbers, server_rule, moment_rule, given_up, gives_up, picked, give_up_rule, started, busy_if, checkpoint_refusal, checkpoints_in, server_checkpoint}
+use Rattle.model_partition.specs.Server.{ServerState, ServerOutcome, range_of, awaiting, rests, counted, split_of, set_split, split_awaiting, stepped, stepped_with, stepped_alone, is_newer, assign_rule, renew_rule, told_by_map, map_rule, transacts_in, gets_in, table_rule, answer_in, split_answer, answer_of, numbered_rule, taken_rule, has_numbers, server_rule, moment_rule, given_up, gives_up, picked, give_up_rule, started, busy_if, checkpoint_refusal, checkpoints_in, server_checkpoint}
 use Rattle.model_partition.specs.Servers.{ServerCell, CellOutcome, cell_rests, cell_takes, cell_given_up, cell_gives_up, cell_checkpoints, cell_stops, cell_starts, at_server, first_pick, first_server, first_servers, told_moment}
-use Rattle.model_histories.specs.ServerRun.{ServerRun, ServerEvent, Takes, GivesUp, Checkpoints, Splits, Stops, Starts, Moment, run_of, after_event}
+use Rattle.model_histories.specs.StreamActions.{transact_actions, answer_actions, split_stood, followed_actions}
+use Rattle.model_histories.specs.ServerRun.{ServerRun, Does, Rests, transact_effect, follow_effect, get_effect, answer_effect, split_effect, awaited_effect, ServerEvent, Takes, GivesUp, Checkpoints, Splits, Stops, Starts, Moment, run_of, after_event}
 use Rattle.model_histories.specs.ServedTables.{IsUnsplit, AreUnsplit}
 use Rattle.laws_loads.proofs.Entries.{entry_set, entry_other, entry_unmapped}
 
@@ -38,6 +39,29 @@ module _ (s : ServerState) (none : s.splits ≡ []) where
 
   pub unawaited : (p : Packet) (w : ReqNo) → split_answer s p (split_awaiting s.splits w) ≡ rests s
   unawaited p w = ap (λ l. split_answer s p (split_awaiting l w)) none
+
+  -- what its steps do with streams
+  none_of : (range : ℕ) → split_of s.splits range ≡ None
+  none_of range = ap (λ l. split_of l range) none
+
+  pub transact_effect_is : (p : Packet) (range : ℕ) (changes : List Change) (q : ReqNo) (r : RangeState) →
+      transact_effect s p range changes q (Some r) ≡ Does range r.load.generation (transact_actions r (transact_rule s.context r p.from q changes))
+  transact_effect_is p range changes q r =
+      let o : RangeOutcome = transact_rule s.context r p.from q changes in
+      ap (λ job. Does range r.load.generation (followed_actions (counted s.context o) job o.after ++ transact_actions r o)) (none_of range)
+
+  pub get_effect_is : (p : Packet) (range : ℕ) (key : List ℕ) (q : ReqNo) (known : Option RangeState) → get_effect s p range key q known ≡ Rests
+  get_effect_is p range key q None = refl
+  get_effect_is p range key q (Some r) = ap (λ job. follow_effect s range r job (get_rule s.context r p.from q key)) (none_of range)
+
+  pub answer_effect_is : (p : Packet) (w : ReqNo) (range : ℕ) (r : RangeState) →
+      answer_effect s p w range (Some r) ≡ Does range r.load.generation (answer_actions s.context r w p.body (answer_rule s.context r w p.body))
+  answer_effect_is p w range r =
+      let o : RangeOutcome = answer_rule s.context r w p.body in
+      ap (λ job. Does range r.load.generation (followed_actions (counted s.context o) job o.after ++ (split_stood s.context r job w p.body o ++ answer_actions s.context r w p.body o))) (none_of range)
+
+  pub unawaited_effect : (p : Packet) (w : ReqNo) → awaited_effect s p w None ≡ Rests
+  unawaited_effect p w = ap (λ l. split_effect s p (split_awaiting l w)) none
 
   -- it has none afterwards
   abbrev HasNone : ServerOutcome → Type 0

@@ -47,7 +47,7 @@ use Rattle.model_histories.specs.Log.{line_shown}
 use Rattle.model_histories.specs.Renaming.{renamed, renamed_placed, decoded}
 use Rattle.laws_tables.proofs.Whole.{from_first}
 use Rattle.model_histories.specs.TableContents.{StandsAt, table_in}
-use Rattle.model_histories.specs.ServedTables.{line_to, AreFirst, AreUnsplit, AreSeenAs, AllStand, LoadsOnce, StreamsInOrder, IsAtLine, ServesAt}
+use Rattle.model_histories.specs.ServedTables.{line_to, AreFirst, AreUnborn, AreSeenAs, AllStand, LoadsOnce, StreamsInOrder, IsAtLine, ServesAt}
 use Rattle.laws_tables.specs.Fenced.{Seen, Landed, Fenced, LogRun, IsLogRun, visible}
 use Rattle.laws_tables.proofs.Fenced.{keeps_order, ends_rise}
 use Rattle.laws_tables.proofs.Range.{event_cases}
@@ -263,8 +263,8 @@ module _ (A : Type 0) (block : A) where
 are_first : AreFirst events
 are_first = (tt, (tt, (tt, (tt, (tt, (refl, (tt, (tt, (tt, (tt, (tt, (refl, tt))))))))))))
 
-pub are_unsplit : AreUnsplit events
-are_unsplit = (tt, (tt, (tt, (tt, (tt, (tt, (tt, (tt, (tt, (tt, (tt, (tt, tt))))))))))))
+pub are_unborn : AreUnborn first_range events
+are_unborn = (tt, (tt, (tt, (tt, (tt, (tt, (tt, (tt, (tt, (tt, (tt, (tt, tt))))))))))))
 
 -- ---- what follows, over any texts in which the group stands at the begin of its extent
 
@@ -280,11 +280,11 @@ module _ (texts : ℕ → Bytes) (there : StandsAt (texts 7) 0 (joined group)) w
   }
 
   pub both_replay : (h : List Note) → AreSeenAs texts told (table_notes h) → Replays h
-  both_replay h seen = run_replays texts 1 2 events h are_unsplit are_first in_order (subst (λ z. AreSeenAs texts z (table_notes h)) (sym makes.2) seen)
+  both_replay h seen = run_replays texts 1 2 events h are_unborn are_first in_order (subst (λ z. AreSeenAs texts z (table_notes h)) (sym makes.2) seen)
 
   -- the range at the second server is at its line, by any copies that belong to its loads
   pub at_line : (order : KeepsOrder log) → IsAtLine texts log order.copies served
-  at_line = subst (λ (z : Story Group). (order : KeepsOrder z) → IsAtLine texts z order.copies served) makes.0 (λ order. served_at_line texts 1 2 events 2 first_range served are_unsplit in_order serves order)
+  at_line = subst (λ (z : Story Group). (order : KeepsOrder z) → IsAtLine texts z order.copies served) makes.0 (λ order. served_at_line texts 1 2 events 2 first_range served are_unborn in_order serves order)
 
   -- its line has the one transaction
   line_is : (order : KeepsOrder log) → line_to (renamed decoded (whole Group order.copies log)) 2 ≡ put ∷ []

@@ -17,11 +17,11 @@ use Rattle.model_partition.specs.Server.{ServerState, new_range, started}
 use Rattle.model_partition.specs.Servers.{first_pick}
 use Rattle.model_histories.specs.Story.{Showed, Story, KeepsOrder, EndsRise}
 use Rattle.model_histories.specs.ServerRun.{ServerRun, ServerEvent, run_of, log_name, metadata_name}
-use Rattle.model_histories.specs.ServedTables.{AreFirst, AllStand, LoadsOnce, StreamsInOrder, IsAtLine, ServesAt}
+use Rattle.model_histories.specs.ServedTables.{AreUnborn, AreFirst, AllStand, LoadsOnce, StreamsInOrder, IsAtLine, ServesAt}
 use Rattle.model_histories.specs.TableContents.{StandsAt}
 use Rattle.laws_server_runs.proofs.NeededPremises.{one_keeps, one_once, one_ends}
 use Rattle.laws_server_runs.proofs.Theorem.{run_at_line}
-use Rattle.laws_server_runs.proofs.Worked.{comes, asked, lists, group, events, log, metadata, stands, served, log_keeps, log_ends, metadata_keeps, once, are_unsplit}
+use Rattle.laws_server_runs.proofs.Worked.{comes, asked, lists, group, events, log, metadata, stands, served, log_keeps, log_ends, metadata_keeps, once, are_unborn}
 
 -- the second server takes another range as well
 abbrev assigned_other : List ServerEvent
@@ -69,6 +69,10 @@ serves_other = record { cell = record { session = 1; state = Some second }; stat
 not_first : AreFirst both → ⊥
 not_first first = let other_is_first : 2 ≡ first_range = first.1.1.0 in absurd cc
 
+-- no split makes the other
+unborn_two : AreUnborn 2 both
+unborn_two = (tt, (tt, (tt, (tt, (tt, (tt, (tt, (tt, (tt, (tt, (tt, (tt, (tt, (tt, (tt, tt)))))))))))))))
+
 module _ (texts : ℕ → Bytes) where
   -- whatever stands in the extents, the other range is at its line
   pub other_in_order : StreamsInOrder texts 2 run
@@ -82,7 +86,7 @@ module _ (texts : ℕ → Bytes) where
   }
 
   pub other_at_line : IsAtLine texts (run.story (log_name 2)) other_in_order.log.copies other
-  other_at_line = run_at_line texts 1 2 both 2 2 other (tt, (tt, (tt, are_unsplit))) other_in_order serves_other
+  other_at_line = run_at_line texts 1 2 both 2 2 other unborn_two other_in_order serves_other
 
   -- and the first is, where the group stands at the begin of its extent
   module _ (there : StandsAt (texts 7) 0 (joined group)) where
@@ -97,4 +101,4 @@ module _ (texts : ℕ → Bytes) where
     }
 
     pub first_at_line : IsAtLine texts (run.story (log_name first_range)) first_in_order.log.copies served
-    first_at_line = run_at_line texts 1 2 both 2 first_range served (tt, (tt, (tt, are_unsplit))) first_in_order serves_first
+    first_at_line = run_at_line texts 1 2 both 2 first_range served (tt, (tt, (tt, are_unborn))) first_in_order serves_first

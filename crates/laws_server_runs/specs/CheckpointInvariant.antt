@@ -2,12 +2,14 @@
 -- of older pages, what stands of its own pages and of its index, and its record that is out.
 use Rattle.std.specs.Prelude.{◌≡◌, ◌⊎◌, ℕ, suc, ◌^◌, true, nat_lt, List, Option, Some, None}
 use Rattle.wire.specs.declared.streams.StreamKind.TheVariants as kinds
+use Rattle.client.specs.declared.job.Job.{Job}
 use Rattle.client.specs.declared.job.Job.TheVariants as jobs
 use Rattle.client.specs.Client.{ClientState}
 use Rattle.memtable.specs.declared.cell.Place.{Place}
 use Rattle.memtable.specs.Entries.{Entries}
 use Rattle.metadata.specs.declared.record.KeyRange.{KeyRange}
 use Rattle.metadata.specs.declared.record.MetaItem.{MetaItem}
+use Rattle.metadata.specs.declared.record.MetaRecord.{MetaRecord}
 use Rattle.metadata.specs.declared.record.MetaItem.TheVariants.{Checkpoint}
 use Rattle.metadata.specs.Record.{IsNext, IsPosition}
 use Rattle.checkpoint_format.specs.Index.{index_group}
@@ -27,7 +29,7 @@ use Rattle.model_histories.specs.ServedTables.{AllStand}
 use Rattle.model_histories.specs.ServerRun.{place_number}
 use Rattle.model_histories.specs.StreamActions.{PlacedBytes}
 use Rattle.laws_loads.specs.MemoryLayers.{layer_in}
-use Rattle.laws_loads.specs.RangeView.{RangeView}
+use Rattle.laws_loads.specs.RangeView.{RangeView, SplitStage, Free, Drains, Recording}
 use Rattle.laws_tables.specs.Layers.{Layer, empty_layer}
 use Rattle.laws_tables.specs.Runs.{NotedPosition, Serving, record_group}
 use Rattle.laws_tables.specs.Through.{OutAppend}
@@ -49,6 +51,12 @@ pub record CheckpointParts : Type 0 where
   pub append : ℕ
   pub answered : List PlacedBytes
 
+-- the record that is out is that of a checkpoint, if it is not that of a split
+abbrev pub out_beside : SplitStage → Option (OutAppend MetaItem) → Option (OutAppend MetaItem)
+out_beside Free out = out
+out_beside Drains out = out
+out_beside (Recording split) out = None
+
 abbrev pub parts_of : RangeView → Serving → RangeState → CheckpointParts
 parts_of v s r =
     record {
@@ -58,7 +66,7 @@ parts_of v s r =
       number = r.said.next;
       layer = s.fixed;
       noted = s.noted;
-      record_out = s.record_out;
+      record_out = out_beside v.split s.record_out;
       append = v.history.append kinds.Metadata;
       answered = v.answered;
     }
@@ -98,6 +106,39 @@ AppendsPhase c job (checkpoints.Trim before to_blob q) = c.job ≡ jobs.Idle
 abbrev pub AppendsRows : ClientState → Option CheckpointState → Type 0
 AppendsRows c None = c.job ≡ jobs.Idle
 AppendsRows c (Some job) = AppendsPhase c job job.phase
+
+-- ---- what is appended to the metadata
+
+abbrev pub IsAppending : Job → Type 0
+IsAppending (jobs.Sent e q) = Unit {0}
+IsAppending (jobs.Closing e q) = Unit {0}
+IsAppending (jobs.Growing last q) = Unit {0}
+IsAppending job = ⊥
+
+abbrev pub MetadataPhase : Job → CheckpointPhase → Type 0
+MetadataPhase job (checkpoints.Record index) = Unit {0}
+MetadataPhase job phase = job ≡ jobs.Idle
+
+abbrev pub MetadataBeside : Job → SplitStage → Type 0
+MetadataBeside job Free = job ≡ jobs.Idle
+MetadataBeside job Drains = job ≡ jobs.Idle
+MetadataBeside job (Recording split) = IsAppending job
+
+-- what its client waits for, by the checkpoint or by the split
+abbrev pub AppendsMetadata : Job → SplitStage → Option CheckpointState → Type 0
+AppendsMetadata job split None = MetadataBeside job split
+AppendsMetadata job split (Some checkpoint) = MetadataPhase job checkpoint.phase
+
+-- a split's record is out; append: the event with which the last append to the metadata began; next: the number of its next record
+pub record IsSplitOut (split : MetaRecord) (append : ℕ) (out : Option (OutAppend MetaItem)) (control : Option CheckpointState) (next : ℕ) : Type 0 where
+  pub none : control ≡ None
+  pub out_is : out ≡ Some (record { append = append; group = record_group split.number split.item })
+  pub number : next ≡ split.number
+
+abbrev pub StandsBeside : SplitStage → ℕ → Option (OutAppend MetaItem) → Option CheckpointState → ℕ → Type 0
+StandsBeside Free append out control next = Unit {0}
+StandsBeside Drains append out control next = control ≡ None
+StandsBeside (Recording split) append out control next = IsSplitOut split append out control next
 
 -- ---- what it holds
 

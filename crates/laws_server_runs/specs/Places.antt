@@ -214,15 +214,12 @@ pub record RuleLaid (k : ℕ) (v : RangeView) (r : RangeState) (actions : List S
 
 -- ---- all servers
 
-abbrev pub Ranges : Type 0
-Ranges = List (ℕ × RangeState)
-
-abbrev pub AllAbove : ℕ → Ranges → Type 0
+abbrev pub AllAbove : {A : Type 0} → ℕ → List (ℕ × A) → Type 0
 AllAbove k [] = Unit {0}
 AllAbove k (e ∷ es) = (k < e.0) × AllAbove k es
 
 -- each number is below those after it
-abbrev pub AreAscending : Ranges → Type 0
+abbrev pub AreAscending : {A : Type 0} → List (ℕ × A) → Type 0
 AreAscending [] = Unit {0}
 AreAscending (e ∷ es) = AllAbove e.0 es × AreAscending es
 
@@ -231,3 +228,5 @@ pub record RunLaid (x : ServerRun) : Type 0 where
   pub ascending : (s : ℕ) (cell : ServerCell) (state : ServerState) → entry_at x.servers s ≡ Some cell → cell.state ≡ Some state → AreAscending state.ranges
   pub ranges : (s : ℕ) (cell : ServerCell) (state : ServerState) → entry_at x.servers s ≡ Some cell → cell.state ≡ Some state →
       (k : ℕ) (r : RangeState) → range_of state.ranges k ≡ Some r → RangeLaid k (view_at k x s) r
+  -- so are its splits
+  pub splits : (s : ℕ) (cell : ServerCell) (state : ServerState) → entry_at x.servers s ≡ Some cell → cell.state ≡ Some state → AreAscending state.splits

@@ -12,7 +12,7 @@ use Rattle.memtable.specs.declared.cell.Place.{Place}
 use Rattle.memtable.specs.Entries.{Entries}
 use Rattle.metadata.specs.declared.record.KeyRange.{KeyRange}
 use Rattle.metadata.specs.declared.record.Region.{Region}
-use Rattle.metadata.specs.declared.record.MetaItem.TheVariants.{Checkpoint}
+use Rattle.metadata.specs.declared.record.MetaItem.TheVariants.{Checkpoint, SplitStatus}
 use Rattle.metadata.specs.Fold.{first_metadata}
 use Rattle.metadata.specs.declared.record.IndexRange.{IndexRange}
 use Rattle.metadata.specs.Record.{IsPosition}
@@ -47,7 +47,7 @@ use Rattle.laws_checkpoints.specs.IndexLayers.{layer_at, IsWritten}
 use Rattle.laws_checkpoints.specs.ShownTables.{AreInstalled, HoldsBytes}
 use Rattle.laws_loads.proofs.Rows.{Ordered}
 use Rattle.laws_server_runs.specs.NamedIndexes.{NamesSuch}
-use Rattle.laws_server_runs.specs.CheckpointInvariant.{parts_of, HoldsCheckpoint, AppendsRows, ReadsNext}
+use Rattle.laws_server_runs.specs.CheckpointInvariant.{parts_of, HoldsCheckpoint, AppendsRows, AppendsMetadata, StandsBeside, ReadsNext}
 
 -- ---- what a load makes of what it reads
 
@@ -116,9 +116,20 @@ pub record IsCheckpointRecord (Holds : Place → Type 0) (group : Group) : Type 
   pub fits : IsPosition position
   pub holds : Holds index
 
--- each group that was formed is one
+-- the group of a split's record
+pub record IsSplitRecord (group : Group) : Type 0 where
+  pub number : ℕ
+  pub low : ℕ
+  pub high : ℕ
+  pub key : Bytes
+  pub spells : decoded_record group ≡ record_group number (SplitStatus low high key)
+
+abbrev pub IsRecord : (Place → Type 0) → Group → Type 0
+IsRecord Holds group = IsCheckpointRecord Holds group ⊎ IsSplitRecord group
+
+-- each group that was formed is one of these
 abbrev pub AreCheckpoints : (Place → Type 0) → Story Group → Type 0
-AreCheckpoints Holds story = (a g : ℕ) (group : Group) → event_at story a ≡ Some (Made g group) → IsCheckpointRecord Holds group
+AreCheckpoints Holds story = (a g : ℕ) (group : Group) → event_at story a ≡ Some (Made g group) → IsRecord Holds group
 
 -- a run goes on with events of this generation alone
 pub data GoesOn (g : ℕ) (run : Run) : Run → Type 0 where
@@ -182,6 +193,9 @@ module _ (texts : ℕ → Bytes) where
     pub rows : AppendsRows r.rows r.control
     -- the page that is read is the one that it merges next
     pub reads : ReadsNext r.reading r.control
+    -- what its split is to its metadata, and what the client of its metadata appends
+    pub beside : StandsBeside v.split (v.history.append kinds.Metadata) s.record_out r.control r.said.next
+    pub metadata : AppendsMetadata r.metadata.job v.split r.control
     -- its memory table is in the order of its keys
     pub ordered : Ordered r.live
 

@@ -1,12 +1,12 @@
-//! What servers do over any streams, where no range is split: where the stories that they see of a range's metadata and log keep
-//! their order, what they load replays, and the tables of a range that is served are those of the line that ends at its log position.
+//! What servers do over any streams: where the stories that they see of a range's metadata and log keep their order, and no split makes the
+//! range, what they load replays, and the tables of a range that is served are those of the line that ends at its log position.
 //!
 //! This crate has no code, and touches nothing. Its lemmas are about the rules of servers alone (`model_partition`): no number of a
 //! request, no fence, no node and no machine of a stream occurs in them. What all servers do to the tables of a range is a run of
 //! the law of chains (`laws_tables`), and what one of them holds while it serves is what the run says that its generation holds.
 //! That, and what a range has read while it loads, stands in specs/; the lemmas follow each rule (`Loads`, `Confirms`,
-//! `ServedForms`, `ServedStands`), then one server beside the others, and then a list of events, over which no server has a split (`Unsplit`).
-//! `laws` states the clauses.
+//! `ServedForms`, `ServedStands`), what its split does behind it (`SplitMore`, `SplitTurns`), then one server beside the others, and then a
+//! list of events, over which the range is none of the two of a split (`Apart`). `laws` states the clauses.
 //! What each step of a checkpoint leaves is proved beside them (`CheckpointSteps`, `CheckpointKept`), also while one that combines merges
 //! the older pages (`CheckpointMerges`), those that the range's cache holds among them (`HeldBytes`). Numbers are any here, where a
 //! server has those of 64 and of 32 bits: the rules test those of a checkpoint, and the end of a log that is served.

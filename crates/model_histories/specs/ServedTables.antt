@@ -50,6 +50,19 @@ abbrev pub AreUnsplit : List ServerEvent → Type 0
 AreUnsplit [] = Unit {0}
 AreUnsplit (event ∷ earlier) = IsUnsplit event × AreUnsplit earlier
 
+-- The map gives the number of a range to neither of the two that a split makes.
+abbrev pub IsOfOthers : ℕ → ActorId → Body → Type 0
+IsOfOthers range Map (bodies.Map (maps.SplitBegun w low high)) = (low ≡ range → ⊥) × (high ≡ range → ⊥)
+IsOfOthers range from body = Unit {0}
+
+abbrev pub IsUnborn : ℕ → ServerEvent → Type 0
+IsUnborn range (Takes server p) = IsOfOthers range p.from p.body
+IsUnborn range event = Unit {0}
+
+abbrev pub AreUnborn : ℕ → List ServerEvent → Type 0
+AreUnborn range [] = Unit {0}
+AreUnborn range (event ∷ earlier) = IsUnborn range event × AreUnborn range earlier
+
 -- no generation is confirmed twice
 abbrev pub LoadsOnce : {A : Type 0} → Story A → Type 0
 LoadsOnce {A} story = (l m g start end start' end' : ℕ) (groups groups' : List (Placed A)) →

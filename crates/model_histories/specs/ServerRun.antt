@@ -24,13 +24,15 @@ use Rattle.model_streams.specs.Maps.{changed, changed_at, entry_at}
 use Rattle.model_partition.specs.declared.table_note.TableNote.{TableNote}
 use Rattle.model_histories.specs.StreamMachine.{base}
 use Rattle.model_histories.specs.Story.{Placed, StreamEvent, Made, Answered, Showed, Story}
-use Rattle.model_partition.specs.Range.{RangeState}
+use Rattle.model_partition.specs.declared.split_job.SplitJob.{SplitJob}
+use Rattle.model_partition.specs.Range.{RangeState, RangeOutcome}
 use Rattle.model_partition.specs.Loading.{Group}
 use Rattle.model_partition.specs.Serving.{transact_rule}
+use Rattle.model_partition.specs.Getting.{get_rule}
 use Rattle.model_partition.specs.Answering.{answered_number, is_answerer, answer_rule}
-use Rattle.model_partition.specs.Server.{ServerState, range_of, is_newer, awaiting, has_numbers}
+use Rattle.model_partition.specs.Server.{ServerState, range_of, is_newer, awaiting, has_numbers, split_of, split_awaiting, counted}
 use Rattle.model_partition.specs.Servers.{ServerCell, ServersOutcome, server_takes, server_gives_up, server_checkpoints, server_splits, server_stops, server_starts, told_moment, first_servers}
-use Rattle.model_histories.specs.StreamActions.{PlacedBytes, ExtentRead, StreamAction, Reads, Forms, Stands, Shows, Finds, Stores, transact_actions, answer_actions}
+use Rattle.model_histories.specs.StreamActions.{PlacedBytes, ExtentRead, StreamAction, Reads, Forms, Stands, Shows, Finds, Stores, transact_actions, answer_actions, split_stood, followed_actions, SideAction, split_sides}
 
 -- ---- places
 
@@ -130,13 +132,19 @@ module _ (server range generation : ℕ) where
   after_actions x [] = x
   after_actions x (action ∷ earlier) = after_action (after_actions x earlier) action
 
+-- after some actions on streams of the two ranges that a split makes, of which the last was done first
+abbrev pub after_sides : (server generation : ℕ) → ServerRun → List SideAction → ServerRun
+after_sides server generation x [] = x
+after_sides server generation x (side ∷ earlier) = after_action server side.range generation (after_sides server generation x earlier) side.action
+
 -- ---- what comes to a server
 
--- What a packet is to the ranges of a server: a range begins a load, or a range does something under its generation, or nothing is
--- done with a stream.
+-- What a packet is to the ranges of a server: a range begins a load, or a range does something under its generation, or its split does
+-- something, under that generation, on streams of the two that it makes, or nothing is done with a stream.
 pub data RangeEffect : Type 0 where
   Begins : (range : ℕ) → RangeEffect
   Does : (range generation : ℕ) (actions : List StreamAction) → RangeEffect
+  Tells : (generation : ℕ) (sides : List SideAction) → RangeEffect
   Rests : RangeEffect
 
 abbrev pub told_effect : ServerState → MapBody → RangeEffect
@@ -149,18 +157,42 @@ map_effect s from body = Rests
 
 abbrev pub transact_effect : ServerState → Packet → ℕ → List Change → ReqNo → Option RangeState → RangeEffect
 transact_effect s p range changes q None = Rests
-transact_effect s p range changes q (Some r) = Does range r.load.generation (transact_actions r (transact_rule s.context r p.from q changes))
+transact_effect s p range changes q (Some r) =
+    let o : RangeOutcome = transact_rule s.context r p.from q changes in
+    Does range r.load.generation (followed_actions (counted s.context o) (split_of s.splits range) o.after ++ transact_actions r o)
+
+-- a step that does nothing with streams itself
+abbrev pub follow_effect : ServerState → ℕ → RangeState → Option SplitJob → RangeOutcome → RangeEffect
+follow_effect s range r None o = Rests
+follow_effect s range r (Some job) o = Does range r.load.generation (followed_actions (counted s.context o) (Some job) o.after)
+
+abbrev pub get_effect : ServerState → Packet → ℕ → List ℕ → ReqNo → Option RangeState → RangeEffect
+get_effect s p range key q None = Rests
+get_effect s p range key q (Some r) = follow_effect s range r (split_of s.splits range) (get_rule s.context r p.from q key)
 
 abbrev pub table_effect : ServerState → Packet → TableBody → RangeEffect
 table_effect s p (tables.Transact range changes q) = transact_effect s p range changes q (range_of s.ranges range)
+table_effect s p (tables.Get range key q) = get_effect s p range key q (range_of s.ranges range)
 table_effect s p body = Rests
 
 abbrev pub answer_effect : ServerState → Packet → ReqNo → ℕ → Option RangeState → RangeEffect
 answer_effect s p w range None = Rests
-answer_effect s p w range (Some r) = Does range r.load.generation (answer_actions s.context r w p.body (answer_rule s.context r w p.body))
+answer_effect s p w range (Some r) =
+    let o : RangeOutcome = answer_rule s.context r w p.body in
+    let job : Option SplitJob = split_of s.splits range in
+    Does range r.load.generation (followed_actions (counted s.context o) job o.after ++ (split_stood s.context r job w p.body o ++ answer_actions s.context r w p.body o))
+
+abbrev pub split_effect_in : ServerState → Packet → Option RangeState → Option SplitJob → RangeEffect
+split_effect_in s p (Some r) (Some job) = Tells job.generation (split_sides s.context r job p.body)
+split_effect_in s p (Some r) None = Rests
+split_effect_in s p None job = Rests
+
+abbrev pub split_effect : ServerState → Packet → Option ℕ → RangeEffect
+split_effect s p None = Rests
+split_effect s p (Some range) = split_effect_in s p (range_of s.ranges range) (split_of s.splits range)
 
 abbrev pub awaited_effect : ServerState → Packet → ReqNo → Option ℕ → RangeEffect
-awaited_effect s p w None = Rests
+awaited_effect s p w None = split_effect s p (split_awaiting s.splits w)
 awaited_effect s p w (Some range) = answer_effect s p w range (range_of s.ranges range)
 
 abbrev pub numbered_effect : ServerState → Packet → Option ReqNo → RangeEffect
@@ -197,6 +229,7 @@ pub data ServerEvent : Type 0 where
 abbrev pub with_effect : ℕ → ServerRun → RangeEffect → ServerRun
 with_effect server x (Begins range) = record x { history = changed_at server range first_history x.history }
 with_effect server x (Does range generation actions) = after_actions server range generation x actions
+with_effect server x (Tells generation sides) = after_sides server generation x sides
 with_effect server x Rests = x
 
 -- servers after a step, and what they show

@@ -1,13 +1,16 @@
 -- What a step of a range does with its streams: the extents that its load reads, the groups that it forms and that come to stand,
 -- and what its confirmed load shows. Said of the range before the step and of what the step leaves, beside the rules.
-use Rattle.std.specs.Prelude.{ℕ, ◌+◌, ◌-◌, ◌^◌, nat_lt, is_some, List, [], ◌∷◌, ◌++◌, length, map, Option, Some, None, if◌then◌else◌}
+use Rattle.std.specs.Prelude.{ℕ, ◌+◌, ◌-◌, ◌^◌, ◌&&◌, nat_lt, is_some, List, [], ◌∷◌, ◌++◌, length, map, Option, Some, None, if◌then◌else◌}
 use Rattle.wire.specs.declared.actor.ReqNo.{ReqNo}
+use Rattle.wire.specs.declared.body.AppendBody.{AppendBody}
+use Rattle.wire.specs.declared.body.AppendBody.TheVariants as appends
 use Rattle.wire.specs.declared.body.Body.{Body}
 use Rattle.wire.specs.declared.body.Body.TheVariants as bodies
 use Rattle.wire.specs.declared.body.ReadBody.{ReadBody}
 use Rattle.wire.specs.declared.body.ReadBody.TheVariants as reads
 use Rattle.wire.specs.declared.body.StreamBody.{StreamBody}
 use Rattle.wire.specs.declared.body.StreamBody.TheVariants as streams
+use Rattle.wire.specs.declared.refusal.Refusal.TheVariants as refusals
 use Rattle.wire.specs.declared.streams.StreamKind.{StreamKind}
 use Rattle.wire.specs.declared.streams.StreamKind.TheVariants as kinds
 use Rattle.replica.specs.Groups.{joined}
@@ -26,6 +29,11 @@ use Rattle.model_partition.specs.CheckpointStates.{CheckpointState}
 use Rattle.model_partition.specs.declared.checkpoint_job.CheckpointPhase.{CheckpointPhase}
 use Rattle.model_partition.specs.declared.checkpoint_job.CheckpointPhase.TheVariants as checkpoints
 use Rattle.model_partition.specs.declared.server_context.ServerContext.{ServerContext}
+use Rattle.model_partition.specs.declared.split_job.Side.{Side}
+use Rattle.model_partition.specs.declared.split_job.Side.TheVariants.{Low, High}
+use Rattle.model_partition.specs.declared.split_job.SplitJob.{SplitJob}
+use Rattle.model_partition.specs.declared.split_job.SplitPhase.{SplitPhase}
+use Rattle.model_partition.specs.declared.split_job.SplitPhase.TheVariants as splits
 use Rattle.model_partition.specs.declared.stage.Stage.{Stage}
 use Rattle.model_partition.specs.declared.stage.Stage.TheVariants as stages
 use Rattle.model_partition.specs.Range.{OutGroup, RangeState, RangeOutcome, request, picking, if_there, is_serving}
@@ -34,6 +42,7 @@ use Rattle.model_partition.specs.PlaceReads.{reads_under}
 use Rattle.model_partition.specs.Serving.{record_of}
 use Rattle.model_partition.specs.Checkpoints.{checkpoint_record, may_record, index_place, rows_may_stand, trim_awaits}
 use Rattle.model_partition.specs.Answering.{groups_of, is_taken}
+use Rattle.model_partition.specs.Splits.{split_record, is_drained, may_record as may_record_split, keys_record, side_range, may_say_keys, has_number}
 
 -- bytes that stand in an extent from an offset on
 pub record PlacedBytes : Type 0 where
@@ -187,3 +196,91 @@ answered_actions d r w body o =
 -- a range that is dropped does nothing
 abbrev pub answer_actions : ServerContext → RangeState → ReqNo → Body → RangeOutcome → List StreamAction
 answer_actions d r w body o = if is_some o.after then answered_actions d r w body o else []
+
+-- ---- splits
+
+-- the group of a split's record
+abbrev pub split_group : SplitJob → Group
+split_group job = metadata_spelling (split_record job) ∷ []
+
+-- the answer to it, which comes to the metadata's client
+abbrev pub split_stood_in : RangeState → SplitJob → SplitPhase → Option News → List StreamAction
+split_stood_in r job splits.Record (Some (news.Appended extent offset)) = Stands kinds.Metadata extent (last_position r.metadata offset) (split_group job) ∷ []
+split_stood_in r job phase told = []
+
+abbrev pub split_metadata_actions : ServerContext → RangeState → SplitJob → Body → List StreamAction
+split_metadata_actions d r job body =
+    if is_serving r.stage then split_stood_in r job job.phase (reply_rule (picking d r.metadata) (request d) body).news else []
+
+abbrev pub split_answered : ServerContext → RangeState → SplitJob → ReqNo → Body → List StreamAction
+split_answered d r job w body =
+    if load_awaits r.load.phase w then [] else if awaits r.metadata.job w then split_metadata_actions d r job body else []
+
+-- what an answer to a range that may be split is to the split's record
+abbrev pub split_stood : ServerContext → RangeState → Option SplitJob → ReqNo → Body → RangeOutcome → List StreamAction
+split_stood d r None w body o = []
+split_stood d r (Some job) w body o = if is_some o.after then split_answered d r job w body else []
+
+-- where no transaction waits any more, the append of the split's record begins
+abbrev pub drain_actions : RangeState → SplitJob → List StreamAction
+drain_actions r job = if is_drained r && may_record_split r job then Forms kinds.Metadata (split_group job) ∷ [] else []
+
+abbrev pub follow_actions_in : RangeState → SplitJob → SplitPhase → List StreamAction
+follow_actions_in r job splits.Checkpoint = if is_some r.control then [] else drain_actions r job
+follow_actions_in r job splits.Queue = drain_actions r job
+follow_actions_in r job phase = []
+
+-- what follows a step of the range
+abbrev pub follow_actions : ServerContext → RangeState → SplitJob → List StreamAction
+follow_actions d r job = if has_number d then follow_actions_in r job job.phase else []
+
+abbrev pub followed_actions : ServerContext → Option SplitJob → Option RangeState → List StreamAction
+followed_actions d None after = []
+followed_actions d (Some job) None = []
+followed_actions d (Some job) (Some r) = follow_actions d r job
+
+-- ---- the two ranges that a split makes
+
+-- an action on a stream of one of them
+pub record SideAction : Type 0 where
+  pub range : ℕ
+  pub action : StreamAction
+
+-- the append of its keys begins
+abbrev pub keys_said : RangeState → SplitJob → Side → List SideAction
+keys_said r job side =
+    if may_say_keys r job then record { range = side_range job side; action = Forms kinds.Metadata (metadata_spelling (keys_record r job side) ∷ []) } ∷ [] else []
+
+-- those of the higher one come after those of the lower one
+abbrev pub keys_after : RangeState → SplitJob → Side → List SideAction
+keys_after r job Low = keys_said r job High
+keys_after r job High = []
+
+-- what news of the client of its metadata leads to; the newest comes first
+abbrev pub keys_told : RangeState → SplitJob → Side → ClientState → Option News → List SideAction
+keys_told r job side c (Some (news.Appended extent offset)) =
+    keys_after r job side ++ record { range = side_range job side; action = Stands kinds.Metadata extent (last_position c offset) c.group } ∷ []
+keys_told r job side c told = []
+
+-- that there are the streams counts as that they are built
+abbrev pub built_refused : RangeState → SplitJob → AppendBody → List SideAction
+built_refused r job (appends.Refused w refusals.NameTaken) = keys_said r job Low
+built_refused r job body = []
+
+abbrev pub built_told : RangeState → SplitJob → StreamBody → List SideAction
+built_told r job (streams.Modified w) = keys_said r job Low
+built_told r job body = []
+
+abbrev pub built : RangeState → SplitJob → Body → List SideAction
+built r job (bodies.Append body) = built_refused r job body
+built r job (bodies.Stream body) = built_told r job body
+built r job body = []
+
+abbrev pub sides_in : ServerContext → RangeState → SplitJob → SplitPhase → Body → List SideAction
+sides_in d r job (splits.Keys side c) body = keys_told r job side c (reply_rule (picking d c) (request d) body).news
+sides_in d r job (splits.Build q) body = built r job body
+sides_in d r job phase body = []
+
+-- what an answer to the split leads to
+abbrev pub split_sides : ServerContext → RangeState → SplitJob → Body → List SideAction
+split_sides d r job body = sides_in d r job job.phase body
