@@ -1,0 +1,46 @@
+-- What a step of a merge leaves, as its code says it.
+use Rattle.std.specs.Prelude.{◌≡◌, ℕ, ◌≤◌, Bool, true, List, ◌++◌, length, Option, Some, option_to_list}
+use Rattle.wire.specs.declared.packet.Packet.{Packet}
+use Rattle.model_partition.specs.Range.{RangeState}
+use Rattle.model_partition.specs.Splits.{is_drained}
+use Rattle.range_core.specs.Steps.{unless}
+use Rattle.range_merge.specs.declared.merge_job.MergeJob.{MergeJob}
+use Rattle.range_merge.specs.declared.merge_job.MergePhase.{MergePhase}
+use Rattle.range_merge.specs.declared.merge_job.MergePhase.TheVariants as phases
+use Rattle.range_merge.specs.Merges.{MergeStep}
+
+-- whether either range goes, whether their merge has ended, the number of the server's next request, and the packets
+pub record MergeTaken : Type 0 where
+  pub left_dropped : Bool
+  pub right_dropped : Bool
+  pub ended : Bool
+  pub count : ℕ
+  pub packets : List Packet
+
+-- the step of a rule, where the ranges and the merge that are left are these
+abbrev pub outcome : MergeTaken → RangeState → RangeState → MergeJob → MergeStep
+outcome t l r job =
+    record { left = unless t.left_dropped l; right = unless t.right_dropped r; job = unless t.ended job; count = t.count; packets = t.packets }
+
+-- a step after which all go on
+abbrev pub goes_on : RangeState → RangeState → MergeJob → ℕ → Option Packet → MergeStep
+goes_on l r job count packet = record { left = Some l; right = Some r; job = Some job; count = count; packets = option_to_list packet }
+
+-- the packets of the range's own step come before
+abbrev pub behind : List Packet → MergeStep → MergeStep
+behind packets t = record t { packets = packets ++ t.packets }
+
+-- no step of a merge sends more
+abbrev pub IsShort : MergeTaken → Type 0
+IsShort t = length t.packets ≤ 1400
+
+-- no transaction waits at either of the two
+abbrev pub AreDrained : RangeState → RangeState → Type 0
+AreDrained l r = (is_drained l ≡ true) × (is_drained r ≡ true)
+
+-- nor does any from the first seal on
+abbrev pub ArePaused : RangeState → RangeState → MergePhase → Type 0
+ArePaused l r (phases.Begin q) = Unit {0}
+ArePaused l r (phases.Checkpoint side) = Unit {0}
+ArePaused l r phases.Queue = Unit {0}
+ArePaused l r phase = AreDrained l r
